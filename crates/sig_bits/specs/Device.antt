@@ -1,0 +1,19 @@
+-- What a read gives and a write adds, where the device tells its bytes.
+use Rattle.std.specs.Prelude.{◌≡◌, ℕ, List, [], ◌++◌, Option, Some, None, ⊤}
+
+-- the bytes to come begin with these, and lose them
+abbrev pub Gives : Option (List ℕ) → List ℕ → Option (List ℕ) → Type 0
+Gives None bytes after = ⊤
+Gives (Some before) bytes None = ⊥
+Gives (Some before) bytes (Some after) = before ≡ bytes ++ after
+
+-- no byte is to come
+abbrev pub IsAtEnd : Option (List ℕ) → Type 0
+IsAtEnd None = ⊤
+IsAtEnd (Some left) = left ≡ []
+
+-- the bytes written grow by these
+abbrev pub Adds : Option (List ℕ) → List ℕ → Option (List ℕ) → Type 0
+Adds None bytes after = ⊤
+Adds (Some before) bytes None = ⊥
+Adds (Some before) bytes (Some after) = after ≡ before ++ bytes

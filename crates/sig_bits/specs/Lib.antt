@@ -1,0 +1,3 @@
+-- The definitions of this crate.
+pub mod Bytes
+pub mod Device

@@ -1,0 +1,84 @@
+//! Where bytes come from.
+
+ghost use Rattle.std.specs.Prelude.{◌≡◌, ℕ, ◌+◌, ◌-◌, ◌^◌, ◌<◌, ◌≤◌, ◌↔◌, Bool, true, false, List, length, take, Option, IfOk, OnErr, IsErr, IsTrue, is_err};
+ghost use Rattle.sig_bits.specs.Device.{Gives, IsAtEnd};
+
+use super::DeviceFault;
+use std::io::Read;
+
+/// A source of bytes, read once from its front.
+///
+/// A failed read is final: an interrupted one too is a failure, and no read is tried again.
+pub trait Input {
+    /// Whether a read has failed so far.
+    ghost failed: { Self → Bool };
+
+    /// How many bytes may still come.
+    ghost limit: { Self → ℕ };
+
+    /// The bytes still to come, where the source tells them.
+    ghost to_come: { Self → Option (List ℕ) };
+
+    /// Puts the next bytes at the front of the buffer and answers how many. None, for a buffer with
+    /// room, is the end.
+    fn read(&mut self, buf: &mut [u8]) -> Result<usize, DeviceFault>
+        ensures fails { failed self.new ≡ is_err result }
+        ensures stays_failed { IsTrue (failed self.old) → IsErr result }
+        ensures within { IfOk result (λ n. n ≤ length buf.new) }
+        ensures lowers { IfOk result (λ n. limit self.old ≡ n + limit self.new) }
+        ensures gives { IfOk result (λ n. Gives (to_come self.old) (take n buf.new) (to_come self.new)) }
+        ensures stays { OnErr result (limit self.new ≡ limit self.old) }
+        ensures ends { IfOk result (λ n. n ≡ 0 → 0 < length buf.new → IsAtEnd (to_come self.new)) };
+}
+
+/// The input of any reader.
+///
+/// It gives at most 18,446,744,073,709,551,615 bytes, and any read after them fails, so an endless
+/// source ends in a fault.
+#[derive(Drop)]
+pub struct FromRead<R> {
+    reader: R,
+    left: u64,
+    failed: bool,
+}
+
+impl<R: Read> FromRead<R> {
+    /// Nothing is read yet.
+    pub fn new(reader: R) -> FromRead<R>
+        ensures fresh { ⟦<FromRead<R> as Input>⟧.failed result ≡ false }
+        ensures limit { ⟦<FromRead<R> as Input>⟧.limit result ≡ 2 ^ 64 - 1 }
+        ensures to_come { ⟦<FromRead<R> as Input>⟧.to_come result ≡ R.remaining reader }
+    {
+        FromRead {
+            reader,
+            left: u64::MAX,
+            failed: false,
+        }
+    }
+}
+
+impl<R: Read> Input for FromRead<R> {
+    ghost failed = { λ s. s.failed };
+
+    ghost limit = { λ s. s.left };
+
+    ghost to_come = { λ s. R.remaining s.reader };
+
+    fn read(&mut self, buf: &mut [u8]) -> Result<usize, DeviceFault> {
+        if self.failed || self.left == 0 {
+            self.failed = true;
+            return Err(DeviceFault);
+        }
+        let room = buf.len().min(self.left as usize);
+        match self.reader.read(&mut buf[..room]) {
+            Ok(n) => {
+                self.left -= n as u64;
+                Ok(n)
+            }
+            Err(_) => {
+                self.failed = true;
+                Err(DeviceFault)
+            }
+        }
+    }
+}

@@ -1,0 +1,100 @@
+//! Where bytes go.
+
+ghost use Rattle.std.specs.Prelude.{◌≡◌, ℕ, ◌+◌, ◌-◌, ◌^◌, Bool, true, false, List, length, Option, OnOk, OnErr, IsErr, IsTrue, is_err};
+ghost use Rattle.sig_bits.specs.Device.{Adds};
+
+use super::DeviceFault;
+use std::io::Write;
+
+/// A sink of bytes, written once from its front.
+///
+/// A failed write is final, an interrupted one too. An unknown part of its bytes may be written.
+pub trait Output {
+    /// Whether a write has failed so far.
+    ghost failed: { Self → Bool };
+
+    /// How many bytes may still be written.
+    ghost limit: { Self → ℕ };
+
+    /// The bytes written so far, where the sink tells them.
+    ghost written: { Self → Option (List ℕ) };
+
+    /// Writes all the bytes, and sees them through to the sink.
+    fn write_all(&mut self, bytes: &[u8]) -> Result<(), DeviceFault>
+        ensures fails { failed self.new ≡ is_err result }
+        ensures stays_failed { IsTrue (failed self.old) → IsErr result }
+        ensures lowers { OnOk result (limit self.old ≡ length bytes.now + limit self.new) }
+        ensures adds { OnOk result (Adds (written self.old) bytes.now (written self.new)) };
+}
+
+/// The output to any writer.
+///
+/// It takes at most 18,446,744,073,709,551,615 bytes, and a write of more fails.
+#[derive(Drop)]
+pub struct FromWrite<W> {
+    writer: W,
+    left: u64,
+    failed: bool,
+}
+
+impl<W: Write> FromWrite<W> {
+    /// Nothing is written yet.
+    pub fn new(writer: W) -> FromWrite<W>
+        ensures fresh { ⟦<FromWrite<W> as Output>⟧.failed result ≡ false }
+        ensures limit { ⟦<FromWrite<W> as Output>⟧.limit result ≡ 2 ^ 64 - 1 }
+        ensures written { ⟦<FromWrite<W> as Output>⟧.written result ≡ W.contents writer }
+    {
+        FromWrite {
+            writer,
+            left: u64::MAX,
+            failed: false,
+        }
+    }
+
+    /// The writer, with what was written.
+    pub fn into_inner(self) -> W
+        ensures { W.contents result ≡ ⟦<FromWrite<W> as Output>⟧.written self }
+    {
+        let FromWrite {
+            writer,
+            left: _,
+            failed: _,
+        } = self;
+        writer
+    }
+}
+
+impl<W: Write> Output for FromWrite<W> {
+    ghost failed = { λ s. s.failed };
+
+    ghost limit = { λ s. s.left };
+
+    ghost written = { λ s. W.contents s.writer };
+
+    fn write_all(&mut self, bytes: &[u8]) -> Result<(), DeviceFault> {
+        if self.failed
+            || (self.left as usize) < bytes.len()
+            || !write_through(&mut self.writer, bytes)
+        {
+            self.failed = true;
+            return Err(DeviceFault);
+        }
+        self.left -= bytes.len() as u64;
+        Ok(())
+    }
+}
+
+// Writes piece after piece until all is written, and flushes. A piece that takes nothing fails, and
+// no piece is tried again.
+fn write_through<W: Write>(writer: &mut W, bytes: &[u8]) -> bool
+    ensures { IsTrue result → Adds (W.contents writer.old) bytes.now (W.contents writer.new) }
+{
+    let mut done = 0;
+    while done < bytes.len() {
+        match writer.write(&bytes[done..]) {
+            Ok(n) if n > 0 => done += n,
+            _ => return false,
+        }
+    }
+    writer.flush().is_ok()
+}

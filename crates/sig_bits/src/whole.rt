@@ -1,0 +1,56 @@
+//! An input read to its end, into one buffer that grows.
+
+ghost use Rattle.std.specs.Prelude.{◌≡◌, ◌+◌, ◌≤◌, true, false, OnOk, IfOk, IfErr, IfSome, IsErrOf, take, vec_len};
+ghost use Rattle.sig_bits.specs.Device.{IsAtEnd};
+
+use super::{Input, ReadWholeError};
+use std::alloc::Global;
+
+// How much room a read has at least.
+const PIECE: usize = 1 << 16;
+
+/// Reads all that is still to come, in pieces of at least 64 KiB.
+///
+/// Each piece is read to its place, so no byte is copied again by this crate. The buffer's room
+/// doubles as it grows, and what is not yet read of it is at most two pieces.
+pub fn read_whole<R: Input>(alloc: Global, input: &mut R) -> Result<Vec<u8>, ReadWholeError>
+    ensures whole { IfOk result (λ bytes. IfSome (R.to_come input.old) (λ all. bytes.items ≡ all)) }
+    ensures at_end { OnOk result (IsAtEnd (R.to_come input.new)) }
+
+    // A failed read is told, and only a failed read.
+    ensures sound { OnOk result (R.failed input.new ≡ false) }
+    ensures read { IsErrOf result ReadWholeError.Read → R.failed input.new ≡ true }
+    ensures memory { IsErrOf result ReadWholeError.OutOfMemory → R.failed input.new ≡ R.failed input.old }
+{
+    let mut bytes = Vec::new(alloc);
+    let mut filled = 0;
+    'pieces: loop {
+        make_room(&mut bytes, filled)?;
+        let Ok(n) = input.read(&mut bytes[filled..]) else {
+            return Err(ReadWholeError::Read);
+        };
+        if n == 0 {
+            bytes.truncate(filled);
+            return Ok(bytes);
+        }
+        filled += n;
+    }
+}
+
+// Makes room for a piece behind the filled front, which stays.
+fn make_room(bytes: &mut Vec<u8>, filled: usize) -> Result<(), ReadWholeError>
+    requires { filled ≤ vec_len bytes.old }
+    ensures room { OnOk result (filled + 65536 ≤ vec_len bytes.new) }
+    ensures front { OnOk result (take filled bytes.new.items ≡ take filled bytes.old.items) }
+    ensures memory { IfErr result (λ e. e ≡ ReadWholeError.OutOfMemory) }
+{
+    if bytes.len() - filled >= PIECE {
+        return Ok(());
+    }
+    let Some(len) = bytes.len().checked_add(PIECE) else {
+        return Err(ReadWholeError::OutOfMemory);
+    };
+    bytes
+        .resize(len, 0)
+        .map_err(|_| ReadWholeError::OutOfMemory)
+}

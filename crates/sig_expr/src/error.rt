@@ -1,0 +1,38 @@
+use thiserror::Error;
+
+/// Why a text was refused as an expression, in the order of judging. A place is counted in bytes
+/// from 0.
+#[derive(Clone, Copy, Debug, PartialEq, Eq, Error)]
+pub enum ExprError {
+    /// The text has over 8,192 bytes.
+    #[error("the text is too long")]
+    TooLong,
+    /// Not in the shape grammar. The place is the length of the longest front of the text that
+    /// begins some text of the grammar.
+    #[error("no expression goes on so at {place}")]
+    Syntax { place: usize },
+    /// A gap number over 65,535.
+    #[error("gap number over 65535 at {place}")]
+    GapNumber { place: usize },
+    /// The greatest length of a gap is 0.
+    #[error("empty gap at {place}")]
+    GapEmpty { place: usize },
+    /// The least length of a gap is above its greatest.
+    #[error("gap out of order at {place}")]
+    GapOrder { place: usize },
+    /// The first end of a range is not below its second.
+    #[error("range out of order at {place}")]
+    RangeOrder { place: usize },
+    /// No word is outside the range.
+    #[error("empty class at {place}")]
+    ClassEmpty { place: usize },
+    /// A growth was refused. The text is an expression.
+    #[error("out of memory")]
+    OutOfMemory,
+    /// The ends of a range have different lengths.
+    #[error("range of two lengths at {place}")]
+    RangeLength { place: usize },
+    /// A bracket has over eight bytes.
+    #[error("bracket over eight bytes at {place}")]
+    BracketTooLong { place: usize },
+}

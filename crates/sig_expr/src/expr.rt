@@ -1,0 +1,32 @@
+//! An expression as the list of its items.
+
+ghost use Rattle.std.specs.Prelude.{◌≡◌, ◌<◌, length};
+
+use super::Item;
+use std::marker::Model;
+
+/// An expression of the profile: its items from left to right, one at least.
+#[derive(Debug, Drop)]
+pub struct Expr {
+    items: Vec<Item>,
+}
+
+impl Model for Expr {
+    ghost use Rattle.std.specs.Prelude.{List, ◌<◌, vec_len};
+    ghost use Rattle.sig_expr.specs.declared.item.Item.{Item};
+
+    ghost Value = { List Item };
+
+    ghost view = { λ e. e.items.items };
+
+    ghost invariant = { λ e. 0 < vec_len e.items };
+}
+
+impl Expr {
+    /// Lends the items.
+    pub fn items(&self) -> &[Item]
+        ensures { result.now ≡ self.now }
+    {
+        self.items.as_slice()
+    }
+}

@@ -1,0 +1,56 @@
+//! One to eight bytes.
+
+ghost use Rattle.std.specs.Prelude.{◌≡◌, ◌+◌, ◌-◌, ◌≤◌, ◌<◌, length, take};
+
+use std::marker::Model;
+
+/// The greatest length of a `Short`.
+const GREATEST: usize = 8;
+
+/// One to eight bytes, kept without a growth: an end of a range, or what a bracket excludes.
+#[derive(Clone, Copy, Debug, PartialEq, Eq)]
+pub struct Short {
+    bytes: [u8; 8],
+    len: u8,
+}
+
+impl Model for Short {
+    ghost use Rattle.std.specs.Prelude.{List, ℕ, take};
+
+    ghost Value = { List ℕ };
+
+    ghost use Rattle.sig_expr.specs.ShortLaws.{IsPadded, padded, padded-front};
+
+    ghost view = { λ s. take s.len s.bytes };
+
+    ghost invariant = { IsPadded };
+
+    ghost inverse = { padded };
+
+    ghost inverse_ok = { padded-front };
+}
+
+impl Short {
+    /// The bytes, of which there are one to eight.
+    pub fn new(bytes: &[u8]) -> Short
+        requires least { 0 < length bytes.now }
+        requires greatest { length bytes.now ≤ 8 }
+        ensures { result ≡ bytes.now }
+    {
+        let mut kept = [0; GREATEST];
+        kept[..bytes.len()].copy_from_slice(bytes);
+        Short {
+            bytes: kept,
+            len: bytes.len() as u8,
+        }
+    }
+
+    /// Lends the bytes.
+    pub fn as_bytes(&self) -> &[u8]
+        ensures bytes { result.now ≡ self.now }
+        ensures least { 0 < length self.now }
+        ensures greatest { length self.now ≤ 8 }
+    {
+        &self.bytes[..self.len as usize]
+    }
+}

@@ -1,0 +1,37 @@
+//! The hits of a file.
+
+ghost use Rattle.std.specs.Prelude.{◌≡◌};
+
+use sig_table::{FormatId, SigId};
+use std::marker::Model;
+
+/// A format that is hit, with its first signature that hits.
+#[derive(Clone, Copy, Debug, PartialEq, Eq)]
+pub struct Hit {
+    pub format: FormatId,
+    pub signature: SigId,
+}
+
+/// Hits, in table order.
+#[derive(Debug, Drop)]
+pub struct Results {
+    hits: Vec<Hit>,
+}
+
+impl Model for Results {
+    ghost use Rattle.std.specs.Prelude.{List};
+    ghost use Rattle.sig_match.specs.declared.results.Hit.{Hit};
+
+    ghost Value = { List Hit };
+
+    ghost view = { λ r. r.hits.items };
+}
+
+impl Results {
+    /// Lends the hits.
+    pub fn hits(&self) -> &[Hit]
+        ensures { result.now ≡ self.now }
+    {
+        self.hits.as_slice()
+    }
+}

@@ -1,0 +1,28 @@
+-- A table as its lists.
+use Rattle.std.specs.Prelude.{ℕ, ◌<◌, ◌≤◌, List, length, All, ⊤}
+use Rattle.sig_expr.specs.declared.item.Item.{Item}
+use Rattle.sig_table.specs.declared.position.Position.{Position}
+use Rattle.sig_table.specs.declared.puid.Puid.{Puid}
+
+-- a sequence: the items of its expression, and their place
+pub record PlacedExpr : Type 0 where
+  pub position : Position
+  pub items : List Item
+
+-- a signature: the format that it is of, its number, and its sequences in order
+pub record SignatureLists : Type 0 where
+  pub format : ℕ
+  pub number : ℕ
+  pub sequences : List PlacedExpr
+
+-- a table: the formats in order, the signatures in order, and the pairs of which the first format outranks the second
+pub record TableLists : Type 0 where
+  pub formats : List Puid
+  pub signatures : List SignatureLists
+  pub priorities : List (ℕ × ℕ)
+
+-- the limits of a table, and that each signature is of a format of it
+pub record IsTable (t : TableLists) : Type 0 where
+  pub formats : length t.formats ≤ 1000
+  pub signatures : length t.signatures ≤ 4000
+  pub known : All (λ s. s.format < length t.formats) t.signatures
