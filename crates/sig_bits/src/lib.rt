@@ -7,6 +7,8 @@
 mod fault;
 mod input;
 mod output;
+#[cfg(test)]
+mod tests;
 mod whole;
 
 pub use fault::{DeviceFault, ReadWholeError};

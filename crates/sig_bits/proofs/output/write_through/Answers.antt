@@ -1,4 +1,4 @@
-use Rattle.std.proofs.Common.{arith, length-take, length-drop}
+use Rattle.std.proofs.Common.{arith, length-drop}
 use Rattle.std.proofs.lemmas.List.{take_rest}
 use Rattle.sig_bits.proofs.DeviceLemmas.{Adds-more}
 use Rattle.sig_bits.proofs.output.write_through.Goals as goal

@@ -1,7 +1,6 @@
 use Rattle.std.proofs.Common.{◌≡◌, ◌≤◌, ◌+◌, arith, Bool, true, false, length, take, sym, ◌∙◌, inl, inr, ℕ, length-take, length-drop}
 use Rattle.std.proofs.lemmas.Bool.{cases_Bool}
 use Rattle.std.proofs.lemmas.List.{length-take-le}
-use Rattle.sig_bits.specs.Device.{Gives}
 use Rattle.sig_bits.proofs.DeviceLemmas.{Gives-more, take-read}
 use Rattle.sig_bits.proofs.whole.read_whole.Goals as goal
 
