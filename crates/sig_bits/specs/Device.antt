@@ -1,5 +1,5 @@
 -- What a read gives and a write adds, where the device tells its bytes.
-use Rattle.std.specs.Prelude.{◌≡◌, ℕ, List, [], ◌++◌, Option, Some, None, ⊤}
+use Rattle.std.specs.Prelude.{◌≡◌, ℕ, ◌≤◌, List, [], ◌++◌, length, take, Option, Some, None, ⊤}
 
 -- the bytes to come begin with these, and lose them
 abbrev pub Gives : Option (List ℕ) → List ℕ → Option (List ℕ) → Type 0
@@ -17,3 +17,7 @@ abbrev pub Adds : Option (List ℕ) → List ℕ → Option (List ℕ) → Type 
 Adds None bytes after = ⊤
 Adds (Some before) bytes None = ⊥
 Adds (Some before) bytes (Some after) = after ≡ before ++ bytes
+
+-- the bytes written grow by so many of these, from their front
+abbrev pub AddsFront : Option (List ℕ) → List ℕ → Option (List ℕ) → Type 0
+AddsFront before bytes after = (n : ℕ) × (n ≤ length bytes) × Adds before (take n bytes) after

@@ -1,7 +1,7 @@
 //! Where bytes go.
 
-ghost use Rattle.std.specs.Prelude.{◌≡◌, ℕ, ◌+◌, ◌-◌, ◌^◌, Bool, true, false, List, length, Option, OnOk, OnErr, IsErr, IsTrue, is_err};
-ghost use Rattle.sig_bits.specs.Device.{Adds};
+ghost use Rattle.std.specs.Prelude.{◌≡◌, ℕ, ◌+◌, ◌-◌, ◌^◌, ◌≤◌, Bool, true, false, List, length, Option, OnOk, OnErr, IsErr, IsTrue, is_err};
+ghost use Rattle.sig_bits.specs.Device.{Adds, AddsFront};
 
 use super::DeviceFault;
 use std::io::Write;
@@ -24,7 +24,11 @@ pub trait Output {
         ensures fails { failed self.new ≡ is_err result }
         ensures stays_failed { IsTrue (failed self.old) → IsErr result }
         ensures lowers { OnOk result (limit self.old ≡ length bytes.now + limit self.new) }
-        ensures adds { OnOk result (Adds (written self.old) bytes.now (written self.new)) };
+        ensures adds { OnOk result (Adds (written self.old) bytes.now (written self.new)) }
+
+        // After a failed write only a front of its bytes may be written.
+        ensures front { OnErr result (AddsFront (written self.old) bytes.now (written self.new)) }
+        ensures no_room { OnErr result (limit self.new ≤ limit self.old) };
 }
 
 /// The output to any writer.
@@ -87,7 +91,8 @@ impl<W: Write> Output for FromWrite<W> {
 // Writes piece after piece until all is written, and flushes. A piece that takes nothing fails, and
 // no piece is tried again.
 fn write_through<W: Write>(writer: &mut W, bytes: &[u8]) -> bool
-    ensures { IsTrue result → Adds (W.contents writer.old) bytes.now (W.contents writer.new) }
+    ensures all { IsTrue result → Adds (W.contents writer.old) bytes.now (W.contents writer.new) }
+    ensures front { AddsFront (W.contents writer.old) bytes.now (W.contents writer.new) }
 {
     let mut done = 0;
     while done < bytes.len() {

@@ -1,6 +1,7 @@
 //! What a matcher is, whatever it searches with.
 
 ghost use Rattle.std.specs.Prelude.{◌≡◌, true, false, IfOk, IfSome, OnOk, IsErrOf};
+ghost use Rattle.sig_bits.specs.Device.{IsAtEnd};
 ghost use Rattle.sig_match.specs.Hitting.{HitFormats};
 ghost use Rattle.sig_table.specs.Lists.{TableLists};
 
@@ -21,6 +22,8 @@ pub trait DroidCore {
     /// that hits.
     fn match_binary_signatures<R: Input>(&self, input: &mut R) -> Result<Results, CoreError>
         ensures hits { IfOk result (λ hits. IfSome (R.to_come input.old) (λ file. HitFormats (lists self.now) file hits)) }
+
+        ensures at_end { OnOk result (IsAtEnd (R.to_come input.new)) }
 
         // A failed read is told, and only a failed read.
         ensures sound { OnOk result (R.failed input.new ≡ false) }
