@@ -1,9 +1,12 @@
 //! Bytes from and to the outside: the two device traits, and the adapters that make them of any
-//! reader and any writer.
+//! reader and any writer. Sets of bytes, and sets of states, as bits.
 //!
 //! What a device means is in the ghost members of its trait, in the words of `specs/Device.antt`.
+//! A set is its bits, one by one: `specs/BitSets.antt` and `specs/ByteClasses.antt`.
 #![tactic(auto)]
 
+mod bit_sets;
+mod byte_class;
 mod fault;
 mod input;
 mod output;
@@ -11,6 +14,8 @@ mod output;
 mod tests;
 mod whole;
 
+pub use bit_sets::{and_any, clear, get_bit, or_into, set_bit, subset};
+pub use byte_class::ByteClass;
 pub use fault::{DeviceFault, ReadWholeError};
 pub use input::{FromRead, Input};
 pub use output::{FromWrite, Output};

@@ -109,3 +109,53 @@ fn a_short_write_goes_on_and_a_failed_one_is_final(rt: HostRuntime) {
     assert_eq!(rt; output.write_all(b""), Err(DeviceFault));
     assert_eq!(rt; output.into_inner().taken, 3);
 }
+
+#[test]
+fn the_set_of_0_and_9_is_01_02(rt: HostRuntime) {
+    let mut set = [0xff; 2];
+    clear(&mut set);
+    assert_eq!(rt; set, [0, 0]);
+    set_bit(&mut set, 0);
+    set_bit(&mut set, 9);
+    assert_eq!(rt; set, [0x01, 0x02]);
+    for (i, wanted) in [(0, true), (1, false), (8, false), (9, true), (15, false)] {
+        assert_eq!(rt; get_bit(&set, i), wanted, "bit {i}");
+    }
+}
+
+#[test]
+fn sets_are_joined_and_compared(rt: HostRuntime) {
+    let mut joined = [0x01, 0x80];
+    or_into(&mut joined, &[0x03, 0x00]);
+    assert_eq!(rt; joined, [0x03, 0x80]);
+    for (a, b, meet, within) in [
+        ([0x00, 0x00], [0x00, 0x00], false, true),
+        ([0x01, 0x00], [0x00, 0x01], false, false),
+        ([0x00, 0x80], [0x01, 0x80], true, true),
+        ([0x01, 0x80], [0x00, 0x80], true, false),
+    ] {
+        assert_eq!(rt; and_any(&a, &b), meet, "{a:?} and {b:?}");
+        assert_eq!(rt; subset(&a, &b), within, "{a:?} in {b:?}");
+    }
+}
+
+#[test]
+fn a_class_holds_its_bytes_alone(rt: HostRuntime) {
+    let letter = ByteClass::of_byte(0x41);
+    let capitals = ByteClass::range(0x41, 0x5a);
+    for b in 0..=255 {
+        assert_eq!(rt; letter.contains(b), b == 0x41, "{b}");
+        assert_eq!(rt; capitals.contains(b), b.is_ascii_uppercase(), "{b}");
+        assert_eq!(rt;
+            capitals.without().contains(b),
+            !b.is_ascii_uppercase(),
+            "{b}"
+        );
+    }
+    assert!(rt; ByteClass::range(0x42, 0x41).is_empty());
+    assert!(rt; ByteClass::range(0, 255).without().is_empty());
+    assert!(rt; !ByteClass::of_byte(0).is_empty());
+    assert!(rt; capitals.same_side(0x41, 0x5a));
+    assert!(rt; capitals.same_side(0x40, 0x5b));
+    assert!(rt; !capitals.same_side(0x40, 0x41));
+}
