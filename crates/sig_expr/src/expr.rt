@@ -1,6 +1,6 @@
 //! An expression as the list of its items.
 
-ghost use Rattle.std.specs.Prelude.{◌≡◌, ◌<◌, length};
+ghost use Rattle.std.specs.Prelude.{◌≡◌, ◌<◌, length, vec_len};
 
 use super::Item;
 use std::marker::Model;
@@ -23,6 +23,22 @@ impl Model for Expr {
 }
 
 impl Expr {
+    // These items.
+    pub(crate) fn new(items: Vec<Item>) -> Expr
+        requires { 0 < vec_len items }
+        ensures { result ≡ items.items }
+    {
+        Expr { items }
+    }
+
+    // Lends the items, one at least.
+    pub(crate) fn all(&self) -> &[Item]
+        ensures items { result.now ≡ self.now }
+        ensures some { 0 < length self.now }
+    {
+        self.items.as_slice()
+    }
+
     /// Lends the items.
     pub fn items(&self) -> &[Item]
         ensures { result.now ≡ self.now }

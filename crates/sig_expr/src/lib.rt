@@ -3,12 +3,24 @@
 //! The words of an expression are in `specs/Words.antt`, its texts in `specs/Texts.antt`.
 #![tactic(auto)]
 
+mod builder;
+mod end;
 mod error;
 mod expr;
 mod item;
+mod parser;
+mod piece;
+
+mod printer;
 mod short;
+#[cfg(test)]
+mod tests;
+mod token;
 
 pub use error::ExprError;
 pub use expr::Expr;
 pub use item::{Alternatives, Atom, Item};
+pub use parser::parse;
+pub use printer::print;
+
 pub use short::Short;

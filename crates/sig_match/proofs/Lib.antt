@@ -1,1 +1,9 @@
 -- Lemmas of this crate.
+pub mod FrontierLemmas
+pub mod GapLemmas
+pub mod HitLemmas
+pub mod ItemLemmas
+pub mod ListingLemmas
+pub mod PartLemmas
+pub mod ReachLemmas
+pub mod StandLemmas

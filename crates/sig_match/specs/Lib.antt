@@ -1,5 +1,9 @@
 -- The definitions of this crate, and those of the crates below that its clauses cite.
+pub mod FirstHits
+pub mod Frontiers
+pub mod Gaps
 pub mod Hitting
+pub mod Parts
 pub use Rattle.sig_bits.specs.Bytes
 pub use Rattle.sig_bits.specs.Device
 pub use Rattle.sig_expr.specs.Words

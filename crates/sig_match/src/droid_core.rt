@@ -22,7 +22,6 @@ pub trait DroidCore {
     /// that hits.
     fn match_binary_signatures<R: Input>(&self, input: &mut R) -> Result<Results, CoreError>
         ensures hits { IfOk result (λ hits. IfSome (R.to_come input.old) (λ file. HitFormats (lists self.now) file hits)) }
-
         ensures at_end { OnOk result (IsAtEnd (R.to_come input.new)) }
 
         // A failed read is told, and only a failed read.

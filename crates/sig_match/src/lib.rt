@@ -5,8 +5,15 @@
 
 mod droid_core;
 mod error;
+mod frontier;
+mod hitting;
+mod part;
+mod reach;
 mod results;
+mod standing;
+mod whole_core;
 
 pub use droid_core::DroidCore;
 pub use error::CoreError;
 pub use results::{Hit, Results};
+pub use whole_core::WholeCore;

@@ -28,6 +28,13 @@ impl Model for Results {
 }
 
 impl Results {
+    /// These hits.
+    pub(crate) fn new(hits: Vec<Hit>) -> Results
+        ensures { result ≡ hits.items }
+    {
+        Results { hits }
+    }
+
     /// Lends the hits.
     pub fn hits(&self) -> &[Hit]
         ensures { result.now ≡ self.now }

@@ -1,1 +1,6 @@
 -- Lemmas of this crate.
+pub mod DraftLemmas
+pub mod FaultLemmas
+pub mod LoadLemmas
+pub mod NumberLemmas
+pub mod RecordLemmas

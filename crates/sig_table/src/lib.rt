@@ -4,12 +4,20 @@
 //! signature hits it in `specs/Standing.antt`.
 #![tactic(auto)]
 
+mod draft;
+mod error;
 mod ids;
+mod loader;
+mod numbers;
 mod position;
 mod puid;
+mod records;
+mod row;
 mod sequence;
+mod slots;
 mod table;
 
+pub use error::{TableError, TableFile};
 pub use ids::{FormatId, SigId};
 pub use position::Position;
 pub use puid::{Puid, Registry};

@@ -1,3 +1,10 @@
+//! The names of formats.
+
+ghost use Rattle.std.specs.Prelude.{◌≡◌, ◌<◌, ◌^◌, IfSome, Some};
+ghost use Rattle.sig_table.specs.Puids.{numbered, puid_of, puid_text};
+ghost use Rattle.sig_table.specs.declared.puid.Puid.{Puid};
+
+use super::numbers::read_positive;
 use std::fmt;
 
 /// The two registries that name formats.
@@ -14,6 +21,30 @@ pub enum Registry {
 pub struct Puid {
     registry: Registry,
     number: u32,
+}
+
+impl Puid {
+    #[tactic(auto, unfolding(crate::specs::Puids::puid_of))]
+    /// Reads `fmt/` or `x-fmt/` and a number of one to nine digits, the first not 0.
+    pub fn parse(text: &[u8]) -> Option<Puid>
+        ensures { result ≡ puid_of text.now }
+    {
+        if text.starts_with(b"fmt/") {
+            return numbered(Registry::Fmt, &text[4..]);
+        }
+        if text.starts_with(b"x-fmt/") {
+            return numbered(Registry::XFmt, &text[6..]);
+        }
+        None
+    }
+}
+
+// The PUID of a registry whose number the digits write.
+fn numbered(registry: Registry, digits: &[u8]) -> Option<Puid>
+    ensures { result ≡ numbered registry digits.now }
+{
+    let number = read_positive(digits)?;
+    Some(Puid { registry, number })
 }
 
 impl fmt::Display for Puid {

@@ -22,6 +22,14 @@ impl Model for Sequence {
 }
 
 impl Sequence {
+    // The expression at its place.
+    pub(crate) fn new(position: Position, expr: Expr) -> Sequence
+        ensures position { result.position ≡ position }
+        ensures items { result.items ≡ expr }
+    {
+        Sequence { position, expr }
+    }
+
     /// Where it stands.
     pub fn position(&self) -> Position
         ensures { result ≡ self.now.position }

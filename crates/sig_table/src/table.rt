@@ -1,13 +1,14 @@
 //! A table, and the calls that read it.
 
-ghost use Rattle.std.specs.Prelude.{◌≡◌, ◌<◌, ◌≤◌, ◌↔◌, IsTrue, Some, Contains, length, option_map, slice_get};
+ghost use Rattle.std.specs.Prelude.{◌≡◌, ◌<◌, ◌≤◌, ◌↔◌, [], ◌∷◌, ◌++◌, IsTrue, OnOk, Some, Contains, length, option_map, slice_get};
 
 use super::{FormatId, Puid, Sequence, SigId};
+use std::alloc::{AllocError, Global};
 use std::marker::Model;
 
 // A signature of a format.
 #[derive(Debug, Drop)]
-struct Signature {
+pub(crate) struct Signature {
     format: FormatId,
     number: u32,
     sequences: Vec<Sequence>,
@@ -39,7 +40,59 @@ impl Model for Table {
     ghost invariant = { λ t. IsTable (record { formats = t.formats.items; signatures = t.signatures.items; priorities = t.priorities.items }) };
 }
 
+impl Signature {
+    // A signature of the format, with no sequence yet.
+    pub(crate) fn new(alloc: Global, format: FormatId, number: u32) -> Signature
+        ensures { result ≡ record { format = format.0; number = number; sequences = [] } }
+    {
+        Signature {
+            format,
+            number,
+            sequences: Vec::new(alloc),
+        }
+    }
+
+    pub(crate) fn format(&self) -> FormatId
+        ensures { result.0 ≡ self.now.format }
+    {
+        self.format
+    }
+
+    // How many sequences there are.
+    pub(crate) fn sequence_count(&self) -> usize
+        ensures { result ≡ length self.now.sequences }
+    {
+        self.sequences.len()
+    }
+
+    // Adds a sequence behind the others.
+    pub(crate) fn push(&mut self, sequence: Sequence) -> Result<(), AllocError>
+        ensures { OnOk result (self.new ≡ record self.old { sequences = self.old.sequences ++ sequence ∷ [] }) }
+    {
+        self.sequences.push(sequence)?;
+        Ok(())
+    }
+}
+
 impl Table {
+    ghost use Rattle.sig_table.specs.Lists.{IsTable};
+
+    // The table of these lists.
+    pub(crate) fn new(
+        formats: Vec<Puid>,
+        signatures: Vec<Signature>,
+        priorities: Vec<(u16, u16)>,
+    ) -> Table
+        requires { IsTable (record { formats = formats.items; signatures = signatures.items; priorities = priorities.items }) }
+        ensures { result ≡ record { formats = formats.items; signatures = signatures.items; priorities = priorities.items } }
+    {
+        Table {
+            formats,
+            signatures,
+            priorities,
+        }
+    }
+
     /// How many formats there are, with or without signatures.
     pub fn format_count(&self) -> usize
         ensures count { result ≡ length self.now.formats }

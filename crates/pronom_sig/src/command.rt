@@ -1,0 +1,114 @@
+//! All that the program does: it reads the words, opens the files, answers, and gives the status.
+
+ghost use Rattle.std.specs.Prelude.{◌≡◌, ◌≤◌, false, IfErr, OnOk};
+ghost use Rattle.pronom_sig.specs.Statuses.{status_of};
+
+use crate::engine::run_match;
+use crate::error::RunError;
+use crate::lines::Fault;
+use crate::words::{Asked, TableWords, read_words};
+use clap::Error;
+use clap::error::ErrorKind;
+use sig_bits::{FromRead, Output};
+use sig_match::WholeCore;
+use sig_table::Table;
+use std::alloc::Global;
+use std::fs;
+use std::rt::Files;
+
+/// Runs the program on its words, without its name, and answers the status.
+///
+/// The answer and the help go to `out`; a fault is one line on `err`, and a usage fault is the text
+/// of `clap`. A failed write to `err` changes no status.
+pub fn command<R: Files + AllocGlobal, W: Output, E: Output>(
+    rt: &R,
+    words: &[String],
+    out: &mut W,
+    err: &mut E,
+) -> u8
+    ensures known { result ≤ 3 }
+    ensures shown { result ≡ 0 → W.failed out.new ≡ false }
+    ensures quiet { result ≡ 0 → err.new ≡ err.old }
+    ensures refused { result ≡ 2 → out.new ≡ out.old }
+{
+    match read_words(rt.alloc(), words) {
+        Ok(asked) => match answer(rt, asked, out) {
+            Ok(()) => 0,
+            Err(fault) => tell(rt.alloc(), fault, err),
+        },
+        Err(error) => show_usage(rt.alloc(), &error, out, err),
+    }
+}
+
+// Answers what the words ask for.
+fn answer<'a, R: Files + AllocGlobal, W: Output>(
+    rt: &R,
+    asked: Asked<'a>,
+    out: &mut W,
+) -> Result<(), Fault<'a>>
+    ensures shown { OnOk result (W.failed out.new ≡ false) }
+    ensures refused { IfErr result (λ fault. status_of fault ≡ 2 → out.new ≡ out.old) }
+{
+    match asked {
+        Asked::Match { table, file } => {
+            let core = WholeCore::new(rt.alloc(), load(rt, table)?);
+            let mut file = open(rt, file)?;
+            match run_match(rt.alloc(), &core, &mut file, out) {
+                Ok(()) => Ok(()),
+                Err(error) => Err(Fault::Run(error)),
+            }
+        }
+    }
+}
+
+// Opens both files of a table, and loads it.
+fn load<'a, R: Files + AllocGlobal>(rt: &R, words: TableWords<'a>) -> Result<Table, Fault<'a>> {
+    let mut signatures = open(rt, words.signatures)?;
+    let mut priorities = open(rt, words.priorities)?;
+    match Table::load(rt.alloc(), &mut signatures, &mut priorities) {
+        Ok(table) => Ok(table),
+        Err(error) => Err(Fault::Table(error)),
+    }
+}
+
+fn open<'a, R: Files>(rt: &R, name: &'a str) -> Result<FromRead<R::File>, Fault<'a>> {
+    match fs::open(rt, name) {
+        Ok(file) => Ok(FromRead::new(file)),
+        Err(_) => Err(Fault::CannotOpen(name)),
+    }
+}
+
+/// Writes the line of a fault to `err`, and answers its status.
+pub fn tell<E: Output>(alloc: Global, fault: Fault<'_>, err: &mut E) -> u8
+    ensures least { 2 ≤ result }
+    ensures greatest { result ≤ 3 }
+    ensures refused { result ≡ 2 → status_of fault.entry ≡ 2 }
+{
+    let Ok(line) = format!(in alloc; "{fault}\n") else {
+        let _ = err.write_all(b"out of memory\n");
+        return 3;
+    };
+    let _ = err.write_all(line.as_bytes());
+    fault.status()
+}
+
+// What `clap` says: help is an answer, and all else a fault of the words, unless memory ran out.
+fn show_usage<W: Output, E: Output>(alloc: Global, error: &Error, out: &mut W, err: &mut E) -> u8
+    ensures known { result ≤ 3 }
+    ensures shown { result ≡ 0 → W.failed out.new ≡ false }
+    ensures quiet { result ≡ 0 → err.new ≡ err.old }
+    ensures refused { result ≡ 2 → out.new ≡ out.old }
+{
+    let text = match error.to_string(alloc) {
+        Ok(text) if error.kind() != ErrorKind::OutOfMemory => text,
+        _ => return tell(alloc, Fault::Run(RunError::OutOfMemory), err),
+    };
+    if error.use_stderr() {
+        let _ = err.write_all(text.as_bytes());
+        return 2;
+    }
+    match out.write_all(text.as_bytes()) {
+        Ok(()) => 0,
+        Err(_) => tell(alloc, Fault::Run(RunError::Write), err),
+    }
+}

@@ -1,0 +1,464 @@
+//! What no contract says: texts, statuses and streams, on rows worked out by hand.
+
+ghost use Rattle.std.specs.Prelude.{◌-◌, None, length};
+
+use crate::command::command;
+use crate::engine::run_match;
+use crate::error::RunError;
+use sig_bits::{DeviceFault, FromRead, FromWrite, Input, Output};
+use sig_match::WholeCore;
+use sig_table::Table;
+use std::test::Fail;
+use std::{env, fs, process};
+
+const SIGNATURES: &str = "puid,signature,position,offset,max_offset,expression\n";
+
+const PRIORITIES: &str = "higher,lower\n";
+
+// What a run of the program leaves.
+#[derive(Debug, Drop)]
+struct Shown {
+    status: u8,
+    out: String,
+    err: String,
+}
+
+// Runs the program on words.
+fn run_program(rt: &HostRuntime, words: &[&str]) -> Result<Shown, Fail> {
+    let mut owned = Vec::new(rt.alloc());
+    for word in words {
+        owned.push(word.to_string(rt.alloc())?)?;
+    }
+    let mut out = FromWrite::new(Vec::new(rt.alloc()));
+    let mut err = FromWrite::new(Vec::new(rt.alloc()));
+    let status = command(rt, owned.as_slice(), &mut out, &mut err);
+    Ok(Shown {
+        status,
+        out: String::from_utf8(out.into_inner())?,
+        err: String::from_utf8(err.into_inner())?,
+    })
+}
+
+// A new folder of this test's own.
+fn folder(rt: &HostRuntime, name: &str) -> Result<String, Fail> {
+    let temp = env::temp_dir(rt)?;
+    let temp = temp.as_path();
+    let process = process::id(rt.process());
+    let path = format!(in rt.alloc(); "{}/pronom_sig_{name}_{process}", temp.display())?;
+    fs::create_dir_all(rt, path.as_str())?;
+    Ok(path)
+}
+
+// Puts a file into the folder, and gives its path.
+fn put(rt: &HostRuntime, folder: &str, name: &str, bytes: &[u8]) -> Result<String, Fail> {
+    let path = format!(in rt.alloc(); "{folder}/{name}")?;
+    fs::write(rt, path.as_str(), bytes)?;
+    Ok(path)
+}
+
+// Runs `match` on three names of files.
+fn run_match_on(
+    rt: &HostRuntime,
+    signatures: &str,
+    priorities: &str,
+    file: &str,
+) -> Result<Shown, Fail> {
+    run_program(rt, &["match", signatures, priorities, file])
+}
+
+// Runs `match` on the two texts of a table and on a file.
+fn matched(
+    rt: &HostRuntime,
+    folder: &str,
+    signatures: &str,
+    priorities: &str,
+    file: &[u8],
+) -> Result<Shown, Fail> {
+    let signatures = put(rt, folder, "signatures.csv", signatures.as_bytes())?;
+    let priorities = put(rt, folder, "priorities.csv", priorities.as_bytes())?;
+    let file = put(rt, folder, "file.bin", file)?;
+    run_match_on(rt, signatures.as_str(), priorities.as_str(), file.as_str())
+}
+
+#[test]
+fn prints_a_line_for_each_format_left(rt: HostRuntime) -> Result<(), Fail> {
+    const FIRST: &str = "fmt/1,1,BOF,0,,4142\n";
+    const SHIFTED: &str = "fmt/1,1,BOF,1,,41??\n";
+    const TWO_OF_ONE: &str = "fmt/1,9,BOF,0,,41\nfmt/1,2,BOF,0,,41\n";
+    const THREE: &str = "fmt/1,1,BOF,0,,41??\nfmt/2,2,BOF,0,,??42\nfmt/3,3,BOF,0,,4142\n";
+    const CHAIN: &str = "fmt/1,1,BOF,0,,41\nfmt/2,2,BOF,0,,41\nfmt/3,3,BOF,0,,41\n";
+    const PLAIN: &str = "fmt/1,1,BOF,0,,41\nx-fmt/20,2,BOF,0,,41\n";
+    let folder = folder(&rt, "left")?;
+    let cases: [(&str, &str, &[u8], &str); 9] = [
+        (FIRST, "", b"AB", "fmt/1 1\n"),
+        (SHIFTED, "", b"\x00A\xff\x00", "fmt/1 1\n"),
+        (SHIFTED, "", b"\x00A", ""),
+        (TWO_OF_ONE, "", b"A", "fmt/1 9\n"),
+        (THREE, "fmt/3,fmt/1\nfmt/3,fmt/2\n", b"AB", "fmt/3 3\n"),
+        (THREE, "fmt/3,fmt/1\nfmt/3,fmt/2\n", b"A\x00", "fmt/1 1\n"),
+        (CHAIN, "fmt/1,fmt/2\nfmt/2,fmt/3\n", b"A", "fmt/1 1\n"),
+        (PLAIN, "", b"A", "fmt/1 1\nx-fmt/20 2\n"),
+        ("", "", b"A", ""),
+    ];
+    for (rows, pairs, file, out) in cases {
+        let signatures = format!(in rt.alloc(); "{SIGNATURES}{rows}")?;
+        let priorities = format!(in rt.alloc(); "{PRIORITIES}{pairs}")?;
+        let shown = matched(
+            &rt,
+            folder.as_str(),
+            signatures.as_str(),
+            priorities.as_str(),
+            file,
+        )?;
+        assert_eq!(rt; shown.out.as_str(), out, "{rows}{pairs}");
+        assert_eq!(rt; shown.err.as_str(), "", "{rows}{pairs}");
+        assert_eq!(rt; shown.status, 0, "{rows}{pairs}");
+    }
+    fs::remove_dir_all(&rt, folder.as_str())?;
+    Ok(())
+}
+
+#[test]
+fn names_the_first_fault_of_a_table(rt: HostRuntime) -> Result<(), Fail> {
+    let folder = folder(&rt, "faults")?;
+    let cases = [
+        ("fmt/1,1,BOF,0,\n", "", "signatures row 1: L3 fields"),
+        (
+            "fmt/1,1,BOF,0,,41\n",
+            "fmt/1\n",
+            "priorities row 1: L3 fields",
+        ),
+        ("fmt/01,1,BOF,0,,41\n", "", "signatures row 1: L4 puid"),
+        (
+            "fmt/1,1,BOF,0,,41\n",
+            "fmt/1,1\n",
+            "priorities row 1: L4 puid",
+        ),
+        (
+            "fmt/1,0,BOF,0,,41\n",
+            "",
+            "signatures row 1: L5 signature number",
+        ),
+        ("fmt/1,1,Bof,0,,41\n", "", "signatures row 1: L6 position"),
+        ("fmt/1,1,BOF,,,41\n", "", "signatures row 1: L7 offset"),
+        (
+            "fmt/1,1,BOF,0,,41 42\n",
+            "",
+            "signatures row 1: L8 expression E2 at 2",
+        ),
+        (
+            "fmt/1,1,BOF,0,,{65536}\n",
+            "",
+            "signatures row 1: L8 expression E3 at 0",
+        ),
+        (
+            "fmt/1,1,BOF,0,,{0}\n",
+            "",
+            "signatures row 1: L8 expression E4 at 0",
+        ),
+        (
+            "fmt/1,1,BOF,0,,{5-2}\n",
+            "",
+            "signatures row 1: L8 expression E5 at 0",
+        ),
+        (
+            "fmt/1,1,BOF,0,,41[42:41]\n",
+            "",
+            "signatures row 1: L8 expression E6 at 2",
+        ),
+        (
+            "fmt/1,1,BOF,0,,[!00:FF]\n",
+            "",
+            "signatures row 1: L8 expression E7 at 0",
+        ),
+        (
+            "fmt/1,1,BOF,0,,[41:4142]\n",
+            "",
+            "signatures row 1: L8 expression E9 at 0",
+        ),
+        (
+            "fmt/1,1,BOF,0,,41[!010203040506070809]\n",
+            "",
+            "signatures row 1: L8 expression E10 at 2",
+        ),
+        (
+            "fmt/1,1,BOF,0,,4142\nfmt/2,1,BOF,0,,4143\n",
+            "",
+            "signatures row 2: L9 signature of two formats",
+        ),
+        (
+            "fmt/1,1,Variable,,,{65534}\n",
+            "",
+            "signatures row 1: L11 too many slots",
+        ),
+        (
+            "fmt/1,1,BOF,0,,41\n",
+            "fmt/1,fmt/9\n",
+            "priorities row 1: L13 unknown format",
+        ),
+        (
+            "fmt/1,1,BOF,0,,41\n",
+            "fmt/1,fmt/1\n",
+            "priorities row 1: L14 format over itself",
+        ),
+        (
+            "fmt/1,1,BOF,0,,41\nfmt/2,2,BOF,0,,41\n",
+            "fmt/1,fmt/2\nfmt/1,fmt/2\n",
+            "priorities row 2: L15 pair twice",
+        ),
+        (
+            "fmt/1,1,BOF,0,,41\nfmt/2,2,BOF,0,,41\n",
+            "fmt/1,fmt/2\nfmt/2,fmt/1\n",
+            "priorities row 2: L17 cycle of priorities",
+        ),
+    ];
+    for (rows, pairs, line) in cases {
+        let signatures = format!(in rt.alloc(); "{SIGNATURES}{rows}")?;
+        let priorities = format!(in rt.alloc(); "{PRIORITIES}{pairs}")?;
+        let shown = matched(
+            &rt,
+            folder.as_str(),
+            signatures.as_str(),
+            priorities.as_str(),
+            b"A",
+        )?;
+        let line = format!(in rt.alloc(); "{line}\n")?;
+        assert_eq!(rt; shown.err.as_str(), line.as_str());
+        assert_eq!(rt; shown.out.as_str(), "", "{line}");
+        assert_eq!(rt; shown.status, 2, "{line}");
+    }
+    fs::remove_dir_all(&rt, folder.as_str())?;
+    Ok(())
+}
+
+// The text once for each number from 1 to `count`, with `#` for the number.
+fn repeated(rt: &HostRuntime, count: u32, text: &str) -> Result<String, Fail> {
+    let mut all = SIGNATURES.to_string(rt.alloc())?;
+    for i in 0..count {
+        let number = (u64::from(i) + 1).to_string(rt.alloc())?;
+        all.push_str(text.replace(rt.alloc(), "#", number.as_str())?.as_str())?;
+    }
+    Ok(all)
+}
+
+#[test]
+fn names_a_limit_that_is_passed(rt: HostRuntime) -> Result<(), Fail> {
+    let folder = folder(&rt, "limits")?;
+    let pairs = "41".repeat(rt.alloc(), 4097)?;
+    let long = format!(in rt.alloc(); "{SIGNATURES}fmt/1,1,BOF,0,,{pairs}\n")?;
+    let nine = repeated(&rt, 9, "fmt/1,1,BOF,0,,41\n")?;
+    let many = repeated(&rt, 1001, "fmt/#,#,BOF,0,,41\n")?;
+    let cases = [
+        ("no header\n", PRIORITIES, "signatures: L2 header"),
+        (SIGNATURES, "", "priorities: L2 header"),
+        (
+            long.as_str(),
+            PRIORITIES,
+            "signatures row 1: L8 expression E1",
+        ),
+        (
+            nine.as_str(),
+            PRIORITIES,
+            "signatures row 9: L10 too many sequences",
+        ),
+        (
+            many.as_str(),
+            PRIORITIES,
+            "signatures row 1001: L12 too many formats",
+        ),
+    ];
+    for (signatures, priorities, line) in cases {
+        let shown = matched(&rt, folder.as_str(), signatures, priorities, b"A")?;
+        let line = format!(in rt.alloc(); "{line}\n")?;
+        assert_eq!(rt; shown.err.as_str(), line.as_str());
+        assert_eq!(rt; shown.out.as_str(), "", "{line}");
+        assert_eq!(rt; shown.status, 2, "{line}");
+    }
+    fs::remove_dir_all(&rt, folder.as_str())?;
+    Ok(())
+}
+
+#[test]
+fn opens_the_table_first_and_the_file_after_the_load(rt: HostRuntime) -> Result<(), Fail> {
+    let folder = folder(&rt, "opens")?;
+    let folder = folder.as_str();
+    let table = format!(in rt.alloc(); "{SIGNATURES}fmt/1,1,BOF,0,,4142\n")?;
+    let signatures = put(&rt, folder, "signatures.csv", table.as_bytes())?;
+    let signatures = signatures.as_str();
+    let priorities = put(&rt, folder, "priorities.csv", PRIORITIES.as_bytes())?;
+    let priorities = priorities.as_str();
+    let file = put(&rt, folder, "file.bin", b"AB")?;
+    let file = file.as_str();
+    let missing = [
+        (
+            run_match_on(&rt, "none.csv", "other.csv", "none")?,
+            b"cannot open none.csv\n".as_slice(),
+            3,
+        ),
+        (
+            run_match_on(&rt, signatures, "other.csv", "none")?,
+            b"cannot open other.csv\n",
+            3,
+        ),
+        (
+            run_match_on(&rt, signatures, priorities, "none")?,
+            b"cannot open none\n",
+            3,
+        ),
+        (
+            run_match_on(&rt, priorities, priorities, "none")?,
+            b"signatures: L2 header\n",
+            2,
+        ),
+        (
+            run_match_on(&rt, folder, priorities, file)?,
+            b"read failed\n",
+            3,
+        ),
+        (
+            run_match_on(&rt, signatures, folder, file)?,
+            b"read failed\n",
+            3,
+        ),
+        (
+            run_match_on(&rt, signatures, priorities, folder)?,
+            b"read failed\n",
+            3,
+        ),
+    ];
+    for (shown, line, status) in missing {
+        assert_eq!(rt; shown.err.as_bytes(), line, "{shown:?}");
+        assert_eq!(rt; shown.out.as_str(), "", "{shown:?}");
+        assert_eq!(rt; shown.status, status, "{shown:?}");
+    }
+    fs::remove_dir_all(&rt, folder)?;
+    Ok(())
+}
+
+#[test]
+fn shows_help_and_refuses_wrong_words(rt: HostRuntime) -> Result<(), Fail> {
+    let helps: [(&[&str], &str); 4] = [
+        (&["--help"], "Match files against tables of signatures\n"),
+        (&["-h"], "Match files against tables of signatures\n"),
+        (&["help"], "Match files against tables of signatures\n"),
+        (&["match", "--help"], "Print the formats left for a file\n"),
+    ];
+    for (words, begin) in helps {
+        let shown = run_program(&rt, words)?;
+        assert!(rt; shown.out.as_str().starts_with(begin), "{words:?}");
+        assert_eq!(rt; shown.err.as_str(), "", "{words:?}");
+        assert_eq!(rt; shown.status, 0, "{words:?}");
+    }
+    let faults: [(&[&str], &str); 5] = [
+        (&[], "error: 'pronom_sig' requires a subcommand"),
+        (&["look"], "error: unrecognized subcommand 'look'"),
+        (
+            &["match", "a", "b"],
+            "error: the following required arguments were not provided:",
+        ),
+        (
+            &["match", "a", "b", "c", "d"],
+            "error: unexpected argument 'd' found",
+        ),
+        (
+            &["match", "--most", "a", "b", "c"],
+            "error: unexpected argument '--most' found",
+        ),
+    ];
+    for (words, begin) in faults {
+        let shown = run_program(&rt, words)?;
+        assert!(rt; shown.err.as_str().starts_with(begin), "{words:?}");
+        assert_eq!(rt; shown.out.as_str(), "", "{words:?}");
+        assert_eq!(rt; shown.status, 2, "{words:?}");
+    }
+    Ok(())
+}
+
+// An input that gives one byte at a time, and at its end may fail.
+#[derive(Drop)]
+struct Pieces<'a> {
+    bytes: &'a [u8],
+    at: usize,
+    fails: bool,
+    failed: bool,
+}
+
+impl Input for Pieces<'_> {
+    ghost failed = { λ s. s.failed };
+
+    ghost limit = { λ s. length s.bytes.now - s.at };
+
+    ghost to_come = { λ _. None };
+
+    fn read(&mut self, buf: &mut [u8]) -> Result<usize, DeviceFault> {
+        if self.at < self.bytes.len() && !buf.is_empty() && !self.failed {
+            buf[0] = self.bytes[self.at];
+            self.at += 1;
+            return Ok(1);
+        }
+        if self.fails || self.failed {
+            self.failed = true;
+            return Err(DeviceFault);
+        }
+        Ok(0)
+    }
+}
+
+// An output whose every write fails.
+#[derive(Drop)]
+struct Broken {
+    failed: bool,
+}
+
+impl Output for Broken {
+    ghost failed = { λ s. s.failed };
+
+    ghost limit = { λ _. 0 };
+
+    ghost written = { λ _. None };
+
+    fn write_all(&mut self, _bytes: &[u8]) -> Result<(), DeviceFault> {
+        self.failed = true;
+        Err(DeviceFault)
+    }
+}
+
+// The core of a table of the one row `fmt/1,1,BOF,0,,4142`.
+fn core_of_one(rt: &HostRuntime) -> Result<WholeCore, Fail> {
+    let signatures = format!(in rt.alloc(); "{SIGNATURES}fmt/1,1,BOF,0,,4142\n")?;
+    let mut signatures = FromRead::new(signatures.as_bytes());
+    let mut priorities = FromRead::new(PRIORITIES.as_bytes());
+    let table = Table::load(rt.alloc(), &mut signatures, &mut priorities)?;
+    Ok(WholeCore::new(rt.alloc(), table))
+}
+
+#[test]
+fn writes_nothing_before_the_last_read(rt: HostRuntime) -> Result<(), Fail> {
+    let core = core_of_one(&rt)?;
+    for (fails, answer, written) in [
+        (false, Ok(()), "fmt/1 1\n"),
+        (true, Err(RunError::Read), ""),
+    ] {
+        let mut file = Pieces {
+            bytes: b"AB",
+            at: 0,
+            fails,
+            failed: false,
+        };
+        let mut out = FromWrite::new(Vec::new(rt.alloc()));
+        assert_eq!(rt; run_match(rt.alloc(), &core, &mut file, &mut out), answer);
+        let out = String::from_utf8(out.into_inner())?;
+        assert_eq!(rt; out.as_str(), written);
+    }
+    Ok(())
+}
+
+#[test]
+fn tells_a_failed_write(rt: HostRuntime) -> Result<(), Fail> {
+    let core = core_of_one(&rt)?;
+    let mut file = FromRead::new(b"AB".as_slice());
+    let mut out = Broken { failed: false };
+    let answer = run_match(rt.alloc(), &core, &mut file, &mut out);
+    assert_eq!(rt; answer, Err(RunError::Write));
+    Ok(())
+}

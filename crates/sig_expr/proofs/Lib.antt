@@ -1,0 +1,5 @@
+-- The lemmas of this crate.
+pub mod CanonLemmas
+pub mod FaultLemmas
+pub mod ReadingLemmas
+pub mod WritingLemmas

@@ -1,0 +1,16 @@
+use Rattle.std.proofs.Common.{◌≡◌, ℕ, ◌+◌, ◌<◌, List, [], ◌∷◌, ◌++◌, length, drop, get_or, map, refl, sym, rules, arith}
+use Rattle.std.proofs.lemmas.List.{drop_all}
+use Rattle.sig_expr.specs.Canon.{alternative_text}
+use Rattle.sig_expr.specs.Writing.{Sink, sink, Wrote}
+use Rattle.sig_expr.proofs.WritingLemmas.{wrote_nothing, wrote_more, wrote_then}
+use Rattle.sig_expr.proofs.CanonLemmas.{word_text-rest, alternative_text-rest, alternatives_text-rest, canon-rest}
+use Rattle.sig_expr.proofs.printer.put_alternative.Goals as goal
+
+pub loop-atom-preserved : goal.loop-atom-preserved
+loop-atom-preserved g c = λ end w.
+    c.loop-atom.invariant end (rw (alternative_text-rest c.args.alternative.now c.loop-atom.atom-index c.atom-item.result c.loop-atom-test.true, ← c.atom-item.is) (wrote_more _ _ _ _ _ c.in_ok-put_atom.ensures.wrote w))
+
+pub returns-clause-wrote : goal.returns-clause-wrote
+unfolding alternative_text
+returns-clause-wrote g c =
+    c.loop-atom.invariant _ (rw (drop_all c.loop-atom.atom-index c.args.alternative.now c.loop-atom-test.false) (wrote_nothing _))

@@ -1,0 +1,17 @@
+use Rattle.std.proofs.Common.{◌≡◌, ℕ, ◌+◌, ◌<◌, List, [], ◌∷◌, ◌++◌, length, drop, get_or, map, refl, sym, rules, arith}
+use Rattle.std.proofs.lemmas.List.{drop_all}
+use Rattle.sig_expr.specs.Canon.{alternatives_text}
+use Rattle.sig_expr.specs.Writing.{Sink, sink, Wrote}
+use Rattle.sig_expr.proofs.WritingLemmas.{wrote_nothing, wrote_more, wrote_then}
+use Rattle.sig_expr.proofs.CanonLemmas.{word_text-rest, alternative_text-rest, alternatives_text-rest, canon-rest}
+use Rattle.sig_expr.proofs.printer.put_alternatives.Goals as goal
+
+pub loop-alternative-preserved : goal.loop-alternative-preserved
+loop-alternative-preserved g c = λ end w.
+    c.loop-alternative.invariant end (rw (alternatives_text-rest c.loop-alternative.sign c.args.alternatives.now c.loop-alternative.alternative-index c.alternative-item.result c.loop-alternative-test.true, ← c.alternative-item.is, ← c.as_slice.ensures.value)
+    (wrote_more _ _ _ _ _ c.in_ok-put.ensures.wrote (wrote_more _ _ _ _ _ c.in_ok-put_alternative.ensures.wrote w)))
+
+pub returns-clause-wrote : goal.returns-clause-wrote
+unfolding alternatives_text
+returns-clause-wrote g c =
+    c.loop-alternative.invariant _ (rw (drop_all c.loop-alternative.alternative-index c.args.alternatives.now c.loop-alternative-test.false) (wrote_nothing _))

@@ -1,0 +1,16 @@
+use Rattle.std.proofs.Common.{◌≡◌, ℕ, ◌+◌, ◌<◌, List, [], ◌∷◌, ◌++◌, length, drop, get_or, map, refl, sym, rules, arith}
+use Rattle.std.proofs.lemmas.List.{drop_all}
+use Rattle.sig_expr.specs.Canon.{canon}
+use Rattle.sig_expr.specs.Writing.{Sink, sink, Wrote}
+use Rattle.sig_expr.proofs.WritingLemmas.{wrote_nothing, wrote_more, wrote_then}
+use Rattle.sig_expr.proofs.CanonLemmas.{word_text-rest, alternative_text-rest, alternatives_text-rest, canon-rest}
+use Rattle.sig_expr.proofs.printer.put_items.Goals as goal
+
+pub loop-item-preserved : goal.loop-item-preserved
+loop-item-preserved g c = λ end w.
+    c.loop-item.invariant end (rw (canon-rest c.args.items.now c.loop-item.item-index c.item-item.result c.loop-item-test.true, ← c.item-item.is) (wrote_more _ _ _ _ _ c.in_ok-put_item.ensures.wrote w))
+
+pub returns-clause-wrote : goal.returns-clause-wrote
+unfolding canon
+returns-clause-wrote g c =
+    c.loop-item.invariant _ (rw (drop_all c.loop-item.item-index c.args.items.now c.loop-item-test.false) (wrote_nothing _))

@@ -1,0 +1,17 @@
+-- An end of a bracket while it is read: its first eight bytes, and how many it has.
+use Rattle.std.specs.Prelude.{ℕ, ◌+◌, ◌&&◌, nat_lt, nat_le, if◌then◌else◌, List, [], ◌∷◌, slice_set, take}
+use Rattle.sig_expr.specs.declared.end.End.{End}
+
+abbrev pub empty_end : End
+empty_end = record { bytes = 0 ∷ 0 ∷ 0 ∷ 0 ∷ 0 ∷ 0 ∷ 0 ∷ 0 ∷ []; len = 0 }
+
+-- one byte more
+unfoldable pub push_of : End → ℕ → End
+push_of e b = record {
+  bytes = if nat_lt e.len 8 then slice_set e.bytes e.len b else e.bytes;
+  len = if nat_lt e.len 8192 then e.len + 1 else e.len;
+}
+
+-- the word, where it has one to eight bytes
+unfoldable pub word_of : End → List ℕ
+word_of e = if nat_lt 0 e.len && nat_le e.len 8 then take e.len e.bytes else e.bytes

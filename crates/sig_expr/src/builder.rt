@@ -1,0 +1,110 @@
+//! The items of a text from its pieces.
+
+ghost use Rattle.std.specs.Prelude.{◌≡◌, OnOk, List, []};
+ghost use Rattle.sig_expr.specs.Built.{Built, built, fresh, with_bar, with_close, with_part, with_item, built_of, atom_of, item_of};
+
+use super::token::Piece;
+use super::{Alternatives, Atom, Item};
+use std::alloc::{AllocError, Global};
+use std::mem;
+
+/// The items so far. In a list also its alternatives so far, and the parts of the one that is read.
+#[derive(Drop)]
+pub(crate) struct Builder {
+    pub items: Vec<Item>,
+    pub alternatives: Vec<Vec<Atom>>,
+    pub alternative: Vec<Atom>,
+    pub inside: bool,
+}
+
+// The part of a list, where the piece is one.
+fn atom(piece: Piece) -> Option<Atom>
+    ensures { result ≡ atom_of piece }
+{
+    match piece {
+        Piece::Byte(byte) => Some(Atom::Byte(byte)),
+        Piece::Range(first, second) => Some(Atom::Range(first.word(), second.word())),
+        Piece::Not(end) => Some(Atom::Not(end.word())),
+        Piece::NotRange(first, second) => Some(Atom::NotRange(first.word(), second.word())),
+        _ => None,
+    }
+}
+
+// The item, where the piece is one.
+fn item(piece: Piece) -> Option<Item>
+    ensures { result ≡ item_of piece }
+{
+    match piece {
+        Piece::Byte(byte) => Some(Item::Byte(byte)),
+        Piece::Any => Some(Item::Any),
+        Piece::Gap { min, max } => Some(Item::Gap { min, max }),
+        Piece::Range(first, second) => Some(Item::Range(first.word(), second.word())),
+        Piece::Not(end) => Some(Item::Not(end.word())),
+        Piece::NotRange(first, second) => Some(Item::NotRange(first.word(), second.word())),
+        _ => None,
+    }
+}
+
+impl Builder {
+    /// Nothing is built.
+    pub(crate) fn new(alloc: Global) -> Builder
+        ensures { built result ≡ fresh }
+    {
+        Builder {
+            items: Vec::new(alloc),
+            alternatives: Vec::new(alloc),
+            alternative: Vec::new(alloc),
+            inside: false,
+        }
+    }
+
+    // The alternative that is read ends.
+    fn end_alternative(&mut self, alloc: Global) -> Result<(), AllocError>
+        ensures { OnOk result (built self.new ≡ with_bar (built self.old)) }
+    {
+        let alternative = mem::replace(&mut self.alternative, Vec::new(alloc));
+        self.alternatives.push(alternative)?;
+        self.inside = true;
+        Ok(())
+    }
+
+    // The list ends.
+    fn end_list(&mut self, alloc: Global) -> Result<(), AllocError>
+        ensures { OnOk result (built self.new ≡ with_close (built self.old)) }
+    {
+        self.end_alternative(alloc)?;
+        let alternatives = mem::replace(&mut self.alternatives, Vec::new(alloc));
+        self.items.push(Item::Alt(Alternatives::new(alternatives)))?;
+        self.inside = false;
+        Ok(())
+    }
+
+    // A byte, a bracket, `??` or a gap.
+    fn add_part(&mut self, piece: Piece) -> Result<(), AllocError>
+        ensures { OnOk result (built self.new ≡ with_part (built self.old) piece) }
+    {
+        if self.inside {
+            if let Some(atom) = atom(piece) {
+                self.alternative.push(atom)?;
+            }
+        } else if let Some(item) = item(piece) {
+            self.items.push(item)?;
+        }
+        Ok(())
+    }
+
+    /// One piece more.
+    pub(crate) fn add(&mut self, alloc: Global, piece: Piece) -> Result<(), AllocError>
+        ensures { OnOk result (built self.new ≡ built_of (built self.old) piece) }
+    {
+        match piece {
+            Piece::Open => {
+                self.inside = true;
+                Ok(())
+            }
+            Piece::Bar => self.end_alternative(alloc),
+            Piece::Close => self.end_list(alloc),
+            _ => self.add_part(piece),
+        }
+    }
+}

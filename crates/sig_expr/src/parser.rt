@@ -1,0 +1,103 @@
+//! From a text to its items.
+//!
+//! Two passes find every refusal and grow nothing: `stop` the place where no expression goes on, and
+//! `fault` the first gap or bracket out of the profile. `items` then builds the value.
+
+ghost use Rattle.std.specs.Prelude.{◌≡◌, ◌<◌, IfOk, length, OnOk};
+ghost use Rattle.sig_expr.specs.Built.{built};
+ghost use Rattle.sig_expr.specs.Passes.{stop_of, fault_in, built_step, items_of};
+ghost use Rattle.sig_expr.specs.Texts.{Tells, expr_of};
+
+use super::builder::Builder;
+use super::piece::judge;
+use super::token::{State, Step, Token};
+use super::{Expr, ExprError, Item};
+use std::alloc::{AllocError, Global};
+
+/// The greatest length of a text.
+const LONGEST: usize = 8192;
+
+// Where no expression goes on.
+#[tactic(auto, unfolding(crate::specs::Passes::stop_from))]
+fn stop(text: &[u8]) -> Option<usize>
+    ensures { result ≡ stop_of text.now }
+{
+    let mut state = State::START;
+    for (place, byte) in text.iter().enumerate() {
+        let step = state.feed(*byte);
+        if matches!(step, Step::Refused) {
+            return Some(place);
+        }
+        state = state.next(step);
+    }
+    if state.is_end() { None } else { Some(text.len()) }
+}
+
+// The first fault of a gap or a bracket.
+#[tactic(auto, unfolding(crate::specs::Passes::fault_from))]
+fn fault(text: &[u8]) -> Option<ExprError>
+    ensures { result ≡ fault_in text.now }
+{
+    let mut state = State::START;
+    let mut opened = 0;
+    for (place, byte) in text.iter().enumerate() {
+        if matches!(state.token, Token::Between) {
+            opened = place;
+        }
+        let step = state.feed(*byte);
+        if let Step::Whole(piece) = step
+            && let Some(fault) = judge(piece, opened)
+        {
+            return Some(fault);
+        }
+        state = state.next(step);
+    }
+    None
+}
+
+// What a step builds.
+fn build(builder: &mut Builder, alloc: Global, step: Step) -> Result<(), AllocError>
+    ensures { OnOk result (built builder.new ≡ built_step (built builder.old) step) }
+{
+    match step {
+        Step::Whole(piece) => builder.add(alloc, piece),
+        _ => Ok(()),
+    }
+}
+
+// The items of a text.
+#[tactic(auto, unfolding(crate::specs::Passes::built_from))]
+fn items(alloc: Global, text: &[u8]) -> Result<Vec<Item>, AllocError>
+    ensures { IfOk result (λ v. v.items ≡ items_of text.now) }
+{
+    let mut builder = Builder::new(alloc);
+    let mut state = State::START;
+    for byte in text {
+        let step = state.feed(*byte);
+        build(&mut builder, alloc, step)?;
+        state = state.next(step);
+    }
+    Ok(builder.items)
+}
+
+/// The expression that a text spells.
+///
+/// Every refusal but that of memory is found before the first growth.
+#[tactic(auto, unfolding(crate::specs::Texts::expr_of))]
+pub fn parse(alloc: Global, text: &[u8]) -> Result<Expr, ExprError>
+    ensures exact { Tells result (expr_of text.now) }
+{
+    if text.len() > LONGEST {
+        return Err(ExprError::TooLong);
+    }
+    if let Some(place) = stop(text) {
+        return Err(ExprError::Syntax { place });
+    }
+    if let Some(fault) = fault(text) {
+        return Err(fault);
+    }
+    match items(alloc, text) {
+        Ok(items) => Ok(Expr::new(items)),
+        Err(_) => Err(ExprError::OutOfMemory),
+    }
+}

@@ -1,0 +1,234 @@
+//! The canonical text of an expression, written piece by piece from fixed arrays.
+
+ghost use Rattle.std.specs.Prelude.{◌≡◌, ◌+◌, ◌%◌, ◌<◌, [], ◌∷◌, ◌++◌, List, length, map, IsErr, IsTrue, OnOk, OnErr, is_err, true};
+ghost use Rattle.sig_bits.specs.Device.{Adds};
+ghost use Rattle.sig_expr.specs.Canon.{hex_digit, pair_text, word_text, leading_zeros, number_text, count_text, from_text, between_text, gap_text, range_text, not_text, atom_text, alternative_text, alternatives_text, item_text, canon};
+ghost use Rattle.sig_expr.specs.Writing.{sink, Wrote};
+
+use super::{Alternatives, Atom, Expr, Item, Short};
+use sig_bits::{DeviceFault, Output};
+
+// One piece.
+fn put<W: Output>(out: &mut W, bytes: &[u8]) -> Result<(), DeviceFault>
+    requires { 0 < length bytes.now }
+    ensures fails { OnErr result (W.failed out.new ≡ true) }
+    ensures wrote { OnOk result (Wrote (sink (W.failed out.old) (W.limit out.old) (W.written out.old)) bytes.now (sink (W.failed out.new) (W.limit out.new) (W.written out.new))) }
+{
+    out.write_all(bytes)
+}
+
+// The digit of a value below 16.
+fn digit(value: u8) -> u8
+    requires { value < 16 }
+    ensures { result ≡ hex_digit value }
+{
+    if value < 10 { 48 + value } else { 55 + value }
+}
+
+// The two digits of a byte.
+fn put_pair<W: Output>(out: &mut W, byte: u8) -> Result<(), DeviceFault>
+    ensures fails { OnErr result (W.failed out.new ≡ true) }
+    ensures wrote { OnOk result (Wrote (sink (W.failed out.old) (W.limit out.old) (W.written out.old)) (pair_text byte) (sink (W.failed out.new) (W.limit out.new) (W.written out.new))) }
+{
+    put(out, &[digit(byte / 16), digit(byte % 16)])
+}
+
+// The pairs of a word.
+fn put_word<W: Output>(out: &mut W, word: Short) -> Result<(), DeviceFault>
+    ensures fails { OnErr result (W.failed out.new ≡ true) }
+    ensures wrote { OnOk result (Wrote (sink (W.failed out.old) (W.limit out.old) (W.written out.old)) (word_text word) (sink (W.failed out.new) (W.limit out.new) (W.written out.new))) }
+{
+    for byte in word.as_bytes() {
+        put_pair(out, *byte)?;
+    }
+    Ok(())
+}
+
+// How many of five decimal digits are leading zeros.
+fn zeros(number: u32) -> usize
+    ensures { result ≡ leading_zeros number }
+{
+    match number {
+        0..=9 => 4,
+        10..=99 => 3,
+        100..=999 => 2,
+        1000..=9999 => 1,
+        _ => 0,
+    }
+}
+
+// The last decimal digit.
+fn last_digit(number: u32) -> u8
+    ensures { result ≡ 48 + number % 10 }
+{
+    48 + (number % 10) as u8
+}
+
+// A number below 100,000.
+fn put_number<W: Output>(out: &mut W, number: u32) -> Result<(), DeviceFault>
+    ensures fails { OnErr result (W.failed out.new ≡ true) }
+    ensures wrote { OnOk result (Wrote (sink (W.failed out.old) (W.limit out.old) (W.written out.old)) (number_text number) (sink (W.failed out.new) (W.limit out.new) (W.written out.new))) }
+{
+    let digits = [
+        last_digit(number / 10_000),
+        last_digit(number / 1000),
+        last_digit(number / 100),
+        last_digit(number / 10),
+        last_digit(number),
+    ];
+    put(out, &digits[zeros(number)..])
+}
+
+// A gap of this length or more.
+fn put_from<W: Output>(out: &mut W, min: u32) -> Result<(), DeviceFault>
+    ensures fails { OnErr result (W.failed out.new ≡ true) }
+    ensures wrote { OnOk result (Wrote (sink (W.failed out.old) (W.limit out.old) (W.written out.old)) (from_text min) (sink (W.failed out.new) (W.limit out.new) (W.written out.new))) }
+{
+    put(out, b"{")?;
+    put_number(out, min)?;
+    put(out, b"-*}")
+}
+
+// A gap of one length.
+fn put_count<W: Output>(out: &mut W, number: u32) -> Result<(), DeviceFault>
+    ensures fails { OnErr result (W.failed out.new ≡ true) }
+    ensures wrote { OnOk result (Wrote (sink (W.failed out.old) (W.limit out.old) (W.written out.old)) (count_text number) (sink (W.failed out.new) (W.limit out.new) (W.written out.new))) }
+{
+    put(out, b"{")?;
+    put_number(out, number)?;
+    put(out, b"}")
+}
+
+// A gap between two lengths.
+fn put_between<W: Output>(out: &mut W, min: u32, max: u32) -> Result<(), DeviceFault>
+    ensures fails { OnErr result (W.failed out.new ≡ true) }
+    ensures wrote { OnOk result (Wrote (sink (W.failed out.old) (W.limit out.old) (W.written out.old)) (between_text min max) (sink (W.failed out.new) (W.limit out.new) (W.written out.new))) }
+{
+    put(out, b"{")?;
+    put_number(out, min)?;
+    put(out, b"-")?;
+    put_number(out, max)?;
+    put(out, b"}")
+}
+
+// A gap.
+fn put_gap<W: Output>(out: &mut W, min: u32, max: Option<u32>) -> Result<(), DeviceFault>
+    ensures fails { OnErr result (W.failed out.new ≡ true) }
+    ensures wrote { OnOk result (Wrote (sink (W.failed out.old) (W.limit out.old) (W.written out.old)) (gap_text min max) (sink (W.failed out.new) (W.limit out.new) (W.written out.new))) }
+{
+    match max {
+        None if min == 0 => put(out, b"*"),
+        None => put_from(out, min),
+        Some(max) if min == max => put_count(out, max),
+        Some(max) => put_between(out, min, max),
+    }
+}
+
+// A bracket with two ends, behind what opens it.
+fn put_range<W: Output>(out: &mut W, opening: &[u8], first: Short, second: Short) -> Result<(), DeviceFault>
+    requires { 0 < length opening.now }
+    ensures fails { OnErr result (W.failed out.new ≡ true) }
+    ensures wrote { OnOk result (Wrote (sink (W.failed out.old) (W.limit out.old) (W.written out.old)) (range_text opening.now first second) (sink (W.failed out.new) (W.limit out.new) (W.written out.new))) }
+{
+    put(out, opening)?;
+    put_word(out, first)?;
+    put(out, b":")?;
+    put_word(out, second)?;
+    put(out, b"]")
+}
+
+// A bracket with one end.
+fn put_not<W: Output>(out: &mut W, end: Short) -> Result<(), DeviceFault>
+    ensures fails { OnErr result (W.failed out.new ≡ true) }
+    ensures wrote { OnOk result (Wrote (sink (W.failed out.old) (W.limit out.old) (W.written out.old)) (not_text end) (sink (W.failed out.new) (W.limit out.new) (W.written out.new))) }
+{
+    put(out, b"[!")?;
+    put_word(out, end)?;
+    put(out, b"]")
+}
+
+// A part of an alternative.
+fn put_atom<W: Output>(out: &mut W, atom: Atom) -> Result<(), DeviceFault>
+    ensures fails { OnErr result (W.failed out.new ≡ true) }
+    ensures wrote { OnOk result (Wrote (sink (W.failed out.old) (W.limit out.old) (W.written out.old)) (atom_text atom) (sink (W.failed out.new) (W.limit out.new) (W.written out.new))) }
+{
+    match atom {
+        Atom::Byte(byte) => put_pair(out, byte),
+        Atom::Range(first, second) => put_range(out, b"[", first, second),
+        Atom::Not(end) => put_not(out, end),
+        Atom::NotRange(first, second) => put_range(out, b"[!", first, second),
+    }
+}
+
+// An alternative.
+fn put_alternative<W: Output>(out: &mut W, alternative: &[Atom]) -> Result<(), DeviceFault>
+    ensures fails { OnErr result (W.failed out.new ≡ true) }
+    ensures wrote { OnOk result (Wrote (sink (W.failed out.old) (W.limit out.old) (W.written out.old)) (alternative_text alternative.now) (sink (W.failed out.new) (W.limit out.new) (W.written out.new))) }
+{
+    for atom in alternative {
+        put_atom(out, *atom)?;
+    }
+    Ok(())
+}
+
+// The alternatives of a list, each behind its sign, and what closes the list.
+fn put_alternatives<W: Output>(out: &mut W, alternatives: &[Vec<Atom>]) -> Result<(), DeviceFault>
+    ensures fails { OnErr result (W.failed out.new ≡ true) }
+    ensures wrote { OnOk result (Wrote (sink (W.failed out.old) (W.limit out.old) (W.written out.old)) (alternatives_text 40 (map (λ v. v.items) alternatives.now)) (sink (W.failed out.new) (W.limit out.new) (W.written out.new))) }
+{
+    let mut sign = b'(';
+    for alternative in alternatives {
+        put(out, &[sign])?;
+        put_alternative(out, alternative.as_slice())?;
+        sign = b'|';
+    }
+    Ok(())
+}
+
+// A list.
+fn put_list<W: Output>(out: &mut W, alternatives: &Alternatives) -> Result<(), DeviceFault>
+    ensures fails { OnErr result (W.failed out.new ≡ true) }
+    ensures wrote { OnOk result (Wrote (sink (W.failed out.old) (W.limit out.old) (W.written out.old)) (alternatives_text 40 alternatives.now ++ 41 ∷ []) (sink (W.failed out.new) (W.limit out.new) (W.written out.new))) }
+{
+    put_alternatives(out, alternatives.as_slice())?;
+    put(out, b")")
+}
+
+// An item.
+fn put_item<W: Output>(out: &mut W, item: &Item) -> Result<(), DeviceFault>
+    ensures fails { OnErr result (W.failed out.new ≡ true) }
+    ensures wrote { OnOk result (Wrote (sink (W.failed out.old) (W.limit out.old) (W.written out.old)) (item_text item.now) (sink (W.failed out.new) (W.limit out.new) (W.written out.new))) }
+{
+    match item {
+        Item::Byte(byte) => put_pair(out, *byte),
+        Item::Any => put(out, b"??"),
+        Item::Gap { min, max } => put_gap(out, *min, *max),
+        Item::Alt(alternatives) => put_list(out, alternatives),
+        Item::Range(first, second) => put_range(out, b"[", *first, *second),
+        Item::Not(end) => put_not(out, *end),
+        Item::NotRange(first, second) => put_range(out, b"[!", *first, *second),
+    }
+}
+
+// The items.
+fn put_items<W: Output>(out: &mut W, items: &[Item]) -> Result<(), DeviceFault>
+    ensures fails { OnErr result (W.failed out.new ≡ true) }
+    ensures wrote { OnOk result (Wrote (sink (W.failed out.old) (W.limit out.old) (W.written out.old)) (canon items.now) (sink (W.failed out.new) (W.limit out.new) (W.written out.new))) }
+{
+    for item in items {
+        put_item(out, item)?;
+    }
+    Ok(())
+}
+
+/// Writes the canonical text: pairs in capitals, and each gap in its shortest spelling.
+///
+/// It takes no memory. After a fault an unknown part of the text may be written.
+pub fn print<W: Output>(expr: &Expr, out: &mut W) -> Result<(), DeviceFault>
+    ensures fails { W.failed out.new ≡ is_err result }
+    ensures stays_failed { IsTrue (W.failed out.old) → IsErr result }
+    ensures lowers { OnOk result (W.limit out.old ≡ length (canon expr.now) + W.limit out.new) }
+    ensures adds { OnOk result (Adds (W.written out.old) (canon expr.now) (W.written out.new)) }
+{
+    put_items(out, expr.all())
+}

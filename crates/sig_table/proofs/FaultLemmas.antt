@@ -1,0 +1,24 @@
+-- How a refusal goes on.
+use Rattle.std.proofs.Common.{◌≡◌, Bool, true, false, ◌||◌, sym, ap, ◌∙◌, refl, inl, inr, Result, Ok, Err, Option, Some, None, IfOk, IfErr}
+use Rattle.std.specs.Bool.{OnFalse}
+use Rattle.std.proofs.lemmas.Bool.{cases_Bool}
+use Rattle.sig_table.specs.declared.error.TableError.{TableError}
+use Rattle.sig_table.specs.declared.error.TableError.TheVariants as error
+use Rattle.sig_table.specs.Rows.{IsFault, Tells, is_memory, is_read}
+
+OnFalse-map : {A B : Type 0} (b : Bool) → (A → B) → OnFalse b A → OnFalse b B
+OnFalse-map true f h = h
+OnFalse-map false f h = f h
+
+-- what refuses the one refuses the other
+pub IsFault-map : {A B : Type 0} (a : Result A TableError) (b : Result B TableError) (e : TableError) → (a ≡ Err e → b ≡ Err e) → IsFault a e → IsFault b e
+IsFault-map a b e f h = record { no_read = h.no_read; told_so = OnFalse-map (is_memory e) f h.told_so }
+
+-- and of files
+pub Tells-from_IsFault : {A B : Type 0} (a : Result A TableError) (b : Result B TableError) (e : TableError) → (a ≡ Err e → b ≡ Err e) → IsFault a e → OnFalse (is_read e || is_memory e) (b ≡ Err e)
+Tells-from_IsFault a b e f h = rw h.no_read (OnFalse-map (is_memory e) f h.told_so)
+
+-- a last step that only memory can refuse
+pub Tells-last : {A : Type 0} (r told : Result A TableError) (x : A) → IfOk r (λ y. y ≡ x) → IfErr r (λ e. e ≡ error.OutOfMemory) → told ≡ Ok x → Tells r told
+Tells-last (Ok y) told x same memory h = h ∙ ap (λ z. Ok z) (sym same)
+Tells-last (Err e) told x same memory h = rw memory tt

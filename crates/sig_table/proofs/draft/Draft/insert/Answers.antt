@@ -1,0 +1,43 @@
+use Rattle.std.proofs.Common.{◌≡◌, ◌∙◌, sym, ap, not, List, [], false}
+use Rattle.std.specs.List.{position_or_len}
+use Rattle.sig_table.specs.Puids.{puid_eq}
+use Rattle.sig_table.specs.Loading.{fault_in, grown, with_number}
+use Rattle.sig_table.specs.Lists.{SignatureLists, TableLists}
+use Rattle.sig_table.proofs.DraftLemmas.{IsTable-with_row, OnOk-holds, any-numbers, numbers-with_row, place-of, place-within, position-puid, puid_eq-is, with_row-is}
+use Rattle.sig_table.proofs.draft.Draft.insert.Goals as goal
+
+pub enroll-requires : goal.enroll-requires
+enroll-requires c = c.in-Ok-insert_full.ensures.added ∙ ap (λ b. not b) (rw c.self.invariant.numbers (any-numbers c.args.row.number c.self.inside.signatures.items))
+
+pub grow-requires-clause-at : goal.grow-requires-clause-at
+grow-requires-clause-at c =
+    let enrolled = OnOk-holds c.enroll.result (sym c.is_err.ensures.value ∙ c.if-is_err.false) c.enroll.ensures in
+    place-of c.args.row.number _ c.in-Ok-insert_full.place c.self.inside.numbers.keys c.self.inside.signatures.items c.enroll.new.signatures.items c.self.invariant.numbers c.in-Ok-insert_full.ensures.index enrolled
+
+pub grow-requires-clause-within : goal.grow-requires-clause-within
+grow-requires-clause-within c =
+    let enrolled = OnOk-holds c.enroll.result (sym c.is_err.ensures.value ∙ c.if-is_err.false) c.enroll.ensures in
+    place-within c.args.row.number _ c.in-Ok-insert_full.place c.self.inside.numbers.keys c.self.inside.signatures.items c.enroll.new.signatures.items c.self.invariant.numbers c.in-Ok-insert_full.ensures.index enrolled
+
+pub invariant_of-result : goal.invariant_of-result
+invariant_of-result c =
+    let t : TableLists = record { formats = c.self.inside.puids.keys; signatures = c.self.inside.signatures.items; priorities = [] } in
+    let enrolled = OnOk-holds c.enroll.result (sym c.is_err.ensures.value ∙ c.if-is_err.false) c.enroll.ensures in
+    let grew = OnOk-holds c.grow.result (sym c.is_err-2.ensures.value ∙ c.if-is_err-2.false) c.grow.ensures in
+    let formats = rw puid_eq-is at c.in-Ok.ensures.keys in
+    let format : c.in-Ok.format ≡ position_or_len (puid_eq c.args.row.puid) c.self.inside.puids.keys = c.in-Ok.ensures.index ∙ position-puid c.args.row.puid c.self.inside.puids.keys in
+    let signatures = rw (enrolled, format) at grew in
+    record {
+      limits = IsTable-with_row t c.args.row c.requires.0 _ _ c.self.invariant.limits (rw (← c.self.view_is) at c.requires.1) formats signatures;
+      numbers = numbers-with_row c.args.row.number _ c.args.row.sequence _ _ c.self.inside.signatures.items _ c.self.invariant.numbers c.in-Ok-insert_full.ensures.keys signatures;
+    }
+
+pub returns-clause-row : goal.returns-clause-row
+returns-clause-row c =
+    let t : TableLists = record { formats = c.self.inside.puids.keys; signatures = c.self.inside.signatures.items; priorities = [] } in
+    let enrolled = OnOk-holds c.enroll.result (sym c.is_err.ensures.value ∙ c.if-is_err.false) c.enroll.ensures in
+    let grew = OnOk-holds c.grow.result (sym c.is_err-2.ensures.value ∙ c.if-is_err-2.false) c.grow.ensures in
+    let formats = rw puid_eq-is at c.in-Ok.ensures.keys in
+    let format : c.in-Ok.format ≡ position_or_len (puid_eq c.args.row.puid) c.self.inside.puids.keys = c.in-Ok.ensures.index ∙ position-puid c.args.row.puid c.self.inside.puids.keys in
+    let signatures = rw (enrolled, format) at grew in
+    rw (← c.self.view_is) (with_row-is t c.args.row _ _ formats signatures)

@@ -1,0 +1,132 @@
+-- The table of two lists of records, or their first fault.
+use Rattle.std.specs.Prelude.{ℕ, ◌+◌, ◌==◌, ◌&&◌, ◌||◌, not, find, nat_eq, nat_le, nat_lt, Bool, true, false, if◌then◌else◌, List, [], ◌∷◌, ◌++◌, length, map, codes, Option, Some, None, Result, Ok, Err}
+use Rattle.std.specs.List.{list_any, position_or_len}
+use Rattle.indexmap.specs.IndexSet.{insert_key}
+use Rattle.csv.specs.Reading.{default_config, records, strip_bom}
+use Rattle.sig_expr.specs.declared.item.Item.{Item}
+use Rattle.sig_table.specs.declared.error.TableError.{TableError}
+use Rattle.sig_table.specs.declared.error.TableError.TheVariants as error
+use Rattle.sig_table.specs.declared.error.TableFile.{TableFile}
+use Rattle.sig_table.specs.declared.error.TableFile.TheVariants.{Signatures, Priorities}
+use Rattle.sig_table.specs.declared.position.Position.{Position}
+use Rattle.sig_table.specs.declared.position.Position.TheVariants as position
+use Rattle.sig_table.specs.declared.puid.Puid.{Puid}
+use Rattle.sig_table.specs.declared.row.Row.{Row}
+use Rattle.sig_table.specs.Lists.{PlacedExpr, SignatureLists, TableLists}
+use Rattle.sig_table.specs.Puids.{puid_eq}
+use Rattle.sig_table.specs.Rows.{◌>>=◌, is_word, row_of, text_at}
+
+-- the records of a text, as `csv` gives them with its default dialect
+unfoldable pub records_of : List ℕ → List (List (List ℕ))
+records_of text = records default_config (strip_bom text)
+
+-- whether the fault is one of the signature file, a failed read of it included
+abbrev pub is_of_signatures : TableError → Bool
+is_of_signatures (error.Read Signatures) = true
+is_of_signatures (error.Read Priorities) = false
+is_of_signatures (error.Header Signatures) = true
+is_of_signatures (error.Header Priorities) = false
+is_of_signatures (error.Fields Signatures row) = true
+is_of_signatures (error.Fields Priorities row) = false
+is_of_signatures (error.Puid Signatures row) = true
+is_of_signatures (error.Puid Priorities row) = false
+is_of_signatures (error.PriorityUnknown row) = false
+is_of_signatures (error.PrioritySelf row) = false
+is_of_signatures (error.PriorityTwice row) = false
+is_of_signatures (error.PriorityCycle row) = false
+is_of_signatures error.OutOfMemory = false
+is_of_signatures _ = true
+
+-- how many slots the offsets take, with that of any bytes
+abbrev pub place_slots : Position → ℕ
+place_slots (position.Bof min max) = max + 1
+place_slots (position.Eof min max) = max + 1
+place_slots position.Variable = 2
+
+-- how many slots a sequence takes
+abbrev pub slot_count : PlacedExpr → ℕ
+slot_count sequence = place_slots sequence.position + length sequence.items
+
+-- the signature of a number, if it is there
+abbrev pub signature_in : List SignatureLists → ℕ → Option SignatureLists
+signature_in signatures number = find (λ s. nat_eq number s.number) signatures
+
+-- the fault of the slots of a sequence
+abbrev pub fault_of_slots : ℕ → PlacedExpr → Option TableError → Option TableError
+fault_of_slots n sequence later = if nat_lt 65535 (slot_count sequence) then Some (error.TooManySlots n) else later
+
+-- whether the table has no room for another format, or for another signature
+abbrev pub is_full : TableLists → Puid → Bool
+is_full table puid = (nat_le 1000 (length table.formats) && not (list_any (puid_eq puid) table.formats)) || nat_le 4000 (length table.signatures)
+
+-- the fault of a row, where its signature is there or is not
+abbrev pub fault_at : Option SignatureLists → TableLists → ℕ → Row → Option TableError
+fault_at (Some s) table n row =
+    if not (position_or_len (puid_eq row.puid) table.formats == s.format) then Some (error.SignatureOfTwo n)
+    else (if nat_le 8 (length s.sequences) then Some (error.TooManySequences n)
+    else fault_of_slots n row.sequence None)
+fault_at None table n row = fault_of_slots n row.sequence (if is_full table row.puid then Some (error.TooManyFormats n) else None)
+
+-- the fault of a row that this table is to take, if it has one
+unfoldable pub fault_in : TableLists → ℕ → Row → Option TableError
+fault_in table n row = fault_at (signature_in table.signatures row.number) table n row
+
+-- the signatures with one of this number, which has no sequence yet where it is new
+abbrev pub with_number : List SignatureLists → ℕ → ℕ → List SignatureLists
+with_number signatures number format =
+    if list_any (λ s. nat_eq number s.number) signatures then signatures
+    else signatures ++ record { format = format; number = number; sequences = [] } ∷ []
+
+-- the signatures, where the one of the number has one sequence more
+abbrev pub grown : ℕ → PlacedExpr → List SignatureLists → List SignatureLists
+grown number sequence [] = []
+grown number sequence (s ∷ later) = if nat_eq number s.number then record s { sequences = s.sequences ++ sequence ∷ [] } ∷ later else s ∷ grown number sequence later
+
+-- the table with the row
+unfoldable pub with_row : TableLists → Row → TableLists
+with_row table row = record {
+  formats = insert_key puid_eq table.formats row.puid;
+  signatures = grown row.number row.sequence (with_number table.signatures row.number (position_or_len (puid_eq row.puid) table.formats));
+  priorities = table.priorities
+}
+
+-- go on where there is no fault
+abbrev pub unless : {A : Type 0} → Option TableError → Result A TableError → Result A TableError
+unless None rest = rest
+unless (Some fault) rest = Err fault
+
+-- the table with these records, which are counted on
+unfoldable pub table_from : ℕ → TableLists → List (List (List ℕ)) → Result TableLists TableError
+table_from n table [] = Ok table
+table_from n table (fields ∷ later) =
+    row_of n fields >>= (λ row. unless (fault_in table n row) (table_from (n + 1) (with_row table row) later))
+
+-- no row
+abbrev pub empty_table : TableLists
+empty_table = record { formats = []; signatures = []; priorities = [] }
+
+-- the first record of a signature file
+abbrev pub is_signature_header : List (List ℕ) → Bool
+is_signature_header fields =
+    (length fields == 6) && is_word (text_at fields 0) (codes "puid") && is_word (text_at fields 1) (codes "signature")
+    && is_word (text_at fields 2) (codes "position") && is_word (text_at fields 3) (codes "offset")
+    && is_word (text_at fields 4) (codes "max_offset") && is_word (text_at fields 5) (codes "expression")
+
+-- the first record of a priority file
+abbrev pub is_priority_header : List (List ℕ) → Bool
+is_priority_header fields = (length fields == 2) && is_word (text_at fields 0) (codes "higher") && is_word (text_at fields 1) (codes "lower")
+
+-- the table of a signature file, with no priority, or its first fault
+unfoldable pub signatures_of : List (List (List ℕ)) → Result TableLists TableError
+signatures_of [] = Err (error.Header Signatures)
+signatures_of (header ∷ rows) = if is_signature_header header then table_from 1 empty_table rows else Err (error.Header Signatures)
+
+-- the pairs of a priority file, which has none yet
+unfoldable pub pairs_of : List (List (List ℕ)) → Result (List (ℕ × ℕ)) TableError
+pairs_of [] = Err (error.Header Priorities)
+pairs_of (header ∷ rows) =
+    if is_priority_header header then (if length rows == 0 then Ok [] else Err (error.PriorityUnknown 1)) else Err (error.Header Priorities)
+
+-- the table of the records of both files, or their first fault: the signature file is judged first
+unfoldable pub table_of : List (List (List ℕ)) → List (List (List ℕ)) → Result TableLists TableError
+table_of signatures priorities = signatures_of signatures >>= (λ table. pairs_of priorities >>= (λ pairs. Ok (record table { priorities = pairs })))

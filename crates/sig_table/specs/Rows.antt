@@ -1,0 +1,111 @@
+-- What a row of the signature file spells, or its first fault.
+use Rattle.std.specs.Prelude.{◌≡◌, ◌&&◌, ◌||◌, ℕ, ◌==◌, nat_eq, nat_lt, Bool, true, false, if◌then◌else◌, List, [], length, codes, Option, Some, None, unwrap_or, Result, Ok, Err}
+use Rattle.std.specs.Bool.{OnFalse}
+use Rattle.std.specs.Cmp.Lexicographic.{pointwise}
+use Rattle.std.specs.Option.{ok_or}
+use Rattle.csv.specs.Records.{field_at}
+use Rattle.sig_expr.specs.declared.item.Item.{Item}
+use Rattle.sig_expr.specs.declared.error.ExprError.{ExprError}
+use Rattle.sig_expr.specs.Texts.{expr_of}
+use Rattle.sig_table.specs.declared.error.TableError.{TableError}
+use Rattle.sig_table.specs.declared.error.TableError.TheVariants as error
+use Rattle.sig_table.specs.declared.error.TableFile.{TableFile}
+use Rattle.sig_table.specs.declared.error.TableFile.TheVariants.{Signatures, Priorities}
+use Rattle.sig_table.specs.declared.position.Position.{Position}
+use Rattle.sig_table.specs.declared.position.Position.TheVariants as position
+use Rattle.sig_table.specs.declared.puid.Puid.{Puid}
+use Rattle.sig_table.specs.declared.row.Row.{Row}
+use Rattle.sig_table.specs.Numbers.{number_of, positive_of}
+use Rattle.sig_table.specs.Puids.{puid_of}
+
+infixl 10 ◌>>=◌
+-- a value read on, or the fault that is there
+abbrev pub ◌>>=◌ : {A B : Type 0} → Result A TableError → (A → Result B TableError) → Result B TableError
+Ok x >>= f = f x
+Err e >>= f = Err e
+
+-- a failed read
+abbrev pub is_read : TableError → Bool
+is_read (error.Read file) = true
+is_read _ = false
+
+-- want of memory
+abbrev pub is_memory : TableError → Bool
+is_memory error.OutOfMemory = true
+is_memory _ = false
+
+-- the refusal is the one that is told, unless memory ran out
+pub record IsFault {A : Type 0} (told : Result A TableError) (fault : TableError) : Type 0 where
+  pub no_read : is_read fault ≡ false
+  pub told_so : OnFalse (is_memory fault) (told ≡ Err fault)
+
+-- what is answered of records in memory, where this is to be told
+abbrev pub Judges : {A : Type 0} → Result A TableError → Result A TableError → Type 0
+Judges (Ok x) told = told ≡ Ok x
+Judges (Err e) told = IsFault told e
+
+-- the same of files, where a failed read too may take its place
+abbrev pub Tells : {A : Type 0} → Result A TableError → Result A TableError → Type 0
+Tells (Ok x) told = told ≡ Ok x
+Tells (Err e) told = OnFalse (is_read e || is_memory e) (told ≡ Err e)
+
+-- the field at a place
+abbrev pub text_at : List (List ℕ) → ℕ → List ℕ
+text_at fields i = unwrap_or (field_at fields i) []
+
+-- whether the text is this word
+abbrev pub is_word : List ℕ → List ℕ → Bool
+is_word text word = pointwise nat_eq text word
+
+-- a number, where it is at most 65,535
+abbrev pub as_offset : Option ℕ → Option ℕ
+as_offset None = None
+as_offset (Some n) = if nat_lt 65535 n then None else Some n
+
+-- the offset that the text writes
+abbrev pub offset_of : List ℕ → Option ℕ
+offset_of text = as_offset (number_of 5 text)
+
+-- the two, where the second is not below the first
+abbrev pub in_order : ℕ → Option ℕ → Option (ℕ × ℕ)
+in_order min None = None
+in_order min (Some max) = if nat_lt max min then None else Some (min, max)
+
+-- the least offset and the greatest one, which equals it where its text is empty
+abbrev pub up_to : Option ℕ → List ℕ → Option (ℕ × ℕ)
+up_to None max = None
+up_to (Some min) max = if length max == 0 then Some (min, min) else in_order min (offset_of max)
+
+-- the least offset and the greatest that the texts write
+abbrev pub offsets_of : ℕ → List ℕ → List ℕ → Result (ℕ × ℕ) TableError
+offsets_of row offset max = ok_or (up_to (offset_of offset) max) (error.Offset row)
+
+-- the place that a word and the texts of the offsets write
+unfoldable pub position_of : ℕ → List ℕ → List ℕ → List ℕ → Result Position TableError
+position_of row word offset max =
+    if is_word word (codes "BOF") then offsets_of row offset max >>= (λ p. Ok (position.Bof p.0 p.1))
+    else (if is_word word (codes "EOF") then offsets_of row offset max >>= (λ p. Ok (position.Eof p.0 p.1))
+    else (if is_word word (codes "Variable")
+      then (if (length offset == 0) && (length max == 0) then Ok position.Variable else Err (error.Offset row))
+      else Err (error.Position row)))
+
+-- the items that the text spells
+abbrev pub items_in : ℕ → Result (List Item) ExprError → Result (List Item) TableError
+items_in row (Ok items) = Ok items
+items_in row (Err fault) = Err (error.Expression row fault)
+
+-- a row of six fields
+abbrev pub row_with : ℕ → List ℕ → List ℕ → List ℕ → List ℕ → List ℕ → List ℕ → Result Row TableError
+row_with row puid number word offset max expression = do
+  p ← ok_or (puid_of puid) (error.Puid Signatures row)
+  n ← ok_or (positive_of number) (error.SignatureNumber row)
+  place ← position_of row word offset max
+  items ← items_in row (expr_of expression)
+  Ok (record { puid = p; number = n; sequence = record { position = place; items = items } })
+
+-- the row that the fields write, or its first fault
+unfoldable pub row_of : ℕ → List (List ℕ) → Result Row TableError
+row_of row fields =
+    if length fields == 6
+    then row_with row (text_at fields 0) (text_at fields 1) (text_at fields 2) (text_at fields 3) (text_at fields 4) (text_at fields 5)
+    else Err (error.Fields Signatures row)

@@ -1,0 +1,188 @@
+//! A table as it grows, row by row.
+//!
+//! Formats and numbers are kept in sets that know their places, so no list is searched for a row.
+
+ghost use Rattle.std.specs.Prelude.{◌≡◌, ◌<◌, ◌∷◌, ◌++◌, ℕ, [], false, length, nat_eq, not, OnOk, MatchResult, None, Some, Ok, IfOk, IfErr, IfSome};
+ghost use Rattle.std.specs.List.{list_any, position_or_len};
+ghost use Rattle.sig_table.specs.Loading.{empty_table, fault_at, fault_in, grown, unless, with_number, with_row};
+ghost use Rattle.sig_table.specs.Rows.{IsFault, is_read};
+
+use super::row::Row;
+use super::slots::has_too_many_slots;
+use super::table::Signature;
+use super::{FormatId, Puid, Sequence, Table, TableError};
+use indexmap::IndexSet;
+use std::alloc::{AllocError, Global};
+use std::marker::Model;
+
+// The formats and the signatures of the rows so far.
+#[derive(Debug, Drop)]
+pub(crate) struct Draft {
+    puids: IndexSet<Puid>,
+    numbers: IndexSet<u32>,
+    signatures: Vec<Signature>,
+}
+
+impl Model for Draft {
+    ghost use Rattle.std.specs.Prelude.{[]};
+    ghost use Rattle.sig_table.specs.Lists.{TableLists};
+
+    ghost Value = { TableLists };
+
+    ghost use Rattle.sig_table.specs.Drafts.{IsDraft};
+
+    ghost view = { λ d. record { formats = d.puids.keys; signatures = d.signatures.items; priorities = [] } };
+
+    ghost invariant = { IsDraft };
+}
+
+impl Draft {
+    // No row yet.
+    pub(crate) fn new(alloc: Global) -> Draft
+        ensures { result ≡ empty_table }
+    {
+        Draft {
+            puids: IndexSet::new(alloc),
+            numbers: IndexSet::new(alloc),
+            signatures: Vec::new(alloc),
+        }
+    }
+
+    // Judges the row after those so far, and adds it.
+    pub(crate) fn add(self, alloc: Global, row: Row, n: usize) -> Result<Draft, TableError>
+        ensures { MatchResult result
+            (λ draft. (fault_in self n row ≡ None) × (draft ≡ with_row self row))
+            (λ e. IsFault (unless (fault_in self n row) (Ok self)) e) }
+    {
+        if let Some(fault) = self.fault(&row, n) {
+            return Err(fault);
+        }
+        self.insert(alloc, row)
+    }
+
+    // The first fault of the row.
+    fn fault(&self, row: &Row, n: usize) -> Option<TableError>
+        ensures fault { result ≡ fault_in self.now n row.now }
+        ensures no_read { IfSome result (λ e. is_read e ≡ false) }
+    {
+        match self.numbers.get_index_of(&row.number) {
+            Some(place) => self.fault_of_more(&self.signatures[place], row, n),
+            None => self.fault_of_new(row, n),
+        }
+    }
+
+    // The first fault of the row, which adds to the signature.
+    fn fault_of_more(&self, signature: &Signature, row: &Row, n: usize) -> Option<TableError>
+        requires { signature.now.format < length self.now.formats }
+        ensures fault { result ≡ fault_at (Some signature.now) self.now n row.now }
+        ensures no_read { IfSome result (λ e. is_read e ≡ false) }
+    {
+        let format = signature.format().0 as usize;
+        if self.puids.get_index_of(&row.puid) != Some(format) {
+            return Some(TableError::SignatureOfTwo { row: n });
+        }
+        if signature.sequence_count() >= 8 {
+            return Some(TableError::TooManySequences { row: n });
+        }
+        if has_too_many_slots(&row.sequence) {
+            return Some(TableError::TooManySlots { row: n });
+        }
+        None
+    }
+
+    // The first fault of the row, where its signature is not there.
+    fn fault_of_new(&self, row: &Row, n: usize) -> Option<TableError>
+        ensures fault { result ≡ fault_at None self.now n row.now }
+        ensures no_read { IfSome result (λ e. is_read e ≡ false) }
+    {
+        if has_too_many_slots(&row.sequence) {
+            return Some(TableError::TooManySlots { row: n });
+        }
+        if self.puids.len() >= 1000 && !self.puids.contains(&row.puid) {
+            return Some(TableError::TooManyFormats { row: n });
+        }
+        if self.signatures.len() >= 4000 {
+            return Some(TableError::TooManyFormats { row: n });
+        }
+        None
+    }
+
+    // Adds a row that has no fault.
+    fn insert(self, alloc: Global, row: Row) -> Result<Draft, TableError>
+        requires { (n : ℕ) × (fault_in self n row ≡ None) }
+        ensures row { IfOk result (λ draft. draft ≡ with_row self row) }
+        ensures memory { IfErr result (λ e. e ≡ TableError.OutOfMemory) }
+    {
+        let Draft {
+            mut puids,
+            mut numbers,
+            mut signatures,
+        } = self;
+        let Ok((format, _)) = puids.insert_full(row.puid) else {
+            return Err(TableError::OutOfMemory);
+        };
+        let Ok((place, is_new)) = numbers.insert_full(row.number) else {
+            return Err(TableError::OutOfMemory);
+        };
+        let format = FormatId(format as u16);
+        if enroll(alloc, &mut signatures, is_new, format, row.number).is_err() {
+            return Err(TableError::OutOfMemory);
+        }
+        if grow(&mut signatures, place, row.number, row.sequence).is_err() {
+            return Err(TableError::OutOfMemory);
+        }
+        Ok(Draft {
+            puids,
+            numbers,
+            signatures,
+        })
+    }
+
+    // The table, with no priority.
+    pub(crate) fn into_table(self, alloc: Global) -> Result<Table, TableError>
+        ensures table { IfOk result (λ table. table ≡ record self { priorities = [] }) }
+        ensures memory { IfErr result (λ e. e ≡ TableError.OutOfMemory) }
+    {
+        let Draft {
+            puids,
+            numbers: _,
+            signatures,
+        } = self;
+        let Ok(formats) = puids.iter().copied().collect(alloc) else {
+            return Err(TableError::OutOfMemory);
+        };
+        Ok(Table::new(formats, signatures, Vec::new(alloc)))
+    }
+}
+
+// Adds a signature of the number, where it is new.
+fn enroll(
+    alloc: Global,
+    signatures: &mut Vec<Signature>,
+    is_new: bool,
+    format: FormatId,
+    number: u32,
+) -> Result<(), AllocError>
+    requires { is_new ≡ not (list_any (λ s. nat_eq number s.number) signatures.old.items) }
+    ensures { OnOk result (signatures.new.items ≡ with_number signatures.old.items number format.0) }
+{
+    if is_new {
+        signatures.push(Signature::new(alloc, format, number))?;
+    }
+    Ok(())
+}
+
+// Adds the sequence to the signature of the number, which is at the place.
+fn grow(
+    signatures: &mut Vec<Signature>,
+    place: usize,
+    number: u32,
+    sequence: Sequence,
+) -> Result<(), AllocError>
+    requires at { position_or_len (λ s. nat_eq number s.number) signatures.old.items ≡ place }
+    requires within { place < length signatures.old.items }
+    ensures { OnOk result (signatures.new.items ≡ grown number sequence signatures.old.items) }
+{
+    let signature = &mut signatures[place];
+    signature.push(sequence)
+}

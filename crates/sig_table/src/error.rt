@@ -1,0 +1,67 @@
+use sig_expr::ExprError;
+use thiserror::Error;
+
+/// The two files of a table.
+#[derive(Clone, Copy, Debug, PartialEq, Eq)]
+pub enum TableFile {
+    /// The signature file, which is read and judged first.
+    Signatures,
+    /// The priority file.
+    Priorities,
+}
+
+/// Why two files are no table, in the order of judging. Row N is the N-th record after the first.
+#[derive(Clone, Copy, Debug, PartialEq, Eq, Error)]
+pub enum TableError {
+    /// A read failed.
+    #[error("read failed")]
+    Read { file: TableFile },
+    /// The first record is another than the header, or there is none.
+    #[error("no header")]
+    Header { file: TableFile },
+    /// A row has not six fields, or not two in the priority file.
+    #[error("fields of row {row}")]
+    Fields { file: TableFile, row: usize },
+    /// A PUID of another form.
+    #[error("PUID in row {row}")]
+    Puid { file: TableFile, row: usize },
+    /// A signature number of another form.
+    #[error("signature number in row {row}")]
+    SignatureNumber { row: usize },
+    /// A position that is none of the three words.
+    #[error("position in row {row}")]
+    Position { row: usize },
+    /// An offset or a greatest offset of another form, or the two out of order.
+    #[error("offset in row {row}")]
+    Offset { row: usize },
+    /// A text that is no expression.
+    #[error("expression in row {row}: {error}")]
+    Expression { row: usize, error: ExprError },
+    /// An earlier row gives the signature number to another PUID.
+    #[error("signature of two formats in row {row}")]
+    SignatureOfTwo { row: usize },
+    /// The ninth sequence of its signature.
+    #[error("too many sequences in row {row}")]
+    TooManySequences { row: usize },
+    /// A sequence of over 65,535 slots.
+    #[error("too many slots in row {row}")]
+    TooManySlots { row: usize },
+    /// The 1,001st format, or the 4,001st signature.
+    #[error("too many formats in row {row}")]
+    TooManyFormats { row: usize },
+    /// A PUID that is not in the signature file.
+    #[error("unknown format in row {row}")]
+    PriorityUnknown { row: usize },
+    /// A format over itself.
+    #[error("format over itself in row {row}")]
+    PrioritySelf { row: usize },
+    /// A pair that an earlier row has.
+    #[error("pair twice in row {row}")]
+    PriorityTwice { row: usize },
+    /// A pair that closes a cycle.
+    #[error("cycle in row {row}")]
+    PriorityCycle { row: usize },
+    /// A growth was refused.
+    #[error("out of memory")]
+    OutOfMemory,
+}

@@ -1,0 +1,161 @@
+//! From the two files to the table.
+
+ghost use Rattle.std.specs.Prelude.{◌≡◌, ◌⊎◌, [], List, ℕ, Some, map, true, false, Ok, Err, OnOk, IfOk, IfErr, IfSome, IsErrOf, MatchResult};
+ghost use Rattle.csv.specs.Records.{fields_of};
+ghost use Rattle.sig_table.specs.Loading.{is_of_signatures, is_priority_header, is_signature_header, empty_table, pairs_of, records_of, signatures_of, table_from, table_of};
+ghost use Rattle.sig_table.specs.Rows.{IsFault, Tells};
+ghost use Rattle.sig_table.specs.declared.row.Row.{Row};
+ghost use Rattle.sig_table.specs.declared.error.TableError.{TableError};
+
+use super::draft::Draft;
+use super::records::all_records;
+use super::row::{field, read_row};
+use super::{Table, TableError, TableFile};
+use csv::ByteRecord;
+use sig_bits::{read_whole, Input, ReadWholeError};
+use std::alloc::Global;
+
+impl Table {
+    /// Reads the signature file whole and judges it, then the priority file.
+    ///
+    /// Equal rows are kept. A read that fails ends the load.
+    pub fn load<A: Input, B: Input>(
+        alloc: Global,
+        signatures: &mut A,
+        priorities: &mut B,
+    ) -> Result<Table, TableError>
+        // The table of the records, or their first fault.
+        ensures exact { (s p : List ℕ) → A.to_come signatures.old ≡ Some s → B.to_come priorities.old ≡ Some p
+            → Tells result (table_of (records_of s) (records_of p)) }
+
+        // A fault of the signature file is told by that file alone, and leaves the other as it was.
+        ensures first { (s : List ℕ) (fault : TableError) → A.to_come signatures.old ≡ Some s → signatures_of (records_of s) ≡ Err fault
+            → Tells result (Err fault) }
+        ensures untouched { IfErr result (λ e. is_of_signatures e ≡ true → priorities.new ≡ priorities.old) }
+
+        // A failed read is told, and only a failed read.
+        ensures read_signatures { IsErrOf result (TableError.Read TableFile.Signatures) → A.failed signatures.new ≡ true }
+        ensures read_priorities { IsErrOf result (TableError.Read TableFile.Priorities) → B.failed priorities.new ≡ true }
+        ensures sound { OnOk result ((A.failed signatures.new ≡ false) × (B.failed priorities.new ≡ false)) }
+    {
+        let text = read_text(alloc, signatures, TableFile::Signatures)?;
+        let draft = read_signatures(alloc, &text)?;
+        let text = read_text(alloc, priorities, TableFile::Priorities)?;
+        read_priorities(alloc, &text)?;
+        draft.into_table(alloc)
+    }
+}
+
+// All bytes of a file.
+fn read_text<R: Input>(
+    alloc: Global,
+    input: &mut R,
+    file: TableFile,
+) -> Result<Vec<u8>, TableError>
+    ensures text { IfOk result (λ t. IfSome (R.to_come input.old) (λ all. t.items ≡ all)) }
+    ensures sound { OnOk result (R.failed input.new ≡ false) }
+    ensures fault { IfErr result (λ e. (e ≡ TableError.OutOfMemory) ⊎ ((e ≡ TableError.Read file) × (R.failed input.new ≡ true))) }
+{
+    match read_whole(alloc, input) {
+        Ok(text) => Ok(text),
+        Err(ReadWholeError::Read) => Err(TableError::Read { file }),
+        Err(ReadWholeError::OutOfMemory) => Err(TableError::OutOfMemory),
+    }
+}
+
+// The formats and signatures of the signature file.
+fn read_signatures(alloc: Global, text: &[u8]) -> Result<Draft, TableError>
+    ensures { MatchResult result
+        (λ draft. signatures_of (records_of text.now) ≡ Ok draft)
+        (λ e. IsFault (signatures_of (records_of text.now)) e) }
+{
+    let records = all_records(alloc, text)?;
+    judge_signatures(alloc, &records)
+}
+
+// The same, of the records.
+#[tactic(auto, unfolding(crate::specs::Loading::signatures_of))]
+fn judge_signatures(alloc: Global, records: &[ByteRecord]) -> Result<Draft, TableError>
+    ensures { MatchResult result
+        (λ draft. signatures_of (map fields_of records.now) ≡ Ok draft)
+        (λ e. IsFault (signatures_of (map fields_of records.now)) e) }
+{
+    let fault = TableError::Header {
+        file: TableFile::Signatures,
+    };
+    let Some((header, rows)) = records.split_first() else {
+        return Err(fault);
+    };
+    if !is_signature_header(header) {
+        return Err(fault);
+    }
+    read_rows(alloc, rows)
+}
+
+// The rows in turn, each judged after those before it.
+fn read_rows(alloc: Global, records: &[ByteRecord]) -> Result<Draft, TableError>
+    ensures { MatchResult result
+        (λ draft. table_from 1 empty_table (map fields_of records.now) ≡ Ok draft)
+        (λ e. IsFault (table_from 1 empty_table (map fields_of records.now)) e) }
+{
+    let mut draft = Draft::new(alloc);
+    for (i, record) in records.iter().enumerate() {
+        let row = read_row(alloc, record, i + 1)?;
+        draft = draft.add(alloc, row, i + 1)?;
+    }
+    Ok(draft)
+}
+
+// Whether the record is the header of a signature file.
+fn is_signature_header(record: &ByteRecord) -> bool
+    ensures { result ≡ is_signature_header (fields_of record.now) }
+{
+    record.len() == 6
+        && field(record, 0) == b"puid".as_slice()
+        && field(record, 1) == b"signature".as_slice()
+        && field(record, 2) == b"position".as_slice()
+        && field(record, 3) == b"offset".as_slice()
+        && field(record, 4) == b"max_offset".as_slice()
+        && field(record, 5) == b"expression".as_slice()
+}
+
+// The pairs of the priority file.
+fn read_priorities(alloc: Global, text: &[u8]) -> Result<(), TableError>
+    ensures { MatchResult result
+        (λ _. pairs_of (records_of text.now) ≡ Ok [])
+        (λ e. (is_of_signatures e ≡ false) × IsFault (pairs_of (records_of text.now)) e) }
+{
+    let records = all_records(alloc, text)?;
+    judge_priorities(&records)
+}
+
+// The same, of the records.
+#[tactic(auto, unfolding(crate::specs::Loading::pairs_of))]
+fn judge_priorities(records: &[ByteRecord]) -> Result<(), TableError>
+    ensures { MatchResult result
+        (λ _. pairs_of (map fields_of records.now) ≡ Ok [])
+        (λ e. (is_of_signatures e ≡ false) × IsFault (pairs_of (map fields_of records.now)) e) }
+{
+    let fault = TableError::Header {
+        file: TableFile::Priorities,
+    };
+    let Some((header, rows)) = records.split_first() else {
+        return Err(fault);
+    };
+    if !is_priority_header(header) {
+        return Err(fault);
+    }
+    if !rows.is_empty() {
+        return Err(TableError::PriorityUnknown { row: 1 });
+    }
+    Ok(())
+}
+
+// Whether the record is the header of a priority file.
+fn is_priority_header(record: &ByteRecord) -> bool
+    ensures { result ≡ is_priority_header (fields_of record.now) }
+{
+    record.len() == 2
+        && field(record, 0) == b"higher".as_slice()
+        && field(record, 1) == b"lower".as_slice()
+}

@@ -1,0 +1,141 @@
+//! A row of the signature file.
+
+ghost use Rattle.std.specs.Prelude.{◌≡◌};
+ghost use Rattle.csv.specs.Records.{fields_of};
+ghost use Rattle.sig_expr.specs.Texts.{expr_of};
+ghost use Rattle.std.specs.Option.{ok_or};
+ghost use Rattle.sig_table.specs.Puids.{puid_of};
+ghost use Rattle.sig_table.specs.Numbers.{positive_of};
+ghost use Rattle.sig_table.specs.Rows.{Judges, items_in, offset_of, offsets_of, position_of, row_of, text_at, up_to};
+
+use super::numbers::{read_number, read_positive};
+use super::{Position, Puid, Sequence, TableError, TableFile};
+use csv::ByteRecord;
+use sig_expr::{parse, Expr, ExprError};
+use std::alloc::Global;
+
+// What a row says: a format, a signature of it, and a sequence of that.
+#[derive(Debug, Drop)]
+pub(crate) struct Row {
+    pub(crate) puid: Puid,
+    pub(crate) number: u32,
+    pub(crate) sequence: Sequence,
+}
+
+// The row that the record writes.
+#[tactic(auto, unfolding(crate::specs::Rows::row_of))]
+pub(crate) fn read_row(alloc: Global, record: &ByteRecord, row: usize) -> Result<Row, TableError>
+    ensures { Judges result (row_of row (fields_of record.now)) }
+{
+    if record.len() != 6 {
+        return Err(TableError::Fields {
+            file: TableFile::Signatures,
+            row,
+        });
+    }
+    let puid = read_puid(field(record, 0), TableFile::Signatures, row)?;
+    let number = read_signature_number(field(record, 1), row)?;
+    let position = read_position(field(record, 2), field(record, 3), field(record, 4), row)?;
+    let expr = read_expr(alloc, field(record, 5), row)?;
+    Ok(Row {
+        puid,
+        number,
+        sequence: Sequence::new(position, expr),
+    })
+}
+
+// The field at a place, which is empty where there is none.
+pub(crate) fn field(record: &ByteRecord, place: usize) -> &[u8]
+    ensures { result.now ≡ text_at (fields_of record.now) place }
+{
+    match record.get(place) {
+        Some(text) => text,
+        None => &[],
+    }
+}
+
+// The PUID that the text writes.
+pub(crate) fn read_puid(text: &[u8], file: TableFile, row: usize) -> Result<Puid, TableError>
+    ensures { result ≡ ok_or (puid_of text.now) (TableError.Puid file row) }
+{
+    Puid::parse(text).ok_or(TableError::Puid { file, row })
+}
+
+// The signature number that the text writes.
+fn read_signature_number(text: &[u8], row: usize) -> Result<u32, TableError>
+    ensures { result ≡ ok_or (positive_of text.now) (TableError.SignatureNumber row) }
+{
+    read_positive(text).ok_or(TableError::SignatureNumber { row })
+}
+
+// The place that the three texts write.
+#[tactic(auto, unfolding(crate::specs::Rows::position_of))]
+fn read_position(
+    word: &[u8],
+    offset: &[u8],
+    max: &[u8],
+    row: usize,
+) -> Result<Position, TableError>
+    ensures { Judges result (position_of row word.now offset.now max.now) }
+{
+    if word == b"BOF".as_slice() {
+        let (min, max) = read_offsets(offset, max, row)?;
+        return Ok(Position::Bof { min, max });
+    }
+    if word == b"EOF".as_slice() {
+        let (min, max) = read_offsets(offset, max, row)?;
+        return Ok(Position::Eof { min, max });
+    }
+    if word != b"Variable".as_slice() {
+        return Err(TableError::Position { row });
+    }
+    if offset.is_empty() && max.is_empty() {
+        Ok(Position::Variable)
+    } else {
+        Err(TableError::Offset { row })
+    }
+}
+
+// The two offsets that the texts write.
+fn read_offsets(offset: &[u8], max: &[u8], row: usize) -> Result<(u16, u16), TableError>
+    ensures { Judges result (offsets_of row offset.now max.now) }
+{
+    let Some(range) = read_range(offset, max) else {
+        return Err(TableError::Offset { row });
+    };
+    Ok(range)
+}
+
+// The least offset and the greatest one, which equals it where its text is empty.
+fn read_range(offset: &[u8], max: &[u8]) -> Option<(u16, u16)>
+    ensures { result ≡ up_to (offset_of offset.now) max.now }
+{
+    let min = read_offset(offset)?;
+    if max.is_empty() {
+        return Some((min, min));
+    }
+    let max = read_offset(max)?;
+    if max < min { None } else { Some((min, max)) }
+}
+
+// A number that is at most 65,535.
+fn read_offset(text: &[u8]) -> Option<u16>
+    ensures { result ≡ offset_of text.now }
+{
+    let number = read_number(text, 5)?;
+    if number > 65535 {
+        return None;
+    }
+    Some(number as u16)
+}
+
+// The expression that the text spells.
+fn read_expr(alloc: Global, text: &[u8], row: usize) -> Result<Expr, TableError>
+    ensures { Judges result (items_in row (expr_of text.now)) }
+{
+    match parse(alloc, text) {
+        Ok(expr) => Ok(expr),
+        Err(ExprError::OutOfMemory) => Err(TableError::OutOfMemory),
+        Err(error) => Err(TableError::Expression { row, error }),
+    }
+}
