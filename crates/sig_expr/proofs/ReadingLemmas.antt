@@ -1,5 +1,5 @@
 -- A text that is read to its end has an item.
-use Rattle.std.proofs.Common.{◌≡◌, ℕ, ◌+◌, ◌<◌, Bool, true, false, cond, List, [], ◌∷◌, ◌++◌, length, Option, Some, None, refl, rules, arith, nat_eq, nat_le, nat_lt, length-append}
+use Rattle.std.proofs.Common.{◌≡◌, ℕ, ◌+◌, ◌<◌, Bool, true, false, cond, List, [], ◌∷◌, ◌++◌, length, Option, Some, None, refl, arith, nat_eq, nat_lt, length-append}
 use Rattle.std.specs.Prelude.{◌&&◌}
 use Rattle.hex.specs.Hex.{hex_digit_value}
 use Rattle.sig_expr.specs.declared.end.End.{End}
@@ -15,8 +15,8 @@ use Rattle.sig_expr.specs.declared.token.Piece.{Piece}
 use Rattle.sig_expr.specs.declared.token.Piece.TheVariants as piece
 use Rattle.sig_expr.specs.declared.token.Step.{Step}
 use Rattle.sig_expr.specs.declared.token.Step.TheVariants as step
-use Rattle.sig_expr.specs.Ends.{empty_end, push_of, word_of}
-use Rattle.sig_expr.specs.Reading.{decimal_of, pair_of, with_digit, part_of, item_start_of, list_start_of, begin_of, dash_star_of, number_of, closed_gap_of, star_of, end_of, closed_bracket_of, go_on_of, feed_of, next_of, is_between, is_end_of, is_after, context_of, behind_part}
+use Rattle.sig_expr.specs.Ends.{empty_end, word_of}
+use Rattle.sig_expr.specs.Reading.{decimal_of, with_digit, part_of, item_start_of, list_start_of, begin_of, dash_star_of, number_of, closed_gap_of, star_of, end_of, closed_bracket_of, go_on_of, feed_of, next_of, is_between, is_end_of, is_after, context_of, behind_part}
 use Rattle.sig_expr.specs.Built.{Built, built_of, with_part, with_atom, with_item, atom_of, item_of}
 use Rattle.sig_expr.specs.Passes.{stop_from, stop_at, built_from, built_step}
 

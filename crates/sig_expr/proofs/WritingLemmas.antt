@@ -1,7 +1,7 @@
 -- Writes one after the other.
-use Rattle.std.proofs.Common.{◌≡◌, ℕ, ◌+◌, ◌<◌, ◌≤◌, Bool, false, List, [], ◌∷◌, ◌++◌, length, Option, Some, None, Result, Ok, Err, OnOk, OnErr, IsErr, IsTrue, is_err, true, refl, sym, ◌∙◌, ap, arith, rules, length-append, append_assoc, append-nil}
+use Rattle.std.proofs.Common.{◌≡◌, ℕ, ◌+◌, ◌<◌, Bool, false, List, [], ◌∷◌, ◌++◌, length, Option, Some, None, Result, Ok, Err, OnOk, OnErr, IsErr, IsTrue, is_err, true, refl, sym, ◌∙◌, ap, arith, length-append, append_assoc, append-nil}
 use Rattle.sig_bits.specs.Device.{Adds}
-use Rattle.sig_expr.specs.Writing.{Sink, sink, Wrote}
+use Rattle.sig_expr.specs.Writing.{Sink, Wrote}
 
 adds_nothing : (w : Option (List ℕ)) → Adds w [] w
 adds_nothing None = tt
@@ -51,4 +51,3 @@ wrote_lowers (Err e) a b t wrote = tt
 pub wrote_adds : {X E : Type 0} (r : Result X E) (a b : Sink) (t : List ℕ) → OnOk r (Wrote a t b) → OnOk r (Adds a.written t b.written)
 wrote_adds (Ok x) a b t wrote = wrote.adds
 wrote_adds (Err e) a b t wrote = tt
-

@@ -1,5 +1,5 @@
 -- The items of a text from its pieces.
-use Rattle.std.specs.Prelude.{ℕ, Bool, true, false, if◌then◌else◌, List, [], ◌∷◌, ◌++◌, map, Option, Some, None}
+use Rattle.std.specs.Prelude.{Bool, true, false, if◌then◌else◌, List, [], ◌∷◌, ◌++◌, map, Option, Some, None}
 use Rattle.sig_expr.specs.declared.builder.Builder.{Builder}
 use Rattle.sig_expr.specs.declared.token.Piece.{Piece}
 use Rattle.sig_expr.specs.declared.token.Piece.TheVariants as piece

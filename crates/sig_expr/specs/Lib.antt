@@ -5,7 +5,11 @@ pub mod Canon
 pub mod Ends
 pub mod Faults
 pub mod Passes
+pub mod Profile
 pub mod Reading
+pub mod Refusals
+pub mod Scans
+pub mod Spelling
 pub mod Texts
 pub mod Words
 pub mod Writing

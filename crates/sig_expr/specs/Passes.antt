@@ -1,7 +1,6 @@
 -- The passes over the bytes of a text.
-use Rattle.std.specs.Prelude.{ℕ, ◌+◌, Bool, true, false, if◌then◌else◌, List, [], ◌∷◌, ◌++◌, Option, Some, None}
+use Rattle.std.specs.Prelude.{ℕ, ◌+◌, if◌then◌else◌, List, [], ◌∷◌, Option, Some, None}
 use Rattle.sig_expr.specs.declared.token.State.{State}
-use Rattle.sig_expr.specs.declared.token.Piece.{Piece}
 use Rattle.sig_expr.specs.declared.token.Step.{Step}
 use Rattle.sig_expr.specs.declared.token.Step.TheVariants as step
 use Rattle.sig_expr.specs.declared.item.Item.{Item}

@@ -38,7 +38,11 @@ impl End {
         if self.len < KEPT {
             bytes[self.len] = byte;
         }
-        let len = if self.len < MOST { self.len + 1 } else { self.len };
+        let len = if self.len < MOST {
+            self.len + 1
+        } else {
+            self.len
+        };
         End { bytes, len }
     }
 

@@ -8,9 +8,9 @@ mod end;
 mod error;
 mod expr;
 mod item;
+mod laws;
 mod parser;
 mod piece;
-
 mod printer;
 mod short;
 #[cfg(test)]
@@ -20,7 +20,7 @@ mod token;
 pub use error::ExprError;
 pub use expr::Expr;
 pub use item::{Alternatives, Atom, Item};
+pub use laws::spelled_is_read;
 pub use parser::parse;
 pub use printer::print;
-
 pub use short::Short;

@@ -3,9 +3,12 @@
 //! Two passes find every refusal and grow nothing: `stop` the place where no expression goes on, and
 //! `fault` the first gap or bracket out of the profile. `items` then builds the value.
 
-ghost use Rattle.std.specs.Prelude.{◌≡◌, ◌<◌, IfOk, length, OnOk};
+ghost use Rattle.std.specs.Prelude.{◌≡◌, ◌<◌, IfOk, IfErr, length, OnOk};
 ghost use Rattle.sig_expr.specs.Built.{built};
 ghost use Rattle.sig_expr.specs.Passes.{stop_of, fault_in, built_step, items_of};
+ghost use Rattle.sig_expr.specs.Profile.{InProfile};
+ghost use Rattle.sig_expr.specs.Refusals.{Means};
+ghost use Rattle.sig_expr.specs.Spelling.{Spells};
 ghost use Rattle.sig_expr.specs.Texts.{Tells, expr_of};
 
 use super::builder::Builder;
@@ -30,7 +33,11 @@ fn stop(text: &[u8]) -> Option<usize>
         }
         state = state.next(step);
     }
-    if state.is_end() { None } else { Some(text.len()) }
+    if state.is_end() {
+        None
+    } else {
+        Some(text.len())
+    }
 }
 
 // The first fault of a gap or a bracket.
@@ -86,6 +93,8 @@ fn items(alloc: Global, text: &[u8]) -> Result<Vec<Item>, AllocError>
 #[tactic(auto, unfolding(crate::specs::Texts::expr_of))]
 pub fn parse(alloc: Global, text: &[u8]) -> Result<Expr, ExprError>
     ensures exact { Tells result (expr_of text.now) }
+    ensures spelled { IfOk result (λ e. InProfile text.now × Spells e text.now) }
+    ensures refused { IfErr result (λ f. Means f text.now) }
 {
     if text.len() > LONGEST {
         return Err(ExprError::TooLong);

@@ -125,7 +125,12 @@ fn put_gap<W: Output>(out: &mut W, min: u32, max: Option<u32>) -> Result<(), Dev
 }
 
 // A bracket with two ends, behind what opens it.
-fn put_range<W: Output>(out: &mut W, opening: &[u8], first: Short, second: Short) -> Result<(), DeviceFault>
+fn put_range<W: Output>(
+    out: &mut W,
+    opening: &[u8],
+    first: Short,
+    second: Short,
+) -> Result<(), DeviceFault>
     requires { 0 < length opening.now }
     ensures fails { OnErr result (W.failed out.new ≡ true) }
     ensures wrote { OnOk result (Wrote (sink (W.failed out.old) (W.limit out.old) (W.written out.old)) (range_text opening.now first second) (sink (W.failed out.new) (W.limit out.new) (W.written out.new))) }

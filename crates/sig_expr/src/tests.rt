@@ -1,9 +1,10 @@
+use super::error::ExprError::{
+    BracketTooLong, ClassEmpty, GapEmpty, GapNumber, GapOrder, RangeLength, RangeOrder, Syntax,
+    TooLong,
+};
 use super::*;
 use sig_bits::FromWrite;
 use std::test::*;
-
-use super::error::ExprError::{BracketTooLong, ClassEmpty, GapEmpty, GapNumber, GapOrder, RangeLength};
-use super::error::ExprError::{RangeOrder, Syntax, TooLong};
 
 #[test]
 fn first_faults_are_named(rt: HostRuntime) {
@@ -55,7 +56,9 @@ fn first_faults_are_named(rt: HostRuntime) {
 #[test]
 fn each_kind_of_item_is_read(rt: HostRuntime) -> Result<(), Fail> {
     let text = b"4a??{0-*}{3-3}{2-5}{2-*}(0d0a|[!0A])[41:5A][!4142][!00:FE]";
-    let expr = parse(rt.alloc(), text).ok().ok_or("the text is an expression")?;
+    let expr = parse(rt.alloc(), text)
+        .ok()
+        .ok_or("the text is an expression")?;
     assert_eq!(rt; expr.items().len(), 10);
     Ok(())
 }

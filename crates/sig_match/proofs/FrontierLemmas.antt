@@ -69,14 +69,6 @@ Gains-join xs last next joined before touches from to_last to_next to = record {
   gained = λ o within. let a = within.0 in let b = within.1 in IsIn-push_last xs joined o (omega arith, omega arith);
 }
 
--- nothing is added
-pub Gains-none : (IsOffset : ℕ → Type 0) (xs : List Interval) → ((o : ℕ) → IsOffset o → ⊥) → Gains IsOffset xs xs
-Gains-none IsOffset xs none = record {
-  sound = λ o h. inl h;
-  kept = λ o h. h;
-  gained = λ o h. absurd (none o h);
-}
-
 -- one gain after another, and what both gain together
 pub Gains-more : (P Q R : ℕ → Type 0) (a b c : List Interval) → ((o : ℕ) → P o → R o) → ((o : ℕ) → Q o → R o) → ((o : ℕ) → R o → P o ⊎ Q o) → Gains P a b → Gains Q b c → Gains R a c
 Gains-more P Q R a b c first second both ab bc = record {
@@ -115,13 +107,6 @@ take-next xs i x at is = take_more xs i nowhere at ∙ ap (λ y. take i xs ++ y 
 -- what two frontiers merged have: their front parts
 abbrev pub Merged : List Interval → List Interval → ℕ → ℕ → List Interval → Type 0
 Merged a b i j both = HasExactly (λ o. IsIn (take i a) o ⊎ IsIn (take j b) o) both
-
--- nothing is merged yet
-pub Merged-none : (a b : List Interval) → Merged a b 0 0 []
-Merged-none a b = record {
-  sound = λ o h. absurd h;
-  complete = λ o h. elim h [ inl none ↦ absurd none | inr none ↦ absurd none ];
-}
 
 -- an interval of the first is merged
 pub Merged-left : (a b : List Interval) (i j : ℕ) (both new : List Interval) (x : Interval) → i < length a → x ≡ get_or a i nowhere → Merged a b i j both → Gains (IsWithin x) both new → Merged a b (i + 1) j new

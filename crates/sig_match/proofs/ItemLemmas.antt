@@ -48,13 +48,6 @@ Carries-cut U file S ends stands cut =
     subst S same r.is_start)
     (λ a within h. cut.complete a (stands a within h))
 
--- any byte is a gap of one
-pub HasExactly-any : (file : List ℕ) (S : ℕ → Type 0) (ends : List Interval) → HasExactly (Reaches (Word (item.Gap 1 (Some 1))) file S) ends → HasExactly (Reaches (Word item.Any) file S) ends
-HasExactly-any file S ends gap = record {
-  sound = λ o h. Reaches-words (Word (item.Gap 1 (Some 1))) (Word item.Any) file S o (λ w g. (let low = g.1 in let high = g.2 in omega arith, g.0)) (gap.sound o h);
-  complete = λ o r. gap.complete o (Reaches-words (Word item.Any) (Word (item.Gap 1 (Some 1))) file S o (λ w h. (h.1, let len = h.0 in omega arith, let len = h.0 in omega arith)) r);
-}
-
 -- where the words of any of the alternatives end
 abbrev pub ReachesAny : List (List Atom) → List ℕ → (ℕ → Type 0) → ℕ → Type 0
 ReachesAny alternatives file S = Reaches (Word (item.Alt alternatives)) file S

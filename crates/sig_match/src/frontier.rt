@@ -43,7 +43,8 @@ pub fn add(frontier: &mut Vec<Interval>, next: Interval) -> Result<(), AllocErro
 
 /// Merges two frontiers.
 pub fn union(alloc: Global, a: &[Interval], b: &[Interval]) -> Result<Vec<Interval>, AllocError>
-    ensures { IfOk result (λ both. HasExactly (λ offset. IsIn a.now offset ⊎ IsIn b.now offset) both.items) }
+    ensures { IfOk result
+        (λ both. HasExactly (λ offset. IsIn a.now offset ⊎ IsIn b.now offset) both.items) }
 {
     let mut both = Vec::new(alloc);
     let mut i = 0;

@@ -33,7 +33,8 @@ pub fn hit_formats(alloc: Global, table: &Table, file: &[u8]) -> Result<Vec<Hit>
 fn first_hits(alloc: Global, table: &Table, file: &[u8]) -> Result<Vec<Option<SigId>>, AllocError>
     ensures formats { IfOk result (λ firsts. vec_len firsts ≡ length table.now.formats) }
     ensures few { IfOk result (λ firsts. vec_len firsts ≤ 1000) }
-    ensures firsts { IfOk result (λ firsts. FirstHits table.now file.now (length table.now.signatures) firsts.items) }
+    ensures firsts { IfOk result
+        (λ firsts. FirstHits table.now file.now (length table.now.signatures) firsts.items) }
 {
     let mut firsts = vec![in alloc; None; table.format_count()]?;
     for place in 0..table.signature_count() {

@@ -11,6 +11,8 @@ mod part;
 mod reach;
 mod results;
 mod standing;
+#[cfg(test)]
+mod tests;
 mod whole_core;
 
 pub use droid_core::DroidCore;

@@ -24,7 +24,8 @@ pub fn after_item(
     frontier: &[Interval],
     item: &Item,
 ) -> Result<Vec<Interval>, AllocError>
-    ensures { IfOk result (λ ends. HasExactly (Reaches (Word item.now) file.now (IsIn frontier.now)) ends.items) }
+    ensures { IfOk result
+        (λ ends. HasExactly (Reaches (Word item.now) file.now (IsIn frontier.now)) ends.items) }
 {
     match item {
         Item::Byte(byte) => after_part(alloc, file, frontier, &Atom::Byte(*byte)),
@@ -44,7 +45,9 @@ fn after_alternatives(
     frontier: &[Interval],
     alternatives: &Alternatives,
 ) -> Result<Vec<Interval>, AllocError>
-    ensures { IfOk result (λ ends. HasExactly (Reaches (Word (item.Alt alternatives.now)) file.now (IsIn frontier.now)) ends.items) }
+    ensures { IfOk result
+        (λ ends. HasExactly (Reaches (Word (item.Alt alternatives.now)) file.now (IsIn frontier.now))
+        ends.items) }
 {
     let mut ends = Vec::new(alloc);
     for alternative in alternatives.as_slice() {
@@ -61,7 +64,9 @@ fn after_parts(
     frontier: &[Interval],
     parts: &[Atom],
 ) -> Result<Vec<Interval>, AllocError>
-    ensures { IfOk result (λ ends. HasExactly (Reaches (AlternativeWord parts.now) file.now (IsIn frontier.now)) ends.items) }
+    ensures { IfOk result
+        (λ ends. HasExactly (Reaches (AlternativeWord parts.now) file.now (IsIn frontier.now))
+        ends.items) }
 {
     let mut ends = after_gap(alloc, file, frontier, 0, Some(0))?;
     for part in parts {
@@ -77,7 +82,8 @@ fn after_part(
     frontier: &[Interval],
     part: &Atom,
 ) -> Result<Vec<Interval>, AllocError>
-    ensures { IfOk result (λ ends. HasExactly (Reaches (PartWord part.now) file.now (IsIn frontier.now)) ends.items) }
+    ensures { IfOk result
+        (λ ends. HasExactly (Reaches (PartWord part.now) file.now (IsIn frontier.now)) ends.items) }
 {
     let mut ends = Vec::new(alloc);
     for interval in frontier {
@@ -96,7 +102,9 @@ fn add_after_byte(
     interval: Interval,
     byte: u8,
 ) -> Result<(), AllocError>
-    ensures { OnOk result (Gains (Reaches (PartWord (atom.Byte byte)) file.now (IsWithin interval)) ends.old.items ends.new.items) }
+    ensures { OnOk result
+        (Gains (Reaches (PartWord (atom.Byte byte)) file.now (IsWithin interval))
+        ends.old.items ends.new.items) }
 {
     let end = file.len().min(interval.to.saturating_add(1));
     let mut at = interval.from;
@@ -117,7 +125,9 @@ fn add_after_bracket(
     interval: Interval,
     part: &Atom,
 ) -> Result<(), AllocError>
-    ensures { OnOk result (Gains (Reaches (PartWord part.now) file.now (IsWithin interval)) ends.old.items ends.new.items) }
+    ensures { OnOk result
+        (Gains (Reaches (PartWord part.now) file.now (IsWithin interval))
+        ends.old.items ends.new.items) }
 {
     let len = part_length(part);
     let end = file
@@ -141,7 +151,9 @@ fn after_gap(
     min: u32,
     max: Option<u32>,
 ) -> Result<Vec<Interval>, AllocError>
-    ensures { IfOk result (λ ends. HasExactly (Reaches (Word (item.Gap min max)) file.now (IsIn frontier.now)) ends.items) }
+    ensures { IfOk result
+        (λ ends. HasExactly (Reaches (Word (item.Gap min max)) file.now (IsIn frontier.now))
+        ends.items) }
 {
     let mut ends = Vec::new(alloc);
     for interval in frontier {
@@ -159,7 +171,9 @@ fn add_after_gap(
     min: u32,
     max: Option<u32>,
 ) -> Result<(), AllocError>
-    ensures { OnOk result (Gains (Reaches (Word (item.Gap min max)) file.now (IsWithin interval)) ends.old.items ends.new.items) }
+    ensures { OnOk result
+        (Gains (Reaches (Word (item.Gap min max)) file.now (IsWithin interval))
+        ends.old.items ends.new.items) }
 {
     let Some(from) = interval.from.checked_add(min as usize) else {
         return Ok(());

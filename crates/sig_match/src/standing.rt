@@ -64,7 +64,8 @@ fn ends(position: Position, len: usize) -> Option<Interval>
 
 // Whether a sequence of this position may end at an offset of the frontier.
 fn has_end(frontier: &[Interval], position: Position, len: usize) -> bool
-    ensures { IsTrue result ↔ Meets (λ offset. (offset ≤ len) × MayEnd position len offset) frontier.now }
+    ensures { IsTrue result
+        ↔ Meets (λ offset. (offset ≤ len) × MayEnd position len offset) frontier.now }
 {
     match ends(position, len) {
         Some(ends) => overlaps(frontier, ends),

@@ -1,7 +1,8 @@
 //! The matcher that keeps the file in memory.
 //!
-//! Each sequence is searched by itself, from a frontier of offsets to the next (`frontier.rt`): an
-//! item costs at most the file's length, whatever the table and the file.
+//! Each sequence is searched by itself, from a frontier of offsets to the next (`frontier.rt`). An
+//! item, or a part of an alternative, costs at most the file's length, whatever the table and the
+//! file, and a frontier has about half as many intervals as the file has bytes at most.
 
 ghost use Rattle.std.specs.Prelude.{◌≡◌, IfOk, IfErr};
 ghost use Rattle.sig_table.specs.Lists.{TableLists};
@@ -14,7 +15,7 @@ use std::alloc::Global;
 use std::marker::Model;
 
 /// A matcher that reads a file whole before it searches it.
-#[derive(Drop)]
+#[derive(Debug, Drop)]
 pub struct WholeCore {
     table: Table,
     alloc: Global,

@@ -13,15 +13,16 @@ use Rattle.sig_table.specs.declared.puid.Registry.TheVariants.{Fmt, XFmt}
 use Rattle.sig_table.specs.contracts.puid.PuidPartialEq.TheImpl.{eq-value}
 use Rattle.sig_table.specs.Lists.{IsTable, PlacedExpr, SignatureLists, TableLists}
 use Rattle.sig_table.specs.declared.row.Row.{Row}
-use Rattle.sig_table.specs.Loading.{fault_at, fault_in, grown, slot_count, with_number, with_row}
+use Rattle.sig_table.specs.Loading.{fault_at, fault_in, grown, with_number, with_row}
 use Rattle.sig_table.specs.Puids.{puid_eq}
+use Rattle.sig_table.specs.Slots.{slot_count}
 
 -- the derived `==` of PUIDs
 puid_eq-same : (a b : Puid) → eq-value.it a b ≡ puid_eq a b
 puid_eq-same a b = elim a.registry as (λ r. eq-value.it (record a { registry = r }) b ≡ puid_eq (record a { registry = r }) b) [
-    | Fmt ↦ elim b.registry as (λ r. eq-value.it (record a { registry = Fmt }) (record b { registry = r }) ≡ puid_eq (record a { registry = Fmt }) (record b { registry = r })) [ Fmt ↦ refl | XFmt ↦ refl ]
-    | XFmt ↦ elim b.registry as (λ r. eq-value.it (record a { registry = XFmt }) (record b { registry = r }) ≡ puid_eq (record a { registry = XFmt }) (record b { registry = r })) [ Fmt ↦ refl | XFmt ↦ refl ]
-  ]
+  | Fmt ↦ elim b.registry as (λ r. eq-value.it (record a { registry = Fmt }) (record b { registry = r }) ≡ puid_eq (record a { registry = Fmt }) (record b { registry = r })) [ Fmt ↦ refl | XFmt ↦ refl ]
+  | XFmt ↦ elim b.registry as (λ r. eq-value.it (record a { registry = XFmt }) (record b { registry = r }) ≡ puid_eq (record a { registry = XFmt }) (record b { registry = r })) [ Fmt ↦ refl | XFmt ↦ refl ]
+]
 
 pub puid_eq-is : eq-value.it ≡ puid_eq
 puid_eq-is = λ i. λ a b. puid_eq-same a b i
@@ -40,48 +41,48 @@ module _ {X : Type 0} (p : X → Bool) where
   pub find-place : (xs : List X) (x : X) → position_or_len p xs < length xs → x ≡ get_or xs (position_or_len p xs) x → find p xs ≡ Some x
   find-place [] x lt is = absurd (omega arith)
   find-place (y ∷ ys) x lt is = elim (cases_Bool (p y)) [
-      | inl t ↦ rw t (ap (λ z. Some z) (sym (rw t at is)))
-      | inr f ↦ rw f (find-place ys x (let h = rw f at lt in omega arith) (rw one-add at (rw f at is)))
-    ]
+    | inl t ↦ rw t (ap (λ z. Some z) (sym (rw t at is)))
+    | inr f ↦ rw f (find-place ys x (let h = rw f at lt in omega arith) (rw one-add at (rw f at is)))
+  ]
 
   pub find-none : (xs : List X) → length xs ≤ position_or_len p xs → find p xs ≡ None
   find-none [] h = refl
   find-none (y ∷ ys) h = elim (cases_Bool (p y)) [
-      | inl t ↦ absurd (let g = rw t at h in omega arith)
-      | inr f ↦ rw f (find-none ys (let g = rw f at h in omega arith))
-    ]
+    | inl t ↦ absurd (let g = rw t at h in omega arith)
+    | inr f ↦ rw f (find-none ys (let g = rw f at h in omega arith))
+  ]
 
   -- an element that passes is within the list
   pub position-any : (xs : List X) → list_any p xs ≡ true → position_or_len p xs < length xs
   position-any [] h = absurd (cc h)
   position-any (y ∷ ys) h = elim (cases_Bool (p y)) [
-      | inl t ↦ rw t (omega arith)
-      | inr f ↦ rw f (let g = position-any ys (rw f at h) in omega arith)
-    ]
+    | inl t ↦ rw t (omega arith)
+    | inr f ↦ rw f (let g = position-any ys (rw f at h) in omega arith)
+  ]
 
   pub position-not_any : (xs : List X) → list_any p xs ≡ false → position_or_len p xs ≡ length xs
   position-not_any [] h = refl
   position-not_any (y ∷ ys) h = elim (cases_Bool (p y)) [
-      | inl t ↦ absurd (cc (rw t at h))
-      | inr f ↦ rw f (let g = position-not_any ys (rw f at h) in omega arith)
-    ]
+    | inl t ↦ absurd (cc (rw t at h))
+    | inr f ↦ rw f (let g = position-not_any ys (rw f at h) in omega arith)
+  ]
 
   -- what holds of each element holds of the one that is found
   pub All-find : (P : X → Type 0) (xs : List X) (x : X) → All P xs → find p xs ≡ Some x → P x
   All-find P [] x all h = absurd (cc h)
   All-find P (y ∷ ys) x all h = elim (cases_Bool (p y)) [
-      | inl t ↦ let same : y ≡ x = cc (rw t at h) in subst P same (All-head P y ys all)
-      | inr f ↦ All-find P ys x (All-tail P y ys all) (rw f at h)
-    ]
+    | inl t ↦ let same : y ≡ x = cc (rw t at h) in subst P same (All-head P y ys all)
+    | inr f ↦ All-find P ys x (All-tail P y ys all) (rw f at h)
+  ]
 
 -- one sequence more, by the place
 pub grown-at : (n : ℕ) (sequence : PlacedExpr) (ss : List SignatureLists) (s : SignatureLists) → position_or_len (λ s. nat_eq n s.number) ss < length ss → s ≡ get_or ss (position_or_len (λ s. nat_eq n s.number) ss) s
     → slice_set ss (position_or_len (λ s. nat_eq n s.number) ss) (record s { sequences = s.sequences ++ sequence ∷ [] }) ≡ grown n sequence ss
 grown-at n sequence [] s lt is = absurd (omega arith)
 grown-at n sequence (x ∷ xs) s lt is = elim (cases_Bool (nat_eq n x.number)) [
-    | inl t ↦ let same : s ≡ x = rw t at is in rw (t, same) refl
-    | inr f ↦ rw (f, one-add) (ap (λ l. x ∷ l) (grown-at n sequence xs s (let h = rw f at lt in omega arith) (rw one-add at (rw f at is))))
-  ]
+  | inl t ↦ let same : s ≡ x = rw t at is in rw (t, same) refl
+  | inr f ↦ rw (f, one-add) (ap (λ l. x ∷ l) (grown-at n sequence xs s (let h = rw f at lt in omega arith) (rw one-add at (rw f at is))))
+]
 
 pub OnOk-map : {T E P Q : Type 0} (r : Result T E) → (P → Q) → OnOk r P → OnOk r Q
 OnOk-map (Ok x) f h = f h
@@ -91,16 +92,16 @@ OnOk-map (Err e) f h = tt
 pub numbers-grown : (n : ℕ) (sequence : PlacedExpr) (ss : List SignatureLists) → map (λ s. s.number) (grown n sequence ss) ≡ map (λ s. s.number) ss
 numbers-grown n sequence [] = refl
 numbers-grown n sequence (x ∷ xs) = elim (cases_Bool (nat_eq n x.number)) [
-    | inl t ↦ rw t refl
-    | inr f ↦ rw f (ap (λ l. x.number ∷ l) (numbers-grown n sequence xs))
-  ]
+  | inl t ↦ rw t refl
+  | inr f ↦ rw f (ap (λ l. x.number ∷ l) (numbers-grown n sequence xs))
+]
 
 pub length-grown : (n : ℕ) (sequence : PlacedExpr) (ss : List SignatureLists) → length (grown n sequence ss) ≡ length ss
 length-grown n sequence [] = refl
 length-grown n sequence (x ∷ xs) = elim (cases_Bool (nat_eq n x.number)) [
-    | inl t ↦ rw t refl
-    | inr f ↦ rw f (ap (λ l. suc l) (length-grown n sequence xs))
-  ]
+  | inl t ↦ rw t refl
+  | inr f ↦ rw f (ap (λ l. suc l) (length-grown n sequence xs))
+]
 
 -- the format of each signature is within so many
 abbrev pub Known : ℕ → List SignatureLists → Type 0
@@ -109,9 +110,9 @@ Known formats ss = All (λ s. s.format < formats) ss
 pub Known-grown : (k n : ℕ) (sequence : PlacedExpr) (ss : List SignatureLists) → Known k ss → Known k (grown n sequence ss)
 Known-grown k n sequence [] h = h
 Known-grown k n sequence (x ∷ xs) h = elim (cases_Bool (nat_eq n x.number)) [
-    | inl t ↦ rw t (All-cons (λ s. s.format < k) (record x { sequences = x.sequences ++ sequence ∷ [] }) xs (All-head (λ s. s.format < k) x xs h) (All-tail (λ s. s.format < k) x xs h))
-    | inr f ↦ rw f (All-cons (λ s. s.format < k) x (grown n sequence xs) (All-head (λ s. s.format < k) x xs h) (Known-grown k n sequence xs (All-tail (λ s. s.format < k) x xs h)))
-  ]
+  | inl t ↦ rw t (All-cons (λ s. s.format < k) (record x { sequences = x.sequences ++ sequence ∷ [] }) xs (All-head (λ s. s.format < k) x xs h) (All-tail (λ s. s.format < k) x xs h))
+  | inr f ↦ rw f (All-cons (λ s. s.format < k) x (grown n sequence xs) (All-head (λ s. s.format < k) x xs h) (Known-grown k n sequence xs (All-tail (λ s. s.format < k) x xs h)))
+]
 
 pub Known-more : (j k : ℕ) (ss : List SignatureLists) → j ≤ k → Known j ss → Known k ss
 Known-more j k ss le h = λ i d lt. let b = h i d lt in omega arith
@@ -119,23 +120,23 @@ Known-more j k ss le h = λ i d lt. let b = h i d lt in omega arith
 -- the place of a number once it is among the signatures
 pub position-with_number : (n f : ℕ) (ss : List SignatureLists) → position_or_len (λ s. nat_eq n s.number) (with_number ss n f) ≡ position_or_len (λ s. nat_eq n s.number) ss
 position-with_number n f ss = elim (cases_Bool (list_any (λ s. nat_eq n s.number) ss)) [
-    | inl t ↦ rw t refl
-    | inr none ↦ rw none (let last = position-not_any (λ s. nat_eq n s.number) ss none in
-        position_or_len_push (λ s. nat_eq n s.number) ss (record { format = f; number = n; sequences = [] })
-        ∙ rw (eq-eqb (position_or_len (λ s. nat_eq n s.number) ss) (length ss) last, eq-eqb n n refl) (omega arith))
-  ]
+  | inl t ↦ rw t refl
+  | inr none ↦ rw none (let last = position-not_any (λ s. nat_eq n s.number) ss none in
+      position_or_len_push (λ s. nat_eq n s.number) ss (record { format = f; number = n; sequences = [] })
+      ∙ rw (eq-eqb (position_or_len (λ s. nat_eq n s.number) ss) (length ss) last, eq-eqb n n refl) (omega arith))
+]
 
 pub within-with_number : (n f : ℕ) (ss : List SignatureLists) → position_or_len (λ s. nat_eq n s.number) ss < length (with_number ss n f)
 within-with_number n f ss = elim (cases_Bool (list_any (λ s. nat_eq n s.number) ss)) [
-    | inl t ↦ rw t (position-any (λ s. nat_eq n s.number) ss t)
-    | inr none ↦ rw none (let last = position-not_any (λ s. nat_eq n s.number) ss none in omega (arith, length-append {A = SignatureLists}))
-  ]
+  | inl t ↦ rw t (position-any (λ s. nat_eq n s.number) ss t)
+  | inr none ↦ rw none (let last = position-not_any (λ s. nat_eq n s.number) ss none in omega (arith, length-append {A = SignatureLists}))
+]
 
 pub numbers-with_number : (n f : ℕ) (ss : List SignatureLists) → map (λ s. s.number) (with_number ss n f) ≡ insert_key nat_eq (map (λ s. s.number) ss) n
 numbers-with_number n f ss = elim (cases_Bool (list_any (λ s. nat_eq n s.number) ss)) [
-    | inl t ↦ rw (any-numbers, t) refl
-    | inr none ↦ rw (any-numbers, none) (map-append _ ss _)
-  ]
+  | inl t ↦ rw (any-numbers, t) refl
+  | inr none ↦ rw (any-numbers, none) (map-append _ ss _)
+]
 
 pub grown-by : (n : ℕ) (sequence : PlacedExpr) (ss : List SignatureLists) (i : ℕ) (s v : SignatureLists) → position_or_len (λ s. nat_eq n s.number) ss ≡ i → i < length ss → s ≡ get_or ss i s
     → v ≡ record s { sequences = s.sequences ++ sequence ∷ [] } → slice_set ss i v ≡ grown n sequence ss
@@ -144,42 +145,42 @@ grown-by n sequence ss i s v at lt is e = rw (e, ← at) (grown-at n sequence ss
 -- a PUID more
 pub length-insert_key : (ks : List Puid) (k : Puid) → length (insert_key puid_eq ks k) ≤ length ks + 1
 length-insert_key ks k = elim (cases_Bool (list_any (puid_eq k) ks)) [
-    | inl t ↦ rw t (omega arith)
-    | inr f ↦ rw f (omega (arith, length-append {A = Puid}))
-  ]
+  | inl t ↦ rw t (omega arith)
+  | inr f ↦ rw f (omega (arith, length-append {A = Puid}))
+]
 
 pub length-insert_key-ge : (ks : List Puid) (k : Puid) → length ks ≤ length (insert_key puid_eq ks k)
 length-insert_key-ge ks k = elim (cases_Bool (list_any (puid_eq k) ks)) [
-    | inl t ↦ rw t (omega arith)
-    | inr f ↦ rw f (omega (arith, length-append {A = Puid}))
-  ]
+  | inl t ↦ rw t (omega arith)
+  | inr f ↦ rw f (omega (arith, length-append {A = Puid}))
+]
 
 pub position-insert_key : (ks : List Puid) (k : Puid) → position_or_len (puid_eq k) ks < length (insert_key puid_eq ks k)
 position-insert_key ks k = elim (cases_Bool (list_any (puid_eq k) ks)) [
-    | inl t ↦ rw t (position-any (puid_eq k) ks t)
-    | inr f ↦ rw f (let last = position-not_any (puid_eq k) ks f in omega (arith, length-append {A = Puid}))
-  ]
+  | inl t ↦ rw t (position-any (puid_eq k) ks t)
+  | inr f ↦ rw f (let last = position-not_any (puid_eq k) ks f in omega (arith, length-append {A = Puid}))
+]
 
 -- whether one passes, by what `find` gives
 any-none : {X : Type 0} (p : X → Bool) (xs : List X) → find p xs ≡ None → list_any p xs ≡ false
 any-none p [] h = refl
 any-none p (y ∷ ys) h = elim (cases_Bool (p y)) [
-    | inl t ↦ absurd (cc (rw t at h))
-    | inr f ↦ rw f (any-none p ys (rw f at h))
-  ]
+  | inl t ↦ absurd (cc (rw t at h))
+  | inr f ↦ rw f (any-none p ys (rw f at h))
+]
 
 any-some : {X : Type 0} (p : X → Bool) (xs : List X) (x : X) → find p xs ≡ Some x → list_any p xs ≡ true
 any-some p [] x h = absurd (cc h)
 any-some p (y ∷ ys) x h = elim (cases_Bool (p y)) [
-    | inl t ↦ rw t refl
-    | inr f ↦ rw f (any-some p ys x (rw f at h))
-  ]
+  | inl t ↦ rw t refl
+  | inr f ↦ rw f (any-some p ys x (rw f at h))
+]
 
 any-within : {X : Type 0} (p : X → Bool) (xs : List X) → position_or_len p xs < length xs → list_any p xs ≡ true
 any-within p xs lt = elim (cases_Bool (list_any p xs)) [
-    | inl t ↦ t
-    | inr f ↦ absurd (let last = position-not_any p xs f in omega arith)
-  ]
+  | inl t ↦ t
+  | inr f ↦ absurd (let last = position-not_any p xs f in omega arith)
+]
 
 below : (a b : ℕ) → nat_le a b ≡ false → b < a
 below a b h = search (rules, tests)
@@ -190,37 +191,36 @@ Fits t row = (length (insert_key puid_eq t.formats row.puid) ≤ 1000) × (lengt
 
 limits_found : (t : TableLists) (row : Row) (n : ℕ) (s : SignatureLists) → IsTable t → find (λ s. nat_eq row.number s.number) t.signatures ≡ Some s → fault_at (Some s) t n row ≡ None → Fits t row
 limits_found t row n s table found fine = elim (cases_Bool (nat_eq (position_or_len (puid_eq row.puid) t.formats) s.format)) [
-    | inl t' ↦
-        let same : position_or_len (puid_eq row.puid) t.formats ≡ s.format = eqb-true _ _ t' in
-        let known : s.format < length t.formats = All-find (λ s. nat_eq row.number s.number) (λ s. s.format < length t.formats) t.signatures s table.known found in
-        let there : list_any (puid_eq row.puid) t.formats ≡ true = any-within (puid_eq row.puid) t.formats (omega arith) in
-        (rw there table.formats, rw (any-some (λ s. nat_eq row.number s.number) t.signatures s found) table.signatures)
-    | inr f ↦ absurd (cc (rw f at fine))
-  ]
+  | inl t' ↦
+      let same : position_or_len (puid_eq row.puid) t.formats ≡ s.format = eqb-true _ _ t' in
+      let known : s.format < length t.formats = All-find (λ s. nat_eq row.number s.number) (λ s. s.format < length t.formats) t.signatures s table.known found in
+      let there : list_any (puid_eq row.puid) t.formats ≡ true = any-within (puid_eq row.puid) t.formats (omega arith) in
+      (rw there table.formats, rw (any-some (λ s. nat_eq row.number s.number) t.signatures s found) table.signatures)
+  | inr f ↦ absurd (cc (rw f at fine))
+]
 
 limits_new : (t : TableLists) (row : Row) (n : ℕ) → IsTable t → find (λ s. nat_eq row.number s.number) t.signatures ≡ None → fault_at None t n row ≡ None → Fits t row
 limits_new t row n table found fine = elim (cases_Bool (nat_lt 65535 (slot_count row.sequence))) [
-    | inl t' ↦ absurd (cc (rw t' at fine))
-    | inr few ↦ elim (cases_Bool (nat_le 4000 (length t.signatures))) [
-      | inl t' ↦ elim (cases_Bool (nat_le 1000 (length t.formats) && not (list_any (puid_eq row.puid) t.formats))) [
-        | inl u ↦ absurd (cc (rw (few, u) at fine))
-        | inr u ↦ absurd (cc (rw (few, u, t') at fine))
-      ]
-      | inr room ↦
-          let fits : length t.signatures < 4000 = below 4000 (length t.signatures) room in
-          let none = any-none (λ s. nat_eq row.number s.number) t.signatures found in
-          (
-            elim (cases_Bool (list_any (puid_eq row.puid) t.formats)) [
-              | inl there ↦ rw there table.formats
-              | inr other ↦ elim (cases_Bool (nat_le 1000 (length t.formats))) [
-                | inl full ↦ absurd (cc (rw (few, full, other) at fine))
-                | inr free ↦ let few' = below 1000 (length t.formats) free in rw other (omega (arith, length-append {A = Puid}))
-              ]
-            ],
-            rw none (omega (arith, length-append {A = SignatureLists}))
-          )
+  | inl t' ↦ absurd (cc (rw t' at fine))
+  | inr few ↦ elim (cases_Bool (nat_le 4000 (length t.signatures))) [
+    | inl t' ↦ elim (cases_Bool (nat_le 1000 (length t.formats) && not (list_any (puid_eq row.puid) t.formats))) [
+      | inl u ↦ absurd (cc (rw (few, u) at fine))
+      | inr u ↦ absurd (cc (rw (few, u, t') at fine))
     ]
+    | inr room ↦
+        let fits : length t.signatures < 4000 = below 4000 (length t.signatures) room in
+        let none = any-none (λ s. nat_eq row.number s.number) t.signatures found in (
+          elim (cases_Bool (list_any (puid_eq row.puid) t.formats)) [
+            | inl there ↦ rw there table.formats
+            | inr other ↦ elim (cases_Bool (nat_le 1000 (length t.formats))) [
+              | inl full ↦ absurd (cc (rw (few, full, other) at fine))
+              | inr free ↦ let few' = below 1000 (length t.formats) free in rw other (omega (arith, length-append {A = Puid}))
+            ]
+          ],
+          rw none (omega (arith, length-append {A = SignatureLists})),
+        )
   ]
+]
 
 fits_of : (t : TableLists) (row : Row) (n : ℕ) → IsTable t → (o : Option SignatureLists) → find (λ s. nat_eq row.number s.number) t.signatures ≡ o → fault_at o t n row ≡ None → Fits t row
 fits_of t row n table None found fine = limits_new t row n table found fine
@@ -285,15 +285,15 @@ any-puid k ks = ap (λ e. list_any (e k) ks) puid_eq-is
 -- what `position` says
 found-at : {X : Type 0} (p : X → Bool) (xs : List X) (i : ℕ) → position p xs ≡ Some i → (position_or_len p xs ≡ i) × (position_or_len p xs < length xs)
 found-at p xs i h = elim (cases_Bool (nat_lt (position_or_len p xs) (length xs))) [
-    | inl t ↦ (cc (rw t at h), search (rules, tests))
-    | inr f ↦ absurd (cc (rw f at h))
-  ]
+  | inl t ↦ (cc (rw t at h), search (rules, tests))
+  | inr f ↦ absurd (cc (rw f at h))
+]
 
 not_found : {X : Type 0} (p : X → Bool) (xs : List X) → position p xs ≡ None → length xs ≤ position_or_len p xs
 not_found p xs h = elim (cases_Bool (nat_lt (position_or_len p xs) (length xs))) [
-    | inl t ↦ absurd (cc (rw t at h))
-    | inr f ↦ search (rules, tests)
-  ]
+  | inl t ↦ absurd (cc (rw t at h))
+  | inr f ↦ search (rules, tests)
+]
 
 length-numbers : (ss : List SignatureLists) → length (map (λ s. s.number) ss) ≡ length ss
 length-numbers [] = refl

@@ -4,3 +4,4 @@ pub mod FaultLemmas
 pub mod LoadLemmas
 pub mod NumberLemmas
 pub mod RecordLemmas
+pub mod SlotLemmas

@@ -43,9 +43,9 @@ digits_value-step ds i lt digit =
 -- a text with some other byte is no number
 pub digits_number-none : (ds : List ℕ) → (AllDigits 10 ds → ⊥) → digits_number ds ≡ None
 digits_number-none ds never = elim (cases_Bool (all_ascii_digits ds)) [
-    | inl t ↦ absurd (never (AllDigits-from_test ds t))
-    | inr f ↦ rw f refl
-  ]
+  | inl t ↦ absurd (never (AllDigits-from_test ds t))
+  | inr f ↦ rw f refl
+]
 
 pub digits_number-some : (ds : List ℕ) → AllDigits 10 ds → digits_number ds ≡ Some (digits_value 10 ds)
 digits_number-some ds all = rw (test-from_AllDigits ds all) refl

@@ -12,16 +12,16 @@ use Rattle.sig_table.specs.Loading.{records_of}
 shorter : (cfg : Config) (s : State) (fields : List (List ℕ)) (field : List ℕ) (c : ℕ) (rest : List ℕ) (p : Read) → next_record cfg s fields field (c ∷ rest) ≡ Some p → length p.2 ≤ length rest
 unfolding next_record
 shorter cfg s fields field c [] p h = elim (cases_Bool (is_end (step cfg s c).1)) [
-    | inl t ↦ let e = rw t at h in let same : [] ≡ p.2 = cc e in omega (arith, ap length same)
-    | inr f ↦ elim (cases_Bool (ends_at_end (step cfg s c).0)) [
-      | inl t ↦ let e = rw (f, t) at h in let same : [] ≡ p.2 = cc e in omega (arith, ap length same)
-      | inr n ↦ absurd (cc (rw (f, n) at h))
-    ]
+  | inl t ↦ let e = rw t at h in let same : [] ≡ p.2 = cc e in omega (arith, ap length same)
+  | inr f ↦ elim (cases_Bool (ends_at_end (step cfg s c).0)) [
+    | inl t ↦ let e = rw (f, t) at h in let same : [] ≡ p.2 = cc e in omega (arith, ap length same)
+    | inr n ↦ absurd (cc (rw (f, n) at h))
   ]
+]
 shorter cfg s fields field c (d ∷ rest) p h = elim (cases_Bool (is_end (step cfg s c).1)) [
-    | inl t ↦ let e = rw t at h in let same : d ∷ rest ≡ p.2 = cc e in omega (arith, ap length same)
-    | inr f ↦ let less = shorter cfg (step cfg s c).0 (fields_after (step cfg s c).1 fields field) (field_after (step cfg s c).1 c field) d rest p (rw f at h) in omega arith
-  ]
+  | inl t ↦ let e = rw t at h in let same : d ∷ rest ≡ p.2 = cc e in omega (arith, ap length same)
+  | inr f ↦ let less = shorter cfg (step cfg s c).0 (fields_after (step cfg s c).1 fields field) (field_after (step cfg s c).1 c field) d rest p (rw f at h) in omega arith
+]
 
 -- at the end of the text there is no record at the start of one
 none_left : (cfg : Config) → next_record cfg st.StartRecord [] [] [] ≡ None
@@ -32,9 +32,9 @@ none_left cfg = refl
 one_more : (cfg : Config) (s : State) (p : Read) → next_record cfg s [] [] [] ≡ Some p → (p.1 ≡ st.StartRecord) × (p.2 ≡ [])
 unfolding next_record
 one_more cfg s p h = elim (cases_Bool (ends_at_end s)) [
-    | inl t ↦ let e = rw t at h in (cc e, cc e)
-    | inr f ↦ absurd (cc (rw f at h))
-  ]
+  | inl t ↦ let e = rw t at h in (cc e, cc e)
+  | inr f ↦ absurd (cc (rw f at h))
+]
 
 -- and none behind it
 none_reached : (cfg : Config) (s : State) (xs : List ℕ) (rows : List (List (List ℕ))) (s2 : State) (ys : List ℕ) → s ≡ st.StartRecord → xs ≡ [] → Reached cfg s xs rows s2 ys → rows ≡ []

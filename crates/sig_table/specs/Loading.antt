@@ -14,6 +14,7 @@ use Rattle.sig_table.specs.declared.puid.Puid.{Puid}
 use Rattle.sig_table.specs.declared.row.Row.{Row}
 use Rattle.sig_table.specs.Lists.{PlacedExpr, SignatureLists, TableLists}
 use Rattle.sig_table.specs.Puids.{puid_eq}
+use Rattle.sig_table.specs.Slots.{slot_count}
 use Rattle.sig_table.specs.Rows.{◌>>=◌, is_word, row_of, text_at}
 
 -- the records of a text, as `csv` gives them with its default dialect
@@ -36,16 +37,6 @@ is_of_signatures (error.PriorityTwice row) = false
 is_of_signatures (error.PriorityCycle row) = false
 is_of_signatures error.OutOfMemory = false
 is_of_signatures _ = true
-
--- how many slots the offsets take, with that of any bytes
-abbrev pub place_slots : Position → ℕ
-place_slots (position.Bof min max) = max + 1
-place_slots (position.Eof min max) = max + 1
-place_slots position.Variable = 2
-
--- how many slots a sequence takes
-abbrev pub slot_count : PlacedExpr → ℕ
-slot_count sequence = place_slots sequence.position + length sequence.items
 
 -- the signature of a number, if it is there
 abbrev pub signature_in : List SignatureLists → ℕ → Option SignatureLists
@@ -87,7 +78,7 @@ unfoldable pub with_row : TableLists → Row → TableLists
 with_row table row = record {
   formats = insert_key puid_eq table.formats row.puid;
   signatures = grown row.number row.sequence (with_number table.signatures row.number (position_or_len (puid_eq row.puid) table.formats));
-  priorities = table.priorities
+  priorities = table.priorities;
 }
 
 -- go on where there is no fault

@@ -86,8 +86,8 @@ position_of row word offset max =
     if is_word word (codes "BOF") then offsets_of row offset max >>= (λ p. Ok (position.Bof p.0 p.1))
     else (if is_word word (codes "EOF") then offsets_of row offset max >>= (λ p. Ok (position.Eof p.0 p.1))
     else (if is_word word (codes "Variable")
-      then (if (length offset == 0) && (length max == 0) then Ok position.Variable else Err (error.Offset row))
-      else Err (error.Position row)))
+    then (if (length offset == 0) && (length max == 0) then Ok position.Variable else Err (error.Offset row))
+    else Err (error.Position row)))
 
 -- the items that the text spells
 abbrev pub items_in : ℕ → Result (List Item) ExprError → Result (List Item) TableError

@@ -16,6 +16,8 @@ mod row;
 mod sequence;
 mod slots;
 mod table;
+#[cfg(test)]
+mod tests;
 
 pub use error::{TableError, TableFile};
 pub use ids::{FormatId, SigId};

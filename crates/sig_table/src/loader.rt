@@ -12,7 +12,7 @@ use super::records::all_records;
 use super::row::{field, read_row};
 use super::{Table, TableError, TableFile};
 use csv::ByteRecord;
-use sig_bits::{read_whole, Input, ReadWholeError};
+use sig_bits::{Input, ReadWholeError, read_whole};
 use std::alloc::Global;
 
 impl Table {
@@ -47,11 +47,7 @@ impl Table {
 }
 
 // All bytes of a file.
-fn read_text<R: Input>(
-    alloc: Global,
-    input: &mut R,
-    file: TableFile,
-) -> Result<Vec<u8>, TableError>
+fn read_text<R: Input>(alloc: Global, input: &mut R, file: TableFile) -> Result<Vec<u8>, TableError>
     ensures text { IfOk result (λ t. IfSome (R.to_come input.old) (λ all. t.items ≡ all)) }
     ensures sound { OnOk result (R.failed input.new ≡ false) }
     ensures fault { IfErr result (λ e. (e ≡ TableError.OutOfMemory) ⊎ ((e ≡ TableError.Read file) × (R.failed input.new ≡ true))) }

@@ -11,7 +11,7 @@ ghost use Rattle.sig_table.specs.Rows.{Judges, items_in, offset_of, offsets_of, 
 use super::numbers::{read_number, read_positive};
 use super::{Position, Puid, Sequence, TableError, TableFile};
 use csv::ByteRecord;
-use sig_expr::{parse, Expr, ExprError};
+use sig_expr::{Expr, ExprError, parse};
 use std::alloc::Global;
 
 // What a row says: a format, a signature of it, and a sequence of that.
@@ -70,12 +70,7 @@ fn read_signature_number(text: &[u8], row: usize) -> Result<u32, TableError>
 
 // The place that the three texts write.
 #[tactic(auto, unfolding(crate::specs::Rows::position_of))]
-fn read_position(
-    word: &[u8],
-    offset: &[u8],
-    max: &[u8],
-    row: usize,
-) -> Result<Position, TableError>
+fn read_position(word: &[u8], offset: &[u8], max: &[u8], row: usize) -> Result<Position, TableError>
     ensures { Judges result (position_of row word.now offset.now max.now) }
 {
     if word == b"BOF".as_slice() {

@@ -1,19 +1,28 @@
 //! How many slots a sequence takes in its automaton.
+//!
+//! Slots are taken off an allowance, so that no sum overflows.
 
-ghost use Rattle.std.specs.Prelude.{◌≡◌, nat_lt};
-ghost use Rattle.sig_table.specs.Loading.{place_slots, slot_count};
+ghost use Rattle.std.specs.Prelude.{◌≡◌, ◌≤◌, ◌+◌, nat_lt, length, map, sum_by};
+ghost use Rattle.sig_table.specs.Allowance.{minus};
+ghost use Rattle.sig_table.specs.Slots.{above_rows, atom_slots, below_rows, between_rows, bracket_slots, item_slots, place_slots, slot_count};
 
 use super::{Position, Sequence};
+use sig_expr::{Atom, Item};
+
+// The greatest number of slots.
+const MOST: usize = 65535;
 
 // Whether the sequence has over 65,535 slots.
 pub(crate) fn has_too_many_slots(sequence: &Sequence) -> bool
     ensures { result ≡ nat_lt 65535 (slot_count sequence.now) }
 {
-    let items = sequence.expr().items().len();
-    items > 65535 || place_slots(sequence.position()) + items > 65535
+    let Some(left) = minus(MOST, place_slots(sequence.position())) else {
+        return true;
+    };
+    left_after_items(left, sequence.expr().items()).is_none()
 }
 
-// How many slots the offsets take, with that of any bytes.
+// How many slots the offsets take.
 fn place_slots(position: Position) -> usize
     ensures { result ≡ place_slots position }
 {
@@ -21,4 +30,128 @@ fn place_slots(position: Position) -> usize
         Position::Bof { max, .. } | Position::Eof { max, .. } => max as usize + 1,
         Position::Variable => 2,
     }
+}
+
+// What is left, if there is enough.
+fn minus(left: usize, slots: usize) -> Option<usize>
+    ensures { result ≡ minus left slots }
+{
+    if left < slots {
+        None
+    } else {
+        Some(left - slots)
+    }
+}
+
+// What is left behind the items.
+fn left_after_items(mut left: usize, items: &[Item]) -> Option<usize>
+    ensures { result ≡ minus left (sum_by item_slots items.now) }
+{
+    for item in items {
+        left = left_after_item(left, item)?;
+    }
+    Some(left)
+}
+
+fn left_after_item(left: usize, item: &Item) -> Option<usize>
+    ensures { result ≡ minus left (item_slots item.now) }
+{
+    match item {
+        Item::Byte(_) | Item::Any => minus(left, 1),
+        Item::Gap { min, max: None } => minus(left, *min as usize + 1),
+        Item::Gap { max: Some(max), .. } => minus(left, *max as usize),
+        Item::Alt(alternatives) => left_after_alternatives(left, alternatives.as_slice()),
+        Item::Range(a, b) => minus(left, range_slots(a.as_bytes(), b.as_bytes())),
+        Item::Not(a) => minus(left, outside_slots(a.as_bytes(), a.as_bytes())),
+        Item::NotRange(a, b) => minus(left, outside_slots(a.as_bytes(), b.as_bytes())),
+    }
+}
+
+// What is left behind the alternatives.
+fn left_after_alternatives(mut left: usize, alternatives: &[Vec<Atom>]) -> Option<usize>
+    ensures { result ≡ minus left (sum_by (λ a. sum_by atom_slots a) (map (λ v. v.items) alternatives.now)) }
+{
+    for alternative in alternatives {
+        left = left_after_atoms(left, alternative.as_slice())?;
+    }
+    Some(left)
+}
+
+// What is left behind the parts.
+fn left_after_atoms(mut left: usize, atoms: &[Atom]) -> Option<usize>
+    ensures { result ≡ minus left (sum_by atom_slots atoms.now) }
+{
+    for atom in atoms {
+        left = minus(left, atom_slots(atom))?;
+    }
+    Some(left)
+}
+
+fn atom_slots(atom: &Atom) -> usize
+    ensures { result ≡ atom_slots atom.now }
+{
+    match atom {
+        Atom::Byte(_) => 1,
+        Atom::Range(a, b) => range_slots(a.as_bytes(), b.as_bytes()),
+        Atom::Not(a) => outside_slots(a.as_bytes(), a.as_bytes()),
+        Atom::NotRange(a, b) => outside_slots(a.as_bytes(), b.as_bytes()),
+    }
+}
+
+// The slots of a bracket from the first bytes to the second.
+fn range_slots(a: &[u8], b: &[u8]) -> usize
+    requires a_len { length a.now ≤ 8 }
+    requires b_len { length b.now ≤ 8 }
+    ensures { result ≡ bracket_slots (length a.now) (between_rows a.now b.now) }
+{
+    bracket_slots(a.len(), between_rows(a, b))
+}
+
+// The slots of a bracket of what is before the first bytes or after the second.
+fn outside_slots(a: &[u8], b: &[u8]) -> usize
+    requires a_len { length a.now ≤ 8 }
+    requires b_len { length b.now ≤ 8 }
+    ensures { result ≡ bracket_slots (length a.now) (below_rows a.now + above_rows b.now) }
+{
+    bracket_slots(a.len(), below_rows(a) + above_rows(b))
+}
+
+fn bracket_slots(len: usize, rows: usize) -> usize
+    requires len { len ≤ 8 }
+    requires rows { rows ≤ 32 }
+    ensures { result ≡ bracket_slots len rows }
+{
+    if len == 1 { 1 } else { len * rows }
+}
+
+// A row for each place whose byte can be lowered.
+fn below_rows(bytes: &[u8]) -> usize
+    ensures rows { result ≡ below_rows bytes.now }
+    ensures most { result ≤ length bytes.now }
+{
+    bytes.iter().filter(|b| **b > 0).count()
+}
+
+// A row for each place whose byte can be raised.
+fn above_rows(bytes: &[u8]) -> usize
+    ensures rows { result ≡ above_rows bytes.now }
+    ensures most { result ≤ length bytes.now }
+{
+    bytes.iter().filter(|b| **b < 255).count()
+}
+
+// Rows of what stands behind the first place where the two differ, and of the two themselves.
+fn between_rows(a: &[u8], b: &[u8]) -> usize
+    requires a_len { length a.now ≤ 8 }
+    requires b_len { length b.now ≤ 8 }
+    ensures rows { result ≡ between_rows a.now b.now }
+    ensures most { result ≤ 32 }
+{
+    for i in 0..a.len().min(b.len()) {
+        if a[i] != b[i] {
+            let inner = if a[i] < b[i] && b[i] - a[i] > 1 { 1 } else { 0 };
+            return above_rows(&a[i + 1..]) + below_rows(&b[i + 1..]) + inner + 2;
+        }
+    }
+    0
 }

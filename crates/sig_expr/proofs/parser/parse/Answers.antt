@@ -1,19 +1,44 @@
-use Rattle.std.proofs.Common.{◌≡◌, ◌<◌, length, Err, refl, rules, arith}
+use Rattle.std.proofs.Common.{◌≡◌, ◌<◌, length, Some, None, Err, refl, rules, arith}
 use Rattle.sig_expr.specs.Reading.{start}
 use Rattle.sig_expr.specs.Built.{fresh}
+use Rattle.sig_expr.specs.Passes.{stop_of, fault_in}
 use Rattle.sig_expr.specs.Texts.{expr_of}
 use Rattle.sig_expr.proofs.FaultLemmas.{told_fault}
 use Rattle.sig_expr.proofs.ReadingLemmas.{has_item}
+use Rattle.sig_expr.proofs.RefusalLemmas.{spells_built, faulty_text, no_text}
 use Rattle.sig_expr.proofs.parser.parse.Goals as goal
 
-pub returns-in-Some-fault : goal.returns-in-Some-fault
+pub returns-in-Some-clause-refused : goal.returns-in-Some-clause-refused
+returns-in-Some-clause-refused c =
+    let stops : stop_of c.args.text.now ≡ Some c.in-Some.place = search rules in
+    no_text c.args.text.now c.in-Some.place (omega arith) stops
+
+pub returns-in-Some-fault-clause-exact : goal.returns-in-Some-fault-clause-exact
 unfolding expr_of
-returns-in-Some-fault c =
+returns-in-Some-fault-clause-exact c =
     let told = told_fault start 0 0 c.args.text.now c.in-Some-fault.fault (search rules) in
     let refused : expr_of c.args.text.now ≡ Err c.in-Some-fault.fault = search rules in
-    record { exact = rw refused told }
+    rw refused told.0
+
+pub returns-in-Some-fault-clause-refused : goal.returns-in-Some-fault-clause-refused
+returns-in-Some-fault-clause-refused c =
+    let stops : stop_of c.args.text.now ≡ None = search rules in
+    let faulty : fault_in c.args.text.now ≡ Some c.in-Some-fault.fault = search rules in
+    (told_fault start 0 0 c.args.text.now c.in-Some-fault.fault faulty).1 c.args.text.now (faulty_text c.in-Some-fault.fault c.args.text.now (omega arith) stops faulty)
 
 pub new-requires : goal.new-requires
 new-requires c =
     let some : 0 < length c.in-Ok.items.items = rw c.in-Ok.ensures (has_item 0 c.args.text.now start fresh refl refl (search rules)) in
     omega (arith, some, c.in-Ok.items.ok.0)
+
+pub returns-in-Ok-clause-spelled : goal.returns-in-Ok-clause-spelled
+returns-in-Ok-clause-spelled c =
+    let stops : stop_of c.args.text.now ≡ None = search rules in
+    let quiet : fault_in c.args.text.now ≡ None = search rules in
+    rw (c.new.ensures, c.in-Ok.ensures) (spells_built c.args.text.now (omega arith) stops quiet)
+
+pub returns-in-Err-clause-refused : goal.returns-in-Err-clause-refused
+returns-in-Err-clause-refused c =
+    let stops : stop_of c.args.text.now ≡ None = search rules in
+    let quiet : fault_in c.args.text.now ≡ None = search rules in
+    (spells_built c.args.text.now (omega arith) stops quiet).0

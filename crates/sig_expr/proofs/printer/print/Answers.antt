@@ -1,4 +1,4 @@
-use Rattle.std.proofs.Common.{◌≡◌, ◌<◌, length, OnOk}
+use Rattle.std.proofs.Common.{OnOk}
 use Rattle.sig_expr.specs.Canon.{canon}
 use Rattle.sig_expr.specs.Writing.{sink, Wrote}
 use Rattle.sig_expr.proofs.WritingLemmas.{wrote_fails, wrote_stays, wrote_lowers, wrote_adds}
@@ -9,7 +9,7 @@ pub returns : goal.returns
 returns g c =
     let some = canon-some c.args.expr.now c.all.ensures.some in
     let wrote : OnOk c.put_items.result (Wrote (sink (g.W.Output.failed c.args.out.now) (g.W.Output.limit c.args.out.now) (g.W.Output.written c.args.out.now)) (canon c.args.expr.now) (sink (g.W.Output.failed c.put_items.new.out) (g.W.Output.limit c.put_items.new.out) (g.W.Output.written c.put_items.new.out))) =
-        rw (← c.all.ensures.items) c.put_items.ensures.wrote in
+    rw (← c.all.ensures.items) c.put_items.ensures.wrote in
     record {
       fails = wrote_fails _ _ _ _ some c.put_items.ensures.fails wrote;
       stays_failed = wrote_stays _ _ _ _ some wrote;

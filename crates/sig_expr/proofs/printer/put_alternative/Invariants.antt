@@ -1,4 +1,4 @@
-use Rattle.std.proofs.Common.{drop, map}
+use Rattle.std.proofs.Common.{drop}
 use Rattle.sig_expr.specs.Canon.{alternative_text}
 use Rattle.sig_expr.specs.Writing.{Sink, sink, Wrote}
 use Rattle.sig_expr.proofs.printer.put_alternative.Given as goal

@@ -1,9 +1,5 @@
-use Rattle.std.proofs.Common.{◌≡◌, ℕ, ◌+◌, ◌<◌, List, [], ◌∷◌, ◌++◌, length, drop, get_or, map, refl, sym, rules, arith}
-use Rattle.std.proofs.lemmas.List.{drop_all}
 use Rattle.sig_expr.specs.Canon.{from_text}
-use Rattle.sig_expr.specs.Writing.{Sink, sink, Wrote}
-use Rattle.sig_expr.proofs.WritingLemmas.{wrote_nothing, wrote_more, wrote_then}
-use Rattle.sig_expr.proofs.CanonLemmas.{word_text-rest, alternative_text-rest, alternatives_text-rest, canon-rest}
+use Rattle.sig_expr.proofs.WritingLemmas.{wrote_then}
 use Rattle.sig_expr.proofs.printer.put_from.Goals as goal
 
 pub returns-clause-wrote : goal.returns-clause-wrote

@@ -1,7 +1,5 @@
-use Rattle.std.proofs.Common.{◌≡◌, ◌+◌, ◌<◌, List, [], ◌∷◌, ◌++◌, length, drop, get_or, map, refl, rules, arith, add-one, drop-cons}
-use Rattle.sig_expr.specs.Canon.{not_text, word_text}
-use Rattle.sig_expr.specs.Writing.{Wrote}
-use Rattle.sig_expr.proofs.WritingLemmas.{wrote_nothing, wrote_more, wrote_then}
+use Rattle.sig_expr.specs.Canon.{not_text}
+use Rattle.sig_expr.proofs.WritingLemmas.{wrote_then}
 use Rattle.sig_expr.proofs.printer.put_not.Goals as goal
 
 pub returns-clause-wrote : goal.returns-clause-wrote

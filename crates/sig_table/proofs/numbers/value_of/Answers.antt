@@ -10,8 +10,8 @@ pub returns-then-not-is_ascii_digit : goal.returns-then-not-is_ascii_digit
 returns-then-not-is_ascii_digit c =
     let other = rw c.if-not-is_ascii_digit.true at c.is_ascii_digit.ensures.cases in
     sym (digits_number-none c.args.text.now (λ all.
-        let digit : IsInRange 48 57 (get_or c.args.text.now c.loop-b.b-index 0) = digit_at c.args.text.now c.loop-b.b-index all c.loop-b-test.true in
-        grind arith))
+    let digit : IsInRange 48 57 (get_or c.args.text.now c.loop-b.b-index 0) = digit_at c.args.text.now c.loop-b.b-index all c.loop-b-test.true in
+    grind arith))
 
 pub overflow_mul-value : goal.overflow_mul-value
 overflow_mul-value c =

@@ -1,0 +1,64 @@
+-- Which expressions and which texts are in the profile.
+use Rattle.std.specs.Prelude.{◌≡◌, ℕ, ◌<◌, ◌≤◌, ◌&&◌, false, List, [], ◌∷◌, length, Option, Some, None, ⊤}
+use Rattle.sig_expr.specs.declared.item.Atom.{Atom}
+use Rattle.sig_expr.specs.declared.item.Atom.TheVariants as atom
+use Rattle.sig_expr.specs.declared.item.Item.{Item}
+use Rattle.sig_expr.specs.declared.item.Item.TheVariants as item
+use Rattle.sig_expr.specs.Words.{IsBefore}
+use Rattle.sig_expr.specs.Faults.{are_all}
+use Rattle.sig_expr.specs.Spelling.{Spells}
+
+-- a gap's numbers are at most 65,535, its greatest length is not 0 nor below its least
+abbrev pub GapSound : ℕ → Option ℕ → Type 0
+GapSound min None = min ≤ 65535
+GapSound min (Some max) = (min ≤ max) × (max ≤ 65535) × (0 < max)
+
+-- a range has ends of one length, eight bytes at most, the first below the second
+pub record RangeSound (a b : List ℕ) : Type 0 where
+  pub same_length : length a ≡ length b
+  pub short : length a ≤ 8
+  pub order : IsBefore a b
+
+-- some word is outside the range
+abbrev pub LeavesWord : List ℕ → List ℕ → Type 0
+LeavesWord a b = (are_all 0 a && are_all 255 b) ≡ false
+
+-- a part with no fault
+abbrev pub AtomSound : Atom → Type 0
+AtomSound (atom.Byte b) = ⊤
+AtomSound (atom.Range a b) = RangeSound a b
+AtomSound (atom.Not a) = length a ≤ 8
+AtomSound (atom.NotRange a b) = RangeSound a b × LeavesWord a b
+
+-- parts with no fault
+abbrev pub AtomsSound : List Atom → Type 0
+AtomsSound [] = ⊤
+AtomsSound (p ∷ ps) = AtomSound p × AtomsSound ps
+
+-- alternatives with no fault
+abbrev pub AlternativesSound : List (List Atom) → Type 0
+AlternativesSound [] = ⊤
+AlternativesSound (a ∷ rest) = AtomsSound a × AlternativesSound rest
+
+-- an item with no fault
+abbrev pub ItemSound : Item → Type 0
+ItemSound (item.Byte b) = ⊤
+ItemSound item.Any = ⊤
+ItemSound (item.Gap min max) = GapSound min max
+ItemSound (item.Alt alternatives) = AlternativesSound alternatives
+ItemSound (item.Range a b) = RangeSound a b
+ItemSound (item.Not a) = length a ≤ 8
+ItemSound (item.NotRange a b) = RangeSound a b × LeavesWord a b
+
+-- items with no fault
+abbrev pub ItemsSound : List Item → Type 0
+ItemsSound [] = ⊤
+ItemsSound (i ∷ is) = ItemSound i × ItemsSound is
+
+-- the text has at most 8,192 bytes and spells items with no fault
+pub record InProfile (t : List ℕ) : Type 0 where
+  pub items : List Item
+  pub some : 0 < length items
+  pub short : length t ≤ 8192
+  pub spells : Spells items t
+  pub sound : ItemsSound items

@@ -1,0 +1,17 @@
+use Rattle.std.proofs.Common.{◌∙◌, sym, sum_by, ap}
+use Rattle.sig_table.specs.Slots.{item_slots, place_slots, slot_count}
+use Rattle.sig_table.proofs.SlotLemmas.{too_many-items, too_many-place}
+use Rattle.sig_table.proofs.slots.has_too_many_slots.Goals as goal
+
+pub returns-in_default : goal.returns-in_default
+unfolding slot_count
+returns-in_default c =
+    let none = rw (c.place_slots.ensures, c.position.ensures) at (sym c.in_default.ensures) in
+    too_many-place (place_slots c.args.sequence.now.position) _ none
+
+pub returns : goal.returns
+unfolding slot_count
+returns c =
+    let some = rw (c.place_slots.ensures, c.position.ensures) at (sym c.in-Some.ensures) in
+    let items = rw (c.items.ensures, c.expr.ensures) at c.left_after_items.ensures in
+    too_many-items (place_slots c.args.sequence.now.position) (sum_by item_slots c.args.sequence.now.items) c.in-Some.left c.left_after_items.result c.is_none.result some items c.is_none.ensures
