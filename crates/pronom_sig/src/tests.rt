@@ -80,152 +80,188 @@ fn matched(
     run_match_on(rt, signatures.as_str(), priorities.as_str(), file.as_str())
 }
 
+// Runs `match` on rows and pairs, below their headers.
+fn matched_rows(
+    rt: &HostRuntime,
+    folder: &str,
+    rows: &str,
+    pairs: &str,
+    file: &[u8],
+) -> Result<Shown, Fail> {
+    let signatures = format!(in rt.alloc(); "{SIGNATURES}{rows}")?;
+    let priorities = format!(in rt.alloc(); "{PRIORITIES}{pairs}")?;
+    matched(rt, folder, signatures.as_str(), priorities.as_str(), file)
+}
+
 #[test]
 fn prints_a_line_for_each_format_left(rt: HostRuntime) -> Result<(), Fail> {
     const FIRST: &str = "fmt/1,1,BOF,0,,4142\n";
     const SHIFTED: &str = "fmt/1,1,BOF,1,,41??\n";
     const TWO_OF_ONE: &str = "fmt/1,9,BOF,0,,41\nfmt/1,2,BOF,0,,41\n";
-    const THREE: &str = "fmt/1,1,BOF,0,,41??\nfmt/2,2,BOF,0,,??42\nfmt/3,3,BOF,0,,4142\n";
-    const CHAIN: &str = "fmt/1,1,BOF,0,,41\nfmt/2,2,BOF,0,,41\nfmt/3,3,BOF,0,,41\n";
-    const PLAIN: &str = "fmt/1,1,BOF,0,,41\nx-fmt/20,2,BOF,0,,41\n";
+    const TWO: &str = "fmt/1,1,BOF,0,,41\nx-fmt/20,2,BOF,0,,41\n";
     let folder = folder(&rt, "left")?;
-    let cases: [(&str, &str, &[u8], &str); 9] = [
-        (FIRST, "", b"AB", "fmt/1 1\n"),
-        (SHIFTED, "", b"\x00A\xff\x00", "fmt/1 1\n"),
-        (SHIFTED, "", b"\x00A", ""),
-        (TWO_OF_ONE, "", b"A", "fmt/1 9\n"),
-        (THREE, "fmt/3,fmt/1\nfmt/3,fmt/2\n", b"AB", "fmt/3 3\n"),
-        (THREE, "fmt/3,fmt/1\nfmt/3,fmt/2\n", b"A\x00", "fmt/1 1\n"),
-        (CHAIN, "fmt/1,fmt/2\nfmt/2,fmt/3\n", b"A", "fmt/1 1\n"),
-        (PLAIN, "", b"A", "fmt/1 1\nx-fmt/20 2\n"),
-        ("", "", b"A", ""),
+    let cases: [(&str, &[u8], &str); 6] = [
+        (FIRST, b"AB", "fmt/1 1\n"),
+        (SHIFTED, b"\x00A\xff\x00", "fmt/1 1\n"),
+        (SHIFTED, b"\x00A", ""),
+        (TWO_OF_ONE, b"A", "fmt/1 9\n"),
+        (TWO, b"A", "fmt/1 1\nx-fmt/20 2\n"),
+        ("", b"A", ""),
     ];
-    for (rows, pairs, file, out) in cases {
-        let signatures = format!(in rt.alloc(); "{SIGNATURES}{rows}")?;
-        let priorities = format!(in rt.alloc(); "{PRIORITIES}{pairs}")?;
-        let shown = matched(
-            &rt,
-            folder.as_str(),
-            signatures.as_str(),
-            priorities.as_str(),
-            file,
-        )?;
-        assert_eq!(rt; shown.out.as_str(), out, "{rows}{pairs}");
-        assert_eq!(rt; shown.err.as_str(), "", "{rows}{pairs}");
-        assert_eq!(rt; shown.status, 0, "{rows}{pairs}");
+    for (rows, file, out) in cases {
+        let shown = matched_rows(&rt, folder.as_str(), rows, "", file)?;
+        assert_eq!(rt; shown.out.as_str(), out, "{rows}");
+        assert_eq!(rt; shown.err.as_str(), "", "{rows}");
+        assert_eq!(rt; shown.status, 0, "{rows}");
+    }
+    fs::remove_dir_all(&rt, folder.as_str())?;
+    Ok(())
+}
+
+// One signature's rows, a file, and whether it hits.
+const ROWS: [(&str, &[u8], bool); 42] = [
+    ("fmt/1,1,Variable,,,41*42\n", b"BA", false),
+    ("fmt/1,1,Variable,,,41*42\n", b"\x00AB", true),
+    ("fmt/1,1,BOF,0,,41{1-2}42\n", b"ABB", true),
+    ("fmt/1,1,BOF,0,,41{1-2}42\n", b"AB", false),
+    ("fmt/1,1,BOF,0,,41{0-1}42{1}43\n", b"ABB\x00C", true),
+    ("fmt/1,1,EOF,0,2,4142\n", b"AB\x00\x00", true),
+    ("fmt/1,1,EOF,0,2,4142\n", b"AB\x00\x00\x00", false),
+    ("fmt/1,1,EOF,2,,41\n", b"A\x00\x00", true),
+    ("fmt/1,1,EOF,2,,41\n", b"A\x00", false),
+    ("fmt/1,1,Variable,,,*\n", b"", true),
+    ("fmt/1,1,BOF,0,,(41|4142)43\n", b"ABC", true),
+    ("fmt/1,1,BOF,0,,[!41]\n", b"", false),
+    ("fmt/1,1,BOF,0,,[!41]\n", b"A", false),
+    ("fmt/1,1,BOF,0,,[!41]\n", b"B", true),
+    ("fmt/1,1,BOF,0,,41\nfmt/1,1,EOF,0,,41\n", b"A", true),
+    ("fmt/1,1,BOF,0,,41\nfmt/1,1,EOF,0,,41\n", b"AB", false),
+    ("fmt/1,1,BOF,1,3,41\n", b"\x00A", true),
+    ("fmt/1,1,BOF,1,3,41\n", b"\x00\x00\x00A", true),
+    ("fmt/1,1,BOF,1,3,41\n", b"A", false),
+    ("fmt/1,1,BOF,1,3,41\n", b"\x00\x00\x00\x00A", false),
+    ("fmt/1,1,EOF,0,,41*\n", b"\x00A\x00", true),
+    ("fmt/1,1,EOF,0,,41*\n", b"\x00", false),
+    ("fmt/1,1,BOF,0,,*41\n", b"\x00\x00A\x00", true),
+    ("fmt/1,1,BOF,0,,*41\n", b"", false),
+    ("fmt/1,1,BOF,0,,[4142:4241]\n", b"AB", true),
+    ("fmt/1,1,BOF,0,,[4142:4241]\n", b"B\x00", true),
+    ("fmt/1,1,BOF,0,,[4142:4241]\n", b"BA", true),
+    ("fmt/1,1,BOF,0,,[4142:4241]\n", b"B\x00\xff", true),
+    ("fmt/1,1,BOF,0,,[4142:4241]\n", b"AA", false),
+    ("fmt/1,1,BOF,0,,[4142:4241]\n", b"BB", false),
+    ("fmt/1,1,BOF,0,,[4142:4241]\n", b"A", false),
+    ("fmt/1,1,BOF,0,,[!4142]\n", b"AC", true),
+    ("fmt/1,1,BOF,0,,[!4142]\n", b"\x00\x00", true),
+    ("fmt/1,1,BOF,0,,[!4142]\n", b"AB", false),
+    ("fmt/1,1,BOF,0,,[!4142]\n", b"\x00", false),
+    ("fmt/1,1,BOF,0,,[!0000:FFFE]\n", b"\xff\xff", true),
+    ("fmt/1,1,BOF,0,,[!0000:FFFE]\n", b"\xff\xfe", false),
+    ("fmt/1,1,BOF,0,,{65534}\n", b"", false),
+    ("fmt/1,1,Variable,,,{65533}\n", b"", false),
+    (
+        "fmt/1,1,BOF,0,,4a{3-3}{0-*}(0d0a|[!0a])\n",
+        b"Jxyz\r\n",
+        true,
+    ),
+    (
+        "fmt/1,1,BOF,0,,4a{3-3}{0-*}(0d0a|[!0a])\n",
+        b"Jxyz\n\n",
+        false,
+    ),
+    (
+        "fmt/1,1,BOF,0,,4a{3-3}{0-*}(0d0a|[!0a])\n",
+        b"Jxyz\n",
+        false,
+    ),
+];
+
+#[test]
+fn a_signature_hits_where_all_its_sequences_stand(rt: HostRuntime) -> Result<(), Fail> {
+    let folder = folder(&rt, "rows")?;
+    for (rows, file, hits) in ROWS {
+        let shown = matched_rows(&rt, folder.as_str(), rows, "", file)?;
+        let out = if hits { "fmt/1 1\n" } else { "" };
+        assert_eq!(rt; shown.out.as_str(), out, "{rows}{file:?}");
+        assert_eq!(rt; shown.status, 0, "{rows}{file:?}");
     }
     fs::remove_dir_all(&rt, folder.as_str())?;
     Ok(())
 }
 
 #[test]
-fn names_the_first_fault_of_a_table(rt: HostRuntime) -> Result<(), Fail> {
-    let folder = folder(&rt, "faults")?;
+fn names_the_first_fault_of_the_signatures(rt: HostRuntime) -> Result<(), Fail> {
+    let folder = folder(&rt, "signatures")?;
     let cases = [
-        ("fmt/1,1,BOF,0,\n", "", "signatures row 1: L3 fields"),
-        (
-            "fmt/1,1,BOF,0,,41\n",
-            "fmt/1\n",
-            "priorities row 1: L3 fields",
-        ),
-        ("fmt/01,1,BOF,0,,41\n", "", "signatures row 1: L4 puid"),
-        (
-            "fmt/1,1,BOF,0,,41\n",
-            "fmt/1,1\n",
-            "priorities row 1: L4 puid",
-        ),
+        ("fmt/1,1,BOF,0,\n", "signatures row 1: L3 fields\n"),
+        ("fmt/01,1,BOF,0,,41\n", "signatures row 1: L4 puid\n"),
         (
             "fmt/1,0,BOF,0,,41\n",
-            "",
-            "signatures row 1: L5 signature number",
+            "signatures row 1: L5 signature number\n",
         ),
-        ("fmt/1,1,Bof,0,,41\n", "", "signatures row 1: L6 position"),
-        ("fmt/1,1,BOF,,,41\n", "", "signatures row 1: L7 offset"),
+        ("fmt/1,1,Bof,0,,41\n", "signatures row 1: L6 position\n"),
+        ("fmt/1,1,BOF,,,41\n", "signatures row 1: L7 offset\n"),
         (
             "fmt/1,1,BOF,0,,41 42\n",
-            "",
-            "signatures row 1: L8 expression E2 at 2",
+            "signatures row 1: L8 expression E2 at 2\n",
         ),
         (
             "fmt/1,1,BOF,0,,{65536}\n",
-            "",
-            "signatures row 1: L8 expression E3 at 0",
+            "signatures row 1: L8 expression E3 at 0\n",
         ),
         (
             "fmt/1,1,BOF,0,,{0}\n",
-            "",
-            "signatures row 1: L8 expression E4 at 0",
+            "signatures row 1: L8 expression E4 at 0\n",
         ),
         (
             "fmt/1,1,BOF,0,,{5-2}\n",
-            "",
-            "signatures row 1: L8 expression E5 at 0",
+            "signatures row 1: L8 expression E5 at 0\n",
         ),
         (
             "fmt/1,1,BOF,0,,41[42:41]\n",
-            "",
-            "signatures row 1: L8 expression E6 at 2",
+            "signatures row 1: L8 expression E6 at 2\n",
         ),
         (
             "fmt/1,1,BOF,0,,[!00:FF]\n",
-            "",
-            "signatures row 1: L8 expression E7 at 0",
+            "signatures row 1: L8 expression E7 at 0\n",
         ),
         (
             "fmt/1,1,BOF,0,,[41:4142]\n",
-            "",
-            "signatures row 1: L8 expression E9 at 0",
+            "signatures row 1: L8 expression E9 at 0\n",
         ),
         (
             "fmt/1,1,BOF,0,,41[!010203040506070809]\n",
-            "",
-            "signatures row 1: L8 expression E10 at 2",
+            "signatures row 1: L8 expression E10 at 2\n",
         ),
         (
             "fmt/1,1,BOF,0,,4142\nfmt/2,1,BOF,0,,4143\n",
-            "",
-            "signatures row 2: L9 signature of two formats",
+            "signatures row 2: L9 signature of two formats\n",
         ),
         (
             "fmt/1,1,Variable,,,{65534}\n",
-            "",
-            "signatures row 1: L11 too many slots",
-        ),
-        (
-            "fmt/1,1,BOF,0,,41\n",
-            "fmt/1,fmt/9\n",
-            "priorities row 1: L13 unknown format",
-        ),
-        (
-            "fmt/1,1,BOF,0,,41\n",
-            "fmt/1,fmt/1\n",
-            "priorities row 1: L14 format over itself",
-        ),
-        (
-            "fmt/1,1,BOF,0,,41\nfmt/2,2,BOF,0,,41\n",
-            "fmt/1,fmt/2\nfmt/1,fmt/2\n",
-            "priorities row 2: L15 pair twice",
-        ),
-        (
-            "fmt/1,1,BOF,0,,41\nfmt/2,2,BOF,0,,41\n",
-            "fmt/1,fmt/2\nfmt/2,fmt/1\n",
-            "priorities row 2: L17 cycle of priorities",
+            "signatures row 1: L11 too many slots\n",
         ),
     ];
-    for (rows, pairs, line) in cases {
-        let signatures = format!(in rt.alloc(); "{SIGNATURES}{rows}")?;
-        let priorities = format!(in rt.alloc(); "{PRIORITIES}{pairs}")?;
-        let shown = matched(
-            &rt,
-            folder.as_str(),
-            signatures.as_str(),
-            priorities.as_str(),
-            b"A",
-        )?;
-        let line = format!(in rt.alloc(); "{line}\n")?;
-        assert_eq!(rt; shown.err.as_str(), line.as_str());
-        assert_eq!(rt; shown.out.as_str(), "", "{line}");
-        assert_eq!(rt; shown.status, 2, "{line}");
+    for (rows, line) in cases {
+        let shown = matched_rows(&rt, folder.as_str(), rows, "", b"A")?;
+        assert_eq!(rt; shown.err.as_str(), line);
+        assert_eq!(rt; shown.out.as_str(), "", "{shown:?}");
+        assert_eq!(rt; shown.status, 2, "{shown:?}");
+    }
+    fs::remove_dir_all(&rt, folder.as_str())?;
+    Ok(())
+}
+
+#[test]
+fn takes_no_priority_yet(rt: HostRuntime) -> Result<(), Fail> {
+    let folder = folder(&rt, "priorities")?;
+    let rows = "fmt/1,1,BOF,0,,41\nfmt/2,2,BOF,0,,41\n";
+    for pairs in ["fmt/1,fmt/2\n", "fmt/1,fmt/9\n", "fmt/1\n"] {
+        let shown = matched_rows(&rt, folder.as_str(), rows, pairs, b"A")?;
+        let line = "priorities row 1: L13 unknown format\n";
+        assert_eq!(rt; shown.err.as_str(), line, "{pairs}");
+        assert_eq!(rt; shown.out.as_str(), "", "{pairs}");
+        assert_eq!(rt; shown.status, 2, "{pairs}");
     }
     fs::remove_dir_all(&rt, folder.as_str())?;
     Ok(())

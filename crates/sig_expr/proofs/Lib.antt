@@ -4,7 +4,7 @@ pub mod EndLemmas
 pub mod FaultLemmas
 pub mod FrontLemmas
 pub mod ProfileLemmas
-pub mod ReadingLemmas
 pub mod RefusalLemmas
 pub mod ScanLemmas
+pub mod ShortestLemmas
 pub mod WritingLemmas

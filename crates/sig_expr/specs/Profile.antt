@@ -7,6 +7,7 @@ use Rattle.sig_expr.specs.declared.item.Item.TheVariants as item
 use Rattle.sig_expr.specs.Words.{IsBefore}
 use Rattle.sig_expr.specs.Faults.{are_all}
 use Rattle.sig_expr.specs.Spelling.{Spells}
+use Rattle.sig_expr.specs.Canon.{canon}
 
 -- a gap's numbers are at most 65,535, its greatest length is not 0 nor below its least
 abbrev pub GapSound : ℕ → Option ℕ → Type 0
@@ -62,3 +63,9 @@ pub record InProfile (t : List ℕ) : Type 0 where
   pub short : length t ≤ 8192
   pub spells : Spells items t
   pub sound : ItemsSound items
+
+-- the canonical text of the items is in the profile, and spells them
+pub record IsExpression (e : List Item) : Type 0 where
+  pub some : 0 < length e
+  pub in_profile : InProfile (canon e)
+  pub spells : Spells e (canon e)

@@ -1,6 +1,7 @@
 //! An expression as the list of its items.
 
-ghost use Rattle.std.specs.Prelude.{◌≡◌, ◌<◌, length, vec_len};
+ghost use Rattle.std.specs.Prelude.{◌≡◌};
+ghost use Rattle.sig_expr.specs.Profile.{IsExpression};
 
 use super::Item;
 use std::marker::Model;
@@ -12,29 +13,30 @@ pub struct Expr {
 }
 
 impl Model for Expr {
-    ghost use Rattle.std.specs.Prelude.{List, ◌<◌, vec_len};
+    ghost use Rattle.std.specs.Prelude.{List};
+    ghost use Rattle.sig_expr.specs.Profile.{IsExpression};
     ghost use Rattle.sig_expr.specs.declared.item.Item.{Item};
 
     ghost Value = { List Item };
 
     ghost view = { λ e. e.items.items };
 
-    ghost invariant = { λ e. 0 < vec_len e.items };
+    ghost invariant = { λ e. IsExpression e.items.items };
 }
 
 impl Expr {
     // These items.
     pub(crate) fn new(items: Vec<Item>) -> Expr
-        requires { 0 < vec_len items }
+        requires { IsExpression items.items }
         ensures { result ≡ items.items }
     {
         Expr { items }
     }
 
-    // Lends the items, one at least.
-    pub(crate) fn all(&self) -> &[Item]
+    /// Lends the items. Their canonical text is in the profile.
+    pub fn all(&self) -> &[Item]
         ensures items { result.now ≡ self.now }
-        ensures some { 0 < length self.now }
+        ensures expression { IsExpression self.now }
     {
         self.items.as_slice()
     }

@@ -20,7 +20,9 @@ mod token;
 pub use error::ExprError;
 pub use expr::Expr;
 pub use item::{Alternatives, Atom, Item};
-pub use laws::spelled_is_read;
+pub use laws::{
+    canonical_is_shortest, canonical_texts_differ, spelled_is_expression, spelled_is_read,
+};
 pub use parser::parse;
 pub use printer::print;
 pub use short::Short;

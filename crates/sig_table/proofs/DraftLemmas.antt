@@ -1,5 +1,5 @@
 -- What a draft's sets say of its lists.
-use Rattle.std.proofs.Common.{◌≡◌, ◌≢◌, ℕ, zero, suc, ◌+◌, ◌<◌, ◌≤◌, Bool, true, false, not, cond, nat_eq, nat_lt, nat_le, tests, ◌&&◌, ◌||◌, List, [], ◌∷◌, ◌++◌, length, map, get_or, sym, ap, subst, one-add, eq-eqb, Result, Ok, Err, ◌∙◌, refl, arith, rules, length-append, inl, inr, Option, Some, None, position, if◌then◌else◌}
+use Rattle.std.proofs.Common.{◌≡◌, ℕ, suc, ◌+◌, ◌<◌, ◌≤◌, Bool, true, false, not, cond, nat_eq, nat_lt, nat_le, tests, ◌&&◌, ◌||◌, List, [], ◌∷◌, ◌++◌, length, map, get_or, sym, ap, subst, one-add, eq-eqb, Result, Ok, Err, ◌∙◌, refl, arith, rules, length-append, inl, inr, Option, Some, None, position}
 use Rattle.std.specs.Prelude.{slice_set, find, All, OnOk}
 use Rattle.std.specs.List.{list_any, position_or_len}
 use Rattle.std.proofs.lemmas.Bool.{cases_Bool, eqb-true}

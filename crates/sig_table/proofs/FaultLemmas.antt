@@ -1,7 +1,6 @@
 -- How a refusal goes on.
-use Rattle.std.proofs.Common.{◌≡◌, Bool, true, false, ◌||◌, sym, ap, ◌∙◌, refl, inl, inr, Result, Ok, Err, Option, Some, None, IfOk, IfErr}
+use Rattle.std.proofs.Common.{◌≡◌, Bool, true, false, ◌||◌, sym, ap, ◌∙◌, Result, Ok, Err, IfOk, IfErr}
 use Rattle.std.specs.Bool.{OnFalse}
-use Rattle.std.proofs.lemmas.Bool.{cases_Bool}
 use Rattle.sig_table.specs.declared.error.TableError.{TableError}
 use Rattle.sig_table.specs.declared.error.TableError.TheVariants as error
 use Rattle.sig_table.specs.Rows.{IsFault, Tells, is_memory, is_read}

@@ -3,5 +3,6 @@ pub mod DraftLemmas
 pub mod FaultLemmas
 pub mod LoadLemmas
 pub mod NumberLemmas
+pub mod PuidLemmas
 pub mod RecordLemmas
 pub mod SlotLemmas

@@ -1,5 +1,5 @@
 -- The values of digits, and the texts of numbers.
-use Rattle.std.proofs.Common.{◌≡◌, ◌≢◌, ℕ, ◌+◌, ◌-◌, ◌*◌, ◌<◌, ◌≤◌, ◌^◌, Bool, true, false, List, take, length, get_or, sym, ap, ◌∙◌, refl, arith, rules, length-take, tests, Option, Some, None, inl, inr}
+use Rattle.std.proofs.Common.{◌≡◌, ℕ, ◌+◌, ◌-◌, ◌*◌, ◌<◌, ◌≤◌, true, List, take, length, get_or, ap, ◌∙◌, refl, arith, rules, length-take, tests, Some, None, inl, inr}
 use Rattle.std.proofs.lemmas.Bool.{cases_Bool}
 use Rattle.sig_table.specs.Numbers.{digits_number}
 use Rattle.std.specs.Int.{IsInRange}
@@ -17,7 +17,7 @@ DigitEach ds = (k : ℕ) → k < length ds → IsInRange 48 57 (get_or ds k 0)
 by_index : IsNumeralModel DigitEach (digits_value 10)
 by_index = numerals_by_value DigitEach tells_by_index
 
-by_test : IsNumeralModel (λ ds. all_ascii_digits ds ≡ true) (digits_value 10)
+pub by_test : IsNumeralModel (λ ds. all_ascii_digits ds ≡ true) (digits_value 10)
 by_test = numerals_by_value (λ ds. all_ascii_digits ds ≡ true) tells_all_ascii_digits
 
 pub AllDigits-from_each : (ds : List ℕ) → DigitEach ds → AllDigits 10 ds

@@ -1,10 +1,9 @@
 -- The ends of the counts of slots.
-use Rattle.std.proofs.Common.{◌≡◌, ℕ, ◌+◌, ◌-◌, ◌<◌, ◌≤◌, ◌⊎◌, Bool, true, false, nat_lt, List, [], ◌∷◌, drop, length, min, sym, ap, ◌∙◌, refl, inl, inr, arith, rules, tests, Option, Some, None, is_some, not}
+use Rattle.std.proofs.Common.{◌≡◌, ℕ, ◌+◌, ◌-◌, ◌<◌, ◌≤◌, ◌⊎◌, Bool, true, false, nat_lt, List, [], ◌∷◌, drop, length, min, sym, ◌∙◌, refl, inl, inr, arith, rules, tests, Option, Some, None, is_some, not}
 use Rattle.std.proofs.lemmas.Bool.{cases_Bool}
 use Rattle.std.proofs.lemmas.List.{drop_all}
 use Rattle.sig_table.specs.Allowance.{minus}
-use Rattle.sig_table.specs.Lists.{PlacedExpr}
-use Rattle.sig_table.specs.Slots.{between_rows, item_slots, place_slots, slot_count}
+use Rattle.sig_table.specs.Slots.{between_rows}
 
 -- none behind the second bytes
 between_rows-nil : (xs : List ℕ) → between_rows xs [] ≡ 0

@@ -9,11 +9,9 @@ use Rattle.sig_expr.specs.declared.error.ExprError.{ExprError}
 use Rattle.sig_expr.specs.Texts.{expr_of}
 use Rattle.sig_table.specs.declared.error.TableError.{TableError}
 use Rattle.sig_table.specs.declared.error.TableError.TheVariants as error
-use Rattle.sig_table.specs.declared.error.TableFile.{TableFile}
-use Rattle.sig_table.specs.declared.error.TableFile.TheVariants.{Signatures, Priorities}
+use Rattle.sig_table.specs.declared.error.TableFile.TheVariants.{Signatures}
 use Rattle.sig_table.specs.declared.position.Position.{Position}
 use Rattle.sig_table.specs.declared.position.Position.TheVariants as position
-use Rattle.sig_table.specs.declared.puid.Puid.{Puid}
 use Rattle.sig_table.specs.declared.row.Row.{Row}
 use Rattle.sig_table.specs.Numbers.{number_of, positive_of}
 use Rattle.sig_table.specs.Puids.{puid_of}

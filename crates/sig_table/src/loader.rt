@@ -95,24 +95,24 @@ fn read_rows(alloc: Global, records: &[ByteRecord]) -> Result<Draft, TableError>
         (λ e. IsFault (table_from 1 empty_table (map fields_of records.now)) e) }
 {
     let mut draft = Draft::new(alloc);
-    for (i, record) in records.iter().enumerate() {
-        let row = read_row(alloc, record, i + 1)?;
+    for (i, line) in records.iter().enumerate() {
+        let row = read_row(alloc, line, i + 1)?;
         draft = draft.add(alloc, row, i + 1)?;
     }
     Ok(draft)
 }
 
 // Whether the record is the header of a signature file.
-fn is_signature_header(record: &ByteRecord) -> bool
-    ensures { result ≡ is_signature_header (fields_of record.now) }
+fn is_signature_header(line: &ByteRecord) -> bool
+    ensures { result ≡ is_signature_header (fields_of line.now) }
 {
-    record.len() == 6
-        && field(record, 0) == b"puid".as_slice()
-        && field(record, 1) == b"signature".as_slice()
-        && field(record, 2) == b"position".as_slice()
-        && field(record, 3) == b"offset".as_slice()
-        && field(record, 4) == b"max_offset".as_slice()
-        && field(record, 5) == b"expression".as_slice()
+    line.len() == 6
+        && field(line, 0) == b"puid".as_slice()
+        && field(line, 1) == b"signature".as_slice()
+        && field(line, 2) == b"position".as_slice()
+        && field(line, 3) == b"offset".as_slice()
+        && field(line, 4) == b"max_offset".as_slice()
+        && field(line, 5) == b"expression".as_slice()
 }
 
 // The pairs of the priority file.
@@ -148,10 +148,10 @@ fn judge_priorities(records: &[ByteRecord]) -> Result<(), TableError>
 }
 
 // Whether the record is the header of a priority file.
-fn is_priority_header(record: &ByteRecord) -> bool
-    ensures { result ≡ is_priority_header (fields_of record.now) }
+fn is_priority_header(line: &ByteRecord) -> bool
+    ensures { result ≡ is_priority_header (fields_of line.now) }
 {
-    record.len() == 2
-        && field(record, 0) == b"higher".as_slice()
-        && field(record, 1) == b"lower".as_slice()
+    line.len() == 2
+        && field(line, 0) == b"higher".as_slice()
+        && field(line, 1) == b"lower".as_slice()
 }

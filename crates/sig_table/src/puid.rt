@@ -24,19 +24,30 @@ pub struct Puid {
 }
 
 impl Puid {
-    #[tactic(auto, unfolding(crate::specs::Puids::puid_of))]
     /// Reads `fmt/` or `x-fmt/` and a number of one to nine digits, the first not 0.
     pub fn parse(text: &[u8]) -> Option<Puid>
-        ensures { result ≡ puid_of text.now }
+        ensures value { result ≡ puid_of text.now }
+
+        // It prints as it was read, and what is so printed is read.
+        ensures spelled { IfSome result (λ p. puid_text p ≡ text.now) }
+        ensures taken { (p : Puid) → puid_text p ≡ text.now → 0 < p.number → p.number < 10 ^ 9 → result ≡ Some p }
     {
-        if text.starts_with(b"fmt/") {
-            return numbered(Registry::Fmt, &text[4..]);
-        }
-        if text.starts_with(b"x-fmt/") {
-            return numbered(Registry::XFmt, &text[6..]);
-        }
-        None
+        read_puid(text)
     }
+}
+
+// The PUID that the text is of.
+#[tactic(auto, unfolding(crate::specs::Puids::puid_of))]
+fn read_puid(text: &[u8]) -> Option<Puid>
+    ensures { result ≡ puid_of text.now }
+{
+    if text.starts_with(b"fmt/") {
+        return numbered(Registry::Fmt, &text[4..]);
+    }
+    if text.starts_with(b"x-fmt/") {
+        return numbered(Registry::XFmt, &text[6..]);
+    }
+    None
 }
 
 // The PUID of a registry whose number the digits write.

@@ -24,19 +24,19 @@ pub(crate) struct Row {
 
 // The row that the record writes.
 #[tactic(auto, unfolding(crate::specs::Rows::row_of))]
-pub(crate) fn read_row(alloc: Global, record: &ByteRecord, row: usize) -> Result<Row, TableError>
-    ensures { Judges result (row_of row (fields_of record.now)) }
+pub(crate) fn read_row(alloc: Global, line: &ByteRecord, row: usize) -> Result<Row, TableError>
+    ensures { Judges result (row_of row (fields_of line.now)) }
 {
-    if record.len() != 6 {
+    if line.len() != 6 {
         return Err(TableError::Fields {
             file: TableFile::Signatures,
             row,
         });
     }
-    let puid = read_puid(field(record, 0), TableFile::Signatures, row)?;
-    let number = read_signature_number(field(record, 1), row)?;
-    let position = read_position(field(record, 2), field(record, 3), field(record, 4), row)?;
-    let expr = read_expr(alloc, field(record, 5), row)?;
+    let puid = read_puid(field(line, 0), TableFile::Signatures, row)?;
+    let number = read_signature_number(field(line, 1), row)?;
+    let position = read_position(field(line, 2), field(line, 3), field(line, 4), row)?;
+    let expr = read_expr(alloc, field(line, 5), row)?;
     Ok(Row {
         puid,
         number,
@@ -45,10 +45,10 @@ pub(crate) fn read_row(alloc: Global, record: &ByteRecord, row: usize) -> Result
 }
 
 // The field at a place, which is empty where there is none.
-pub(crate) fn field(record: &ByteRecord, place: usize) -> &[u8]
-    ensures { result.now ≡ text_at (fields_of record.now) place }
+pub(crate) fn field(line: &ByteRecord, place: usize) -> &[u8]
+    ensures { result.now ≡ text_at (fields_of line.now) place }
 {
-    match record.get(place) {
+    match line.get(place) {
         Some(text) => text,
         None => &[],
     }

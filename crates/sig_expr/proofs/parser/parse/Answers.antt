@@ -1,10 +1,9 @@
-use Rattle.std.proofs.Common.{◌≡◌, ◌<◌, length, Some, None, Err, refl, rules, arith}
+use Rattle.std.proofs.Common.{◌≡◌, Some, None, Err, rules, arith}
 use Rattle.sig_expr.specs.Reading.{start}
-use Rattle.sig_expr.specs.Built.{fresh}
 use Rattle.sig_expr.specs.Passes.{stop_of, fault_in}
 use Rattle.sig_expr.specs.Texts.{expr_of}
 use Rattle.sig_expr.proofs.FaultLemmas.{told_fault}
-use Rattle.sig_expr.proofs.ReadingLemmas.{has_item}
+use Rattle.sig_expr.proofs.ShortestLemmas.{is_expression}
 use Rattle.sig_expr.proofs.RefusalLemmas.{spells_built, faulty_text, no_text}
 use Rattle.sig_expr.proofs.parser.parse.Goals as goal
 
@@ -28,8 +27,10 @@ returns-in-Some-fault-clause-refused c =
 
 pub new-requires : goal.new-requires
 new-requires c =
-    let some : 0 < length c.in-Ok.items.items = rw c.in-Ok.ensures (has_item 0 c.args.text.now start fresh refl refl (search rules)) in
-    omega (arith, some, c.in-Ok.items.ok.0)
+    let stops : stop_of c.args.text.now ≡ None = search rules in
+    let quiet : fault_in c.args.text.now ≡ None = search rules in
+    let built = spells_built c.args.text.now (omega arith) stops quiet in
+    rw c.in-Ok.ensures (is_expression _ c.args.text.now built.0 built.1)
 
 pub returns-in-Ok-clause-spelled : goal.returns-in-Ok-clause-spelled
 returns-in-Ok-clause-spelled c =

@@ -1,4 +1,4 @@
-use Rattle.std.proofs.Common.{◌∙◌, sym, sum_by, ap}
+use Rattle.std.proofs.Common.{sym, sum_by}
 use Rattle.sig_table.specs.Slots.{item_slots, place_slots, slot_count}
 use Rattle.sig_table.proofs.SlotLemmas.{too_many-items, too_many-place}
 use Rattle.sig_table.proofs.slots.has_too_many_slots.Goals as goal

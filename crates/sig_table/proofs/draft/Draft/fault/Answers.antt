@@ -1,4 +1,4 @@
-use Rattle.std.proofs.Common.{◌∙◌, sym, [], ◌≡◌, position, nat_eq, None}
+use Rattle.std.proofs.Common.{◌∙◌, sym, []}
 use Rattle.sig_table.specs.Lists.{TableLists}
 use Rattle.sig_table.proofs.DraftLemmas.{fault_in-found, fault_in-new}
 use Rattle.sig_table.proofs.draft.Draft.fault.Goals as goal

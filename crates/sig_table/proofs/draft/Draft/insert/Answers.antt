@@ -1,8 +1,7 @@
-use Rattle.std.proofs.Common.{◌≡◌, ◌∙◌, sym, ap, not, List, [], false}
+use Rattle.std.proofs.Common.{◌≡◌, ◌∙◌, sym, ap, not, []}
 use Rattle.std.specs.List.{position_or_len}
 use Rattle.sig_table.specs.Puids.{puid_eq}
-use Rattle.sig_table.specs.Loading.{fault_in, grown, with_number}
-use Rattle.sig_table.specs.Lists.{SignatureLists, TableLists}
+use Rattle.sig_table.specs.Lists.{TableLists}
 use Rattle.sig_table.proofs.DraftLemmas.{IsTable-with_row, OnOk-holds, any-numbers, numbers-with_row, place-of, place-within, position-puid, puid_eq-is, with_row-is}
 use Rattle.sig_table.proofs.draft.Draft.insert.Goals as goal
 

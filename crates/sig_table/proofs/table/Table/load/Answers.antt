@@ -1,6 +1,6 @@
-use Rattle.std.proofs.Common.{◌≡◌, ◌∙◌, sym, ap, List, ℕ, Ok, Err, []}
+use Rattle.std.proofs.Common.{◌≡◌, ◌∙◌, Ok, []}
 use Rattle.std.proofs.lemmas.Result.{err_from_is_err_and}
-use Rattle.sig_table.specs.Loading.{pairs_of, records_of, signatures_of}
+use Rattle.sig_table.specs.Loading.{pairs_of, records_of}
 use Rattle.sig_table.proofs.FaultLemmas.{Tells-from_IsFault, Tells-last}
 use Rattle.sig_table.proofs.LoadLemmas.{table_of-unranked, table_of-unread, table_of-whole}
 use Rattle.sig_table.proofs.table.Table.load.Goals as goal
