@@ -33,12 +33,12 @@ impl Expr {
         Expr { items }
     }
 
-    /// Lends the items. Their canonical text is in the profile.
-    pub fn all(&self) -> &[Item]
+    // Lends the items, whose canonical text is in the profile.
+    pub(crate) fn all(&self) -> &[Item]
         ensures items { result.now ≡ self.now }
         ensures expression { IsExpression self.now }
     {
-        self.items.as_slice()
+        &self.items
     }
 
     /// Lends the items.
