@@ -33,17 +33,10 @@ impl Expr {
         Expr { items }
     }
 
-    // Lends the items, whose canonical text is in the profile.
-    pub(crate) fn all(&self) -> &[Item]
+    /// Lends the items. Their canonical text is in the profile.
+    pub fn items(&self) -> &[Item]
         ensures items { result.now ≡ self.now }
         ensures expression { IsExpression self.now }
-    {
-        &self.items
-    }
-
-    /// Lends the items.
-    pub fn items(&self) -> &[Item]
-        ensures { result.now ≡ self.now }
     {
         self.items.as_slice()
     }
