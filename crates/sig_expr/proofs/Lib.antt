@@ -8,4 +8,3 @@ pub mod RefusalLemmas
 pub mod ScanLemmas
 pub mod ShortestLemmas
 pub mod WritingLemmas
-pub mod DigitLemmas

@@ -14,7 +14,6 @@ mod puid;
 mod records;
 mod row;
 mod sequence;
-mod signatures_of;
 mod slots;
 mod table;
 #[cfg(test)]
@@ -25,5 +24,4 @@ pub use ids::{FormatId, SigId};
 pub use position::Position;
 pub use puid::{Puid, Registry};
 pub use sequence::Sequence;
-pub use signatures_of::SignaturesOf;
 pub use table::Table;
