@@ -8,3 +8,4 @@ pub mod RefusalLemmas
 pub mod ScanLemmas
 pub mod ShortestLemmas
 pub mod WritingLemmas
+pub mod DigitLemmas

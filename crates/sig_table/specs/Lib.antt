@@ -1,7 +1,9 @@
 -- The definitions of this crate, and those of the crates below that its clauses cite.
 pub mod Allowance
 pub mod Drafts
+pub mod Left
 pub mod Lists
+pub mod Places
 pub mod Loading
 pub mod Numbers
 pub mod Puids

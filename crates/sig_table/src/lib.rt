@@ -14,6 +14,7 @@ mod puid;
 mod records;
 mod row;
 mod sequence;
+mod signatures_of;
 mod slots;
 mod table;
 #[cfg(test)]
@@ -24,4 +25,5 @@ pub use ids::{FormatId, SigId};
 pub use position::Position;
 pub use puid::{Puid, Registry};
 pub use sequence::Sequence;
+pub use signatures_of::SignaturesOf;
 pub use table::Table;

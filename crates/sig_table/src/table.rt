@@ -2,7 +2,7 @@
 
 ghost use Rattle.std.specs.Prelude.{◌≡◌, ◌<◌, ◌≤◌, ◌↔◌, [], ◌∷◌, ◌++◌, IsTrue, OnOk, Some, Contains, length, option_map, slice_get};
 
-use super::{FormatId, Puid, Sequence, SigId};
+use super::{FormatId, Puid, Sequence, SigId, SignaturesOf};
 use std::alloc::{AllocError, Global};
 use std::marker::Model;
 
@@ -75,6 +75,8 @@ impl Signature {
 }
 
 impl Table {
+    ghost use Rattle.sig_table.specs.Left.{left_of};
+    ghost use Rattle.sig_table.specs.Places.{places_of};
     ghost use Rattle.sig_table.specs.Lists.{IsTable};
 
     // The table of these lists.
@@ -134,6 +136,13 @@ impl Table {
     {
         let signature = &self.signatures[signature.0 as usize];
         signature.number
+    }
+
+    /// The format's signatures, rising.
+    pub fn signatures_of(&self, format: FormatId) -> SignaturesOf<'_>
+        ensures { left_of result ≡ places_of format.0 0 self.now.signatures }
+    {
+        SignaturesOf::new(self.signatures.as_slice(), format)
     }
 
     /// Lends the signature's sequences, in row order.

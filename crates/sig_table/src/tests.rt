@@ -2,6 +2,7 @@ use super::*;
 use sig_bits::FromRead;
 use sig_expr::ExprError;
 use std::alloc::Global;
+use std::io::{Error, ErrorKind, Read, Result as IoResult};
 use std::test::Fail;
 
 const HEADER: &[u8] = b"puid,signature,position,offset,max_offset,expression\n";
@@ -26,7 +27,7 @@ fn loaded_rows(alloc: Global, rows: &[u8]) -> Result<Table, TableError> {
 }
 
 #[test]
-fn is_puid(rt: HostRuntime) -> Result<(), Fail> {
+fn a_puid_prints_as_it_was_read(rt: HostRuntime) -> Result<(), Fail> {
     let rows: [(&str, bool); 10] = [
         ("fmt/1", true),
         ("fmt/999999999", true),
@@ -51,7 +52,9 @@ fn is_puid(rt: HostRuntime) -> Result<(), Fail> {
 }
 
 #[test]
-fn is_in_order_of_first_rows(rt: HostRuntime) -> Result<(), Fail> {
+fn formats_and_signatures_stand_in_the_order_of_their_first_rows(
+    rt: HostRuntime,
+) -> Result<(), Fail> {
     let rows =
         b"fmt/2,7,BOF,0,,41\nx-fmt/1,3,EOF,1,2,4243\nfmt/2,7,Variable,,,43\nfmt/2,7,BOF,0,,41\n";
     let table = loaded_rows(rt.alloc(), rows.as_slice())?;
@@ -74,7 +77,26 @@ fn is_in_order_of_first_rows(rt: HostRuntime) -> Result<(), Fail> {
 }
 
 #[test]
-fn is_refused_by_first_fault(rt: HostRuntime) {
+fn the_signatures_of_a_format_rise(rt: HostRuntime) -> Result<(), Fail> {
+    let rows = b"fmt/1,9,BOF,0,,41\nfmt/2,1,BOF,0,,41\nfmt/1,2,BOF,0,,41\nfmt/1,9,BOF,1,,41\n";
+    let table = loaded_rows(rt.alloc(), rows.as_slice())?;
+    let first = table
+        .signatures_of(FormatId(0))
+        .collect::<Vec<SigId>>(rt.alloc())?;
+    assert_eq!(rt; first.as_slice(), [SigId(0), SigId(2)].as_slice());
+    let second = table
+        .signatures_of(FormatId(1))
+        .collect::<Vec<SigId>>(rt.alloc())?;
+    assert_eq!(rt; second.as_slice(), [SigId(1)].as_slice());
+    let none = table
+        .signatures_of(FormatId(2))
+        .collect::<Vec<SigId>>(rt.alloc())?;
+    assert!(rt; none.is_empty());
+    Ok(())
+}
+
+#[test]
+fn the_first_fault_of_a_row_is_named(rt: HostRuntime) {
     let file = TableFile::Signatures;
     let rows: [(&[u8], TableError); 15] = [
         (b"fmt/1,1,BOF,0,41\n", TableError::Fields { file, row: 1 }),
@@ -127,7 +149,7 @@ fn is_refused_by_first_fault(rt: HostRuntime) {
 }
 
 #[test]
-fn is_refused_by_file(rt: HostRuntime) {
+fn the_signature_file_is_judged_first(rt: HostRuntime) {
     let signatures = TableFile::Signatures;
     let priorities = TableFile::Priorities;
     let rows: [(&[u8], &[u8], TableError); 5] = [
@@ -155,7 +177,7 @@ fn is_refused_by_file(rt: HostRuntime) {
 }
 
 #[test]
-fn is_within_most_slots(rt: HostRuntime) {
+fn as_many_slots_as_the_limit_are_taken(rt: HostRuntime) {
     let rows: [&[u8]; 5] = [
         b"fmt/1,1,Variable,,,{65533}\n",
         b"fmt/1,1,BOF,0,,{65534}\n",
@@ -166,4 +188,31 @@ fn is_within_most_slots(rt: HostRuntime) {
     for row in rows {
         assert!(rt; loaded_rows(rt.alloc(), row).is_ok());
     }
+}
+
+// A reader whose first read fails.
+#[derive(Drop)]
+struct Failing;
+
+impl Read for Failing {
+    fn read(&mut self, _buf: &mut [u8]) -> IoResult<usize> {
+        Err(Error::from(ErrorKind::Interrupted))
+    }
+}
+
+#[test]
+fn a_failed_read_is_named_with_its_file(rt: HostRuntime) {
+    let mut failing = FromRead::new(Failing);
+    let mut priorities = FromRead::new(b"higher,lower\n".as_slice());
+    let refused = Table::load(rt.alloc(), &mut failing, &mut priorities).err();
+    let file = TableFile::Signatures;
+    assert_eq!(rt; refused, Some(TableError::Read { file }));
+    let mut signatures = FromRead::new(HEADER);
+    let refused = Table::load(rt.alloc(), &mut signatures, &mut failing).err();
+    let file = TableFile::Priorities;
+    assert_eq!(rt; refused, Some(TableError::Read { file }));
+    let mut faulty = FromRead::new(b"puid\n".as_slice());
+    let refused = Table::load(rt.alloc(), &mut faulty, &mut failing).err();
+    let file = TableFile::Signatures;
+    assert_eq!(rt; refused, Some(TableError::Header { file }));
 }

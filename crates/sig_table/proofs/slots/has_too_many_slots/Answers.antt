@@ -13,5 +13,5 @@ pub returns : goal.returns
 unfolding slot_count
 returns c =
     let some = rw (c.place_slots.ensures, c.position.ensures) at (sym c.in-Some.ensures) in
-    let items = rw (c.items.ensures, c.expr.ensures) at c.left_after_items.ensures in
+    let items = rw (c.items.ensures.items, c.expr.ensures) at c.left_after_items.ensures in
     too_many-items (place_slots c.args.sequence.now.position) (sum_by item_slots c.args.sequence.now.items) c.in-Some.left c.left_after_items.result c.is_none.result some items c.is_none.ensures
