@@ -1,5 +1,6 @@
 -- The definitions of this crate, and those of the crates below that its clauses cite.
 pub mod Allowance
+pub mod Canonical
 pub mod Drafts
 pub mod Left
 pub mod Lists
@@ -10,6 +11,7 @@ pub mod Puids
 pub mod Rows
 pub mod Slots
 pub mod Standing
+pub mod Tables
 pub use Rattle.sig_bits.specs.Bytes
 pub use Rattle.sig_expr.specs.Words
 pub use Rattle.sig_expr.specs.Texts
