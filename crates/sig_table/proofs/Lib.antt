@@ -1,6 +1,7 @@
 -- Lemmas of this crate.
 pub mod DraftLemmas
 pub mod FaultLemmas
+pub mod GatheredLemmas
 pub mod LoadLemmas
 pub mod NumberLemmas
 pub mod PuidLemmas

@@ -2,6 +2,7 @@
 pub mod Allowance
 pub mod Canonical
 pub mod Drafts
+pub mod Gathered
 pub mod Left
 pub mod Lists
 pub mod Places
