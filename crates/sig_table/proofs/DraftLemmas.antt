@@ -15,7 +15,9 @@ use Rattle.sig_table.specs.Lists.{IsTable, PlacedExpr, SignatureLists, TableList
 use Rattle.sig_table.specs.declared.row.Row.{Row}
 use Rattle.sig_table.specs.Loading.{fault_at, fault_in, grown, with_number, with_row}
 use Rattle.sig_table.specs.Puids.{puid_eq}
+use Rattle.sig_table.specs.Rows.{IsRow}
 use Rattle.sig_table.specs.Slots.{slot_count}
+use Rattle.sig_table.specs.Tables.{IsSequence}
 
 -- the derived `==` of PUIDs
 puid_eq-same : (a b : Puid) → eq-value.it a b ≡ puid_eq a b
@@ -235,6 +237,30 @@ Known-with_number t row table =
       | inl there ↦ rw there known
       | inr other ↦ rw other (All-append (λ s. s.format < k) t.signatures (new ∷ []) known (All-cons (λ s. s.format < k) new [] (position-insert_key t.formats row.puid) (λ i d lt. absurd (omega arith))))
     ]
+
+-- a row without fault has few enough slots
+slots_of : (t : TableLists) (row : Row) (n : ℕ) (o : Option SignatureLists) → fault_at o t n row ≡ None → nat_lt 65535 (slot_count row.sequence) ≡ false
+slots_of t row n None fine = elim (cases_Bool (nat_lt 65535 (slot_count row.sequence))) [
+  | inl t' ↦ absurd (cc (rw t' at fine))
+  | inr f ↦ f
+]
+slots_of t row n (Some s) fine = elim (cases_Bool (not (nat_eq (position_or_len (puid_eq row.puid) t.formats) s.format))) [
+  | inl u ↦ absurd (cc (rw u at fine))
+  | inr v ↦ elim (cases_Bool (nat_le 8 (length s.sequences))) [
+    | inl u ↦ absurd (cc (rw (v, u) at fine))
+    | inr w ↦ elim (cases_Bool (nat_lt 65535 (slot_count row.sequence))) [
+      | inl t' ↦ absurd (cc (rw (v, w, t') at fine))
+      | inr f ↦ f
+    ]
+  ]
+]
+
+-- so its sequence is within its limits
+pub IsSequence-judged : (t : TableLists) (row : Row) (n : ℕ) → IsRow row → fault_in t n row ≡ None → IsSequence row.sequence
+unfolding fault_in
+IsSequence-judged t row n read fine =
+    let few = slots_of t row n (find (λ s. nat_eq row.number s.number) t.signatures) fine in
+    record { offsets = read.offsets; expression = read.expression; slots = search (rules, tests) }
 
 -- a row without fault keeps the limits
 pub IsTable-with_row : (t : TableLists) (row : Row) (n : ℕ) (fs : List Puid) (ss : List SignatureLists) → IsTable t → fault_in t n row ≡ None

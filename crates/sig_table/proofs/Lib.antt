@@ -5,4 +5,5 @@ pub mod LoadLemmas
 pub mod NumberLemmas
 pub mod PuidLemmas
 pub mod RecordLemmas
+pub mod RowLemmas
 pub mod SlotLemmas
