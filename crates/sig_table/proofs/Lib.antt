@@ -1,9 +1,11 @@
 -- Lemmas of this crate.
 pub mod DraftLemmas
 pub mod FaultLemmas
+pub mod LimitLemmas
 pub mod LoadLemmas
 pub mod NumberLemmas
 pub mod PuidLemmas
 pub mod RecordLemmas
 pub mod RowLemmas
 pub mod SlotLemmas
+pub mod TableLemmas

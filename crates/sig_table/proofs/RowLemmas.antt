@@ -1,5 +1,5 @@
 -- What holds of each row that is read.
-use Rattle.std.proofs.Common.{◌≡◌, ℕ, ◌<◌, ◌≤◌, ◌^◌, ◌&&◌, ◌==◌, true, false, nat_eq, nat_lt, List, [], ◌∷◌, drop, length, sym, ap, ◌∙◌, refl, inl, inr, arith, rules, tests, Option, Some, None, Result, Ok, Err}
+use Rattle.std.proofs.Common.{◌≡◌, ℕ, ◌≤◌, ◌&&◌, ◌==◌, nat_eq, nat_lt, List, drop, length, refl, inl, inr, arith, rules, tests, Option, Some, None, Result, Ok, Err}
 use Rattle.std.specs.Prelude.{codes}
 use Rattle.std.specs.List.{starts_with}
 use Rattle.std.specs.Option.{ok_or}
