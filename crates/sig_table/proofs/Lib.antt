@@ -2,8 +2,11 @@
 pub mod DraftLemmas
 pub mod FaultLemmas
 pub mod GatheredLemmas
+pub mod LimitLemmas
 pub mod LoadLemmas
 pub mod NumberLemmas
 pub mod PuidLemmas
 pub mod RecordLemmas
+pub mod RowLemmas
 pub mod SlotLemmas
+pub mod TableLemmas

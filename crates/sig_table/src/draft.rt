@@ -5,7 +5,7 @@
 ghost use Rattle.std.specs.Prelude.{◌≡◌, ◌<◌, ◌∷◌, ◌++◌, ℕ, [], false, length, nat_eq, not, OnOk, MatchResult, None, Some, Ok, IfOk, IfErr, IfSome};
 ghost use Rattle.std.specs.List.{list_any, position_or_len};
 ghost use Rattle.sig_table.specs.Loading.{empty_table, fault_at, fault_in, grown, unless, with_number, with_row};
-ghost use Rattle.sig_table.specs.Rows.{IsFault, is_read};
+ghost use Rattle.sig_table.specs.Rows.{IsFault, IsRow, is_read};
 
 use super::row::Row;
 use super::slots::has_too_many_slots;
@@ -50,6 +50,7 @@ impl Draft {
 
     // Judges the row after those so far, and adds it.
     pub(crate) fn add(self, alloc: Global, row: Row, n: usize) -> Result<Draft, TableError>
+        requires { IsRow row }
         ensures { MatchResult result
             (λ draft. (fault_in self n row ≡ None) × (draft ≡ with_row self row))
             (λ e. IsFault (unless (fault_in self n row) (Ok self)) e) }
@@ -109,7 +110,8 @@ impl Draft {
 
     // Adds a row that has no fault.
     fn insert(self, alloc: Global, row: Row) -> Result<Draft, TableError>
-        requires { (n : ℕ) × (fault_in self n row ≡ None) }
+        requires read { IsRow row }
+        requires judged { (n : ℕ) × (fault_in self n row ≡ None) }
         ensures row { IfOk result (λ draft. draft ≡ with_row self row) }
         ensures memory { IfErr result (λ e. e ≡ TableError.OutOfMemory) }
     {
@@ -128,7 +130,8 @@ impl Draft {
         if enroll(alloc, &mut signatures, is_new, format, row.number).is_err() {
             return Err(TableError::OutOfMemory);
         }
-        if grow(&mut signatures, place, row.number, row.sequence).is_err() {
+        let sequence = Sequence::new(row.sequence);
+        if grow(&mut signatures, place, row.number, sequence).is_err() {
             return Err(TableError::OutOfMemory);
         }
         Ok(Draft {

@@ -31,7 +31,8 @@ pub struct Table {
 }
 
 impl Model for Table {
-    ghost use Rattle.sig_table.specs.Lists.{IsTable, TableLists};
+    ghost use Rattle.sig_table.specs.Lists.{TableLists};
+    ghost use Rattle.sig_table.specs.Tables.{IsTable};
 
     ghost Value = { TableLists };
 
@@ -77,7 +78,7 @@ impl Signature {
 impl Table {
     ghost use Rattle.sig_table.specs.Left.{left_of};
     ghost use Rattle.sig_table.specs.Places.{places_of};
-    ghost use Rattle.sig_table.specs.Lists.{IsTable};
+    ghost use Rattle.sig_table.specs.Tables.{IsNumber, IsTable};
 
     // The table of these lists.
     pub(crate) fn new(
@@ -99,6 +100,7 @@ impl Table {
     pub fn format_count(&self) -> usize
         ensures count { result ≡ length self.now.formats }
         ensures limit { result ≤ 1000 }
+        ensures table { IsTable self.now }
     {
         self.formats.len()
     }
@@ -132,7 +134,8 @@ impl Table {
     /// The signature's number, which the signature file gives.
     pub fn number_of(&self, signature: SigId) -> u32
         requires { signature.0 < length self.now.signatures }
-        ensures { option_map (λ s. s.number) (slice_get self.now.signatures signature.0) ≡ Some result }
+        ensures number { option_map (λ s. s.number) (slice_get self.now.signatures signature.0) ≡ Some result }
+        ensures digits { IsNumber result }
     {
         let signature = &self.signatures[signature.0 as usize];
         signature.number
@@ -145,10 +148,12 @@ impl Table {
         SignaturesOf::new(self.signatures.as_slice(), format)
     }
 
-    /// Lends the signature's sequences, in row order.
+    /// Lends the signature's sequences, in row order: one to eight.
     pub fn sequences_of(&self, signature: SigId) -> &[Sequence]
         requires { signature.0 < length self.now.signatures }
-        ensures { option_map (λ s. s.sequences) (slice_get self.now.signatures signature.0) ≡ Some result.now }
+        ensures sequences { option_map (λ s. s.sequences) (slice_get self.now.signatures signature.0) ≡ Some result.now }
+        ensures some { 0 < length result.now }
+        ensures few { length result.now ≤ 8 }
     {
         let signature = &self.signatures[signature.0 as usize];
         signature.sequences.as_slice()
