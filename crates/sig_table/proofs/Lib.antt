@@ -6,3 +6,4 @@ pub mod NumberLemmas
 pub mod PuidLemmas
 pub mod RecordLemmas
 pub mod SlotLemmas
+pub mod PlainLemmas
