@@ -3,6 +3,7 @@ pub mod Allowance
 pub mod Canonical
 pub mod Drafts
 pub mod Left
+pub mod Lines
 pub mod Lists
 pub mod Places
 pub mod Loading

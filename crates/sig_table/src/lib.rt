@@ -7,6 +7,7 @@
 mod draft;
 mod error;
 mod ids;
+mod lines;
 mod loader;
 mod numbers;
 mod position;
@@ -19,8 +20,9 @@ mod slots;
 mod table;
 #[cfg(test)]
 mod tests;
+mod writer;
 
-pub use error::{TableError, TableFile};
+pub use error::{OutError, TableError, TableFile};
 pub use ids::{FormatId, SigId};
 pub use position::Position;
 pub use puid::{Puid, Registry};
