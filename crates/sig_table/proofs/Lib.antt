@@ -5,6 +5,7 @@ pub mod GatheredLemmas
 pub mod LimitLemmas
 pub mod LoadLemmas
 pub mod NumberLemmas
+pub mod PlainLemmas
 pub mod PuidLemmas
 pub mod RecordLemmas
 pub mod RowLemmas

@@ -4,6 +4,7 @@ pub mod Canonical
 pub mod Drafts
 pub mod Gathered
 pub mod Left
+pub mod Lines
 pub mod Lists
 pub mod Places
 pub mod Loading

@@ -8,6 +8,7 @@ mod draft;
 mod error;
 mod ids;
 mod laws;
+mod lines;
 mod loader;
 mod numbers;
 mod position;
@@ -20,8 +21,9 @@ mod slots;
 mod table;
 #[cfg(test)]
 mod tests;
+mod writer;
 
-pub use error::{TableError, TableFile};
+pub use error::{OutError, TableError, TableFile};
 pub use ids::{FormatId, SigId};
 pub use laws::{first_fault_is_told, rows_are_gathered};
 pub use position::Position;

@@ -166,3 +166,38 @@ impl Table {
         self.priorities.contains(&(higher.0, lower.0))
     }
 }
+
+// What the writer reads.
+impl Signature {
+    pub(crate) fn number(&self) -> u32
+        ensures { result ≡ self.now.number }
+    {
+        self.number
+    }
+
+    pub(crate) fn sequences(&self) -> &[Sequence]
+        ensures { result.now ≡ self.now.sequences }
+    {
+        self.sequences.as_slice()
+    }
+}
+
+impl Table {
+    pub(crate) fn formats(&self) -> &[Puid]
+        ensures { result.now ≡ self.now.formats }
+    {
+        self.formats.as_slice()
+    }
+
+    pub(crate) fn signatures(&self) -> &[Signature]
+        ensures { result.now ≡ self.now.signatures }
+    {
+        self.signatures.as_slice()
+    }
+
+    pub(crate) fn priorities(&self) -> &[(u16, u16)]
+        ensures { result.now ≡ self.now.priorities }
+    {
+        self.priorities.as_slice()
+    }
+}
