@@ -3,6 +3,9 @@ pub mod DraftLemmas
 pub mod FaultLemmas
 pub mod LoadLemmas
 pub mod NumberLemmas
+pub mod PlainLemmas
 pub mod PuidLemmas
 pub mod RecordLemmas
+pub mod RecordsAgainLemmas
+pub mod RowAgainLemmas
 pub mod SlotLemmas
