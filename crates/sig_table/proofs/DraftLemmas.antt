@@ -162,7 +162,7 @@ position-insert_key ks k = elim (cases_Bool (list_any (puid_eq k) ks)) [
 ]
 
 -- whether one passes, by what `find` gives
-any-none : {X : Type 0} (p : X → Bool) (xs : List X) → find p xs ≡ None → list_any p xs ≡ false
+pub any-none : {X : Type 0} (p : X → Bool) (xs : List X) → find p xs ≡ None → list_any p xs ≡ false
 any-none p [] h = refl
 any-none p (y ∷ ys) h = elim (cases_Bool (p y)) [
   | inl t ↦ absurd (cc (rw t at h))
@@ -176,7 +176,7 @@ any-some p (y ∷ ys) x h = elim (cases_Bool (p y)) [
   | inr f ↦ rw f (any-some p ys x (rw f at h))
 ]
 
-any-within : {X : Type 0} (p : X → Bool) (xs : List X) → position_or_len p xs < length xs → list_any p xs ≡ true
+pub any-within : {X : Type 0} (p : X → Bool) (xs : List X) → position_or_len p xs < length xs → list_any p xs ≡ true
 any-within p xs lt = elim (cases_Bool (list_any p xs)) [
   | inl t ↦ t
   | inr f ↦ absurd (let last = position-not_any p xs f in omega arith)

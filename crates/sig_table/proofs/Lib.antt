@@ -1,6 +1,7 @@
 -- Lemmas of this crate.
 pub mod DraftLemmas
 pub mod FaultLemmas
+pub mod FormatsAgainLemmas
 pub mod LoadLemmas
 pub mod NumberLemmas
 pub mod PlainLemmas
@@ -9,3 +10,4 @@ pub mod RecordLemmas
 pub mod RecordsAgainLemmas
 pub mod RowAgainLemmas
 pub mod SlotLemmas
+pub mod TableAgainLemmas

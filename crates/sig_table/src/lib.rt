@@ -7,6 +7,7 @@
 mod draft;
 mod error;
 mod ids;
+mod laws;
 mod loader;
 mod numbers;
 mod position;
@@ -22,6 +23,7 @@ mod tests;
 
 pub use error::{TableError, TableFile};
 pub use ids::{FormatId, SigId};
+pub use laws::written_is_loaded;
 pub use position::Position;
 pub use puid::{Puid, Registry};
 pub use sequence::Sequence;
