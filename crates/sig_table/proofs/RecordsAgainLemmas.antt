@@ -1,9 +1,8 @@
 -- Records that were written are the records that are read.
-use Rattle.std.proofs.Common.{◌≡◌, ℕ, List, [], ◌∷◌, ◌++◌, Some, None, sym, ap, subst, ◌∙◌, refl}
+use Rattle.std.proofs.Common.{◌≡◌, ℕ, List, [], ◌∷◌, ◌++◌, Some, sym, ap, subst, ◌∙◌, refl}
 use Rattle.std.specs.Prelude.{⊤, map}
 use Rattle.std.specs.List.{flat_map}
 use Rattle.csv.proofs.RoundTrip.{read-write}
-use Rattle.csv.specs.Machine.{next_record}
 use Rattle.csv.specs.Reading.{AreRecords, Reached, default_config, strip_bom}
 use Rattle.csv.specs.Writing.{default_writer, fields_text, is_blank, read_back, row_text}
 use Rattle.csv.specs.declared.parser.State.TheVariants as st
@@ -23,6 +22,7 @@ AreSome (row ∷ rows) = (read_back row ≡ row) × AreSome rows
 abbrev written : List (List (List ℕ)) → List ℕ
 written rows = flat_map (row_text default_writer) rows
 
+-- they are read one after the other
 reached : (rows : List (List (List ℕ))) → AreSome rows → Reached default_config st.StartRecord (written rows) rows st.StartRecord []
 unfolding Reached
 reached [] all = (refl, refl)
@@ -58,6 +58,7 @@ plain-priorities : (rows : List (List (List ℕ))) → strip_bom (written (prior
 unfolding strip_bom fields_text is_blank
 plain-priorities rows = refl
 
+-- what is read of the canonical files
 pub records_of-signature_csv : (t : TableLists) → records_of (signature_csv t) ≡ signature_records t
 records_of-signature_csv t =
     ap records_of (signature_csv-rows t) ∙ records_of-written (signature_records t) (refl, some_of_signatures t.formats t.signatures) (plain-signatures (flat_map (records_of_signature t.formats) t.signatures))

@@ -1,5 +1,5 @@
 -- A row that was written is the row that is read.
-use Rattle.std.proofs.Common.{◌≡◌, ℕ, ◌+◌, ◌<◌, ◌≤◌, ◌^◌, true, false, nat_eq, nat_lt, ◌&&◌, List, [], ◌∷◌, ◌++◌, length, get_or, sym, ap, ◌∙◌, refl, inl, inr, arith, rules, tests, Option, Some, None, Ok, Err}
+use Rattle.std.proofs.Common.{◌≡◌, ℕ, ◌<◌, ◌≤◌, ◌^◌, true, false, nat_eq, nat_lt, List, [], ◌∷◌, ◌++◌, length, get_or, refl, inl, inr, arith, rules, tests, Some, Ok}
 use Rattle.std.specs.Fmt.{decimal}
 use Rattle.std.specs.Str.{all_ascii_digits}
 use Rattle.std.specs.Str.Parse.{digits_value}
@@ -15,13 +15,14 @@ use Rattle.sig_table.proofs.NumberLemmas.{by_test}
 use Rattle.sig_table.proofs.PuidLemmas.{positive_of-decimal, puid_of-puid_text}
 use Rattle.sig_table.specs.Canonical.{place_fields, sequence_record}
 use Rattle.sig_table.specs.Lists.{PlacedExpr}
-use Rattle.sig_table.specs.Numbers.{number_of, positive_of}
-use Rattle.sig_table.specs.Puids.{puid_of, puid_text, registry_text}
+use Rattle.sig_table.specs.Numbers.{number_of}
+use Rattle.sig_table.specs.Puids.{puid_text}
 use Rattle.sig_table.specs.Rows.{offset_of, offsets_of, position_of, row_of}
 use Rattle.sig_table.specs.Tables.{InOrder, IsNumber, IsSequence}
 use Rattle.sig_table.specs.declared.position.Position.{Position}
 use Rattle.sig_table.specs.declared.position.Position.TheVariants as position
 use Rattle.sig_table.specs.declared.puid.Puid.{Puid}
+use Rattle.sig_table.specs.declared.row.Row.{Row}
 
 not_below : (a b : ℕ) → b ≤ a → nat_lt a b ≡ false
 not_below a b h = search (rules, tests)
@@ -61,11 +62,16 @@ offsets_of-decimal row min max order h =
     let empty : nat_eq (length (decimal max)) 0 ≡ false = ne_eqb (length (decimal max)) 0 (λ e. omega arith) in
     rw (number_of-decimal min (omega arith), not_below 65535 min (omega arith), empty, number_of-decimal max h, not_below 65535 max h, not_below max min order) refl
 
+-- the canonical text is read as its items
 pub expr_of-canon : (items : List Item) → IsExpression items → expr_of (canon items) ≡ Ok items
 expr_of-canon items h = read_text items (canon items) h.in_profile h.spells
 
+-- the row of a sequence
+abbrev pub row_for : Puid → ℕ → PlacedExpr → Row
+row_for puid number sequence = record { puid = puid; number = number; sequence = sequence }
+
 again : (row : ℕ) (puid : Puid) (number : ℕ) (p : Position) (items : List Item) → IsNumber puid.number → IsNumber number → InOrder p → IsExpression items
-    → row_of row (puid_text puid ∷ decimal number ∷ (place_fields p ++ canon items ∷ [])) ≡ Ok (record { puid = puid; number = number; sequence = record { position = p; items = items } })
+    → row_of row (puid_text puid ∷ decimal number ∷ (place_fields p ++ canon items ∷ [])) ≡ Ok (row_for puid number (record { position = p; items = items }))
 unfolding row_of field_at position_of
 again row puid number (position.Bof min max) items is_puid is_number order h =
     rw (puid_of-puid_text puid.registry puid.number is_puid.0 is_puid.1, positive_of-decimal number is_number.0 is_number.1, offsets_of-decimal row min max order.0 order.1, expr_of-canon items h) refl
@@ -74,6 +80,7 @@ again row puid number (position.Eof min max) items is_puid is_number order h =
 again row puid number position.Variable items is_puid is_number order h =
     rw (puid_of-puid_text puid.registry puid.number is_puid.0 is_puid.1, positive_of-decimal number is_number.0 is_number.1, expr_of-canon items h) refl
 
+-- the record of a sequence is read as its row
 pub row_of-sequence_record : (row : ℕ) (puid : Puid) (number : ℕ) (s : PlacedExpr) → IsNumber puid.number → IsNumber number → IsSequence s
-    → row_of row (sequence_record (puid_text puid) number s) ≡ Ok (record { puid = puid; number = number; sequence = s })
+    → row_of row (sequence_record (puid_text puid) number s) ≡ Ok (row_for puid number s)
 row_of-sequence_record row puid number s is_puid is_number h = again row puid number s.position s.items is_puid is_number h.offsets h.expression

@@ -1,22 +1,20 @@
 -- The table of the records of a table is that table.
-use Rattle.std.proofs.Common.{◌≡◌, ℕ, suc, ◌+◌, ◌<◌, ◌≤◌, Bool, true, false, not, cond, eqb, nat_eq, nat_le, nat_lt, ◌&&◌, ◌||◌, List, [], ◌∷◌, ◌++◌, length, map, take, sym, ap, subst, append_assoc, eq-eqb, ◌∙◌, refl, arith, rules, tests, length-append, inl, inr, Option, Some, None, Result, Ok, Err}
-use Rattle.std.specs.Prelude.{find, slice_get, All, Contains}
-use Rattle.std.specs.List.{flat_map, list_any, position_or_len}
+use Rattle.std.proofs.Common.{◌≡◌, ℕ, ◌+◌, ◌<◌, ◌≤◌, Bool, true, false, nat_eq, nat_le, nat_lt, List, [], ◌∷◌, ◌++◌, length, map, take, sym, ap, subst, append_assoc, eq-eqb, ◌∙◌, refl, arith, rules, tests, length-append, inl, inr, Some, None, Ok}
+use Rattle.std.specs.Prelude.{find, All, Contains}
+use Rattle.std.specs.List.{flat_map, list_any}
 use Rattle.std.proofs.lemmas.Bool.{cases_Bool, eqb-true}
 use Rattle.std.proofs.lemmas.List.{append-nil, take_all}
 use Rattle.std.proofs.lemmas.List.Elements.{All-contains, All-head, All-tail}
 use Rattle.csv.specs.Records.{field_at}
-use Rattle.indexmap.specs.IndexSet.{insert_key}
 use Rattle.sig_table.proofs.FormatsAgainLemmas.{Contains-slice_get, Contains-there, Met, Turn, all_met, slice_get-within, turn}
 use Rattle.sig_table.proofs.RecordsAgainLemmas.{records_of-priority_csv, records_of-signature_csv}
-use Rattle.sig_table.proofs.RowAgainLemmas.{row_of-sequence_record}
-use Rattle.sig_table.specs.Canonical.{name_of, named, pair_record, priority_csv, priority_header, records_of_signature, sequence_record, signature_csv, signature_header, signature_records}
-use Rattle.sig_table.specs.declared.error.TableError.{TableError}
+use Rattle.sig_table.proofs.RowAgainLemmas.{row_for, row_of-sequence_record}
+use Rattle.sig_table.specs.Canonical.{name_of, named, pair_record, priority_csv, priority_header, records_of_signature, sequence_record, signature_csv, signature_header}
 use Rattle.sig_table.specs.declared.puid.Puid.{Puid}
 use Rattle.sig_table.specs.declared.row.Row.{Row}
 use Rattle.sig_table.specs.Lists.{PlacedExpr, SignatureLists, TableLists}
-use Rattle.sig_table.specs.Loading.{fault_in, grown, is_signature_header, pairs_of, records_of, signature_in, signatures_of, table_from, table_of, with_number, with_row}
-use Rattle.sig_table.specs.Puids.{puid_eq, puid_text}
+use Rattle.sig_table.specs.Loading.{fault_in, grown, is_signature_header, pairs_of, records_of, signatures_of, table_from, table_of, with_row}
+use Rattle.sig_table.specs.Puids.{puid_text}
 use Rattle.sig_table.specs.Rows.{row_of}
 use Rattle.sig_table.specs.Slots.{slot_count}
 use Rattle.sig_table.specs.Tables.{AllDifferent, HasAllSignatures, IsNumber, IsSequence, IsSignature, IsTable}
@@ -32,10 +30,6 @@ table_with formats signatures = record { formats = formats; signatures = signatu
 -- a signature
 abbrev signature : ℕ → ℕ → List PlacedExpr → SignatureLists
 signature format number sequences = record { format = format; number = number; sequences = sequences }
-
--- a row
-abbrev row_for : Puid → ℕ → PlacedExpr → Row
-row_for puid number sequence = record { puid = puid; number = number; sequence = sequence }
 
 -- the number of a signature in the midst is among the numbers
 Contains-middle : (done later : List SignatureLists) (s : SignatureLists) → Contains (map (λ x. x.number) (done ++ s ∷ later)) s.number
@@ -123,9 +117,9 @@ module _ (formats : List Puid) (k k' format number : ℕ) (puid : Puid) (done : 
   later_rows (s ∷ later) sequences n rest told is_puid is_number all few more =
       let is : IsSequence s = All-head IsSequence s later all in
       step n _ _ told (sequence_record (puid_text puid) number s) (map (sequence_record (puid_text puid) number) later ++ rest) (row_for puid number s)
-        (row_of-sequence_record n puid number s is_puid is_number is) (later_fine n sequences s (omega arith) is.slots) (later_row sequences s)
-        (later_rows later (sequences ++ s ∷ []) (n + 1) rest told is_puid is_number (All-tail IsSequence s later all) (omega (arith, length-append {A = PlacedExpr}))
-          (λ m. rw (append_assoc sequences (s ∷ []) later) (more m)))
+      (row_of-sequence_record n puid number s is_puid is_number is) (later_fine n sequences s (omega arith) is.slots) (later_row sequences s)
+      (later_rows later (sequences ++ s ∷ []) (n + 1) rest told is_puid is_number (All-tail IsSequence s later all) (omega (arith, length-append {A = PlacedExpr}))
+      (λ m. rw (append_assoc sequences (s ∷ []) later) (more m)))
 
   -- all rows of a signature
   rows : (sequences : List PlacedExpr) (n : ℕ) (rest : List (List (List ℕ))) (told : TableLists)
@@ -136,8 +130,8 @@ module _ (formats : List Puid) (k k' format number : ℕ) (puid : Puid) (done : 
   rows (s ∷ later) n rest told is_puid is_number all some few room more =
       let is : IsSequence s = All-head IsSequence s later all in
       step n _ _ told (sequence_record (puid_text puid) number s) (map (sequence_record (puid_text puid) number) later ++ rest) (row_for puid number s)
-        (row_of-sequence_record n puid number s is_puid is_number is) (first_fine n s room is.slots) (first_row s)
-        (later_rows later (s ∷ []) (n + 1) rest told is_puid is_number (All-tail IsSequence s later all) (omega arith) more)
+      (row_of-sequence_record n puid number s is_puid is_number is) (first_fine n s room is.slots) (first_row s)
+      (later_rows later (s ∷ []) (n + 1) rest told is_puid is_number (All-tail IsSequence s later all) (omega arith) more)
 
 module _ (formats : List Puid) (all : List SignatureLists) (few_formats : length formats ≤ 1000) (few : length all ≤ 4000) (puids : All (λ p. IsNumber p.number) formats) (different : AllDifferent formats) (numbers : AllDifferent (map (λ s. s.number) all)) where
   -- the signatures behind the first ones
@@ -157,8 +151,8 @@ module _ (formats : List Puid) (all : List SignatureLists) (few_formats : length
       let size : length (done ++ s ∷ later) ≤ 4000 = rw whole few in
       let name : name_of formats s.format ≡ puid_text found.0 = ap named found.1 in
       rw name (rows formats k next.0 s.format s.number found.0 done next.1 new s.sequences n (flat_map (records_of_signature formats) later) (table_with formats all)
-        is_puid is.number is.sequences is.some is.few (omega (arith, length-append {A = SignatureLists}))
-        (λ o. signatures later (done ++ s ∷ []) next.0 (met ++ s.format ∷ []) o (append_assoc done (s ∷ []) later ∙ whole) (All-tail (IsSignature (length formats)) s later each) next.2))
+      is_puid is.number is.sequences is.some is.few (omega (arith, length-append {A = SignatureLists}))
+      (λ o. signatures later (done ++ s ∷ []) next.0 (met ++ s.format ∷ []) o (append_assoc done (s ∷ []) later ∙ whole) (All-tail (IsSignature (length formats)) s later each) next.2))
 
 is_header : is_signature_header signature_header ≡ true
 unfolding field_at
@@ -176,7 +170,7 @@ signatures_again t is has_all =
       has_all = λ g h. inr (has_all g h);
     } in
     rw (records_of-signature_csv t, is_header)
-      (signatures t.formats t.signatures is.formats is.signatures is.puids is.different_puids is.different_numbers t.signatures [] 0 [] 1 refl is.each begun)
+    (signatures t.formats t.signatures is.formats is.signatures is.puids is.different_puids is.different_numbers t.signatures [] 0 [] 1 refl is.each begun)
 
 -- a priority file with no pair
 no_pair : (formats : List Puid) (priorities : List (ℕ × ℕ)) → priorities ≡ [] → pairs_of (priority_header ∷ map (pair_record formats) priorities) ≡ Ok priorities
