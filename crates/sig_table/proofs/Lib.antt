@@ -1,6 +1,7 @@
 -- Lemmas of this crate.
 pub mod DraftLemmas
 pub mod FaultLemmas
+pub mod FormatsAgainLemmas
 pub mod GatheredLemmas
 pub mod LimitLemmas
 pub mod LoadLemmas
@@ -8,6 +9,9 @@ pub mod NumberLemmas
 pub mod PlainLemmas
 pub mod PuidLemmas
 pub mod RecordLemmas
+pub mod RecordsAgainLemmas
+pub mod RowAgainLemmas
 pub mod RowLemmas
 pub mod SlotLemmas
+pub mod TableAgainLemmas
 pub mod TableLemmas

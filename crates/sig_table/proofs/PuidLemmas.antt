@@ -104,7 +104,7 @@ numbered-text r digits p h = go (positive_of digits) refl h
     go None e h = absurd (cc h)
     go (Some n) e h = let same : record { registry = r; number = n } ≡ p = cc h in rw (← same) (ap (λ d. registry_text r ++ d) (decimal-number_of digits n (number_of-positive digits n e)))
 
-positive_of-decimal : (n : ℕ) → 0 < n → n < 1000000000 → positive_of (decimal n) ≡ Some n
+pub positive_of-decimal : (n : ℕ) → 0 < n → n < 1000000000 → positive_of (decimal n) ≡ Some n
 unfolding positive_of
 positive_of-decimal n least h =
     let wide : n < 2 ^ 64 = omega arith in

@@ -1,10 +1,12 @@
-//! Laws of tables.
+//! Laws of tables and their texts.
 
-ghost use Rattle.std.specs.Prelude.{◌≡◌, ℕ, List, Err, Ok};
+ghost use Rattle.std.specs.Prelude.{◌≡◌, ℕ, List, [], Err, Ok};
 ghost use Rattle.sig_table.specs.declared.error.TableError.{TableError};
+ghost use Rattle.sig_table.specs.Canonical.{priority_csv, signature_csv};
 ghost use Rattle.sig_table.specs.Gathered.{IsFaultOf, IsTableOf};
 ghost use Rattle.sig_table.specs.Lists.{TableLists};
-ghost use Rattle.sig_table.specs.Loading.{signatures_of};
+ghost use Rattle.sig_table.specs.Loading.{records_of, signatures_of, table_of};
+ghost use Rattle.sig_table.specs.Tables.{HasAllSignatures, IsTable};
 
 /// The table of a signature file is that of its rows: the different PUIDs and numbers in order of
 /// first row, and for each number its rows' sequences in row order.
@@ -15,4 +17,16 @@ pub fn rows_are_gathered()
 /// A refused signature file has no header, or a first faulty row: those before it make a table.
 pub fn first_fault_is_told()
     ensures { (file : List (List (List ℕ))) (fault : TableError) → signatures_of file ≡ Err fault → IsFaultOf file fault }
+{}
+
+/// Loading what was written gives the same table, where each format has a signature.
+///
+/// A format without one has no row, so the signature file does not name it. A priority file with
+/// pairs is not read yet: of both files the law speaks where the table has none.
+pub fn written_is_loaded()
+    // The signature file gives the formats and the signatures.
+    ensures signatures { (t : TableLists) → IsTable t → HasAllSignatures t → signatures_of (records_of (signature_csv t)) ≡ Ok (record t { priorities = [] }) }
+
+    // Both files give the table.
+    ensures table { (t : TableLists) → IsTable t → HasAllSignatures t → t.priorities ≡ [] → table_of (records_of (signature_csv t)) (records_of (priority_csv t)) ≡ Ok t }
 {}

@@ -25,7 +25,7 @@ mod writer;
 
 pub use error::{OutError, TableError, TableFile};
 pub use ids::{FormatId, SigId};
-pub use laws::{first_fault_is_told, rows_are_gathered};
+pub use laws::{first_fault_is_told, rows_are_gathered, written_is_loaded};
 pub use position::Position;
 pub use puid::{Puid, Registry};
 pub use sequence::Sequence;
