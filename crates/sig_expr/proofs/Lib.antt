@@ -4,6 +4,7 @@ pub mod EndLemmas
 pub mod FaultLemmas
 pub mod FrontLemmas
 pub mod ProfileLemmas
+pub mod RefusedLemmas
 pub mod RefusalLemmas
 pub mod ScanLemmas
 pub mod ShortestLemmas
