@@ -2,6 +2,7 @@
 pub mod CanonLemmas
 pub mod EndLemmas
 pub mod FaultLemmas
+pub mod FirstFaultLemmas
 pub mod FrontLemmas
 pub mod ProfileLemmas
 pub mod RefusedLemmas

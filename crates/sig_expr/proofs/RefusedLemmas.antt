@@ -161,12 +161,12 @@ not_refused a n (error.BracketTooLong m) few h =
     rw (over, same) refl
 not_refused a n f few h = absurd h.has
 
-range_text_refused : (not : Bool) (opening a b t : List ℕ) (n : ℕ) (f : ExprError) → RangeText opening a b t → length t ≤ 8192 → IsRefused n (RangeHas not a b) f → range_fault not (end_of_word a) (end_of_word b) n ≡ Some f
+pub range_text_refused : (not : Bool) (opening a b t : List ℕ) (n : ℕ) (f : ExprError) → RangeText opening a b t → length t ≤ 8192 → IsRefused n (RangeHas not a b) f → range_fault not (end_of_word a) (end_of_word b) n ≡ Some f
 range_text_refused not opening a b t n f h short r =
     let lens = range_len opening a b t h in
     range_refused not a b n f h.some_first h.some_second (omega (arith, lens.0)) (omega (arith, lens.1)) r
 
-not_text_refused : (a t : List ℕ) (n : ℕ) (f : ExprError) → NotText a t → length t ≤ 8192 → IsRefused n (NotHas a) f → not_fault (end_of_word a) n ≡ Some f
+pub not_text_refused : (a t : List ℕ) (n : ℕ) (f : ExprError) → NotText a t → length t ≤ 8192 → IsRefused n (NotHas a) f → not_fault (end_of_word a) n ≡ Some f
 not_text_refused a t n f h short r = not_refused a n f (omega (arith, not_len a t h)) r
 
 -- what is told of a part that is refused
