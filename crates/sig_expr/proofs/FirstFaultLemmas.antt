@@ -22,9 +22,10 @@ use Rattle.sig_expr.specs.Spelling.{AtomText, AlternativeText, AlternativesText,
 use Rattle.sig_expr.specs.Profile.{AtomsSound, AlternativesSound, ItemSound, ItemsSound, InProfile}
 use Rattle.sig_expr.specs.Scans.{run, run_at, pieces, pieces_in, Scans, piece_of}
 use Rattle.sig_expr.specs.FirstFaults.{AtomHas, IsRefused, FirstOfAtoms, FirstOfAlternatives, FirstOfItem, FirstOfItems, IsFirstFault}
+use Rattle.sig_expr.specs.Refusals.{IsFaulty}
 use Rattle.sig_expr.proofs.ScanLemmas.{at, IsOutside, either, scans_nothing, scans_whole, atom_scans, alternative_scans, parts_scans, gap_scans, range_scans, not_scans, not_range_scans, item_scans}
 use Rattle.sig_expr.proofs.FrontLemmas.{TokenText, TokenLegal, Good, feed_good, stops_nowhere}
-use Rattle.sig_expr.proofs.ProfileLemmas.{Quiet, quiet_atom, quiet_atoms, quiet_item, quiet_text, text_goes_on}
+use Rattle.sig_expr.proofs.ProfileLemmas.{Quiet, quiet_atom, quiet_atoms, quiet_item, quiet_text, text_goes_on, read_text}
 use Rattle.sig_expr.proofs.RefusedLemmas.{atom_refused, gap_refused, range_text_refused, not_text_refused, judged_atom, judged_gap, judged_range, judged_not}
 
 -- this fault is told of a text that is read from a state on
@@ -102,9 +103,6 @@ faulty_atoms (p ∷ ps) many some t v n f short h =
     rw (h.2, append_assoc h.0 h.1 v) (either h.5 (λ refused. faulty_atom (context.List many some) p h.0 (h.1 ++ v) n f shorts.0 h.3 refused)
     (λ later. past _ h.0 (h.1 ++ v) (piece_of p ∷ []) n _ f (atom_scans (context.List many some) p h.0 h.3) (quiet_atom p h.0 h.3 later.0, tt) (faulty_atoms ps many true h.1 v (n + length h.0) f shorts.1 later.1)))
 
-quiet_parts : (ps : List Atom) (t : List ℕ) → AlternativeText ps t → AtomsSound ps → Quiet (map piece_of ps)
-quiet_parts ps t h k = quiet_atoms ps t h k
-
 feeds_bar : (many : Bool) → feed_of (at (context.List many true) token.Between) 124 ≡ step.Whole piece.Bar
 unfolding feed_of begin_of list_start_of
 feeds_bar many = refl
@@ -170,7 +168,18 @@ first_told f t h =
     let faulty : fault_in t ≡ Some f = faulty_items h.items context.Start t 0 f tt h.short h.first 0 in
     rw (short, text_goes_on h.items t text.1 text.0, faulty) refl
 
--- where a spelling has no fault or a first one
+ok_or_err : {A E : Type 0} (e : A) (f : E) (r : Result A E) → r ≡ Ok e → r ≡ Err f → ⊥
+ok_or_err e f r p q = absurd (cc)
+
+-- a text with a first fault is of the grammar and not in the profile
+pub first_faulty : (f : ExprError) (t : List ℕ) → IsFirstFault f t → IsFaulty t
+first_faulty f t h =
+    let text = first_spells h.items t 0 f h.first in
+    record {
+      short = h.short;
+      is_text = (h.items, text.1, text.0);
+      outside = λ p. ok_or_err p.items f (expr_of t) (read_text p.items t p p.spells) (first_told f t h);
+    }
 
 judged_atoms : (ps : List Atom) (t : List ℕ) (n : ℕ) → AlternativeText ps t → AtomsSound ps ⊎ ((f : ExprError) × FirstOfAtoms ps t n f)
 judged_atoms [] t n h = inl tt
@@ -205,6 +214,13 @@ judged_items (i ∷ e) t n h =
 
 same_fault : (f g : ExprError) (x : Option ExprError) → x ≡ Some f → x ≡ Some g → f ≡ g
 same_fault f g x p q = cc
+
+-- a text of the grammar that is not in the profile has a first fault
+pub faulty_first : (t : List ℕ) → IsFaulty t → (f : ExprError) × IsFirstFault f t
+faulty_first t h =
+    either (judged_items h.is_text.0 t 0 h.is_text.2)
+    (λ sound. absurd (h.outside (record { items = h.is_text.0; some = h.is_text.1; short = h.short; spells = h.is_text.2; sound = sound })))
+    (λ k. (k.0, record { short = h.short; items = h.is_text.0; first = k.1 }))
 
 -- the fault that is told is the first
 pub told_first : (f : ExprError) (t : List ℕ) → length t ≤ 8192 → stop_of t ≡ None → fault_in t ≡ Some f → IsFirstFault f t
