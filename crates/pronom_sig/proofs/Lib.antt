@@ -1,3 +1,4 @@
 -- Lemmas of this crate.
 pub mod LineLemmas
 pub mod RankLemmas
+pub mod RowLemmas

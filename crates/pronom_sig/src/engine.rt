@@ -4,14 +4,15 @@
 
 ghost use Rattle.std.specs.Prelude.{◌≡◌, ◌++◌, ◌≢◌, false, true, IfOk, IfSome, IsErrOf, IsTrue, OnOk, string_bytes};
 ghost use Rattle.std.specs.List.{list_any};
-ghost use Rattle.sig_bits.specs.Device.{IsAtEnd};
+ghost use Rattle.sig_bits.specs.Device.{Adds, IsAtEnd};
 ghost use Rattle.sig_match.specs.Hitting.{kept_hits, ranks};
 ghost use Rattle.pronom_sig.specs.Lines.{AddsLinesOfLeft, line_of, lines_of};
+ghost use Rattle.pronom_sig.specs.Shown.{show_text};
 
 use crate::error::RunError;
-use sig_bits::{Input, Output};
+use sig_bits::{FromWrite, Input, Output};
 use sig_match::{CoreError, DroidCore, Hit};
-use sig_table::{FormatId, Table};
+use sig_table::{FormatId, OutError, Table};
 use std::alloc::{AllocError, Global};
 use std::fmt::Write;
 
@@ -96,4 +97,27 @@ fn push_line(lines: &mut String, table: &Table, hit: Hit) -> Result<(), AllocErr
         writeln!(lines, "{puid} {number}")?;
     }
     Ok(())
+}
+
+/// Writes both canonical files of the table, with an empty line between them.
+pub fn run_show<W: Output>(alloc: Global, table: &Table, out: &mut W) -> Result<(), RunError>
+    ensures text { OnOk result (Adds (W.written out.old) (show_text table.now) (W.written out.new)) }
+    ensures writes { OnOk result (W.failed out.new ≡ false) }
+    ensures never_read { result ≢ Err RunError.Read }
+    ensures write { IsErrOf result RunError.Write → W.failed out.new ≡ true }
+    ensures memory_stays { IsErrOf result RunError.OutOfMemory → out.new ≡ out.old }
+{
+    let text = shown(alloc, table).map_err(|_| RunError::OutOfMemory)?;
+    out.write_all(&text).map_err(|_| RunError::Write)
+}
+
+// The text of both files. A write to memory fails only where a growth is refused.
+fn shown(alloc: Global, table: &Table) -> Result<Vec<u8>, OutError>
+    ensures { IfOk result (λ text. text.items ≡ show_text table.now) }
+{
+    let mut text = FromWrite::new(Vec::new(alloc));
+    table.write_signatures(alloc, &mut text)?;
+    text.write_all(b"\n").map_err(|_| OutError::Write)?;
+    table.write_priorities(alloc, &mut text)?;
+    Ok(text.into_inner())
 }
