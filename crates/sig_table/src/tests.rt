@@ -228,8 +228,7 @@ fn written(alloc: Global, rows: &[u8]) -> Result<Vec<u8>, Fail> {
 #[test]
 fn a_row_is_written_in_canonical_text(rt: HostRuntime) -> Result<(), Fail> {
     let text = written(rt.alloc(), b"fmt/1,7,BOF,3,,4a{3-3}{0-*}\n")?;
-    let lines =
-        b"puid,signature,position,offset,max_offset,expression\nfmt/1,7,BOF,3,3,4A{3}*\n";
+    let lines = b"puid,signature,position,offset,max_offset,expression\nfmt/1,7,BOF,3,3,4A{3}*\n";
     assert_eq!(rt; text.as_slice(), lines.as_slice());
     Ok(())
 }
