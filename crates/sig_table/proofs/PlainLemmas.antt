@@ -230,6 +230,7 @@ sequence_stands name number s plain = go s.position
   where
     rest : (word offset max : List ℕ) → Plain word → Plain offset → Plain max → line_text (name ∷ decimal number ∷ word ∷ offset ∷ max ∷ canon s.items ∷ []) ≡ row_text default_writer (name ∷ decimal number ∷ word ∷ offset ∷ max ∷ canon s.items ∷ [])
     rest word offset max p q r = sym (plain_row name (decimal number) (word ∷ offset ∷ max ∷ canon s.items ∷ []) (plain, (plain-decimal number, (p, (q, (r, (plain-canon s.items, tt)))))))
+
     go : (place : Position) → line_text (sequence_record name number (record s { position = place })) ≡ row_text default_writer (sequence_record name number (record s { position = place }))
     go (position.Bof min max) = rest (codes "BOF") (decimal min) (decimal max) refl (plain-decimal min) (plain-decimal max)
     go (position.Eof min max) = rest (codes "EOF") (decimal min) (decimal max) refl (plain-decimal min) (plain-decimal max)

@@ -1,8 +1,8 @@
 use super::*;
-use sig_bits::FromRead;
+use sig_bits::{FromRead, FromWrite};
 use sig_expr::ExprError;
 use std::alloc::Global;
-use std::io::{Error, ErrorKind, Read, Result as IoResult};
+use std::io::{Error, ErrorKind, Read, Result as IoResult, Write};
 use std::test::Fail;
 
 const HEADER: &[u8] = b"puid,signature,position,offset,max_offset,expression\n";
@@ -190,7 +190,7 @@ fn as_many_slots_as_the_limit_are_taken(rt: HostRuntime) {
     }
 }
 
-// A reader whose first read fails.
+// A device whose every read and write fails.
 #[derive(Drop)]
 struct Failing;
 
@@ -215,4 +215,68 @@ fn a_failed_read_is_named_with_its_file(rt: HostRuntime) {
     let refused = Table::load(rt.alloc(), &mut faulty, &mut failing).err();
     let file = TableFile::Signatures;
     assert_eq!(rt; refused, Some(TableError::Header { file }));
+}
+
+// The canonical signature file of the table of these rows.
+fn written(alloc: Global, rows: &[u8]) -> Result<Vec<u8>, Fail> {
+    let table = loaded_rows(alloc, rows)?;
+    let mut out = FromWrite::new(Vec::new(alloc));
+    table.write_signatures(alloc, &mut out)?;
+    Ok(out.into_inner())
+}
+
+#[test]
+fn a_row_is_written_in_canonical_text(rt: HostRuntime) -> Result<(), Fail> {
+    let text = written(rt.alloc(), b"fmt/1,7,BOF,3,,4a{3-3}{0-*}\n")?;
+    let lines = b"puid,signature,position,offset,max_offset,expression\nfmt/1,7,BOF,3,3,4A{3}*\n";
+    assert_eq!(rt; text.as_slice(), lines.as_slice());
+    Ok(())
+}
+
+#[test]
+fn sequences_of_a_signature_are_written_together(rt: HostRuntime) -> Result<(), Fail> {
+    let rows = b"fmt/2,7,BOF,0,,41\nx-fmt/1,3,EOF,1,2,4243\nfmt/2,7,Variable,,,43??\n\
+        fmt/2,9,EOF,0,,[41:5a]{2-5}\nx-fmt/1,3,BOF,65,,(0d0a|[!0a]){1-*}\n";
+    let lines = b"puid,signature,position,offset,max_offset,expression\n\
+        fmt/2,7,BOF,0,0,41\nfmt/2,7,Variable,,,43??\nx-fmt/1,3,EOF,1,2,4243\n\
+        x-fmt/1,3,BOF,65,65,(0D0A|[!0A]){1-*}\nfmt/2,9,EOF,0,0,[41:5A]{2-5}\n";
+    let text = written(rt.alloc(), rows.as_slice())?;
+    assert_eq!(rt; text.as_slice(), lines.as_slice());
+    let again = written(rt.alloc(), &text[HEADER.len().min(text.len())..])?;
+    assert_eq!(rt; again.as_slice(), lines.as_slice());
+    Ok(())
+}
+
+#[test]
+fn no_priority_is_written_as_the_header(rt: HostRuntime) -> Result<(), Fail> {
+    let table = loaded_rows(rt.alloc(), b"fmt/1,7,BOF,3,,41\n")?;
+    let mut out = FromWrite::new(Vec::new(rt.alloc()));
+    table.write_priorities(rt.alloc(), &mut out)?;
+    let text = out.into_inner();
+    assert_eq!(rt; text.as_slice(), b"higher,lower\n".as_slice());
+    Ok(())
+}
+
+impl Write for Failing {
+    fn write(&mut self, _buf: &[u8]) -> IoResult<usize> {
+        Err(Error::from(ErrorKind::BrokenPipe))
+    }
+
+    fn flush(&mut self) -> IoResult<()> {
+        Ok(())
+    }
+}
+
+#[test]
+fn a_failed_write_is_named(rt: HostRuntime) -> Result<(), Fail> {
+    let table = loaded_rows(rt.alloc(), b"fmt/1,1,BOF,0,,41\n")?;
+    let mut failing = FromWrite::new(Failing);
+    let refused = table.write_signatures(rt.alloc(), &mut failing);
+    assert_eq!(rt; refused, Err(OutError::Write));
+    let mut failing = FromWrite::new(Failing);
+    let refused = table.write_priorities(rt.alloc(), &mut failing);
+    assert_eq!(rt; refused, Err(OutError::Write));
+    let told = OutError::Write.to_string(rt.alloc())?;
+    assert_eq!(rt; told.as_str(), "write failed");
+    Ok(())
 }
