@@ -1,5 +1,5 @@
 -- The first fault of a text is the one that is told.
-use Rattle.std.proofs.Common.{◌≡◌, ◌⊎◌, inl, inr, ℕ, ◌+◌, ◌<◌, ◌≤◌, Bool, true, false, List, [], ◌∷◌, ◌++◌, length, map, Option, Some, None, Result, Ok, Err, refl, sym, ◌∙◌, ap, rules, arith, nat_lt, append_assoc, append-nil, length-append}
+use Rattle.std.proofs.Common.{◌≡◌, ◌⊎◌, inl, inr, ℕ, ◌+◌, ◌<◌, ◌≤◌, Bool, true, false, List, [], ◌∷◌, ◌++◌, length, map, Option, Some, None, Result, Ok, Err, refl, ap, arith, nat_lt, append_assoc, length-append}
 use Rattle.std.proofs.lemmas.Bool.Decides.{nat_tests}
 use Rattle.sig_expr.specs.declared.error.ExprError.{ExprError}
 use Rattle.sig_expr.specs.declared.item.Item.{Item}
@@ -15,15 +15,15 @@ use Rattle.sig_expr.specs.declared.token.Piece.TheVariants as piece
 use Rattle.sig_expr.specs.declared.token.Step.{Step}
 use Rattle.sig_expr.specs.declared.token.Step.TheVariants as step
 use Rattle.sig_expr.specs.Faults.{fault_of}
-use Rattle.sig_expr.specs.Reading.{feed_of, next_of, is_between, context_of, behind_part, begin_of, item_start_of, list_start_of}
-use Rattle.sig_expr.specs.Passes.{stop_of, fault_from, fault_at, fault_in, opened_of, items_of}
+use Rattle.sig_expr.specs.Reading.{feed_of, next_of, is_between, context_of, begin_of, item_start_of, list_start_of}
+use Rattle.sig_expr.specs.Passes.{stop_of, fault_from, fault_at, fault_in, opened_of}
 use Rattle.sig_expr.specs.Texts.{expr_of}
-use Rattle.sig_expr.specs.Spelling.{AtomText, AlternativeText, AlternativesText, ItemText, Spells, IsText}
-use Rattle.sig_expr.specs.Profile.{AtomsSound, AlternativesSound, ItemSound, ItemsSound, InProfile}
+use Rattle.sig_expr.specs.Spelling.{AtomText, AlternativeText, AlternativesText, ItemText, Spells}
+use Rattle.sig_expr.specs.Profile.{AtomsSound, AlternativesSound, ItemSound, ItemsSound}
 use Rattle.sig_expr.specs.Scans.{run, run_at, pieces, pieces_in, Scans, piece_of}
 use Rattle.sig_expr.specs.FirstFaults.{AtomHas, IsRefused, FirstOfAtoms, FirstOfAlternatives, FirstOfItem, FirstOfItems, IsFirstFault}
 use Rattle.sig_expr.specs.Refusals.{IsFaulty}
-use Rattle.sig_expr.proofs.ScanLemmas.{at, IsOutside, either, scans_nothing, scans_whole, atom_scans, alternative_scans, parts_scans, gap_scans, range_scans, not_scans, not_range_scans, item_scans}
+use Rattle.sig_expr.proofs.ScanLemmas.{at, IsOutside, either, scans_nothing, scans_whole, atom_scans, alternative_scans, gap_scans, range_scans, not_scans, not_range_scans, item_scans}
 use Rattle.sig_expr.proofs.FrontLemmas.{TokenText, TokenLegal, Good, feed_good, stops_nowhere}
 use Rattle.sig_expr.proofs.ProfileLemmas.{Quiet, quiet_atom, quiet_atoms, quiet_item, quiet_text, text_goes_on, read_text}
 use Rattle.sig_expr.proofs.RefusedLemmas.{atom_refused, gap_refused, range_text_refused, not_text_refused, judged_atom, judged_gap, judged_range, judged_not}
@@ -229,6 +229,6 @@ told_first f t short stops faulty =
     either (judged_items text.0 t 0 text.2)
     (λ sound. let quiet = quiet_text text.0 t text.1 text.2 sound in absurd (cc))
     (λ k.
-        let told : fault_in t ≡ Some k.0 = faulty_items text.0 context.Start t 0 k.0 tt short k.1 0 in
-        let same : k.0 ≡ f = same_fault k.0 f (fault_in t) told faulty in
-        record { short = short; items = text.0; first = rw same at k.1 })
+    let told : fault_in t ≡ Some k.0 = faulty_items text.0 context.Start t 0 k.0 tt short k.1 0 in
+    let same : k.0 ≡ f = same_fault k.0 f (fault_in t) told faulty in
+    record { short = short; items = text.0; first = rw same at k.1 })

@@ -24,12 +24,12 @@ use Rattle.sig_expr.specs.Spelling.{PairText, WordText, NumberText, GapText, Ran
 use Rattle.sig_expr.proofs.ScanLemmas.{leading_1, text_more, small_digit, pair_byte}
 
 -- what opens a bracket
-abbrev pub opening : Bool → List ℕ
+abbrev opening : Bool → List ℕ
 opening true = 91 ∷ 33 ∷ []
 opening false = 91 ∷ []
 
 -- the front of a bracket before the end that is read
-abbrev pub EndBefore : Bool → Option End → List ℕ → Type 0
+abbrev EndBefore : Bool → Option End → List ℕ → Type 0
 EndBefore not None w = w ≡ opening not
 EndBefore not (Some f) w = (a u : List ℕ) × (w ≡ opening not ++ (u ++ (58 ∷ []))) × WordText a u × (0 < length a)
 
@@ -48,7 +48,7 @@ TokenText (token.EndStart not first) w = EndBefore not first w
 TokenText (token.EndHalf not first e x) w = (w' a u : List ℕ) × (h : ℕ) × (w ≡ w' ++ (u ++ h ∷ [])) × EndBefore not first w' × WordText a u × (hex_digit_value h ≡ Some x)
 TokenText (token.EndPair not first e) w = (w' a u : List ℕ) × (w ≡ w' ++ u) × EndBefore not first w' × WordText a u × (0 < length a)
 
-abbrev pub Outside : Context → Type 0
+abbrev Outside : Context → Type 0
 Outside context.Start = ⊤
 Outside context.After = ⊤
 Outside (context.List many some) = ⊥

@@ -83,7 +83,7 @@ quiet_at step.Refused z n m t later h = later h
 quiet_at (step.More k) z n m t later h = later h
 quiet_at (step.Whole p) z n m t later h = rw (h.0 m) (later h.1)
 
-pub quiet_pieces : (s : State) (o n : ℕ) (t : List ℕ) → Quiet (pieces s t) → fault_from s o n t ≡ None
+quiet_pieces : (s : State) (o n : ℕ) (t : List ℕ) → Quiet (pieces s t) → fault_from s o n t ≡ None
 unfolding fault_from pieces
 quiet_pieces s o n [] h = refl
 quiet_pieces s o n (b ∷ t) h = quiet_at (feed_of s b) (next_of s (feed_of s b)) n (opened_of s o n) t (quiet_pieces (next_of s (feed_of s b)) (opened_of s o n) (n + 1) t) h

@@ -1,5 +1,5 @@
 -- What a gap or a bracket is refused for, by the lowest number.
-use Rattle.std.proofs.Common.{◌≡◌, ◌≢◌, ◌⊎◌, inl, inr, ℕ, ◌+◌, ◌<◌, ◌≤◌, Bool, true, false, List, [], ◌∷◌, ◌++◌, length, Option, Some, None, refl, sym, ◌∙◌, ap, arith, nat_eq, nat_lt, length-append}
+use Rattle.std.proofs.Common.{◌≡◌, ◌≢◌, ◌⊎◌, inl, inr, ℕ, ◌+◌, ◌<◌, ◌≤◌, Bool, true, false, List, [], ◌∷◌, ◌++◌, length, Option, Some, None, refl, ◌∙◌, ap, arith, nat_eq, nat_lt, length-append}
 use Rattle.std.specs.Prelude.{◌&&◌}
 use Rattle.std.specs.Ordering.{nat_cmp}
 use Rattle.std.specs.Cmp.Lexicographic.{slice_cmp}
@@ -13,10 +13,10 @@ use Rattle.sig_expr.specs.declared.item.Atom.TheVariants as atom
 use Rattle.sig_expr.specs.Ends.{word_of}
 use Rattle.sig_expr.specs.Faults.{are_all, is_less, order_fault, range_fault, not_fault, gap_fault, fault_of}
 use Rattle.sig_expr.specs.Words.{IsBefore}
-use Rattle.sig_expr.specs.Profile.{GapSound, RangeSound, LeavesWord, AtomSound}
-use Rattle.sig_expr.specs.Spelling.{PairText, WordText, RangeText, NotText, AtomText}
+use Rattle.sig_expr.specs.Profile.{GapSound, RangeSound, AtomSound}
+use Rattle.sig_expr.specs.Spelling.{WordText, RangeText, NotText, AtomText}
 use Rattle.sig_expr.specs.Scans.{end_of_word, piece_of}
-use Rattle.sig_expr.specs.FirstFaults.{refusal_number, refusal_place, GapHas, AreEnds, RangeHas, NotHas, AtomHas, IsRefused}
+use Rattle.sig_expr.specs.FirstFaults.{refusal_number, GapHas, AreEnds, RangeHas, NotHas, AtomHas, IsRefused}
 use Rattle.sig_expr.proofs.EndLemmas.{len_of_word, word_of_end}
 use Rattle.sig_expr.proofs.ScanLemmas.{below, either}
 use Rattle.sig_expr.proofs.FrontLemmas.{is_sign}
@@ -264,8 +264,8 @@ judged_range not a b n =
     either (below (length a) (length b)) (λ l. differ (λ e. omega arith))
     (λ g. either (below (length b) (length a)) (λ l. differ (λ e. omega arith))
     (λ g'. let same : length a ≡ length b = omega arith in
-        either (below 8 (length a)) (λ o. inr (error.BracketTooLong n, record { place = refl; has = inl o; lowest = long_lowest not a b (λ k. omega (arith, k.1)) same }))
-        (λ short. judged_order not a b n (same, short) (slice_cmp nat_cmp a b) refl)))
+    either (below 8 (length a)) (λ o. inr (error.BracketTooLong n, record { place = refl; has = inl o; lowest = long_lowest not a b (λ k. omega (arith, k.1)) same }))
+    (λ short. judged_order not a b n (same, short) (slice_cmp nat_cmp a b) refl)))
   where
     differ : length a ≢ length b → RangeQuiet not a b ⊎ Refused n (RangeHas not a b)
     differ d = inr (error.RangeLength n, record { place = refl; has = d; lowest = length_lowest not a b (λ k. d k.0) })

@@ -185,7 +185,7 @@ atom_scans c (atom.Not a) t h = not_scans c a t h
 atom_scans c (atom.NotRange a b) t h = not_range_scans c a b t h
 
 -- parts are read on
-pub parts_scans : (many : Bool) (ps : List Atom) (t : List ℕ) → AlternativeText ps t → Scans (at (context.List many true) token.Between) t (map piece_of ps) (at (context.List many true) token.Between)
+parts_scans : (many : Bool) (ps : List Atom) (t : List ℕ) → AlternativeText ps t → Scans (at (context.List many true) token.Between) t (map piece_of ps) (at (context.List many true) token.Between)
 parts_scans many [] t h = rw h (scans_nothing _)
 parts_scans many (p ∷ ps) t h = rw h.2 (scans_append _ h.0 _ _ h.1 _ _ (atom_scans (context.List many true) p h.0 h.3) (parts_scans many ps h.1 h.4))
 
