@@ -2,3 +2,4 @@
 pub mod LineLemmas
 pub mod RankLemmas
 pub mod RowLemmas
+pub mod FaultLemmas

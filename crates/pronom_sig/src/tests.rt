@@ -372,7 +372,7 @@ fn opens_the_table_first_and_the_file_after_the_load(rt: HostRuntime) -> Result<
 }
 
 // Runs `show` on the two texts of a table.
-fn shown(
+fn run_show_on(
     rt: &HostRuntime,
     folder: &str,
     signatures: &str,
@@ -388,10 +388,7 @@ fn shows_both_canonical_files(rt: HostRuntime) -> Result<(), Fail> {
     let folder = folder(&rt, "show")?;
     let cases = [
         ("", ""),
-        (
-            "fmt/1,7,BOF,3,,4a{3-3}{0-*}\n",
-            "fmt/1,7,BOF,3,3,4A{3}*\n",
-        ),
+        ("fmt/1,7,BOF,3,,4a{3-3}{0-*}\n", "fmt/1,7,BOF,3,3,4A{3}*\n"),
         (
             "x-fmt/2,5,EOF,0,2,4142\nfmt/1,1,Variable,,,41*42\nx-fmt/2,5,BOF,1,,[!0a]\n",
             "x-fmt/2,5,EOF,0,2,4142\nx-fmt/2,5,BOF,1,1,[!0A]\nfmt/1,1,Variable,,,41*42\n",
@@ -400,7 +397,7 @@ fn shows_both_canonical_files(rt: HostRuntime) -> Result<(), Fail> {
     for (rows, lines) in cases {
         let signatures = format!(in rt.alloc(); "{SIGNATURES}{rows}")?;
         let out = format!(in rt.alloc(); "{SIGNATURES}{lines}\n{PRIORITIES}")?;
-        let shown = shown(&rt, folder.as_str(), signatures.as_str(), PRIORITIES)?;
+        let shown = run_show_on(&rt, folder.as_str(), signatures.as_str(), PRIORITIES)?;
         assert_eq!(rt; shown.out.as_str(), out.as_str());
         assert_eq!(rt; shown.err.as_str(), "", "{rows}");
         assert_eq!(rt; shown.status, 0, "{rows}");
@@ -425,7 +422,7 @@ fn refuses_a_table_alike_for_show_and_match(rt: HostRuntime) -> Result<(), Fail>
     ];
     for (signatures, priorities, line) in cases {
         for refused in [
-            shown(&rt, folder, signatures, priorities)?,
+            run_show_on(&rt, folder, signatures, priorities)?,
             matched(&rt, folder, signatures, priorities, b"A")?,
         ] {
             assert_eq!(rt; refused.err.as_str(), line);
@@ -464,7 +461,10 @@ fn shows_help_and_refuses_wrong_words(rt: HostRuntime) -> Result<(), Fail> {
         (&["--help"], "Match files against tables of signatures\n"),
         (&["-h"], "Match files against tables of signatures\n"),
         (&["help"], "Match files against tables of signatures\n"),
-        (&["show", "--help"], "Print the canonical files of a table\n"),
+        (
+            &["show", "--help"],
+            "Print the canonical files of a table\n",
+        ),
         (&["match", "--help"], "Print the formats left for a file\n"),
     ];
     for (words, begin) in helps {

@@ -14,7 +14,9 @@ use std::alloc::Global;
 #[derive(Clone, Copy, Debug, PartialEq, Eq)]
 pub enum Asked<'a> {
     /// The canonical files of a table.
-    Show { table: TableWords<'a> },
+    Show {
+        table: TableWords<'a>,
+    },
     /// Which formats are left for a file.
     Match {
         table: TableWords<'a>,
@@ -47,8 +49,9 @@ pub fn read_words<'a>(alloc: Global, words: &'a [String]) -> Result<Asked<'a>, E
 fn command_line<'a>(alloc: Global) -> Result<Command<'a>, Error>
     ensures { IfOk result (λ command. app_of command ≡ program) }
 {
-    let show = with_table(alloc, Command::new(alloc, "show"))?
-        .about("Print the canonical files of a table");
+    let show = with_table(alloc, Command::new(alloc, "show"))?.about(
+        "Print the canonical files of a table",
+    );
     let left = with_table(alloc, Command::new(alloc, "match"))?
         .about("Print the formats left for a file")
         .arg(word(alloc, "FILE").help("The file"))?;

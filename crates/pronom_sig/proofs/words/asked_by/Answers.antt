@@ -7,8 +7,7 @@ use Rattle.pronom_sig.proofs.words.asked_by.Goals as goal
 
 pub returns : goal.returns
 returns c =
-    let named : subcommand_name_of c.args.matches.now ≡ Some (codes "match") = search rules in
-    (
+    let named : subcommand_name_of c.args.matches.now ≡ Some (codes "match") = search rules in (
       rows_of (found_of c.in_ok-left.left.now),
       pair_of_parts _ _ _ _ _ named c.in_ok-left.ensures.rows,
       c.in_ok-table_words-2.ensures,
