@@ -6,6 +6,7 @@
 
 mod draft;
 mod error;
+mod format_set;
 mod ids;
 mod laws;
 mod lines;
@@ -13,6 +14,7 @@ mod loader;
 mod numbers;
 mod position;
 mod puid;
+mod ranking;
 mod records;
 mod row;
 mod sequence;
