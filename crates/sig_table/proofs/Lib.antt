@@ -11,6 +11,7 @@ pub mod PairLemmas
 pub mod PairsAgainLemmas
 pub mod PlainLemmas
 pub mod PriorityLemmas
+pub mod PriorityRowLemmas
 pub mod PuidLemmas
 pub mod RankingLemmas
 pub mod RecordLemmas

@@ -9,18 +9,13 @@ use Rattle.csv.specs.Records.{field_at}
 use Rattle.sig_table.proofs.BelowLemmas.{listed-Decides}
 use Rattle.sig_table.proofs.FormatsAgainLemmas.{Contains-slice_get, position-first, slice_get-within}
 use Rattle.sig_table.proofs.PuidLemmas.{puid_of-puid_text}
-use Rattle.sig_table.proofs.RankingLemmas.{is_above-Decides}
+use Rattle.sig_table.proofs.RankingLemmas.{is_above-Decides, wider}
 use Rattle.sig_table.specs.Canonical.{name_of, named, pair_record, priority_header}
 use Rattle.sig_table.specs.declared.puid.Puid.{Puid}
 use Rattle.sig_table.specs.Loading.{is_listed, pair_fault, pair_of, pairs_from, pairs_of, place_in}
 use Rattle.sig_table.specs.Puids.{puid_eq, puid_text}
-use Rattle.sig_table.specs.Ranking.{IsAbove, WayDown, is_above}
+use Rattle.sig_table.specs.Ranking.{is_above}
 use Rattle.sig_table.specs.Tables.{AllDifferent, ArePriorities, IsNumber}
-
--- a way stays where pairs are added
-wider : (a b : List (ℕ × ℕ)) → ((p : ℕ × ℕ) → Contains a p → Contains b p) → (h : ℕ) (ms : List ℕ) (l : ℕ) → WayDown a h ms l → WayDown b h ms l
-wider a b all h [] l way = all (h, l) way
-wider a b all h (m ∷ ms) l way = (all (h, m) way.0, wider a b all m ms l way.1)
 
 -- where all differ, none of the later ones is among those before
 not_before : {A : Type 0} (done later : List A) (x : A) → AllDifferent (done ++ x ∷ later) → Contains done x → ⊥

@@ -26,13 +26,14 @@ join pairs h (k ∷ ms) m ns l first rest = (first.0, join pairs k ms m ns l fir
 pub above-trans : (pairs : List (ℕ × ℕ)) (h m l : ℕ) → IsAbove pairs h m → IsAbove pairs m l → IsAbove pairs h l
 above-trans pairs h m l first rest = (first.0 ++ m ∷ rest.0, join pairs h first.0 m rest.0 l first.1 rest.1)
 
-module _ (pairs : List (ℕ × ℕ)) (a b : ℕ) (more : List (ℕ × ℕ)) (g : Grows pairs a b more) where
-  keeps_way : (h : ℕ) (ms : List ℕ) (l : ℕ) → WayDown pairs h ms l → WayDown more h ms l
-  keeps_way h [] l way = g.keeps (h, l) way
-  keeps_way h (m ∷ ms) l way = (g.keeps (h, m) way.0, keeps_way m ms l way.1)
+-- a way stays where pairs are added
+pub wider : (a b : List (ℕ × ℕ)) → ((p : ℕ × ℕ) → Contains a p → Contains b p) → (h : ℕ) (ms : List ℕ) (l : ℕ) → WayDown a h ms l → WayDown b h ms l
+wider a b all h [] l way = all (h, l) way
+wider a b all h (m ∷ ms) l way = (all (h, m) way.0, wider a b all m ms l way.1)
 
+module _ (pairs : List (ℕ × ℕ)) (a b : ℕ) (more : List (ℕ × ℕ)) (g : Grows pairs a b more) where
   keeps_above : (h l : ℕ) → IsAbove pairs h l → IsAbove more h l
-  keeps_above h l way = (way.0, keeps_way h way.0 l way.1)
+  keeps_above h l way = (way.0, wider pairs more g.keeps h way.0 l way.1)
 
   -- a way by one pair more passes it or does not
   by_way : (h : ℕ) (ms : List ℕ) (l : ℕ) → WayDown more h ms l → IsAboveBy pairs a b h l

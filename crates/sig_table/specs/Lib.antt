@@ -10,6 +10,7 @@ pub mod Lists
 pub mod Places
 pub mod Loading
 pub mod Numbers
+pub mod PriorityRows
 pub mod Puids
 pub mod Ranking
 pub mod Rankings

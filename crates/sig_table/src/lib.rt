@@ -27,7 +27,10 @@ mod writer;
 
 pub use error::{OutError, TableError, TableFile};
 pub use ids::{FormatId, SigId};
-pub use laws::{first_fault_is_told, rows_are_gathered, written_is_loaded};
+pub use laws::{
+    first_fault_is_told, first_priority_fault_is_told, pairs_are_listed, rows_are_gathered,
+    written_is_loaded,
+};
 pub use position::Position;
 pub use puid::{Puid, Registry};
 pub use sequence::Sequence;
