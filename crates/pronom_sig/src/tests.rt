@@ -253,16 +253,56 @@ fn names_the_first_fault_of_the_signatures(rt: HostRuntime) -> Result<(), Fail> 
 }
 
 #[test]
-fn takes_no_priority_yet(rt: HostRuntime) -> Result<(), Fail> {
+fn names_the_first_fault_of_the_priority_file(rt: HostRuntime) -> Result<(), Fail> {
     let folder = folder(&rt, "priorities")?;
     let rows = "fmt/1,1,BOF,0,,41\nfmt/2,2,BOF,0,,41\n";
-    for pairs in ["fmt/1,fmt/2\n", "fmt/1,fmt/9\n", "fmt/1\n"] {
+    let cases = [
+        ("fmt/1\n", "priorities row 1: L3 fields\n"),
+        ("fmt/1,fmt\n", "priorities row 1: L4 puid\n"),
+        ("fmt/1,fmt/9\n", "priorities row 1: L13 unknown format\n"),
+        ("fmt/1,fmt/1\n", "priorities row 1: L14 format over itself\n"),
+        (
+            "fmt/1,fmt/2\nfmt/1,fmt/2\n",
+            "priorities row 2: L15 pair twice\n",
+        ),
+        (
+            "fmt/1,fmt/2\nfmt/2,fmt/1\n",
+            "priorities row 2: L17 cycle of priorities\n",
+        ),
+    ];
+    for (pairs, line) in cases {
         let shown = matched_rows(&rt, folder.as_str(), rows, pairs, b"A")?;
-        let line = "priorities row 1: L13 unknown format\n";
         assert_eq!(rt; shown.err.as_str(), line, "{pairs}");
         assert_eq!(rt; shown.out.as_str(), "", "{pairs}");
         assert_eq!(rt; shown.status, 2, "{pairs}");
     }
+    fs::remove_dir_all(&rt, folder.as_str())?;
+    Ok(())
+}
+
+#[test]
+fn prints_no_format_that_a_hit_one_outranks(rt: HostRuntime) -> Result<(), Fail> {
+    let folder = folder(&rt, "outranked")?;
+    let rows = "fmt/1,1,BOF,0,,41??\nfmt/2,2,BOF,0,,??42\nfmt/3,3,BOF,0,,4142\n";
+    let pairs = "fmt/3,fmt/1\nfmt/3,fmt/2\n";
+    let shown = matched_rows(&rt, folder.as_str(), rows, pairs, b"AB")?;
+    assert_eq!(rt; shown.out.as_str(), "fmt/3 3\n", "{shown:?}");
+    let shown = matched_rows(&rt, folder.as_str(), rows, pairs, b"A\0")?;
+    assert_eq!(rt; shown.out.as_str(), "fmt/1 1\n", "{shown:?}");
+    let shown = matched_rows(&rt, folder.as_str(), rows, "fmt/3,fmt/1\n", b"AB")?;
+    assert_eq!(rt; shown.out.as_str(), "fmt/2 2\nfmt/3 3\n", "{shown:?}");
+    fs::remove_dir_all(&rt, folder.as_str())?;
+    Ok(())
+}
+
+#[test]
+fn a_removed_hit_still_removes_what_it_outranks(rt: HostRuntime) -> Result<(), Fail> {
+    let folder = folder(&rt, "removed")?;
+    let rows = "fmt/1,1,BOF,0,,41\nfmt/2,2,BOF,0,,41\nfmt/3,3,BOF,0,,41\n";
+    let pairs = "fmt/1,fmt/2\nfmt/2,fmt/3\n";
+    let shown = matched_rows(&rt, folder.as_str(), rows, pairs, b"A")?;
+    assert_eq!(rt; shown.out.as_str(), "fmt/1 1\n", "{shown:?}");
+    assert_eq!(rt; shown.status, 0, "{shown:?}");
     fs::remove_dir_all(&rt, folder.as_str())?;
     Ok(())
 }

@@ -1,4 +1,5 @@
 -- Lemmas of this crate.
+pub mod BelowLemmas
 pub mod DraftLemmas
 pub mod FaultLemmas
 pub mod FormatsAgainLemmas
@@ -6,8 +7,13 @@ pub mod GatheredLemmas
 pub mod LimitLemmas
 pub mod LoadLemmas
 pub mod NumberLemmas
+pub mod PairLemmas
+pub mod PairsAgainLemmas
 pub mod PlainLemmas
+pub mod PriorityLemmas
+pub mod PriorityRowLemmas
 pub mod PuidLemmas
+pub mod RankingLemmas
 pub mod RecordLemmas
 pub mod RecordsAgainLemmas
 pub mod RowAgainLemmas

@@ -4,7 +4,7 @@ use Rattle.std.specs.Prelude.{find, All, Contains}
 use Rattle.std.specs.List.{list_any, position_or_len}
 use Rattle.std.proofs.lemmas.Bool.{cases_Bool, cases_lt, eqb-true}
 use Rattle.std.proofs.lemmas.List.{map_push}
-use Rattle.std.proofs.lemmas.List.Elements.{All-map, All-push, All-weaker, Contains-append_left, Contains-append_right}
+use Rattle.std.proofs.lemmas.List.Elements.{All-map, All-nil, All-push, All-weaker, Contains-append_left, Contains-append_right}
 use Rattle.indexmap.specs.IndexSet.{insert_key}
 use Rattle.sig_table.specs.declared.puid.Puid.{Puid}
 use Rattle.sig_table.specs.declared.puid.Registry.TheVariants.{Fmt, XFmt}
@@ -16,6 +16,7 @@ use Rattle.sig_table.specs.Rows.{IsRow}
 use Rattle.sig_table.specs.Slots.{slot_count}
 use Rattle.sig_table.specs.Tables.{HasAllSignatures, IsNumber, IsSequence, IsSignature, IsTable}
 use Rattle.sig_table.proofs.DraftLemmas.{All-find, any-none, any-numbers, any-some, any-within, length-grown, length-insert_key-ge, numbers-grown, position-any, position-insert_key, position-not_any}
+use Rattle.sig_table.proofs.PriorityLemmas.{no_priorities}
 use Rattle.sig_table.proofs.TableLemmas.{All-grown, AllDifferent-insert_key, AllDifferent-push, FormatsRise-push, IsSignature-first, IsSignature-more, IsSignature-wider, formats-grown, grown-new, not_contained}
 
 -- a row without fault, whose signature is there
@@ -108,6 +109,7 @@ whole_in t row s whole read found fits =
         each = All-grown (IsSignature (length t.formats)) row.number row.sequence t.signatures s table.each found more;
         different_numbers = rw numbers-grown table.different_numbers;
         in_order = rw formats-grown table.in_order;
+        priorities = no_priorities _;
       };
       has_all = λ f lt. rw formats-grown (whole.has_all f lt);
     })
@@ -163,6 +165,7 @@ whole_beside t row whole read found fits =
         each = All-push (IsSignature k) ss first wider is_first;
         different_numbers = rw numbers (AllDifferent-push (map (λ s. s.number) ss) row.number table.different_numbers (not_contained nat_eq (map (λ s. s.number) ss) row.number (eq-eqb row.number row.number refl) (any-numbers row.number ss ∙ none)));
         in_order = rw formats (FormatsRise-push [] (map (λ s. s.format) ss) f table.in_order (next_format t row whole));
+        priorities = no_priorities _;
       };
       has_all = λ g lt. rw formats (elim (format_before t row g lt) [
         | inl before ↦ Contains-append_left (map (λ s. s.format) ss) (f ∷ []) g (whole.has_all g before)
@@ -180,3 +183,19 @@ pub IsWhole-with_row : (t : TableLists) (row : Row) (n : ℕ) (fs : List Puid) (
     → fs ≡ formats_with t row → ss ≡ signatures_with t row → IsWhole (record { formats = fs; signatures = ss; priorities = [] })
 unfolding fault_in
 IsWhole-with_row t row n fs ss whole read fine formats signatures = rw (formats, signatures) (whole_at t row n whole read _ refl fine)
+
+-- and no row keeps them
+pub IsWhole-none : (fs : List Puid) (ss : List SignatureLists) → fs ≡ [] → ss ≡ [] → IsWhole (record { formats = fs; signatures = ss; priorities = [] })
+IsWhole-none fs ss formats signatures = rw (formats, signatures) (record {
+  limits = record {
+    formats = omega arith;
+    signatures = omega arith;
+    puids = All-nil _;
+    different_puids = tt;
+    each = All-nil _;
+    different_numbers = tt;
+    in_order = tt;
+    priorities = no_priorities 0;
+  };
+  has_all = λ f lt. absurd (omega arith);
+})

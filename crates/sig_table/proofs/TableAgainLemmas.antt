@@ -7,6 +7,7 @@ use Rattle.std.proofs.lemmas.List.{append-nil, take_all}
 use Rattle.std.proofs.lemmas.List.Elements.{All-contains, All-head, All-tail}
 use Rattle.csv.specs.Records.{field_at}
 use Rattle.sig_table.proofs.FormatsAgainLemmas.{Contains-slice_get, Contains-there, Met, Turn, all_met, slice_get-within, turn}
+use Rattle.sig_table.proofs.PairsAgainLemmas.{pairs_again}
 use Rattle.sig_table.proofs.RecordsAgainLemmas.{records_of-priority_csv, records_of-signature_csv}
 use Rattle.sig_table.proofs.RowAgainLemmas.{row_for, row_of-sequence_record}
 use Rattle.sig_table.specs.Canonical.{name_of, named, pair_record, priority_csv, priority_header, records_of_signature, sequence_record, signature_csv, signature_header}
@@ -172,12 +173,7 @@ signatures_again t is has_all =
     rw (records_of-signature_csv t, is_header)
     (signatures t.formats t.signatures is.formats is.signatures is.puids is.different_puids is.different_numbers t.signatures [] 0 [] 1 refl is.each begun)
 
--- a priority file with no pair
-no_pair : (formats : List Puid) (priorities : List (ℕ × ℕ)) → priorities ≡ [] → pairs_of (priority_header ∷ map (pair_record formats) priorities) ≡ Ok priorities
-unfolding pairs_of field_at
-no_pair formats priorities none = rw none refl
-
--- and both files as the table, where it has no priority
-pub table_again : (t : TableLists) → IsTable t → HasAllSignatures t → t.priorities ≡ [] → table_of (records_of (signature_csv t)) (records_of (priority_csv t)) ≡ Ok t
+-- and both files as the table
+pub table_again : (t : TableLists) → IsTable t → HasAllSignatures t → table_of (records_of (signature_csv t)) (records_of (priority_csv t)) ≡ Ok t
 unfolding table_of
-table_again t is has_all none = rw (signatures_again t is has_all, records_of-priority_csv t, no_pair t.formats t.priorities none) refl
+table_again t is has_all = rw (signatures_again t is has_all, records_of-priority_csv t, pairs_again t.formats is.puids is.different_puids t.priorities is.priorities) refl

@@ -2,6 +2,7 @@
 pub mod Allowance
 pub mod Canonical
 pub mod Drafts
+pub mod FormatSets
 pub mod Gathered
 pub mod Left
 pub mod Lines
@@ -9,11 +10,15 @@ pub mod Lists
 pub mod Places
 pub mod Loading
 pub mod Numbers
+pub mod PriorityRows
 pub mod Puids
+pub mod Ranking
+pub mod Rankings
 pub mod Rows
 pub mod Slots
 pub mod Standing
 pub mod Tables
+pub use Rattle.sig_bits.specs.BitSets
 pub use Rattle.sig_bits.specs.Bytes
 pub use Rattle.sig_expr.specs.Words
 pub use Rattle.sig_expr.specs.Texts

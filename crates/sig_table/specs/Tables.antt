@@ -4,6 +4,7 @@ use Rattle.sig_expr.specs.Profile.{IsExpression}
 use Rattle.sig_table.specs.declared.position.Position.{Position}
 use Rattle.sig_table.specs.declared.position.Position.TheVariants as position
 use Rattle.sig_table.specs.Lists.{PlacedExpr, SignatureLists, TableLists}
+use Rattle.sig_table.specs.Ranking.{NoCycle}
 use Rattle.sig_table.specs.Slots.{slot_count}
 
 -- the least offset is not above the greatest, which is at most 65,535
@@ -40,7 +41,13 @@ abbrev pub FormatsRise : List ℕ → List ℕ → Type 0
 FormatsRise met [] = ⊤
 FormatsRise met (f ∷ later) = (Contains met f ⊎ All (λ g. g < f) met) × FormatsRise (met ++ f ∷ []) later
 
--- at most 1,000 formats and 4,000 signatures, no PUID and no number twice, and the formats in the order of their first signatures
+-- pairs of so many formats, none twice and without a cycle
+pub record ArePriorities (formats : ℕ) (pairs : List (ℕ × ℕ)) : Type 0 where
+  pub known : All (λ pair. (pair.0 < formats) × (pair.1 < formats)) pairs
+  pub different : AllDifferent pairs
+  pub no_cycle : NoCycle pairs
+
+-- at most 1,000 formats and 4,000 signatures, no PUID and no number twice, the formats in the order of their first signatures, and priorities among them
 pub record IsTable (t : TableLists) : Type 0 where
   pub formats : length t.formats ≤ 1000
   pub signatures : length t.signatures ≤ 4000
@@ -49,6 +56,7 @@ pub record IsTable (t : TableLists) : Type 0 where
   pub each : All (IsSignature (length t.formats)) t.signatures
   pub different_numbers : AllDifferent (map (λ s. s.number) t.signatures)
   pub in_order : FormatsRise [] (map (λ s. s.format) t.signatures)
+  pub priorities : ArePriorities (length t.formats) t.priorities
 
 -- each format has a signature
 abbrev pub HasAllSignatures : TableLists → Type 0

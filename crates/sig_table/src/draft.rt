@@ -2,10 +2,11 @@
 //!
 //! Formats and numbers are kept in sets that know their places, so no list is searched for a row.
 
-ghost use Rattle.std.specs.Prelude.{◌≡◌, ◌<◌, ◌∷◌, ◌++◌, ℕ, [], false, length, nat_eq, not, OnOk, MatchResult, None, Some, Ok, IfOk, IfErr, IfSome};
+ghost use Rattle.std.specs.Prelude.{◌≡◌, ◌<◌, ◌≤◌, ◌∷◌, ◌++◌, ℕ, [], false, length, nat_eq, not, OnOk, MatchResult, None, Some, Ok, IfOk, IfErr, IfSome};
 ghost use Rattle.std.specs.List.{list_any, position_or_len};
-ghost use Rattle.sig_table.specs.Loading.{empty_table, fault_at, fault_in, grown, unless, with_number, with_row};
+ghost use Rattle.sig_table.specs.Loading.{empty_table, fault_at, fault_in, grown, place_in, unless, with_number, with_row};
 ghost use Rattle.sig_table.specs.Rows.{IsFault, IsRow, is_read};
+ghost use Rattle.sig_table.specs.Tables.{ArePriorities};
 
 use super::row::Row;
 use super::slots::has_too_many_slots;
@@ -141,9 +142,30 @@ impl Draft {
         })
     }
 
-    // The table, with no priority.
-    pub(crate) fn into_table(self, alloc: Global) -> Result<Table, TableError>
-        ensures table { IfOk result (λ table. table ≡ record self { priorities = [] }) }
+    // The place of the format of this name.
+    pub(crate) fn place_of(&self, puid: &Puid) -> Option<u16>
+        ensures place { result ≡ place_in self.now.formats puid.now }
+        ensures within { IfSome result (λ place. place < length self.now.formats) }
+    {
+        let place = self.puids.get_index_of(puid)?;
+        Some(place as u16)
+    }
+
+    pub(crate) fn format_count(&self) -> usize
+        ensures count { result ≡ length self.now.formats }
+        ensures few { result ≤ 1000 }
+    {
+        self.puids.len()
+    }
+
+    // The table, with these priorities.
+    pub(crate) fn into_table(
+        self,
+        alloc: Global,
+        priorities: IndexSet<(u16, u16)>,
+    ) -> Result<Table, TableError>
+        requires { ArePriorities (length self.formats) priorities.keys }
+        ensures table { IfOk result (λ table. table ≡ record self { priorities = priorities.keys }) }
         ensures memory { IfErr result (λ e. e ≡ TableError.OutOfMemory) }
     {
         let Draft {
@@ -154,7 +176,7 @@ impl Draft {
         let Ok(formats) = puids.iter().copied().collect(alloc) else {
             return Err(TableError::OutOfMemory);
         };
-        Ok(Table::new(formats, signatures, Vec::new(alloc)))
+        Ok(Table::new(formats, signatures, priorities))
     }
 }
 

@@ -6,6 +6,7 @@
 
 mod draft;
 mod error;
+mod format_set;
 mod ids;
 mod laws;
 mod lines;
@@ -13,6 +14,7 @@ mod loader;
 mod numbers;
 mod position;
 mod puid;
+mod ranking;
 mod records;
 mod row;
 mod sequence;
@@ -25,7 +27,10 @@ mod writer;
 
 pub use error::{OutError, TableError, TableFile};
 pub use ids::{FormatId, SigId};
-pub use laws::{first_fault_is_told, rows_are_gathered, written_is_loaded};
+pub use laws::{
+    first_fault_is_told, first_priority_fault_is_told, pairs_are_listed, rows_are_gathered,
+    written_is_loaded,
+};
 pub use position::Position;
 pub use puid::{Puid, Registry};
 pub use sequence::Sequence;

@@ -3,6 +3,7 @@
 ghost use Rattle.std.specs.Prelude.{◌≡◌, ◌<◌, ◌≤◌, ◌↔◌, [], ◌∷◌, ◌++◌, IsTrue, OnOk, Some, Contains, length, option_map, slice_get};
 
 use super::{FormatId, Puid, Sequence, SigId, SignaturesOf};
+use indexmap::IndexSet;
 use std::alloc::{AllocError, Global};
 use std::marker::Model;
 
@@ -27,7 +28,7 @@ impl Model for Signature {
 pub struct Table {
     formats: Vec<Puid>,
     signatures: Vec<Signature>,
-    priorities: Vec<(u16, u16)>,
+    priorities: IndexSet<(u16, u16)>,
 }
 
 impl Model for Table {
@@ -36,9 +37,9 @@ impl Model for Table {
 
     ghost Value = { TableLists };
 
-    ghost view = { λ t. record { formats = t.formats.items; signatures = t.signatures.items; priorities = t.priorities.items } };
+    ghost view = { λ t. record { formats = t.formats.items; signatures = t.signatures.items; priorities = t.priorities.keys } };
 
-    ghost invariant = { λ t. IsTable (record { formats = t.formats.items; signatures = t.signatures.items; priorities = t.priorities.items }) };
+    ghost invariant = { λ t. IsTable (record { formats = t.formats.items; signatures = t.signatures.items; priorities = t.priorities.keys }) };
 }
 
 impl Signature {
@@ -84,10 +85,10 @@ impl Table {
     pub(crate) fn new(
         formats: Vec<Puid>,
         signatures: Vec<Signature>,
-        priorities: Vec<(u16, u16)>,
+        priorities: IndexSet<(u16, u16)>,
     ) -> Table
-        requires { IsTable (record { formats = formats.items; signatures = signatures.items; priorities = priorities.items }) }
-        ensures { result ≡ record { formats = formats.items; signatures = signatures.items; priorities = priorities.items } }
+        requires { IsTable (record { formats = formats.items; signatures = signatures.items; priorities = priorities.keys }) }
+        ensures { result ≡ record { formats = formats.items; signatures = signatures.items; priorities = priorities.keys } }
     {
         Table {
             formats,

@@ -152,8 +152,13 @@ fn the_first_fault_of_a_row_is_named(rt: HostRuntime) {
 fn the_signature_file_is_judged_first(rt: HostRuntime) {
     let signatures = TableFile::Signatures;
     let priorities = TableFile::Priorities;
-    let rows: [(&[u8], &[u8], TableError); 5] = [
+    let rows: [(&[u8], &[u8], TableError); 6] = [
         (b"", b"", TableError::Header { file: signatures }),
+        (
+            b"puid\n",
+            b"higher,lower\nfmt/1\n",
+            TableError::Header { file: signatures },
+        ),
         (
             b"puid,signature\n",
             b"",
@@ -173,6 +178,86 @@ fn the_signature_file_is_judged_first(rt: HostRuntime) {
     ];
     for (s, p, error) in rows {
         assert_eq!(rt; loaded(rt.alloc(), s, p).err(), Some(error));
+    }
+}
+
+// The table of the formats 1 to 3, and of these pairs.
+fn loaded_pairs(alloc: Global, pairs: &[u8]) -> Result<Table, TableError> {
+    let Ok(mut signatures) = HEADER.to_vec(alloc) else {
+        return Err(TableError::OutOfMemory);
+    };
+    let rows = b"fmt/1,1,BOF,0,,41\nfmt/2,2,BOF,0,,41\nfmt/3,3,BOF,0,,41\n".as_slice();
+    if signatures.extend_from_slice(rows).is_err() {
+        return Err(TableError::OutOfMemory);
+    }
+    let Ok(mut priorities) = b"higher,lower\n".to_vec(alloc) else {
+        return Err(TableError::OutOfMemory);
+    };
+    if priorities.extend_from_slice(pairs).is_err() {
+        return Err(TableError::OutOfMemory);
+    }
+    loaded(alloc, signatures.as_slice(), priorities.as_slice())
+}
+
+#[test]
+fn pairs_stand_in_the_order_of_their_rows(rt: HostRuntime) -> Result<(), Fail> {
+    let table = loaded_pairs(rt.alloc(), b"fmt/3,fmt/1\nfmt/1,fmt/2\n".as_slice())?;
+    let mut out = FromWrite::new(Vec::new(rt.alloc()));
+    table.write_priorities(rt.alloc(), &mut out)?;
+    let written = out.into_inner();
+    assert_eq!(rt; written.as_slice(), b"higher,lower\nfmt/3,fmt/1\nfmt/1,fmt/2\n".as_slice());
+    Ok(())
+}
+
+#[test]
+fn no_pair_is_implied_by_others(rt: HostRuntime) -> Result<(), Fail> {
+    let table = loaded_pairs(rt.alloc(), b"fmt/3,fmt/1\nfmt/1,fmt/2\n".as_slice())?;
+    assert!(rt; table.outranks(FormatId(2), FormatId(0)));
+    assert!(rt; table.outranks(FormatId(0), FormatId(1)));
+    assert!(rt; !table.outranks(FormatId(2), FormatId(1)));
+    assert!(rt; !table.outranks(FormatId(1), FormatId(0)));
+    assert!(rt; !table.outranks(FormatId(9), FormatId(0)));
+    Ok(())
+}
+
+#[test]
+fn the_first_fault_of_a_pair_is_named(rt: HostRuntime) {
+    let file = TableFile::Priorities;
+    let rows: [(&[u8], TableError); 13] = [
+        (b"fmt/1\n", TableError::Fields { file, row: 1 }),
+        (b"fmt/0,fmt/0,fmt/0\n", TableError::Fields { file, row: 1 }),
+        (b"fmt/1,fmt/2\nfmt/0,fmt/3\n", TableError::Puid { file, row: 2 }),
+        (b"fmt/9,fmt/0\n", TableError::Puid { file, row: 1 }),
+        (b"fmt/9,fmt/9\n", TableError::PriorityUnknown { row: 1 }),
+        (b"fmt/1,x-fmt/1\n", TableError::PriorityUnknown { row: 1 }),
+        (b"fmt/1,fmt/2\nfmt/2,fmt/2\n", TableError::PrioritySelf { row: 2 }),
+        (
+            b"fmt/1,fmt/2\nfmt/2,fmt/3\nfmt/1,fmt/2\n",
+            TableError::PriorityTwice { row: 3 },
+        ),
+        (
+            b"fmt/1,fmt/2\nfmt/2,fmt/1\n",
+            TableError::PriorityCycle { row: 2 },
+        ),
+        (
+            b"fmt/1,fmt/2\nfmt/2,fmt/3\nfmt/3,fmt/1\n",
+            TableError::PriorityCycle { row: 3 },
+        ),
+        (
+            b"fmt/2,fmt/3\nfmt/1,fmt/2\nfmt/3,fmt/1\n",
+            TableError::PriorityCycle { row: 3 },
+        ),
+        (
+            b"fmt/1,fmt/2\nfmt/1,fmt/3\nfmt/3,fmt/2\nfmt/2,fmt/1\n",
+            TableError::PriorityCycle { row: 4 },
+        ),
+        (
+            b"fmt/1,fmt/2\nfmt/2,fmt/1\nfmt/1\n",
+            TableError::PriorityCycle { row: 2 },
+        ),
+    ];
+    for (text, error) in rows {
+        assert_eq!(rt; loaded_pairs(rt.alloc(), text).err(), Some(error));
     }
 }
 
