@@ -10,6 +10,7 @@ pub mod PlainLemmas
 pub mod PuidLemmas
 pub mod RecordLemmas
 pub mod RecordsAgainLemmas
+pub mod RemovalLemmas
 pub mod RowAgainLemmas
 pub mod RowLemmas
 pub mod SlotLemmas

@@ -10,6 +10,7 @@ pub mod Places
 pub mod Loading
 pub mod Numbers
 pub mod Puids
+pub mod Removal
 pub mod Rows
 pub mod Slots
 pub mod Standing
