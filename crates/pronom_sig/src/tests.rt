@@ -3,7 +3,7 @@
 ghost use Rattle.std.specs.Prelude.{◌-◌, None, length};
 
 use crate::command::command;
-use crate::engine::run_match;
+use crate::engine::{run_match, run_show};
 use crate::error::RunError;
 use sig_bits::{DeviceFault, FromRead, FromWrite, Input, Output};
 use sig_match::WholeCore;
@@ -371,12 +371,100 @@ fn opens_the_table_first_and_the_file_after_the_load(rt: HostRuntime) -> Result<
     Ok(())
 }
 
+// Runs `show` on the two texts of a table.
+fn run_show_on(
+    rt: &HostRuntime,
+    folder: &str,
+    signatures: &str,
+    priorities: &str,
+) -> Result<Shown, Fail> {
+    let signatures = put(rt, folder, "signatures.csv", signatures.as_bytes())?;
+    let priorities = put(rt, folder, "priorities.csv", priorities.as_bytes())?;
+    run_program(rt, &["show", signatures.as_str(), priorities.as_str()])
+}
+
+#[test]
+fn shows_both_canonical_files(rt: HostRuntime) -> Result<(), Fail> {
+    let folder = folder(&rt, "show")?;
+    let cases = [
+        ("", ""),
+        ("fmt/1,7,BOF,3,,4a{3-3}{0-*}\n", "fmt/1,7,BOF,3,3,4A{3}*\n"),
+        (
+            "x-fmt/2,5,EOF,0,2,4142\nfmt/1,1,Variable,,,41*42\nx-fmt/2,5,BOF,1,,[!0a]\n",
+            "x-fmt/2,5,EOF,0,2,4142\nx-fmt/2,5,BOF,1,1,[!0A]\nfmt/1,1,Variable,,,41*42\n",
+        ),
+    ];
+    for (rows, lines) in cases {
+        let signatures = format!(in rt.alloc(); "{SIGNATURES}{rows}")?;
+        let out = format!(in rt.alloc(); "{SIGNATURES}{lines}\n{PRIORITIES}")?;
+        let shown = run_show_on(&rt, folder.as_str(), signatures.as_str(), PRIORITIES)?;
+        assert_eq!(rt; shown.out.as_str(), out.as_str());
+        assert_eq!(rt; shown.err.as_str(), "", "{rows}");
+        assert_eq!(rt; shown.status, 0, "{rows}");
+    }
+    fs::remove_dir_all(&rt, folder.as_str())?;
+    Ok(())
+}
+
+#[test]
+fn refuses_a_table_alike_for_show_and_match(rt: HostRuntime) -> Result<(), Fail> {
+    let folder = folder(&rt, "alike")?;
+    let folder = folder.as_str();
+    let of_two = format!(in rt.alloc(); "{SIGNATURES}fmt/1,1,BOF,0,,41\nfmt/2,1,BOF,0,,42\n")?;
+    let cases = [
+        ("puid\n", PRIORITIES, "signatures: L2 header\n"),
+        (SIGNATURES, "lower,higher\n", "priorities: L2 header\n"),
+        (
+            of_two.as_str(),
+            PRIORITIES,
+            "signatures row 2: L9 signature of two formats\n",
+        ),
+    ];
+    for (signatures, priorities, line) in cases {
+        for refused in [
+            run_show_on(&rt, folder, signatures, priorities)?,
+            matched(&rt, folder, signatures, priorities, b"A")?,
+        ] {
+            assert_eq!(rt; refused.err.as_str(), line);
+            assert_eq!(rt; refused.out.as_str(), "", "{line}");
+            assert_eq!(rt; refused.status, 2, "{line}");
+        }
+    }
+    fs::remove_dir_all(&rt, folder)?;
+    Ok(())
+}
+
+#[test]
+fn opens_no_third_file_to_show(rt: HostRuntime) -> Result<(), Fail> {
+    let folder = folder(&rt, "unshown")?;
+    let folder = folder.as_str();
+    let signatures = put(&rt, folder, "signatures.csv", SIGNATURES.as_bytes())?;
+    let signatures = signatures.as_str();
+    let cases = [
+        ("none.csv", "other.csv", "cannot open none.csv\n"),
+        (signatures, "other.csv", "cannot open other.csv\n"),
+        (folder, signatures, "read failed\n"),
+    ];
+    for (signatures, priorities, line) in cases {
+        let shown = run_program(&rt, &["show", signatures, priorities])?;
+        assert_eq!(rt; shown.err.as_str(), line);
+        assert_eq!(rt; shown.out.as_str(), "", "{line}");
+        assert_eq!(rt; shown.status, 3, "{line}");
+    }
+    fs::remove_dir_all(&rt, folder)?;
+    Ok(())
+}
+
 #[test]
 fn shows_help_and_refuses_wrong_words(rt: HostRuntime) -> Result<(), Fail> {
-    let helps: [(&[&str], &str); 4] = [
+    let helps: [(&[&str], &str); 5] = [
         (&["--help"], "Match files against tables of signatures\n"),
         (&["-h"], "Match files against tables of signatures\n"),
         (&["help"], "Match files against tables of signatures\n"),
+        (
+            &["show", "--help"],
+            "Print the canonical files of a table\n",
+        ),
         (&["match", "--help"], "Print the formats left for a file\n"),
     ];
     for (words, begin) in helps {
@@ -385,9 +473,17 @@ fn shows_help_and_refuses_wrong_words(rt: HostRuntime) -> Result<(), Fail> {
         assert_eq!(rt; shown.err.as_str(), "", "{words:?}");
         assert_eq!(rt; shown.status, 0, "{words:?}");
     }
-    let faults: [(&[&str], &str); 5] = [
+    let faults: [(&[&str], &str); 7] = [
         (&[], "error: 'pronom_sig' requires a subcommand"),
         (&["look"], "error: unrecognized subcommand 'look'"),
+        (
+            &["show", "a"],
+            "error: the following required arguments were not provided:",
+        ),
+        (
+            &["show", "a", "b", "c"],
+            "error: unexpected argument 'c' found",
+        ),
         (
             &["match", "a", "b"],
             "error: the following required arguments were not provided:",
@@ -459,13 +555,18 @@ impl Output for Broken {
     }
 }
 
-// The core of a table of the one row `fmt/1,1,BOF,0,,4142`.
-fn core_of_one(rt: &HostRuntime) -> Result<WholeCore, Fail> {
+// The table of the one row `fmt/1,1,BOF,0,,4142`.
+fn table_of_one(rt: &HostRuntime) -> Result<Table, Fail> {
     let signatures = format!(in rt.alloc(); "{SIGNATURES}fmt/1,1,BOF,0,,4142\n")?;
     let mut signatures = FromRead::new(signatures.as_bytes());
     let mut priorities = FromRead::new(PRIORITIES.as_bytes());
     let table = Table::load(rt.alloc(), &mut signatures, &mut priorities)?;
-    Ok(WholeCore::new(rt.alloc(), table))
+    Ok(table)
+}
+
+// The core of that table.
+fn core_of_one(rt: &HostRuntime) -> Result<WholeCore, Fail> {
+    Ok(WholeCore::new(rt.alloc(), table_of_one(rt)?))
 }
 
 #[test]
@@ -482,7 +583,7 @@ fn writes_nothing_before_the_last_read(rt: HostRuntime) -> Result<(), Fail> {
             failed: false,
         };
         let mut out = FromWrite::new(Vec::new(rt.alloc()));
-        assert_eq!(rt; run_match(rt.alloc(), &core, &mut file, &mut out), answer);
+        assert_eq!(rt; run_match(rt.alloc(), &core, false, &mut file, &mut out), answer);
         let out = String::from_utf8(out.into_inner())?;
         assert_eq!(rt; out.as_str(), written);
     }
@@ -494,7 +595,11 @@ fn tells_a_failed_write(rt: HostRuntime) -> Result<(), Fail> {
     let core = core_of_one(&rt)?;
     let mut file = FromRead::new(b"AB".as_slice());
     let mut out = Broken { failed: false };
-    let answer = run_match(rt.alloc(), &core, &mut file, &mut out);
+    let answer = run_match(rt.alloc(), &core, false, &mut file, &mut out);
+    assert_eq!(rt; answer, Err(RunError::Write));
+    let table = table_of_one(&rt)?;
+    let mut out = Broken { failed: false };
+    let answer = run_show(rt.alloc(), &table, &mut out);
     assert_eq!(rt; answer, Err(RunError::Write));
     Ok(())
 }
