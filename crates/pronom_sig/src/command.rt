@@ -60,7 +60,7 @@ fn answer<'a, R: Files + AllocGlobal, W: Output>(
         Asked::Match { table, file } => {
             let core = WholeCore::new(rt.alloc(), load(rt, table)?);
             let mut file = open(rt, file)?;
-            run_match(rt.alloc(), &core, &mut file, out)
+            run_match(rt.alloc(), &core, false, &mut file, out)
         }
     };
     match answered {

@@ -623,7 +623,7 @@ fn writes_nothing_before_the_last_read(rt: HostRuntime) -> Result<(), Fail> {
             failed: false,
         };
         let mut out = FromWrite::new(Vec::new(rt.alloc()));
-        assert_eq!(rt; run_match(rt.alloc(), &core, &mut file, &mut out), answer);
+        assert_eq!(rt; run_match(rt.alloc(), &core, false, &mut file, &mut out), answer);
         let out = String::from_utf8(out.into_inner())?;
         assert_eq!(rt; out.as_str(), written);
     }
@@ -635,7 +635,11 @@ fn tells_a_failed_write(rt: HostRuntime) -> Result<(), Fail> {
     let core = core_of_one(&rt)?;
     let mut file = FromRead::new(b"AB".as_slice());
     let mut out = Broken { failed: false };
-    let answer = run_match(rt.alloc(), &core, &mut file, &mut out);
+    let answer = run_match(rt.alloc(), &core, false, &mut file, &mut out);
+    assert_eq!(rt; answer, Err(RunError::Write));
+    let table = table_of_one(&rt)?;
+    let mut out = Broken { failed: false };
+    let answer = run_show(rt.alloc(), &table, &mut out);
     assert_eq!(rt; answer, Err(RunError::Write));
     let table = table_of_one(&rt)?;
     let mut out = Broken { failed: false };

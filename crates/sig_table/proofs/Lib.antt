@@ -16,6 +16,7 @@ pub mod PuidLemmas
 pub mod RankingLemmas
 pub mod RecordLemmas
 pub mod RecordsAgainLemmas
+pub mod RemovalLemmas
 pub mod RowAgainLemmas
 pub mod RowLemmas
 pub mod SlotLemmas

@@ -81,7 +81,7 @@ pub record IsWhole (t : TableLists) : Type 0 where
   pub limits : IsTable t
   pub has_all : HasAllSignatures t
 
-puid_eq-itself : (p : Puid) → puid_eq p p ≡ true
+pub puid_eq-itself : (p : Puid) → puid_eq p p ≡ true
 puid_eq-itself p = elim p.registry as (λ r. puid_eq (record p { registry = r }) (record p { registry = r }) ≡ true) [ Fmt ↦ eq-eqb p.number p.number refl | XFmt ↦ eq-eqb p.number p.number refl ]
 
 -- the lists with a row more

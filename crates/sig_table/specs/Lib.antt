@@ -7,13 +7,14 @@ pub mod Gathered
 pub mod Left
 pub mod Lines
 pub mod Lists
-pub mod Places
 pub mod Loading
 pub mod Numbers
+pub mod Places
 pub mod PriorityRows
 pub mod Puids
 pub mod Ranking
 pub mod Rankings
+pub mod Removal
 pub mod Rows
 pub mod Slots
 pub mod Standing

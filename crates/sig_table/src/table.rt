@@ -1,6 +1,7 @@
 //! A table, and the calls that read it.
 
-ghost use Rattle.std.specs.Prelude.{◌≡◌, ◌<◌, ◌≤◌, ◌↔◌, [], ◌∷◌, ◌++◌, IsTrue, OnOk, Some, Contains, length, option_map, slice_get};
+ghost use Rattle.std.specs.Prelude.{◌≡◌, ◌<◌, ◌≤◌, ◌↔◌, [], ◌∷◌, ◌++◌, false, IsTrue, OnOk, Some, Contains, length, option_map, position, slice_get};
+ghost use Rattle.sig_table.specs.Puids.{puid_eq};
 
 use super::{FormatId, Puid, Sequence, SigId, SignaturesOf};
 use indexmap::IndexSet;
@@ -79,6 +80,7 @@ impl Signature {
 impl Table {
     ghost use Rattle.sig_table.specs.Left.{left_of};
     ghost use Rattle.sig_table.specs.Places.{places_of};
+    ghost use Rattle.sig_table.specs.Removal.{place_of, without};
     ghost use Rattle.sig_table.specs.Tables.{IsNumber, IsTable};
 
     // The table of these lists.
@@ -166,6 +168,37 @@ impl Table {
     {
         self.priorities.contains(&(higher.0, lower.0))
     }
+
+    /// Takes out all signatures of the format of this name, and moves later ones down. The format
+    /// and its priorities stay.
+    ///
+    /// It answers whether there is such a format.
+    pub fn remove_signature_for_puid(&mut self, puid: &Puid) -> bool
+        ensures answers { IsTrue result ↔ Contains self.old.formats puid.now }
+        ensures removes { IsTrue result → self.new ≡ without self.old (place_of self.old.formats puid.now) }
+        ensures stays { result ≡ false → self.new ≡ self.old }
+    {
+        let Some(place) = self.place_of(puid) else {
+            return false;
+        };
+        self.signatures
+            .retain(|signature| signature.format().0 as usize != place);
+        true
+    }
+
+    // Where the format of this name stands.
+    fn place_of(&self, puid: &Puid) -> Option<usize>
+        ensures { result ≡ position (λ p. puid_eq p puid.now) self.now.formats }
+    {
+        self.formats.iter().position(|format| is_same(format, puid))
+    }
+}
+
+// The derived `==`, as the test of the definitions.
+fn is_same(a: &Puid, b: &Puid) -> bool
+    ensures { result ≡ puid_eq a.now b.now }
+{
+    a == b
 }
 
 // What the writer reads.

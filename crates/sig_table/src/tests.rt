@@ -96,6 +96,25 @@ fn the_signatures_of_a_format_rise(rt: HostRuntime) -> Result<(), Fail> {
 }
 
 #[test]
+fn a_removal_takes_the_signatures_of_its_format_alone(rt: HostRuntime) -> Result<(), Fail> {
+    let rows = b"fmt/1,4,BOF,0,,41\nfmt/2,7,BOF,0,,42\nfmt/1,5,BOF,0,,43\nfmt/3,6,BOF,0,,44\n";
+    let mut table = loaded_rows(rt.alloc(), rows.as_slice())?;
+    let other = Puid::parse(b"fmt/9").ok_or("the text is a PUID")?;
+    assert!(rt; !table.remove_signature_for_puid(&other));
+    assert_eq!(rt; table.signature_count(), 4);
+    let first = Puid::parse(b"fmt/1").ok_or("the text is a PUID")?;
+    assert!(rt; table.remove_signature_for_puid(&first));
+    assert_eq!(rt; table.format_count(), 3);
+    assert_eq!(rt; Some(table.puid(FormatId(0))), Puid::parse(b"fmt/1"));
+    assert_eq!(rt; table.signature_count(), 2);
+    assert_eq!(rt; table.number_of(SigId(0)), 7);
+    assert_eq!(rt; table.format_of(SigId(0)), FormatId(1));
+    assert_eq!(rt; table.number_of(SigId(1)), 6);
+    assert_eq!(rt; table.format_of(SigId(1)), FormatId(2));
+    Ok(())
+}
+
+#[test]
 fn the_first_fault_of_a_row_is_named(rt: HostRuntime) {
     let file = TableFile::Signatures;
     let rows: [(&[u8], TableError); 15] = [
