@@ -23,4 +23,4 @@ IsRunFault (Run error) = ⊤
 -- the faults of the table, of the file that is matched, and of the engine
 abbrev pub IsFaultOf : Asked → Fault → Type 0
 IsFaultOf (Show table) fault = IsLoadFault table fault ⊎ IsRunFault fault
-IsFaultOf (Match table file) fault = IsLoadFault table fault ⊎ ((fault ≡ CannotOpen file) ⊎ IsRunFault fault)
+IsFaultOf (Match all table file) fault = IsLoadFault table fault ⊎ ((fault ≡ CannotOpen file) ⊎ IsRunFault fault)

@@ -57,10 +57,10 @@ fn answer<'a, R: Files + AllocGlobal, W: Output>(
 {
     let answered = match asked {
         Asked::Show { table } => run_show(rt.alloc(), &load(rt, table)?, out),
-        Asked::Match { table, file } => {
+        Asked::Match { all, table, file } => {
             let core = WholeCore::new(rt.alloc(), load(rt, table)?);
             let mut file = open(rt, file)?;
-            run_match(rt.alloc(), &core, false, &mut file, out)
+            run_match(rt.alloc(), &core, all, &mut file, out)
         }
     };
     match answered {

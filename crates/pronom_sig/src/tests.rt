@@ -6,8 +6,8 @@ use crate::command::command;
 use crate::engine::{run_match, run_show};
 use crate::error::RunError;
 use sig_bits::{DeviceFault, FromRead, FromWrite, Input, Output};
-use sig_match::WholeCore;
-use sig_table::Table;
+use sig_match::{DroidCore, WholeCore};
+use sig_table::{Puid, Table};
 use std::test::Fail;
 use std::{env, fs, process};
 
@@ -115,6 +115,44 @@ fn prints_a_line_for_each_format_left(rt: HostRuntime) -> Result<(), Fail> {
         assert_eq!(rt; shown.status, 0, "{rows}");
     }
     fs::remove_dir_all(&rt, folder.as_str())?;
+    Ok(())
+}
+
+// While no priority file may have a pair, each format that is hit is left too.
+#[test]
+fn prints_a_line_for_each_format_hit_with_all(rt: HostRuntime) -> Result<(), Fail> {
+    let folder = folder(&rt, "all")?;
+    let rows = "fmt/1,1,BOF,0,,41??\nfmt/2,2,BOF,0,,??42\nfmt/3,3,BOF,0,,4142\n";
+    let table = format!(in rt.alloc(); "{SIGNATURES}{rows}")?;
+    let signatures = put(&rt, folder.as_str(), "signatures.csv", table.as_bytes())?;
+    let priorities = put(&rt, folder.as_str(), "priorities.csv", PRIORITIES.as_bytes())?;
+    let cases: [(&[u8], &str); 3] = [
+        (b"AB", "fmt/1 1\nfmt/2 2\nfmt/3 3\n"),
+        (b"A\x00", "fmt/1 1\n"),
+        (b"", ""),
+    ];
+    for (bytes, out) in cases {
+        let file = put(&rt, folder.as_str(), "file.bin", bytes)?;
+        let words = ["match", "--all", signatures.as_str(), priorities.as_str(), file.as_str()];
+        let shown = run_program(&rt, &words)?;
+        assert_eq!(rt; shown.out.as_str(), out);
+        assert_eq!(rt; shown.err.as_str(), "");
+        assert_eq!(rt; shown.status, 0);
+    }
+    fs::remove_dir_all(&rt, folder.as_str())?;
+    Ok(())
+}
+
+#[test]
+fn a_removed_format_is_hit_no_more(rt: HostRuntime) -> Result<(), Fail> {
+    let mut core = core_of_one(&rt)?;
+    let other = Puid::parse(b"fmt/9").ok_or("the text is a PUID")?;
+    assert!(rt; !core.remove_signature_for_puid(&other));
+    assert_eq!(rt; core.match_bytes(b"AB")?.hits().len(), 1);
+    let first = Puid::parse(b"fmt/1").ok_or("the text is a PUID")?;
+    assert!(rt; core.remove_signature_for_puid(&first));
+    assert_eq!(rt; core.table().format_count(), 1);
+    assert_eq!(rt; core.match_bytes(b"AB")?.hits().len(), 0);
     Ok(())
 }
 

@@ -4,10 +4,10 @@ ghost use Rattle.std.specs.Prelude.{◌≡◌, false, map, string_bytes, IfOk, I
 ghost use Rattle.clap.specs.Matches.{found_of};
 ghost use Rattle.clap.specs.declared.Command.TheViews.{out-Command as fields_of};
 ghost use Rattle.clap.specs.Words.{app_of, rows_of, rule_of, subcommand_of, subcommand_rows_of};
-ghost use Rattle.pronom_sig.specs.CommandLine.{Asks, NamesTable, of_table, program, wanted};
+ghost use Rattle.pronom_sig.specs.CommandLine.{Asks, NamesTable, given, of_table, program, wanted};
 
 use clap::error::ErrorKind;
-use clap::{Arg, ArgMatches, Command, Error};
+use clap::{Arg, ArgAction, ArgMatches, Command, Error};
 use std::alloc::Global;
 
 /// What the words ask for.
@@ -17,8 +17,9 @@ pub enum Asked<'a> {
     Show {
         table: TableWords<'a>,
     },
-    /// Which formats are left for a file.
+    /// Which formats are left for a file, or with `all` which it hits.
     Match {
+        all: bool,
         table: TableWords<'a>,
         file: &'a str,
     },
@@ -54,7 +55,8 @@ fn command_line<'a>(alloc: Global) -> Result<Command<'a>, Error>
     );
     let left = with_table(alloc, Command::new(alloc, "match"))?
         .about("Print the formats left for a file")
-        .arg(word(alloc, "FILE").help("The file"))?;
+        .arg(word(alloc, "FILE").help("The file"))?
+        .arg(flag(alloc, "all").help("Print all formats that the file hits"))?;
     let command = Command::new(alloc, "pronom_sig")
         .about("Match files against tables of signatures")
         .bin_name("pronom_sig")?
@@ -83,6 +85,15 @@ fn word<'a>(alloc: Global, name: &'a str) -> Arg<'a>
     Arg::new(alloc, name).required(true)
 }
 
+fn flag<'a>(alloc: Global, name: &'a str) -> Arg<'a>
+    ensures rule { rule_of result ≡ given name.entry.now }
+    ensures local { result.global ≡ false }
+{
+    Arg::new(alloc, name)
+        .long(name)
+        .action(ArgAction::SetTrue)
+}
+
 fn asked_by<'a>(matches: &ArgMatches<'a>) -> Option<Asked<'a>>
     ensures { IfSome result (λ asked. Asks (subcommand_rows_of matches.now) asked) }
 {
@@ -93,6 +104,7 @@ fn asked_by<'a>(matches: &ArgMatches<'a>) -> Option<Asked<'a>>
     }
     let left = matches.subcommand_matches("match")?;
     Some(Asked::Match {
+        all: left.get_flag("all"),
         table: table_words(left)?,
         file: left.get_str("FILE")?,
     })

@@ -97,6 +97,7 @@ IsTable-without t format table =
       each = All-filter test (IsSignature (length t.formats)) t.signatures table.each;
       different_numbers = AllDifferent-filter (λ (s : SignatureLists). s.number) test t.signatures table.different_numbers;
       in_order = rw (map-filter (λ (s : SignatureLists). s.format) (λ n. not (nat_eq n format)) t.signatures) (FormatsRise-filter (λ n. not (nat_eq n format)) [] (map (λ s. s.format) t.signatures) table.in_order);
+      priorities = table.priorities;
     }
 
 -- the place that `position` gives
