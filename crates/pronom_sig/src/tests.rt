@@ -118,14 +118,14 @@ fn prints_a_line_for_each_format_left(rt: HostRuntime) -> Result<(), Fail> {
     Ok(())
 }
 
-// While no priority file may have a pair, each format that is hit is left too.
 #[test]
 fn prints_a_line_for_each_format_hit_with_all(rt: HostRuntime) -> Result<(), Fail> {
     let folder = folder(&rt, "all")?;
     let rows = "fmt/1,1,BOF,0,,41??\nfmt/2,2,BOF,0,,??42\nfmt/3,3,BOF,0,,4142\n";
     let table = format!(in rt.alloc(); "{SIGNATURES}{rows}")?;
     let signatures = put(&rt, folder.as_str(), "signatures.csv", table.as_bytes())?;
-    let priorities = put(&rt, folder.as_str(), "priorities.csv", PRIORITIES.as_bytes())?;
+    let pairs = format!(in rt.alloc(); "{PRIORITIES}fmt/3,fmt/1\nfmt/3,fmt/2\n")?;
+    let priorities = put(&rt, folder.as_str(), "priorities.csv", pairs.as_bytes())?;
     let cases: [(&[u8], &str); 3] = [
         (b"AB", "fmt/1 1\nfmt/2 2\nfmt/3 3\n"),
         (b"A\x00", "fmt/1 1\n"),
@@ -133,7 +133,13 @@ fn prints_a_line_for_each_format_hit_with_all(rt: HostRuntime) -> Result<(), Fai
     ];
     for (bytes, out) in cases {
         let file = put(&rt, folder.as_str(), "file.bin", bytes)?;
-        let words = ["match", "--all", signatures.as_str(), priorities.as_str(), file.as_str()];
+        let words = [
+            "match",
+            "--all",
+            signatures.as_str(),
+            priorities.as_str(),
+            file.as_str(),
+        ];
         let shown = run_program(&rt, &words)?;
         assert_eq!(rt; shown.out.as_str(), out);
         assert_eq!(rt; shown.err.as_str(), "");
@@ -298,7 +304,10 @@ fn names_the_first_fault_of_the_priority_file(rt: HostRuntime) -> Result<(), Fai
         ("fmt/1\n", "priorities row 1: L3 fields\n"),
         ("fmt/1,fmt\n", "priorities row 1: L4 puid\n"),
         ("fmt/1,fmt/9\n", "priorities row 1: L13 unknown format\n"),
-        ("fmt/1,fmt/1\n", "priorities row 1: L14 format over itself\n"),
+        (
+            "fmt/1,fmt/1\n",
+            "priorities row 1: L14 format over itself\n",
+        ),
         (
             "fmt/1,fmt/2\nfmt/1,fmt/2\n",
             "priorities row 2: L15 pair twice\n",
@@ -485,6 +494,26 @@ fn shows_both_canonical_files(rt: HostRuntime) -> Result<(), Fail> {
 }
 
 #[test]
+fn shows_the_pairs_in_their_order(rt: HostRuntime) -> Result<(), Fail> {
+    let folder = folder(&rt, "pairs")?;
+    let rows = "fmt/1,1,BOF,0,0,41\nfmt/2,2,BOF,0,0,41\nfmt/3,3,BOF,0,0,41\n";
+    let pairs = "fmt/3,fmt/1\nfmt/2,fmt/1\nfmt/3,fmt/2\n";
+    let signatures = format!(in rt.alloc(); "{SIGNATURES}{rows}")?;
+    let priorities = format!(in rt.alloc(); "{PRIORITIES}{pairs}")?;
+    let out = format!(in rt.alloc(); "{SIGNATURES}{rows}\n{PRIORITIES}{pairs}")?;
+    let shown = run_show_on(
+        &rt,
+        folder.as_str(),
+        signatures.as_str(),
+        priorities.as_str(),
+    )?;
+    assert_eq!(rt; shown.out.as_str(), out.as_str());
+    assert_eq!(rt; shown.status, 0);
+    fs::remove_dir_all(&rt, folder.as_str())?;
+    Ok(())
+}
+
+#[test]
 fn refuses_a_table_alike_for_show_and_match(rt: HostRuntime) -> Result<(), Fail> {
     let folder = folder(&rt, "alike")?;
     let folder = folder.as_str();
@@ -661,7 +690,10 @@ fn writes_nothing_before_the_last_read(rt: HostRuntime) -> Result<(), Fail> {
             failed: false,
         };
         let mut out = FromWrite::new(Vec::new(rt.alloc()));
-        assert_eq!(rt; run_match(rt.alloc(), &core, false, &mut file, &mut out), answer);
+        assert_eq!(rt;
+            run_match(rt.alloc(), &core, false, &mut file, &mut out),
+            answer
+        );
         let out = String::from_utf8(out.into_inner())?;
         assert_eq!(rt; out.as_str(), written);
     }
