@@ -125,7 +125,12 @@ fn prints_a_line_for_each_format_hit_with_all(rt: HostRuntime) -> Result<(), Fai
     let rows = "fmt/1,1,BOF,0,,41??\nfmt/2,2,BOF,0,,??42\nfmt/3,3,BOF,0,,4142\n";
     let table = format!(in rt.alloc(); "{SIGNATURES}{rows}")?;
     let signatures = put(&rt, folder.as_str(), "signatures.csv", table.as_bytes())?;
-    let priorities = put(&rt, folder.as_str(), "priorities.csv", PRIORITIES.as_bytes())?;
+    let priorities = put(
+        &rt,
+        folder.as_str(),
+        "priorities.csv",
+        PRIORITIES.as_bytes(),
+    )?;
     let cases: [(&[u8], &str); 3] = [
         (b"AB", "fmt/1 1\nfmt/2 2\nfmt/3 3\n"),
         (b"A\x00", "fmt/1 1\n"),
@@ -133,7 +138,13 @@ fn prints_a_line_for_each_format_hit_with_all(rt: HostRuntime) -> Result<(), Fai
     ];
     for (bytes, out) in cases {
         let file = put(&rt, folder.as_str(), "file.bin", bytes)?;
-        let words = ["match", "--all", signatures.as_str(), priorities.as_str(), file.as_str()];
+        let words = [
+            "match",
+            "--all",
+            signatures.as_str(),
+            priorities.as_str(),
+            file.as_str(),
+        ];
         let shown = run_program(&rt, &words)?;
         assert_eq!(rt; shown.out.as_str(), out);
         assert_eq!(rt; shown.err.as_str(), "");
@@ -621,7 +632,10 @@ fn writes_nothing_before_the_last_read(rt: HostRuntime) -> Result<(), Fail> {
             failed: false,
         };
         let mut out = FromWrite::new(Vec::new(rt.alloc()));
-        assert_eq!(rt; run_match(rt.alloc(), &core, false, &mut file, &mut out), answer);
+        assert_eq!(rt;
+            run_match(rt.alloc(), &core, false, &mut file, &mut out),
+            answer
+        );
         let out = String::from_utf8(out.into_inner())?;
         assert_eq!(rt; out.as_str(), written);
     }
