@@ -1,6 +1,6 @@
 -- What holds of a table holds of it without the signatures of a format.
-use Rattle.std.proofs.Common.{◌≡◌, ◌⊎◌, ℕ, zero, suc, ◌<◌, ◌≤◌, Bool, true, false, List, [], ◌∷◌, ◌++◌, length, map, not, nat_eq, refl, sym, ap, ◌∙◌, arith, inl, inr, Some, None, Option, nat_lt, position, tests, rules, get_or}
-use Rattle.std.specs.Prelude.{All, Contains, filter}
+use Rattle.std.proofs.Common.{◌≡◌, ◌⊎◌, ℕ, zero, suc, ◌<◌, ◌≤◌, Bool, true, false, List, [], ◌∷◌, ◌++◌, length, map, not, nat_eq, refl, sym, ap, ◌∙◌, arith, inl, inr, Some, None, nat_lt, position, tests, rules, get_or}
+use Rattle.std.specs.Prelude.{Contains, filter}
 use Rattle.std.specs.List.{position_or_len}
 use Rattle.std.proofs.lemmas.Bool.{cases_Bool, false≢true}
 use Rattle.std.proofs.lemmas.Bool.Decides.{Decides-eqb}
@@ -29,13 +29,13 @@ pub Contains-filter : {A : Type 0} (p : A → Bool) (xs : List A) (x : A) → p 
 Contains-filter p [] x passes c = absurd (let within = c.1 in omega arith)
 Contains-filter p (y ∷ ys) x passes c = elim (cases_Bool (p y)) [
   | inl t ↦ rw t (elim (Contains-cases y ys x c) [
-      | inl same ↦ (0, omega arith, same)
-      | inr later ↦ Contains-later y (filter p ys) x (Contains-filter p ys x passes later)
-    ])
+    | inl same ↦ (0, omega arith, same)
+    | inr later ↦ Contains-later y (filter p ys) x (Contains-filter p ys x passes later)
+  ])
   | inr out ↦ rw out (elim (Contains-cases y ys x c) [
-      | inl same ↦ absurd (false≢true (sym out ∙ (ap (λ z. p z) same ∙ passes)))
-      | inr later ↦ Contains-filter p ys x passes later
-    ])
+    | inl same ↦ absurd (false≢true (sym out ∙ (ap (λ z. p z) same ∙ passes)))
+    | inr later ↦ Contains-filter p ys x passes later
+  ])
 ]
 
 -- and what is kept was a member
@@ -43,9 +43,9 @@ pub Contains-filtered : {A B : Type 0} (f : A → B) (p : A → Bool) (xs : List
 Contains-filtered f p [] y c = c
 Contains-filtered f p (x ∷ xs) y c = elim (cases_Bool (p x)) [
   | inl t ↦ elim (Contains-cases (f x) (map f (filter p xs)) y (rw t at c)) [
-      | inl same ↦ (0, omega arith, same)
-      | inr later ↦ Contains-later (f x) (map f xs) y (Contains-filtered f p xs y later)
-    ]
+    | inl same ↦ (0, omega arith, same)
+    | inr later ↦ Contains-later (f x) (map f xs) y (Contains-filtered f p xs y later)
+  ]
   | inr out ↦ Contains-later (f x) (map f xs) y (Contains-filtered f p xs y (rw out at c))
 ]
 
@@ -65,10 +65,13 @@ FormatsRise-filter q met (f ∷ later) rise =
     elim (cases_Bool (q f)) [
       | inl t ↦ (
           let kept : FormatsRise (filter q met ++ f ∷ []) (filter q later) = rw t at (rw filter-append at next) in
-          rw t (elim rise.0 [
-            | inl there ↦ inl (Contains-filter q met f t there)
-            | inr above ↦ inr (All-filter q (λ g. g < f) met above)
-          ], kept)
+          rw t (
+            elim rise.0 [
+              | inl there ↦ inl (Contains-filter q met f t there)
+              | inr above ↦ inr (All-filter q (λ g. g < f) met above)
+            ],
+            kept,
+          )
           )
       | inr out ↦ (
           let kept : FormatsRise (filter q met) (filter q later) = rw append-nil at (rw out at (rw filter-append at next)) in
@@ -116,13 +119,13 @@ without-is t kept puid place found is = rw (position-place (λ p. puid_eq p puid
 puid_eq-same : (a b : Puid) → puid_eq a b ≡ true → a ≡ b
 puid_eq-same a b = elim a.registry as (λ r. puid_eq (record a { registry = r }) b ≡ true → record a { registry = r } ≡ b) [
   | Fmt ↦ elim b.registry as (λ r. puid_eq (record a { registry = Fmt }) (record b { registry = r }) ≡ true → record a { registry = Fmt } ≡ record b { registry = r }) [
-      | Fmt ↦ λ t. ap (λ (n : ℕ). record { registry = Fmt; number = n }) ((Decides-eqb a.number b.number).0 t)
-      | XFmt ↦ λ t. absurd (false≢true t)
-    ]
+    | Fmt ↦ λ t. ap (λ (n : ℕ). record { registry = Fmt; number = n }) ((Decides-eqb a.number b.number).0 t)
+    | XFmt ↦ λ t. absurd (false≢true t)
+  ]
   | XFmt ↦ elim b.registry as (λ r. puid_eq (record a { registry = XFmt }) (record b { registry = r }) ≡ true → record a { registry = XFmt } ≡ record b { registry = r }) [
-      | Fmt ↦ λ t. absurd (false≢true t)
-      | XFmt ↦ λ t. ap (λ (n : ℕ). record { registry = XFmt; number = n }) ((Decides-eqb a.number b.number).0 t)
-    ]
+    | Fmt ↦ λ t. absurd (false≢true t)
+    | XFmt ↦ λ t. ap (λ (n : ℕ). record { registry = XFmt; number = n }) ((Decides-eqb a.number b.number).0 t)
+  ]
 ]
 
 -- a name that has a place is there

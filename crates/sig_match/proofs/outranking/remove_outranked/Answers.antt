@@ -20,11 +20,11 @@ loop-place-preserved c =
     let judged : list_any outranks before ≡ c.is_outranked.result = all ∙ sym asked in
     elim c.if-not-is_outranked.branch [
       | then-not-is_outranked w ↦ rw (w.hits-is, w.kept-is) (record {
-          filters = FiltersInPlace-more_swap c.loop-place.invariant.filters (omega arith) (ap not (judged ∙ w.if-not-is_outranked.true)) c.index.ensures w.swap.ensures.by_index;
-          same = IsPermutation-trans before moved w.swap.new.self.items c.loop-place.invariant.same (IsPermutation-swap moved w.swap.new.self.items c.loop-place.kept c.loop-place.place (omega (arith, behind, within)) within w.swap.ensures.items);
-        })
+        filters = FiltersInPlace-more_swap c.loop-place.invariant.filters (omega arith) (ap not (judged ∙ w.if-not-is_outranked.true)) c.index.ensures w.swap.ensures.by_index;
+        same = IsPermutation-trans before moved w.swap.new.self.items c.loop-place.invariant.same (IsPermutation-swap moved w.swap.new.self.items c.loop-place.kept c.loop-place.place (omega (arith, behind, within)) within w.swap.ensures.items);
+      })
       | else-not-is_outranked w ↦ rw (w.hits-is, w.kept-is) (record {
-          filters = FiltersInPlace-more_no c.loop-place.invariant.filters (omega arith) (ap not (judged ∙ w.if-not-is_outranked.false)) c.index.ensures;
-          same = c.loop-place.invariant.same;
-        })
+        filters = FiltersInPlace-more_no c.loop-place.invariant.filters (omega arith) (ap not (judged ∙ w.if-not-is_outranked.false)) c.index.ensures;
+        same = c.loop-place.invariant.same;
+      })
     ]
