@@ -12,10 +12,10 @@ use Rattle.sig_table.specs.declared.puid.Puid.{Puid}
 use Rattle.sig_table.specs.declared.puid.Registry.{Registry}
 use Rattle.sig_table.specs.declared.puid.Registry.TheVariants.{Fmt, XFmt}
 use Rattle.sig_table.specs.declared.row.Row.{Row}
-use Rattle.sig_table.specs.Gathered.{BeginsWithHeader, HasFirstFault, IsFaultAfter, IsFaultOf, IsTableOf, Write, first_format, firsts, formats_of, gathered, numbers_of, rows_of, signature_of}
+use Rattle.sig_table.specs.Gathered.{BeginsWithHeader, IsFaultAfter, IsFaultOf, IsTableOf, Write, first_format, firsts, formats_of, gathered, numbers_of, rows_of, signature_of}
 use Rattle.sig_table.specs.Lists.{PlacedExpr, SignatureLists, TableLists}
 use Rattle.sig_table.specs.Loading.{fault_in, grown, is_signature_header, signatures_of, table_from, with_number, with_row}
-use Rattle.sig_table.specs.Puids.{puid_eq, registry_eq}
+use Rattle.sig_table.specs.Puids.{puid_eq}
 use Rattle.sig_table.specs.Rows.{row_of}
 use Rattle.sig_table.proofs.DraftLemmas.{any-numbers, position-not_any}
 
@@ -188,8 +188,8 @@ rows_of-append n rows row = filter-append (λ r. nat_eq n r.number) rows (row �
 format-stays : (n : ℕ) (rows : List Row) (row : Row) → first_format (formats_of (rows ++ row ∷ [])) (rows_of n rows) ≡ first_format (formats_of rows) (rows_of n rows)
 format-stays n rows row =
     first_format-same (formats_of (rows ++ row ∷ [])) (formats_of rows) n rows (λ q there.
-      ap (position_or_len (puid_eq q)) (formats_of-append rows row)
-      ∙ position-there q row.puid (formats_of rows) (any-firsts puid_eq puid_same puid_self q (map (λ r. r.puid) rows) ∙ there))
+    ap (position_or_len (puid_eq q)) (formats_of-append rows row)
+    ∙ position-there q row.puid (formats_of rows) (any-firsts puid_eq puid_same puid_self q (map (λ r. r.puid) rows) ∙ there))
 
 -- the signature of another number stays
 signature-stays : (n : ℕ) (rows : List Row) (row : Row) → nat_eq n row.number ≡ false → signature_of (rows ++ row ∷ []) n ≡ signature_of rows n
@@ -337,13 +337,27 @@ stops done n (fields ∷ later) fault h = elim (answered (row_of n fields)) [
         }
     | inr found ↦
         let is : found.0 ≡ fault = cc (rw (a.1, found.1) at h) in
-        record { earlier = []; fields = fields; later = later; cut = refl; rows = []; write = refl;
-          has = rw (append-nil done, add-zero) (inr (a.0, a.1, found.1 ∙ ap (λ e. Some e) is)) }
+        record {
+          earlier = [];
+          fields = fields;
+          later = later;
+          cut = refl;
+          rows = [];
+          write = refl;
+          has = rw (append-nil done, add-zero) (inr (a.0, a.1, found.1 ∙ ap (λ e. Some e) is));
+        }
   ]
   | inr e ↦
       let is : e.0 ≡ fault = cc (rw e.1 at h) in
-      record { earlier = []; fields = fields; later = later; cut = refl; rows = []; write = refl;
-        has = rw (append-nil done, add-zero) (inl (e.1 ∙ ap (λ x. let r : Result Row TableError = Err x in r) is)) }
+      record {
+        earlier = [];
+        fields = fields;
+        later = later;
+        cut = refl;
+        rows = [];
+        write = refl;
+        has = rw (append-nil done, add-zero) (inl (e.1 ∙ ap (λ x. let r : Result Row TableError = Err x in r) is));
+      }
 ]
 
 -- no record is no header

@@ -1,8 +1,8 @@
 -- No field of the canonical text has a byte that calls for quotes, so `csv` writes each record as it stands.
-use Rattle.std.proofs.Common.{◌≡◌, ℕ, zero, suc, ◌+◌, ◌/◌, ◌%◌, ◌<◌, ◌≢◌, Bool, true, false, cond, nat_eq, nat_lt, ◌||◌, List, [], ◌∷◌, ◌++◌, drop, map, Option, Some, None, refl, sym, ap, append-nil, inl, inr, arith}
+use Rattle.std.proofs.Common.{◌≡◌, ℕ, zero, suc, ◌+◌, ◌/◌, ◌%◌, ◌<◌, Bool, true, false, cond, nat_eq, nat_lt, List, [], ◌∷◌, ◌++◌, drop, map, Option, Some, None, refl, sym, ap, append-nil, inl, inr, arith}
 use Rattle.std.specs.Prelude.{codes, slice_get, ⊤}
 use Rattle.std.specs.Fmt.{decimal, digit_glyph, digits, digits_onto}
-use Rattle.std.specs.List.{flat_map, list_any}
+use Rattle.std.specs.List.{flat_map}
 use Rattle.std.proofs.lemmas.Bool.{cases_Bool, ne_eqb}
 use Rattle.std.proofs.lemmas.List.Folds.{list_any-append}
 use Rattle.csv.specs.Writing.{default_writer, fields_text, is_blank, needs_byte, needs_quotes, row_body, row_text}
@@ -11,7 +11,7 @@ use Rattle.sig_expr.specs.declared.item.Atom.{Atom}
 use Rattle.sig_expr.specs.declared.item.Atom.TheVariants as atom
 use Rattle.sig_expr.specs.declared.item.Item.{Item}
 use Rattle.sig_expr.specs.declared.item.Item.TheVariants as item
-use Rattle.sig_table.specs.Canonical.{joined, line_text, name_of, named, pair_record, place_fields, priority_csv, priority_records, records_of_signature, sequence_record, signature_csv, signature_records}
+use Rattle.sig_table.specs.Canonical.{joined, line_text, name_of, named, pair_record, priority_csv, priority_records, records_of_signature, sequence_record, signature_csv, signature_records}
 use Rattle.sig_table.specs.Lists.{PlacedExpr, SignatureLists, TableLists}
 use Rattle.sig_table.specs.Puids.{puid_text, registry_text}
 use Rattle.sig_table.specs.declared.position.Position.{Position}
@@ -230,6 +230,7 @@ sequence_stands name number s plain = go s.position
   where
     rest : (word offset max : List ℕ) → Plain word → Plain offset → Plain max → line_text (name ∷ decimal number ∷ word ∷ offset ∷ max ∷ canon s.items ∷ []) ≡ row_text default_writer (name ∷ decimal number ∷ word ∷ offset ∷ max ∷ canon s.items ∷ [])
     rest word offset max p q r = sym (plain_row name (decimal number) (word ∷ offset ∷ max ∷ canon s.items ∷ []) (plain, (plain-decimal number, (p, (q, (r, (plain-canon s.items, tt)))))))
+
     go : (place : Position) → line_text (sequence_record name number (record s { position = place })) ≡ row_text default_writer (sequence_record name number (record s { position = place }))
     go (position.Bof min max) = rest (codes "BOF") (decimal min) (decimal max) refl (plain-decimal min) (plain-decimal max)
     go (position.Eof min max) = rest (codes "EOF") (decimal min) (decimal max) refl (plain-decimal min) (plain-decimal max)

@@ -114,11 +114,7 @@ fn sequence_record(
 }
 
 // Adds the fields of the position.
-fn push_place(
-    alloc: Global,
-    row: &mut ByteRecord,
-    position: Position,
-) -> Result<(), AllocError>
+fn push_place(alloc: Global, row: &mut ByteRecord, position: Position) -> Result<(), AllocError>
     requires { partial_of row.old ≡ [] }
     ensures fields { OnOk result (fields_of row.new ≡ fields_of row.old ++ place_fields position) }
     ensures partial { OnOk result (partial_of row.new ≡ []) }
@@ -152,11 +148,7 @@ fn push_offsets(
 }
 
 // Adds a number's digits.
-fn push_number(
-    alloc: Global,
-    row: &mut ByteRecord,
-    number: u32,
-) -> Result<(), AllocError>
+fn push_number(alloc: Global, row: &mut ByteRecord, number: u32) -> Result<(), AllocError>
     requires { partial_of row.old ≡ [] }
     ensures fields { OnOk result (fields_of row.new ≡ fields_of row.old ++ decimal number ∷ []) }
     ensures partial { OnOk result (partial_of row.new ≡ []) }
@@ -187,11 +179,7 @@ fn priority_text(alloc: Global, table: &Table) -> Result<Vec<u8>, AllocError>
 }
 
 // The record of the pair.
-fn pair_record(
-    alloc: Global,
-    formats: &[Puid],
-    pair: (u16, u16),
-) -> Result<ByteRecord, AllocError>
+fn pair_record(alloc: Global, formats: &[Puid], pair: (u16, u16)) -> Result<ByteRecord, AllocError>
     ensures { IfOk result (λ row. fields_of row ≡ pair_record formats.now pair) }
 {
     let higher = name_of(alloc, formats, pair.0)?;

@@ -1,4 +1,4 @@
-use Rattle.std.proofs.Common.{◌≡◌, ℕ, ◌+◌, ◌<◌, ◌≤◌, List, [], ◌∷◌, ◌++◌, append-nil, append_assoc, get_or, length, map, take, ap, sym, ◌∙◌, arith}
+use Rattle.std.proofs.Common.{◌≡◌, ℕ, ◌+◌, ◌<◌, ◌≤◌, List, [], ◌++◌, append-nil, append_assoc, get_or, length, map, take, ap, sym, ◌∙◌, arith}
 use Rattle.std.proofs.lemmas.Grind.{flat_map-append}
 use Rattle.std.proofs.lemmas.List.{map-append, take_all, take_more}
 use Rattle.std.specs.List.{flat_map}
@@ -15,8 +15,8 @@ one_more : (formats : List Puid) (pairs : List (ℕ × ℕ)) (i : ℕ) (d : ℕ 
 one_more formats pairs i d first within =
     let rows : List (List ℕ) → List ℕ = row_text default_writer in
     rw (take_more pairs i d within, map-append, flat_map-append) (
-        ap (λ last. first ++ (flat_map rows (map (pair_record formats) (take i pairs)) ++ last)) (append-nil (rows (pair_record formats (get_or pairs i d))))
-        ∙ sym (append_assoc first (flat_map rows (map (pair_record formats) (take i pairs))) (rows (pair_record formats (get_or pairs i d)))))
+    ap (λ last. first ++ (flat_map rows (map (pair_record formats) (take i pairs)) ++ last)) (append-nil (rows (pair_record formats (get_or pairs i d))))
+    ∙ sym (append_assoc first (flat_map rows (map (pair_record formats) (take i pairs))) (rows (pair_record formats (get_or pairs i d)))))
 
 grows : (formats own : List Puid) (pairs items : List (ℕ × ℕ)) (i : ℕ) (d : ℕ × ℕ) (row : List (List ℕ)) (first lines more : List ℕ) → items ≡ pairs → own ≡ formats → i < length items
     → row ≡ pair_record own (get_or items i d) → more ≡ lines ++ row_text default_writer row
@@ -36,5 +36,5 @@ loop-pair-preserved c = grows _ _ _ _ c.loop-pair.pair-index _ _ _ _ _ c.priorit
 pub returns : goal.returns
 returns c =
     let all : c.loop-pair.lines ≡ priority_csv c.args.table.now =
-        whole c.args.table.now c.loop-pair.pair-index _ _ _ c.loop-pair.lines (omega (arith, ap length c.priorities-pair-items.ensures)) c.new.ensures c.in_ok-header.ensures.fields c.in_ok-lines.ensures c.loop-pair.invariant in
+    whole c.args.table.now c.loop-pair.pair-index _ _ _ c.loop-pair.lines (omega (arith, ap length c.priorities-pair-items.ensures)) c.new.ensures c.in_ok-header.ensures.fields c.in_ok-lines.ensures c.loop-pair.invariant in
     rw (← all) c.into_text.ensures
