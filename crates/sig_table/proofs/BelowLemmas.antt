@@ -1,5 +1,5 @@
 -- The formats below each format, once a pair is added.
-use Rattle.std.proofs.Common.{◌≡◌, ◌⊎◌, ◌↔◌, ℕ, ◌+◌, ◌<◌, ◌≤◌, ◌&&◌, Bool, true, false, nat_eq, IsTrue, List, [], ◌∷◌, ◌++◌, length, get_or, slice_set, replicate, Contains, Decides, subst, sym, ap, ◌∙◌, refl, inl, inr, arith, Result, Ok, Err, IfOk, None, if◌then◌else◌}
+use Rattle.std.proofs.Common.{◌≡◌, ◌⊎◌, ◌↔◌, ℕ, ◌+◌, ◌<◌, ◌&&◌, Bool, true, false, nat_eq, IsTrue, List, [], ◌∷◌, ◌++◌, length, get_or, slice_set, replicate, Contains, Decides, subst, sym, ap, ◌∙◌, refl, inl, inr, arith, Result, Ok, Err, IfOk, None, if◌then◌else◌}
 use Rattle.std.proofs.lemmas.Bool.{cases_Bool, cases_eq, false≢true}
 use Rattle.std.proofs.lemmas.Bool.Decides.{Decides-and, Decides-eqb}
 use Rattle.std.proofs.lemmas.List.{get_or-replicate, get_or-set_other, get_or-set_same, length-replicate}
@@ -27,6 +27,7 @@ listed-Decides pairs pair =
   where
     both : (p q : ℕ × ℕ) → Decides (nat_eq p.0 q.0 && nat_eq p.1 q.1) ((p.0 ≡ q.0) × (p.1 ≡ q.1))
     both p q = Decides-and _ _ (Decides-eqb p.0 q.0) (Decides-eqb p.1 q.1)
+
     pair_is : (p q : ℕ × ℕ) → p.0 ≡ q.0 → p.1 ≡ q.1 → p ≡ q
     pair_is p q first second = λ i. (first i, second i)
 

@@ -1,19 +1,19 @@
 -- The pairs of the records of a table's pairs are those pairs.
-use Rattle.std.proofs.Common.{◌≡◌, ℕ, zero, suc, ◌+◌, ◌<◌, ◌≤◌, true, false, nat_eq, nat_lt, List, [], ◌∷◌, ◌++◌, length, map, take, position, Contains, sym, ap, subst, append_assoc, append-nil, ◌∙◌, refl, arith, inl, inr, Some, None, Ok}
+use Rattle.std.proofs.Common.{◌≡◌, ℕ, zero, suc, ◌+◌, ◌<◌, false, nat_eq, List, [], ◌∷◌, ◌++◌, length, map, Contains, sym, ap, subst, append_assoc, append-nil, ◌∙◌, refl, arith, inl, inr, Some, None, Ok}
 use Rattle.std.specs.Prelude.{slice_get, All}
-use Rattle.std.specs.List.{list_any, position_or_len}
+use Rattle.std.specs.List.{position_or_len}
 use Rattle.std.proofs.lemmas.Bool.{cases_Bool, eqb-true, lt-ltb}
 use Rattle.std.proofs.lemmas.List.{take_all}
-use Rattle.std.proofs.lemmas.List.Elements.{All-contains, Contains-append_left, Contains-append_right, Contains-push}
+use Rattle.std.proofs.lemmas.List.Elements.{All-contains, Contains-append_left, Contains-append_right}
 use Rattle.csv.specs.Records.{field_at}
 use Rattle.sig_table.proofs.BelowLemmas.{listed-Decides}
 use Rattle.sig_table.proofs.FormatsAgainLemmas.{Contains-slice_get, position-first, slice_get-within}
 use Rattle.sig_table.proofs.PuidLemmas.{puid_of-puid_text}
 use Rattle.sig_table.proofs.RankingLemmas.{is_above-Decides, wider}
-use Rattle.sig_table.specs.Canonical.{name_of, named, pair_record, priority_header}
+use Rattle.sig_table.specs.Canonical.{pair_record, priority_header}
 use Rattle.sig_table.specs.declared.puid.Puid.{Puid}
 use Rattle.sig_table.specs.Loading.{is_listed, pair_fault, pair_of, pairs_from, pairs_of, place_in}
-use Rattle.sig_table.specs.Puids.{puid_eq, puid_text}
+use Rattle.sig_table.specs.Puids.{puid_eq}
 use Rattle.sig_table.specs.Ranking.{is_above}
 use Rattle.sig_table.specs.Tables.{AllDifferent, ArePriorities, IsNumber}
 
@@ -38,8 +38,15 @@ module _ (formats : List Puid) (puids : All (λ p. IsNumber p.number) formats) (
       let l = slice_get-within formats pair.1 lower in
       let h_is : IsNumber h.0.number = All-contains (λ p. IsNumber p.number) formats h.0 puids (Contains-slice_get formats pair.0 h.0 h.1) in
       let l_is : IsNumber l.0.number = All-contains (λ p. IsNumber p.number) formats l.0 puids (Contains-slice_get formats pair.1 l.0 l.1) in
-      rw (h.1, l.1, puid_of-puid_text h.0.registry h.0.number h_is.0 h_is.1, puid_of-puid_text l.0.registry l.0.number l_is.0 l_is.1,
-        place-found formats pair.0 h.0 different higher h.1, place-found formats pair.1 l.0 different lower l.1, other) refl
+      rw (
+        h.1,
+        l.1,
+        puid_of-puid_text h.0.registry h.0.number h_is.0 h_is.1,
+        puid_of-puid_text l.0.registry l.0.number l_is.0 l_is.1,
+        place-found formats pair.0 h.0 different higher h.1,
+        place-found formats pair.1 l.0 different lower l.1,
+        other,
+      ) refl
 
   module _ (all : List (ℕ × ℕ)) (are : ArePriorities (length formats) all) where
     -- a pair behind others of them has no fault

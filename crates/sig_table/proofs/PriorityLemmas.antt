@@ -1,5 +1,5 @@
 -- Priorities once a pair is added.
-use Rattle.std.proofs.Common.{◌≡◌, ℕ, ◌<◌, List, [], ◌∷◌, ◌++◌, Contains}
+use Rattle.std.proofs.Common.{ℕ, ◌<◌, List, [], ◌∷◌, ◌++◌, Contains}
 use Rattle.std.proofs.lemmas.List.Elements.{All-nil, All-push}
 use Rattle.sig_table.proofs.RankingLemmas.{IsUpTo, grows-push, no_cycle-more, no_cycle-none}
 use Rattle.sig_table.proofs.TableLemmas.{AllDifferent-push}

@@ -1,5 +1,5 @@
 -- The rows of a priority file give its pairs, or a first faulty one.
-use Rattle.std.proofs.Common.{◌≡◌, ◌⊎◌, ℕ, suc, ◌+◌, ◌<◌, Bool, true, false, nat_eq, List, [], ◌∷◌, ◌++◌, length, position, Contains, sym, ap, subst, append_assoc, append-nil, add-zero, eq-eqb, ◌∙◌, refl, arith, inl, inr, Option, Some, None, Result, Ok, Err}
+use Rattle.std.proofs.Common.{◌≡◌, ◌⊎◌, ℕ, suc, ◌+◌, ◌<◌, true, false, nat_eq, List, [], ◌∷◌, ◌++◌, length, sym, ap, subst, append_assoc, append-nil, add-zero, eq-eqb, ◌∙◌, refl, arith, inl, inr, Option, Some, None, Result, Ok, Err}
 use Rattle.std.proofs.lemmas.Bool.{cases_Bool, false≢true}
 use Rattle.std.proofs.lemmas.List.Elements.{Contains-append_left, Contains-push}
 use Rattle.std.proofs.lemmas.List.Quantifiers.{position-Some}
@@ -9,7 +9,7 @@ use Rattle.sig_table.proofs.RankingLemmas.{is_above-Decides, wider}
 use Rattle.sig_table.specs.declared.error.TableError.{TableError}
 use Rattle.sig_table.specs.declared.puid.Puid.{Puid}
 use Rattle.sig_table.specs.Loading.{is_listed, is_priority_header, pair_fault, pair_of, pair_of_two, pairs_from, pairs_of, place_in}
-use Rattle.sig_table.specs.PriorityRows.{ArePairsOf, BeginsWithPairHeader, HasCycle, HasFirstPairFault, IsFaultOfPair, IsPairFault, IsPriorityFaultOf, WritePairs}
+use Rattle.sig_table.specs.PriorityRows.{ArePairsOf, BeginsWithPairHeader, HasCycle, IsFaultOfPair, IsPairFault, IsPriorityFaultOf, WritePairs}
 use Rattle.sig_table.specs.Puids.{puid_eq, puid_of}
 use Rattle.sig_table.specs.Ranking.{is_above}
 use Rattle.sig_table.specs.Rows.{text_at}

@@ -1,5 +1,5 @@
 -- The ways down once a pair is added.
-use Rattle.std.proofs.Common.{◌≡◌, ◌⊎◌, ℕ, ◌<◌, ◌&&◌, ◌||◌, Bool, true, false, nat_eq, List, [], ◌∷◌, ◌++◌, length, Contains, Decides, subst, sym, ap, refl, inl, inr, arith}
+use Rattle.std.proofs.Common.{◌≡◌, ◌⊎◌, ℕ, List, [], ◌∷◌, ◌++◌, Contains, Decides, subst, sym, ap, refl, inl, inr, arith}
 use Rattle.std.proofs.lemmas.Bool.Decides.{Decides-and, Decides-eqb, Decides-or}
 use Rattle.std.proofs.lemmas.List.Elements.{Contains-append_cases, Contains-append_left, Contains-append_right, Contains-push}
 use Rattle.sig_table.specs.Ranking.{IsAbove, NoCycle, WayDown, is_above}
@@ -46,10 +46,13 @@ module _ (pairs : List (ℕ × ℕ)) (a b : ℕ) (more : List (ℕ × ℕ)) (g :
       | inl rest ↦ inl (m ∷ rest.0, (old, rest.1))
       | inr both ↦ inr (inr (elim both.0 [ inl same ↦ ([], subst (λ x. Contains pairs (h, x)) same old) | inr rest ↦ (m ∷ rest.0, (old, rest.1)) ]), both.1)
     ]
-    | inr new ↦ inr (inl (ap (λ p. p.0) new), elim (by_way m ms l way.1) [
-      | inl rest ↦ inr (subst (λ x. IsAbove pairs x l) (ap (λ p. p.1) new) rest)
-      | inr both ↦ both.1
-    ])
+    | inr new ↦ inr (
+      inl (ap (λ p. p.0) new),
+      elim (by_way m ms l way.1) [
+        | inl rest ↦ inr (subst (λ x. IsAbove pairs x l) (ap (λ p. p.1) new) rest)
+        | inr both ↦ both.1
+      ],
+    )
   ]
 
   pub above-by : (h l : ℕ) → IsAbove more h l → IsAboveBy pairs a b h l
@@ -126,6 +129,6 @@ unfolding is_above
 is_above-Decides [] h l = (λ e. absurd (cc e), λ way. absurd (no_way h way.0 l way.1))
 is_above-Decides (p ∷ pairs) h l =
     let by = Decides-or _ _ (is_above-Decides pairs h l)
-      (Decides-and _ _ (Decides-or _ _ (Decides-eqb h p.0) (is_above-Decides pairs h p.0)) (Decides-or _ _ (Decides-eqb p.1 l) (is_above-Decides pairs p.1 l))) in
+    (Decides-and _ _ (Decides-or _ _ (Decides-eqb h p.0) (is_above-Decides pairs h p.0)) (Decides-or _ _ (Decides-eqb p.1 l) (is_above-Decides pairs p.1 l))) in
     let g = grows-front pairs p in
     (λ e. by-above pairs p.0 p.1 (p ∷ pairs) g h l (by.0 e), λ way. by.1 (above-by pairs p.0 p.1 (p ∷ pairs) g h l way))

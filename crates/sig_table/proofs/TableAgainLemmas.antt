@@ -10,11 +10,11 @@ use Rattle.sig_table.proofs.FormatsAgainLemmas.{Contains-slice_get, Contains-the
 use Rattle.sig_table.proofs.PairsAgainLemmas.{pairs_again}
 use Rattle.sig_table.proofs.RecordsAgainLemmas.{records_of-priority_csv, records_of-signature_csv}
 use Rattle.sig_table.proofs.RowAgainLemmas.{row_for, row_of-sequence_record}
-use Rattle.sig_table.specs.Canonical.{name_of, named, pair_record, priority_csv, priority_header, records_of_signature, sequence_record, signature_csv, signature_header}
+use Rattle.sig_table.specs.Canonical.{name_of, named, priority_csv, records_of_signature, sequence_record, signature_csv, signature_header}
 use Rattle.sig_table.specs.declared.puid.Puid.{Puid}
 use Rattle.sig_table.specs.declared.row.Row.{Row}
 use Rattle.sig_table.specs.Lists.{PlacedExpr, SignatureLists, TableLists}
-use Rattle.sig_table.specs.Loading.{fault_in, grown, is_signature_header, pairs_of, records_of, signatures_of, table_from, table_of, with_row}
+use Rattle.sig_table.specs.Loading.{fault_in, grown, is_signature_header, records_of, signatures_of, table_from, table_of, with_row}
 use Rattle.sig_table.specs.Puids.{puid_text}
 use Rattle.sig_table.specs.Rows.{row_of}
 use Rattle.sig_table.specs.Slots.{slot_count}

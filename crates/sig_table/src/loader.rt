@@ -10,8 +10,8 @@ ghost use Rattle.sig_table.specs.declared.row.Row.{Row};
 ghost use Rattle.sig_table.specs.declared.error.TableError.{TableError};
 
 use super::draft::Draft;
-use super::records::all_records;
 use super::ranking::Ranking;
+use super::records::all_records;
 use super::row::{field, read_puid, read_row};
 use super::{Puid, Table, TableError, TableFile};
 use csv::ByteRecord;

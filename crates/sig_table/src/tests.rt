@@ -224,7 +224,10 @@ fn pairs_stand_in_the_order_of_their_rows(rt: HostRuntime) -> Result<(), Fail> {
     let mut out = FromWrite::new(Vec::new(rt.alloc()));
     table.write_priorities(rt.alloc(), &mut out)?;
     let written = out.into_inner();
-    assert_eq!(rt; written.as_slice(), b"higher,lower\nfmt/3,fmt/1\nfmt/1,fmt/2\n".as_slice());
+    assert_eq!(rt;
+        written.as_slice(),
+        b"higher,lower\nfmt/3,fmt/1\nfmt/1,fmt/2\n".as_slice()
+    );
     Ok(())
 }
 
@@ -245,11 +248,17 @@ fn the_first_fault_of_a_pair_is_named(rt: HostRuntime) {
     let rows: [(&[u8], TableError); 13] = [
         (b"fmt/1\n", TableError::Fields { file, row: 1 }),
         (b"fmt/0,fmt/0,fmt/0\n", TableError::Fields { file, row: 1 }),
-        (b"fmt/1,fmt/2\nfmt/0,fmt/3\n", TableError::Puid { file, row: 2 }),
+        (
+            b"fmt/1,fmt/2\nfmt/0,fmt/3\n",
+            TableError::Puid { file, row: 2 },
+        ),
         (b"fmt/9,fmt/0\n", TableError::Puid { file, row: 1 }),
         (b"fmt/9,fmt/9\n", TableError::PriorityUnknown { row: 1 }),
         (b"fmt/1,x-fmt/1\n", TableError::PriorityUnknown { row: 1 }),
-        (b"fmt/1,fmt/2\nfmt/2,fmt/2\n", TableError::PrioritySelf { row: 2 }),
+        (
+            b"fmt/1,fmt/2\nfmt/2,fmt/2\n",
+            TableError::PrioritySelf { row: 2 },
+        ),
         (
             b"fmt/1,fmt/2\nfmt/2,fmt/3\nfmt/1,fmt/2\n",
             TableError::PriorityTwice { row: 3 },

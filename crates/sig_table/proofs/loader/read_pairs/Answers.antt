@@ -1,4 +1,4 @@
-use Rattle.std.proofs.Common.{◌≡◌, ◌<◌, ◌∙◌, length, sym, arith}
+use Rattle.std.proofs.Common.{◌∙◌, sym, arith}
 use Rattle.std.proofs.lemmas.Result.{err_from_is_err_and}
 use Rattle.sig_table.proofs.FaultLemmas.{IsFault-map, IsFault-told}
 use Rattle.sig_table.proofs.PairLemmas.{pairs_from-end, pairs_from-faulty, pairs_from-more, pairs_from-unread}

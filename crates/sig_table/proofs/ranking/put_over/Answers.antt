@@ -1,4 +1,4 @@
-use Rattle.std.proofs.Common.{◌≡◌, ◌≤◌, [], ◌∙◌, sym, ap, refl, get_or, length, arith}
+use Rattle.std.proofs.Common.{◌≡◌, [], ◌∙◌, sym, get_or, arith}
 use Rattle.std.proofs.lemmas.List.{get_or-set_other, get_or_default, length-set}
 use Rattle.sig_table.specs.declared.format_set.FormatSet.{FormatSet}
 use Rattle.sig_table.specs.Rankings.{AreBelow}

@@ -1,4 +1,4 @@
-use Rattle.std.proofs.Common.{◌≡◌, ◌<◌, ◌∙◌, length, sym, ap, refl, inl, inr}
+use Rattle.std.proofs.Common.{◌≡◌, ◌∙◌, length, sym, ap, refl, inl, inr}
 use Rattle.std.proofs.lemmas.List.{with_items_is}
 use Rattle.sig_table.proofs.BelowLemmas.{no_fault, pushed}
 use Rattle.sig_table.proofs.PriorityLemmas.{one_priority_more}
