@@ -458,6 +458,11 @@ fn opens_the_table_first_and_the_file_after_the_load(rt: HostRuntime) -> Result<
     Ok(())
 }
 
+// Runs `show` on two names of files.
+fn show_files(rt: &HostRuntime, signatures: &str, priorities: &str) -> Result<Shown, Fail> {
+    run_program(rt, &["show", signatures, priorities])
+}
+
 // Runs `show` on the two texts of a table.
 fn run_show_on(
     rt: &HostRuntime,
@@ -467,7 +472,7 @@ fn run_show_on(
 ) -> Result<Shown, Fail> {
     let signatures = put(rt, folder, "signatures.csv", signatures.as_bytes())?;
     let priorities = put(rt, folder, "priorities.csv", priorities.as_bytes())?;
-    run_program(rt, &["show", signatures.as_str(), priorities.as_str()])
+    show_files(rt, signatures.as_str(), priorities.as_str())
 }
 
 #[test]
@@ -528,14 +533,14 @@ fn refuses_a_table_alike_for_show_and_match(rt: HostRuntime) -> Result<(), Fail>
         ),
     ];
     for (signatures, priorities, line) in cases {
-        for refused in [
-            run_show_on(&rt, folder, signatures, priorities)?,
-            matched(&rt, folder, signatures, priorities, b"A")?,
-        ] {
-            assert_eq!(rt; refused.err.as_str(), line);
-            assert_eq!(rt; refused.out.as_str(), "", "{line}");
-            assert_eq!(rt; refused.status, 2, "{line}");
-        }
+        let shown = run_show_on(&rt, folder, signatures, priorities)?;
+        assert_eq!(rt; shown.err.as_str(), line);
+        assert_eq!(rt; shown.out.as_str(), "", "{line}");
+        assert_eq!(rt; shown.status, 2, "{line}");
+        let shown = matched(&rt, folder, signatures, priorities, b"A")?;
+        assert_eq!(rt; shown.err.as_str(), line);
+        assert_eq!(rt; shown.out.as_str(), "", "{line}");
+        assert_eq!(rt; shown.status, 2, "{line}");
     }
     fs::remove_dir_all(&rt, folder)?;
     Ok(())
@@ -548,12 +553,17 @@ fn opens_no_third_file_to_show(rt: HostRuntime) -> Result<(), Fail> {
     let signatures = put(&rt, folder, "signatures.csv", SIGNATURES.as_bytes())?;
     let signatures = signatures.as_str();
     let cases = [
-        ("none.csv", "other.csv", "cannot open none.csv\n"),
-        (signatures, "other.csv", "cannot open other.csv\n"),
-        (folder, signatures, "read failed\n"),
+        (
+            show_files(&rt, "none.csv", "other.csv")?,
+            "cannot open none.csv\n",
+        ),
+        (
+            show_files(&rt, signatures, "other.csv")?,
+            "cannot open other.csv\n",
+        ),
+        (show_files(&rt, folder, signatures)?, "read failed\n"),
     ];
-    for (signatures, priorities, line) in cases {
-        let shown = run_program(&rt, &["show", signatures, priorities])?;
+    for (shown, line) in cases {
         assert_eq!(rt; shown.err.as_str(), line);
         assert_eq!(rt; shown.out.as_str(), "", "{line}");
         assert_eq!(rt; shown.status, 3, "{line}");
