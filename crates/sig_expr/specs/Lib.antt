@@ -4,7 +4,6 @@ pub mod Built
 pub mod Canon
 pub mod Ends
 pub mod Faults
-pub mod FirstFaults
 pub mod Passes
 pub mod Profile
 pub mod Reading

@@ -5,6 +5,5 @@ pub mod HitLemmas
 pub mod ItemLemmas
 pub mod ListingLemmas
 pub mod PartLemmas
-pub mod RankLemmas
 pub mod ReachLemmas
 pub mod StandLemmas

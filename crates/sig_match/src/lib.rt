@@ -7,7 +7,6 @@ mod droid_core;
 mod error;
 mod frontier;
 mod hitting;
-mod outranking;
 mod part;
 mod reach;
 mod results;
