@@ -16,11 +16,11 @@ import time
 HEADER = "puid,signature,position,offset,max_offset,expression\n"
 
 
-def least_time(program, folder, signatures, file):
+def least_time(program, folder, signatures, file, pairs=""):
     with open(os.path.join(folder, "signatures.csv"), "w") as f:
         f.write(HEADER + signatures)
     with open(os.path.join(folder, "priorities.csv"), "w") as f:
-        f.write("higher,lower\n")
+        f.write("higher,lower\n" + pairs)
     with open(os.path.join(folder, "file"), "wb") as f:
         f.write(file)
     words = [program, "match", "signatures.csv", "priorities.csv", "file"]
@@ -44,6 +44,21 @@ def rows(count):
     return "".join(out)
 
 
+def formats(count):
+    """So many formats with a signature each, which all hit every file."""
+    return "".join(f"fmt/{n},{n},Variable,,,*\n" for n in range(1, count + 1))
+
+
+def over_all_later(count):
+    """Each of so many formats over all later ones, the last pairs first."""
+    return "".join(f"fmt/{h},fmt/{l}\n" for h in range(count, 0, -1) for l in range(count, h, -1))
+
+
+def in_a_chain(count):
+    """Each of so many formats over the next."""
+    return "".join(f"fmt/{h},fmt/{h + 1}\n" for h in range(1, count))
+
+
 def one(expression):
     return f"fmt/1,1,BOF,0,,{expression}\n"
 
@@ -51,10 +66,10 @@ def one(expression):
 def show(title, program, folder, cases):
     print(title)
     before = None
-    for name, signatures, file in cases:
-        took = least_time(program, folder, signatures, file)
+    for name, *case in cases:
+        took = least_time(program, folder, *case)
         ratio = "" if before is None else f"   ratio {took / before:4.1f}"
-        print(f"  {name:24} {took:8.3f}{ratio}")
+        print(f"  {name:28} {took:8.3f}{ratio}")
         before = took
     print()
 
@@ -69,10 +84,14 @@ def main():
              [(f"{n} rows", rows(n), b"") for n in (1000, 2000, 4000)])
         show("rows of the signature file, a file of 1 MiB", program, folder,
              [(f"{n} rows", rows(n), b"A" * (1 << 20)) for n in (1000, 2000, 4000)])
+        show("formats, each over all later ones (a quarter of the pairs at half the formats)", program, folder,
+             [(f"{n} formats, {n * (n - 1) // 2} pairs", formats(n), b"", over_all_later(n)) for n in (250, 500, 1000)])
+        show("formats in a chain", program, folder,
+             [(f"{n} formats", formats(n), b"", in_a_chain(n)) for n in (250, 500, 1000)])
         hostile = {
             "thirty * between 41": "41*" * 30 + "42",
-            "thirty {0-65535}": "{0-65535}" * 30 + "42",
-            "thirty {0-65535} and 41": "41{0-65535}" * 30 + "42",
+            "thirty {0-2000}": "{0-2000}" * 30 + "42",
+            "thirty {0-2000} and 41": "41{0-2000}" * 30 + "42",
             "thirty lists": "*" + "(41|4141|414141)" * 30 + "42",
             "thirty brackets": "*" + "[!4242]" * 30 + "42",
         }

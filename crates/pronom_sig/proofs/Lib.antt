@@ -1,3 +1,3 @@
 -- Lemmas of this crate.
-pub mod LineLemmas
-pub mod RankLemmas
+pub mod RowLemmas
+pub mod FaultLemmas

@@ -3,7 +3,7 @@ use Rattle.std.specs.Prelude.{ℕ, List, [], ◌∷◌, ◌++◌, Option, Some, 
 use Rattle.std.specs.Fmt.{decimal}
 use Rattle.std.specs.List.{flat_map}
 use Rattle.sig_bits.specs.Device.{Adds}
-use Rattle.sig_match.specs.Hitting.{Left}
+use Rattle.sig_match.specs.Hitting.{HitFormats, Left}
 use Rattle.sig_match.specs.declared.results.Hit.{Hit}
 use Rattle.sig_table.specs.Lists.{SignatureLists, TableLists}
 use Rattle.sig_table.specs.Puids.{puid_text}
@@ -28,3 +28,9 @@ pub record AddsLinesOfLeft (table : TableLists) (file : List ℕ) (before after 
   pub left : List Hit
   pub is_left : Left table file left
   pub adds : Adds before (lines_of table left) after
+
+-- what is written grows by the lines of all formats that the file hits
+pub record AddsLinesOfHits (table : TableLists) (file : List ℕ) (before after : Option (List ℕ)) : Type 0 where
+  pub hits : List Hit
+  pub all_hits : HitFormats table file hits
+  pub adds : Adds before (lines_of table hits) after

@@ -1,9 +1,12 @@
 //! All that the program does: it reads the words, opens the files, answers, and gives the status.
 
-ghost use Rattle.std.specs.Prelude.{◌≡◌, ◌≤◌, false, IfErr, OnOk};
+ghost use Rattle.std.specs.Prelude.{◌≡◌, ◌≢◌, ◌⊎◌, false, true, IfErr, IsErrOf, OnOk};
+ghost use Rattle.clap.specs.Values.{kind_of};
+ghost use Rattle.pronom_sig.specs.Asking.{IsFaultOf, IsLoadFault};
+ghost use Rattle.pronom_sig.specs.Faults.{TellsOf, TellsFault};
 ghost use Rattle.pronom_sig.specs.Statuses.{status_of};
 
-use crate::engine::run_match;
+use crate::engine::{run_match, run_show};
 use crate::error::RunError;
 use crate::lines::Fault;
 use crate::words::{Asked, TableWords, read_words};
@@ -26,10 +29,11 @@ pub fn command<R: Files + AllocGlobal, W: Output, E: Output>(
     out: &mut W,
     err: &mut E,
 ) -> u8
-    ensures known { result ≤ 3 }
+    ensures known { (result ≡ 0) ⊎ ((result ≡ 2) ⊎ (result ≡ 3)) }
     ensures shown { result ≡ 0 → W.failed out.new ≡ false }
     ensures quiet { result ≡ 0 → err.new ≡ err.old }
     ensures refused { result ≡ 2 → out.new ≡ out.old }
+    ensures told { result ≡ 3 → E.failed err.new ≡ false → TellsFault 3 (E.written err.old) (E.written err.new) }
 {
     match read_words(rt.alloc(), words) {
         Ok(asked) => match answer(rt, asked, out) {
@@ -47,22 +51,28 @@ fn answer<'a, R: Files + AllocGlobal, W: Output>(
     out: &mut W,
 ) -> Result<(), Fault<'a>>
     ensures shown { OnOk result (W.failed out.new ≡ false) }
-    ensures refused { IfErr result (λ fault. status_of fault ≡ 2 → out.new ≡ out.old) }
+    ensures faults { IfErr result (λ fault. IsFaultOf asked.entry fault) }
+    ensures write { IsErrOf result (Fault.Run RunError.Write) → W.failed out.new ≡ true }
+    ensures untouched { IfErr result (λ fault. fault ≢ Fault.Run RunError.Write → out.new ≡ out.old) }
 {
-    match asked {
-        Asked::Match { table, file } => {
+    let answered = match asked {
+        Asked::Show { table } => run_show(rt.alloc(), &load(rt, table)?, out),
+        Asked::Match { all, table, file } => {
             let core = WholeCore::new(rt.alloc(), load(rt, table)?);
             let mut file = open(rt, file)?;
-            match run_match(rt.alloc(), &core, &mut file, out) {
-                Ok(()) => Ok(()),
-                Err(error) => Err(Fault::Run(error)),
-            }
+            run_match(rt.alloc(), &core, all, &mut file, out)
         }
+    };
+    match answered {
+        Ok(()) => Ok(()),
+        Err(error) => Err(Fault::Run(error)),
     }
 }
 
 // Opens both files of a table, and loads it.
-fn load<'a, R: Files + AllocGlobal>(rt: &R, words: TableWords<'a>) -> Result<Table, Fault<'a>> {
+fn load<'a, R: Files + AllocGlobal>(rt: &R, words: TableWords<'a>) -> Result<Table, Fault<'a>>
+    ensures { IfErr result (λ fault. IsLoadFault words.entry fault) }
+{
     let mut signatures = open(rt, words.signatures)?;
     let mut priorities = open(rt, words.priorities)?;
     match Table::load(rt.alloc(), &mut signatures, &mut priorities) {
@@ -71,7 +81,9 @@ fn load<'a, R: Files + AllocGlobal>(rt: &R, words: TableWords<'a>) -> Result<Tab
     }
 }
 
-fn open<'a, R: Files>(rt: &R, name: &'a str) -> Result<FromRead<R::File>, Fault<'a>> {
+fn open<'a, R: Files>(rt: &R, name: &'a str) -> Result<FromRead<R::File>, Fault<'a>>
+    ensures { IfErr result (λ fault. fault ≡ Fault.CannotOpen name.entry) }
+{
     match fs::open(rt, name) {
         Ok(file) => Ok(FromRead::new(file)),
         Err(_) => Err(Fault::CannotOpen(name)),
@@ -80,9 +92,8 @@ fn open<'a, R: Files>(rt: &R, name: &'a str) -> Result<FromRead<R::File>, Fault<
 
 /// Writes the line of a fault to `err`, and answers its status.
 pub fn tell<E: Output>(alloc: Global, fault: Fault<'_>, err: &mut E) -> u8
-    ensures least { 2 ≤ result }
-    ensures greatest { result ≤ 3 }
-    ensures refused { result ≡ 2 → status_of fault.entry ≡ 2 }
+    ensures status { (result ≡ status_of fault.entry) ⊎ (result ≡ 3) }
+    ensures told { E.failed err.new ≡ false → TellsOf fault.entry result (E.written err.old) (E.written err.new) }
 {
     let Ok(line) = format!(in alloc; "{fault}\n") else {
         let _ = err.write_all(b"out of memory\n");
@@ -94,10 +105,13 @@ pub fn tell<E: Output>(alloc: Global, fault: Fault<'_>, err: &mut E) -> u8
 
 // What `clap` says: help is an answer, and all else a fault of the words, unless memory ran out.
 fn show_usage<W: Output, E: Output>(alloc: Global, error: &Error, out: &mut W, err: &mut E) -> u8
-    ensures known { result ≤ 3 }
+    ensures known { (result ≡ 0) ⊎ ((result ≡ 2) ⊎ (result ≡ 3)) }
     ensures shown { result ≡ 0 → W.failed out.new ≡ false }
     ensures quiet { result ≡ 0 → err.new ≡ err.old }
     ensures refused { result ≡ 2 → out.new ≡ out.old }
+    ensures told { result ≡ 3 → E.failed err.new ≡ false → TellsFault 3 (E.written err.old) (E.written err.new) }
+    ensures help { result ≡ 0 → (kind_of error.now ≡ ErrorKind.DisplayHelp) ⊎ (kind_of error.now ≡ ErrorKind.DisplayVersion) }
+    ensures usage { result ≡ 2 → (kind_of error.now ≢ ErrorKind.DisplayHelp) × (kind_of error.now ≢ ErrorKind.DisplayVersion) }
 {
     let text = match error.to_string(alloc) {
         Ok(text) if error.kind() != ErrorKind::OutOfMemory => text,

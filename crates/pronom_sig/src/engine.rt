@@ -2,30 +2,33 @@
 //!
 //! Each one reads to the end, makes its whole answer, and writes it at once.
 
-ghost use Rattle.std.specs.Prelude.{◌≡◌, ◌++◌, ◌≢◌, false, true, IfOk, IfSome, IsErrOf, IsTrue, OnOk, string_bytes};
-ghost use Rattle.std.specs.List.{list_any};
-ghost use Rattle.sig_bits.specs.Device.{IsAtEnd};
-ghost use Rattle.sig_match.specs.Hitting.{kept_hits, ranks};
-ghost use Rattle.pronom_sig.specs.Lines.{AddsLinesOfLeft, line_of, lines_of};
+ghost use Rattle.std.specs.Prelude.{◌≡◌, ◌++◌, ◌≢◌, false, true, IfOk, IfSome, IsErrOf, OnOk, string_bytes};
+ghost use Rattle.sig_bits.specs.Device.{Adds, IsAtEnd};
+ghost use Rattle.pronom_sig.specs.Lines.{AddsLinesOfHits, AddsLinesOfLeft, line_of, lines_of};
+ghost use Rattle.pronom_sig.specs.Shown.{show_text};
 
 use crate::error::RunError;
-use sig_bits::{Input, Output};
+use sig_bits::{FromWrite, Input, Output};
 use sig_match::{CoreError, DroidCore, Hit};
-use sig_table::{FormatId, Table};
+use sig_table::{OutError, Table};
 use std::alloc::{AllocError, Global};
 use std::fmt::Write;
 
-/// Writes a line for each format left for the file, in table order.
+/// Writes a line for each format left for the file, in table order. With `all`, for each format
+/// that the file hits.
 ///
 /// Nothing is written before the file was read to its end.
 pub fn run_match<K: DroidCore, R: Input, W: Output>(
     alloc: Global,
     core: &K,
+    all: bool,
     file: &mut R,
     out: &mut W,
 ) -> Result<(), RunError>
-    ensures lines { OnOk result (IfSome (R.to_come file.old) (λ bytes.
+    ensures left { all ≡ false → OnOk result (IfSome (R.to_come file.old) (λ bytes.
         AddsLinesOfLeft (K.lists core.now) bytes (W.written out.old) (W.written out.new))) }
+    ensures hits { all ≡ true → OnOk result (IfSome (R.to_come file.old) (λ bytes.
+        AddsLinesOfHits (K.lists core.now) bytes (W.written out.old) (W.written out.new))) }
     ensures at_end { OnOk result (IsAtEnd (R.to_come file.new)) }
 
     // Each refusal, and when.
@@ -39,8 +42,11 @@ pub fn run_match<K: DroidCore, R: Input, W: Output>(
     ensures read_stays { IsErrOf result RunError.Read → out.new ≡ out.old }
     ensures memory_stays { IsErrOf result RunError.OutOfMemory → out.new ≡ out.old }
 {
-    let results = core.match_binary_signatures(file).map_err(of_core)?;
-    let lines = lines_left(alloc, core.table(), results.hits()).map_err(|_| RunError::OutOfMemory)?;
+    let mut results = core.match_binary_signatures(file).map_err(of_core)?;
+    if !all {
+        core.remove_lower_priority_hits(&mut results);
+    }
+    let lines = lines(alloc, core.table(), results.hits()).map_err(|_| RunError::OutOfMemory)?;
     out.write_all(lines.as_bytes()).map_err(|_| RunError::Write)
 }
 
@@ -56,32 +62,15 @@ fn of_core(error: CoreError) -> RunError
     }
 }
 
-// The lines of the hits that no hit outranks.
-fn lines_left(alloc: Global, table: &Table, hits: &[Hit]) -> Result<String, AllocError>
-    ensures { IfOk result (λ lines. string_bytes lines ≡ lines_of table.now (kept_hits table.now hits.now)) }
+// The lines of the hits.
+fn lines(alloc: Global, table: &Table, hits: &[Hit]) -> Result<String, AllocError>
+    ensures { IfOk result (λ lines. string_bytes lines ≡ lines_of table.now hits.now) }
 {
     let mut lines = String::new(alloc);
     for hit in hits {
-        if !is_outranked(table, *hit, hits) {
-            push_line(&mut lines, table, *hit)?;
-        }
+        push_line(&mut lines, table, *hit)?;
     }
     Ok(lines)
-}
-
-// Whether the format of some hit outranks this one's.
-fn is_outranked(table: &Table, hit: Hit, hits: &[Hit]) -> bool
-    ensures { result ≡ list_any (λ other. ranks table.now other.format.0 hit.format.0) hits.now }
-{
-    hits.iter()
-        .any(|other| outranks(table, other.format, hit.format))
-}
-
-// The table's answer, as the test that the definition of what is left uses.
-fn outranks(table: &Table, higher: FormatId, lower: FormatId) -> bool
-    ensures { result ≡ ranks table.now higher.0 lower.0 }
-{
-    table.outranks(higher, lower)
 }
 
 // A core whose input tells no bytes promises no hits of the table, so the places are tested.
@@ -96,4 +85,27 @@ fn push_line(lines: &mut String, table: &Table, hit: Hit) -> Result<(), AllocErr
         writeln!(lines, "{puid} {number}")?;
     }
     Ok(())
+}
+
+/// Writes both canonical files of the table, with an empty line between them.
+pub fn run_show<W: Output>(alloc: Global, table: &Table, out: &mut W) -> Result<(), RunError>
+    ensures text { OnOk result (Adds (W.written out.old) (show_text table.now) (W.written out.new)) }
+    ensures writes { OnOk result (W.failed out.new ≡ false) }
+    ensures never_read { result ≢ Err RunError.Read }
+    ensures write { IsErrOf result RunError.Write → W.failed out.new ≡ true }
+    ensures memory_stays { IsErrOf result RunError.OutOfMemory → out.new ≡ out.old }
+{
+    let text = shown(alloc, table).map_err(|_| RunError::OutOfMemory)?;
+    out.write_all(&text).map_err(|_| RunError::Write)
+}
+
+// The text of both files. A write to memory fails only where a growth is refused.
+fn shown(alloc: Global, table: &Table) -> Result<Vec<u8>, OutError>
+    ensures { IfOk result (λ text. text.items ≡ show_text table.now) }
+{
+    let mut text = FromWrite::new(Vec::new(alloc));
+    table.write_signatures(alloc, &mut text)?;
+    text.write_all(b"\n").map_err(|_| OutError::Write)?;
+    table.write_priorities(alloc, &mut text)?;
+    Ok(text.into_inner())
 }

@@ -1,15 +1,30 @@
-use thiserror::Error;
+use std::error::Error;
+use std::fmt;
 
 /// Why an engine gave no answer.
-#[derive(Clone, Copy, Debug, PartialEq, Eq, Error)]
+#[derive(Clone, Copy, Debug, PartialEq, Eq)]
 pub enum RunError {
     /// A read failed.
-    #[error("read failed")]
     Read,
     /// A write failed.
-    #[error("write failed")]
     Write,
     /// A growth was refused.
-    #[error("out of memory")]
     OutOfMemory,
 }
+
+impl fmt::Display for RunError {
+    ghost use Rattle.std.specs.Prelude.{Some};
+    ghost use Rattle.pronom_sig.specs.Faults.{run_line};
+
+    ghost output = { λ error. Some (run_line error) };
+
+    fn fmt<W: fmt::Write>(&self, f: &mut fmt::Formatter<W>) -> fmt::Result {
+        f.write_str(match self {
+            RunError::Read => "read failed",
+            RunError::Write => "write failed",
+            RunError::OutOfMemory => "out of memory",
+        })
+    }
+}
+
+impl Error for RunError {}

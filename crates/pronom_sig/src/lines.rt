@@ -1,6 +1,7 @@
 //! The lines that the program writes to standard error.
 
 ghost use Rattle.std.specs.Prelude.{◌≡◌};
+ghost use Rattle.pronom_sig.specs.Faults.{file_name, place_of};
 
 use crate::error::RunError;
 use sig_expr::ExprError;
@@ -37,6 +38,11 @@ impl Fault<'_> {
 }
 
 impl fmt::Display for Fault<'_> {
+    ghost use Rattle.std.specs.Prelude.{Some};
+    ghost use Rattle.pronom_sig.specs.Faults.{fault_line};
+
+    ghost output = { λ fault. Some (fault_line fault) };
+
     fn fmt<W: fmt::Write>(&self, f: &mut fmt::Formatter<W>) -> fmt::Result {
         match *self {
             Fault::NotText => f.write_str(
@@ -54,18 +60,17 @@ impl fmt::Display for Fault<'_> {
 struct TableLine(TableError);
 
 impl fmt::Display for TableLine {
+    ghost use Rattle.std.specs.Prelude.{Some};
+    ghost use Rattle.pronom_sig.specs.Faults.{table_line};
+
+    ghost output = { λ line. Some (table_line line.0) };
+
     fn fmt<W: fmt::Write>(&self, f: &mut fmt::Formatter<W>) -> fmt::Result {
-        let words = words_of(self.0);
+        let words = RefusalWords(self.0);
         match place_of(self.0) {
-            Place::None => f.write_str(words),
+            Place::Nowhere => write!(f, "{words}"),
             Place::File(file) => write!(f, "{}: {words}", file_name(file)),
-            Place::Row(file, row) => {
-                write!(f, "{} row {row}: {words}", file_name(file))?;
-                match self.0 {
-                    TableError::Expression { row: _, error } => write!(f, " {}", ExprFault(error)),
-                    _ => Ok(()),
-                }
-            }
+            Place::Row(file, row) => write!(f, "{} row {row}: {words}", file_name(file)),
         }
     }
 }
@@ -73,14 +78,16 @@ impl fmt::Display for TableLine {
 // What a line begins with.
 #[derive(Clone, Copy)]
 enum Place {
-    None,
+    Nowhere,
     File(TableFile),
     Row(TableFile, usize),
 }
 
-fn place_of(error: TableError) -> Place {
+fn place_of(error: TableError) -> Place
+    ensures { result ≡ place_of error }
+{
     match error {
-        TableError::Read { .. } | TableError::OutOfMemory => Place::None,
+        TableError::Read { .. } | TableError::OutOfMemory => Place::Nowhere,
         TableError::Header { file } => Place::File(file),
         TableError::Fields { file, row } | TableError::Puid { file, row } => Place::Row(file, row),
         TableError::SignatureNumber { row }
@@ -98,53 +105,72 @@ fn place_of(error: TableError) -> Place {
     }
 }
 
-fn words_of(error: TableError) -> &'static str {
-    match error {
-        TableError::Read { .. } => "read failed",
-        TableError::Header { .. } => "L2 header",
-        TableError::Fields { .. } => "L3 fields",
-        TableError::Puid { .. } => "L4 puid",
-        TableError::SignatureNumber { .. } => "L5 signature number",
-        TableError::Position { .. } => "L6 position",
-        TableError::Offset { .. } => "L7 offset",
-        TableError::Expression { .. } => "L8 expression",
-        TableError::SignatureOfTwo { .. } => "L9 signature of two formats",
-        TableError::TooManySequences { .. } => "L10 too many sequences",
-        TableError::TooManySlots { .. } => "L11 too many slots",
-        TableError::TooManyFormats { .. } => "L12 too many formats",
-        TableError::PriorityUnknown { .. } => "L13 unknown format",
-        TableError::PrioritySelf { .. } => "L14 format over itself",
-        TableError::PriorityTwice { .. } => "L15 pair twice",
-        TableError::OutOfMemory => "out of memory",
-        TableError::PriorityCycle { .. } => "L17 cycle of priorities",
-    }
-}
-
-fn file_name(file: TableFile) -> &'static str {
+fn file_name(file: TableFile) -> &'static str
+    ensures { result.now ≡ file_name file }
+{
     match file {
         TableFile::Signatures => "signatures",
         TableFile::Priorities => "priorities",
     }
 }
 
+// The words of a refusal, by its number.
+#[derive(Clone, Copy)]
+struct RefusalWords(TableError);
+
+impl fmt::Display for RefusalWords {
+    ghost use Rattle.std.specs.Prelude.{Some};
+    ghost use Rattle.pronom_sig.specs.Faults.{refusal_words};
+
+    ghost output = { λ words. Some (refusal_words words.0) };
+
+    fn fmt<W: fmt::Write>(&self, f: &mut fmt::Formatter<W>) -> fmt::Result {
+        match self.0 {
+            TableError::Read { .. } => f.write_str("read failed"),
+            TableError::Header { .. } => f.write_str("L2 header"),
+            TableError::Fields { .. } => f.write_str("L3 fields"),
+            TableError::Puid { .. } => f.write_str("L4 puid"),
+            TableError::SignatureNumber { .. } => f.write_str("L5 signature number"),
+            TableError::Position { .. } => f.write_str("L6 position"),
+            TableError::Offset { .. } => f.write_str("L7 offset"),
+            TableError::Expression { row: _, error } => {
+                write!(f, "L8 expression {}", ExprWords(error))
+            }
+            TableError::SignatureOfTwo { .. } => f.write_str("L9 signature of two formats"),
+            TableError::TooManySequences { .. } => f.write_str("L10 too many sequences"),
+            TableError::TooManySlots { .. } => f.write_str("L11 too many slots"),
+            TableError::TooManyFormats { .. } => f.write_str("L12 too many formats"),
+            TableError::PriorityUnknown { .. } => f.write_str("L13 unknown format"),
+            TableError::PrioritySelf { .. } => f.write_str("L14 format over itself"),
+            TableError::PriorityTwice { .. } => f.write_str("L15 pair twice"),
+            TableError::PriorityCycle { .. } => f.write_str("L17 cycle of priorities"),
+            TableError::OutOfMemory => f.write_str("out of memory"),
+        }
+    }
+}
+
 // A refusal of an expression: its number, and its place where it has one.
 #[derive(Clone, Copy)]
-struct ExprFault(ExprError);
+struct ExprWords(ExprError);
 
-impl fmt::Display for ExprFault {
+impl fmt::Display for ExprWords {
+    ghost use Rattle.std.specs.Prelude.{Some};
+    ghost use Rattle.pronom_sig.specs.Faults.{expression_words};
+
+    ghost output = { λ words. Some (expression_words words.0) };
+
     fn fmt<W: fmt::Write>(&self, f: &mut fmt::Formatter<W>) -> fmt::Result {
-        let (number, place) = match self.0 {
-            ExprError::TooLong => return f.write_str("E1"),
-            ExprError::OutOfMemory => return f.write_str("E8"),
-            ExprError::Syntax { place } => (2u8, place),
-            ExprError::GapNumber { place } => (3, place),
-            ExprError::GapEmpty { place } => (4, place),
-            ExprError::GapOrder { place } => (5, place),
-            ExprError::RangeOrder { place } => (6, place),
-            ExprError::ClassEmpty { place } => (7, place),
-            ExprError::RangeLength { place } => (9, place),
-            ExprError::BracketTooLong { place } => (10, place),
-        };
-        write!(f, "E{number} at {place}")
+        match self.0 {
+            ExprError::TooLong => f.write_str("E1"),
+            ExprError::Syntax { place } => write!(f, "E2 at {place}"),
+            ExprError::GapNumber { place } => write!(f, "E3 at {place}"),
+            ExprError::GapEmpty { place } => write!(f, "E4 at {place}"),
+            ExprError::GapOrder { place } => write!(f, "E5 at {place}"),
+            ExprError::RangeOrder { place } => write!(f, "E6 at {place}"),
+            ExprError::ClassEmpty { place } => write!(f, "E7 at {place}"),
+            ExprError::OutOfMemory => f.write_str("E8"),
+            ExprError::RangeLength { place } => write!(f, "E9 at {place}"),
+            ExprError::BracketTooLong { place } => write!(f, "E10 at {place}"),
+        }
     }
 }

@@ -1,6 +1,8 @@
 //! The program: matches files against a table of signatures.
 #![tactic(auto)]
 
+ghost use Rattle.std.specs.Prelude.{◌≡◌, ◌⊎◌, IfErr};
+
 mod command;
 mod engine;
 mod error;
@@ -28,7 +30,9 @@ fn main(rt: HostRuntime) -> ExitCode {
 }
 
 // The program's words, without its name.
-fn gathered_words<R: Env + AllocGlobal>(rt: &R) -> Result<Vec<String>, Fault<'static>> {
+fn gathered_words<R: Env + AllocGlobal>(rt: &R) -> Result<Vec<String>, Fault<'static>>
+    ensures { IfErr result (λ fault. (fault ≡ Fault.NotText) ⊎ (fault ≡ Fault.Run RunError.OutOfMemory)) }
+{
     let words = env::args(rt).map_err(of_args)?;
     words
         .skip(1)
@@ -36,7 +40,9 @@ fn gathered_words<R: Env + AllocGlobal>(rt: &R) -> Result<Vec<String>, Fault<'st
         .map_err(|_| Fault::Run(RunError::OutOfMemory))
 }
 
-fn of_args(error: io::Error) -> Fault<'static> {
+fn of_args(error: io::Error) -> Fault<'static>
+    ensures { (result ≡ Fault.NotText) ⊎ (result ≡ Fault.Run RunError.OutOfMemory) }
+{
     match error.kind() {
         io::ErrorKind::InvalidData => Fault::NotText,
         _ => Fault::Run(RunError::OutOfMemory),

@@ -3,11 +3,11 @@
 ghost use Rattle.std.specs.Prelude.{◌-◌, None, length};
 
 use crate::command::command;
-use crate::engine::run_match;
+use crate::engine::{run_match, run_show};
 use crate::error::RunError;
 use sig_bits::{DeviceFault, FromRead, FromWrite, Input, Output};
-use sig_match::WholeCore;
-use sig_table::Table;
+use sig_match::{DroidCore, WholeCore};
+use sig_table::{Puid, Table};
 use std::test::Fail;
 use std::{env, fs, process};
 
@@ -115,6 +115,50 @@ fn prints_a_line_for_each_format_left(rt: HostRuntime) -> Result<(), Fail> {
         assert_eq!(rt; shown.status, 0, "{rows}");
     }
     fs::remove_dir_all(&rt, folder.as_str())?;
+    Ok(())
+}
+
+#[test]
+fn prints_a_line_for_each_format_hit_with_all(rt: HostRuntime) -> Result<(), Fail> {
+    let folder = folder(&rt, "all")?;
+    let rows = "fmt/1,1,BOF,0,,41??\nfmt/2,2,BOF,0,,??42\nfmt/3,3,BOF,0,,4142\n";
+    let table = format!(in rt.alloc(); "{SIGNATURES}{rows}")?;
+    let signatures = put(&rt, folder.as_str(), "signatures.csv", table.as_bytes())?;
+    let pairs = format!(in rt.alloc(); "{PRIORITIES}fmt/3,fmt/1\nfmt/3,fmt/2\n")?;
+    let priorities = put(&rt, folder.as_str(), "priorities.csv", pairs.as_bytes())?;
+    let cases: [(&[u8], &str); 3] = [
+        (b"AB", "fmt/1 1\nfmt/2 2\nfmt/3 3\n"),
+        (b"A\x00", "fmt/1 1\n"),
+        (b"", ""),
+    ];
+    for (bytes, out) in cases {
+        let file = put(&rt, folder.as_str(), "file.bin", bytes)?;
+        let words = [
+            "match",
+            "--all",
+            signatures.as_str(),
+            priorities.as_str(),
+            file.as_str(),
+        ];
+        let shown = run_program(&rt, &words)?;
+        assert_eq!(rt; shown.out.as_str(), out);
+        assert_eq!(rt; shown.err.as_str(), "");
+        assert_eq!(rt; shown.status, 0);
+    }
+    fs::remove_dir_all(&rt, folder.as_str())?;
+    Ok(())
+}
+
+#[test]
+fn a_removed_format_is_hit_no_more(rt: HostRuntime) -> Result<(), Fail> {
+    let mut core = core_of_one(&rt)?;
+    let other = Puid::parse(b"fmt/9").ok_or("the text is a PUID")?;
+    assert!(rt; !core.remove_signature_for_puid(&other));
+    assert_eq!(rt; core.match_bytes(b"AB")?.hits().len(), 1);
+    let first = Puid::parse(b"fmt/1").ok_or("the text is a PUID")?;
+    assert!(rt; core.remove_signature_for_puid(&first));
+    assert_eq!(rt; core.table().format_count(), 1);
+    assert_eq!(rt; core.match_bytes(b"AB")?.hits().len(), 0);
     Ok(())
 }
 
@@ -253,16 +297,59 @@ fn names_the_first_fault_of_the_signatures(rt: HostRuntime) -> Result<(), Fail> 
 }
 
 #[test]
-fn takes_no_priority_yet(rt: HostRuntime) -> Result<(), Fail> {
+fn names_the_first_fault_of_the_priority_file(rt: HostRuntime) -> Result<(), Fail> {
     let folder = folder(&rt, "priorities")?;
     let rows = "fmt/1,1,BOF,0,,41\nfmt/2,2,BOF,0,,41\n";
-    for pairs in ["fmt/1,fmt/2\n", "fmt/1,fmt/9\n", "fmt/1\n"] {
+    let cases = [
+        ("fmt/1\n", "priorities row 1: L3 fields\n"),
+        ("fmt/1,fmt\n", "priorities row 1: L4 puid\n"),
+        ("fmt/1,fmt/9\n", "priorities row 1: L13 unknown format\n"),
+        (
+            "fmt/1,fmt/1\n",
+            "priorities row 1: L14 format over itself\n",
+        ),
+        (
+            "fmt/1,fmt/2\nfmt/1,fmt/2\n",
+            "priorities row 2: L15 pair twice\n",
+        ),
+        (
+            "fmt/1,fmt/2\nfmt/2,fmt/1\n",
+            "priorities row 2: L17 cycle of priorities\n",
+        ),
+    ];
+    for (pairs, line) in cases {
         let shown = matched_rows(&rt, folder.as_str(), rows, pairs, b"A")?;
-        let line = "priorities row 1: L13 unknown format\n";
         assert_eq!(rt; shown.err.as_str(), line, "{pairs}");
         assert_eq!(rt; shown.out.as_str(), "", "{pairs}");
         assert_eq!(rt; shown.status, 2, "{pairs}");
     }
+    fs::remove_dir_all(&rt, folder.as_str())?;
+    Ok(())
+}
+
+#[test]
+fn prints_no_format_that_a_hit_one_outranks(rt: HostRuntime) -> Result<(), Fail> {
+    let folder = folder(&rt, "outranked")?;
+    let rows = "fmt/1,1,BOF,0,,41??\nfmt/2,2,BOF,0,,??42\nfmt/3,3,BOF,0,,4142\n";
+    let pairs = "fmt/3,fmt/1\nfmt/3,fmt/2\n";
+    let shown = matched_rows(&rt, folder.as_str(), rows, pairs, b"AB")?;
+    assert_eq!(rt; shown.out.as_str(), "fmt/3 3\n", "{shown:?}");
+    let shown = matched_rows(&rt, folder.as_str(), rows, pairs, b"A\0")?;
+    assert_eq!(rt; shown.out.as_str(), "fmt/1 1\n", "{shown:?}");
+    let shown = matched_rows(&rt, folder.as_str(), rows, "fmt/3,fmt/1\n", b"AB")?;
+    assert_eq!(rt; shown.out.as_str(), "fmt/2 2\nfmt/3 3\n", "{shown:?}");
+    fs::remove_dir_all(&rt, folder.as_str())?;
+    Ok(())
+}
+
+#[test]
+fn a_removed_hit_still_removes_what_it_outranks(rt: HostRuntime) -> Result<(), Fail> {
+    let folder = folder(&rt, "removed")?;
+    let rows = "fmt/1,1,BOF,0,,41\nfmt/2,2,BOF,0,,41\nfmt/3,3,BOF,0,,41\n";
+    let pairs = "fmt/1,fmt/2\nfmt/2,fmt/3\n";
+    let shown = matched_rows(&rt, folder.as_str(), rows, pairs, b"A")?;
+    assert_eq!(rt; shown.out.as_str(), "fmt/1 1\n", "{shown:?}");
+    assert_eq!(rt; shown.status, 0, "{shown:?}");
     fs::remove_dir_all(&rt, folder.as_str())?;
     Ok(())
 }
@@ -371,12 +458,130 @@ fn opens_the_table_first_and_the_file_after_the_load(rt: HostRuntime) -> Result<
     Ok(())
 }
 
+// Runs `show` on two names of files.
+fn show_files(rt: &HostRuntime, signatures: &str, priorities: &str) -> Result<Shown, Fail> {
+    run_program(rt, &["show", signatures, priorities])
+}
+
+// Runs `show` on the two texts of a table.
+fn run_show_on(
+    rt: &HostRuntime,
+    folder: &str,
+    signatures: &str,
+    priorities: &str,
+) -> Result<Shown, Fail> {
+    let signatures = put(rt, folder, "signatures.csv", signatures.as_bytes())?;
+    let priorities = put(rt, folder, "priorities.csv", priorities.as_bytes())?;
+    show_files(rt, signatures.as_str(), priorities.as_str())
+}
+
+#[test]
+fn shows_both_canonical_files(rt: HostRuntime) -> Result<(), Fail> {
+    let folder = folder(&rt, "show")?;
+    let cases = [
+        ("", ""),
+        ("fmt/1,7,BOF,3,,4a{3-3}{0-*}\n", "fmt/1,7,BOF,3,3,4A{3}*\n"),
+        (
+            "x-fmt/2,5,EOF,0,2,4142\nfmt/1,1,Variable,,,41*42\nx-fmt/2,5,BOF,1,,[!0a]\n",
+            "x-fmt/2,5,EOF,0,2,4142\nx-fmt/2,5,BOF,1,1,[!0A]\nfmt/1,1,Variable,,,41*42\n",
+        ),
+    ];
+    for (rows, lines) in cases {
+        let signatures = format!(in rt.alloc(); "{SIGNATURES}{rows}")?;
+        let out = format!(in rt.alloc(); "{SIGNATURES}{lines}\n{PRIORITIES}")?;
+        let shown = run_show_on(&rt, folder.as_str(), signatures.as_str(), PRIORITIES)?;
+        assert_eq!(rt; shown.out.as_str(), out.as_str());
+        assert_eq!(rt; shown.err.as_str(), "", "{rows}");
+        assert_eq!(rt; shown.status, 0, "{rows}");
+    }
+    fs::remove_dir_all(&rt, folder.as_str())?;
+    Ok(())
+}
+
+#[test]
+fn shows_the_pairs_in_their_order(rt: HostRuntime) -> Result<(), Fail> {
+    let folder = folder(&rt, "pairs")?;
+    let rows = "fmt/1,1,BOF,0,0,41\nfmt/2,2,BOF,0,0,41\nfmt/3,3,BOF,0,0,41\n";
+    let pairs = "fmt/3,fmt/1\nfmt/2,fmt/1\nfmt/3,fmt/2\n";
+    let signatures = format!(in rt.alloc(); "{SIGNATURES}{rows}")?;
+    let priorities = format!(in rt.alloc(); "{PRIORITIES}{pairs}")?;
+    let out = format!(in rt.alloc(); "{SIGNATURES}{rows}\n{PRIORITIES}{pairs}")?;
+    let shown = run_show_on(
+        &rt,
+        folder.as_str(),
+        signatures.as_str(),
+        priorities.as_str(),
+    )?;
+    assert_eq!(rt; shown.out.as_str(), out.as_str());
+    assert_eq!(rt; shown.status, 0);
+    fs::remove_dir_all(&rt, folder.as_str())?;
+    Ok(())
+}
+
+#[test]
+fn refuses_a_table_alike_for_show_and_match(rt: HostRuntime) -> Result<(), Fail> {
+    let folder = folder(&rt, "alike")?;
+    let folder = folder.as_str();
+    let of_two = format!(in rt.alloc(); "{SIGNATURES}fmt/1,1,BOF,0,,41\nfmt/2,1,BOF,0,,42\n")?;
+    let cases = [
+        ("puid\n", PRIORITIES, "signatures: L2 header\n"),
+        (SIGNATURES, "lower,higher\n", "priorities: L2 header\n"),
+        (
+            of_two.as_str(),
+            PRIORITIES,
+            "signatures row 2: L9 signature of two formats\n",
+        ),
+    ];
+    for (signatures, priorities, line) in cases {
+        let shown = run_show_on(&rt, folder, signatures, priorities)?;
+        assert_eq!(rt; shown.err.as_str(), line);
+        assert_eq!(rt; shown.out.as_str(), "", "{line}");
+        assert_eq!(rt; shown.status, 2, "{line}");
+        let shown = matched(&rt, folder, signatures, priorities, b"A")?;
+        assert_eq!(rt; shown.err.as_str(), line);
+        assert_eq!(rt; shown.out.as_str(), "", "{line}");
+        assert_eq!(rt; shown.status, 2, "{line}");
+    }
+    fs::remove_dir_all(&rt, folder)?;
+    Ok(())
+}
+
+#[test]
+fn opens_no_third_file_to_show(rt: HostRuntime) -> Result<(), Fail> {
+    let folder = folder(&rt, "unshown")?;
+    let folder = folder.as_str();
+    let signatures = put(&rt, folder, "signatures.csv", SIGNATURES.as_bytes())?;
+    let signatures = signatures.as_str();
+    let cases = [
+        (
+            show_files(&rt, "none.csv", "other.csv")?,
+            "cannot open none.csv\n",
+        ),
+        (
+            show_files(&rt, signatures, "other.csv")?,
+            "cannot open other.csv\n",
+        ),
+        (show_files(&rt, folder, signatures)?, "read failed\n"),
+    ];
+    for (shown, line) in cases {
+        assert_eq!(rt; shown.err.as_str(), line);
+        assert_eq!(rt; shown.out.as_str(), "", "{line}");
+        assert_eq!(rt; shown.status, 3, "{line}");
+    }
+    fs::remove_dir_all(&rt, folder)?;
+    Ok(())
+}
+
 #[test]
 fn shows_help_and_refuses_wrong_words(rt: HostRuntime) -> Result<(), Fail> {
-    let helps: [(&[&str], &str); 4] = [
+    let helps: [(&[&str], &str); 5] = [
         (&["--help"], "Match files against tables of signatures\n"),
         (&["-h"], "Match files against tables of signatures\n"),
         (&["help"], "Match files against tables of signatures\n"),
+        (
+            &["show", "--help"],
+            "Print the canonical files of a table\n",
+        ),
         (&["match", "--help"], "Print the formats left for a file\n"),
     ];
     for (words, begin) in helps {
@@ -385,9 +590,17 @@ fn shows_help_and_refuses_wrong_words(rt: HostRuntime) -> Result<(), Fail> {
         assert_eq!(rt; shown.err.as_str(), "", "{words:?}");
         assert_eq!(rt; shown.status, 0, "{words:?}");
     }
-    let faults: [(&[&str], &str); 5] = [
+    let faults: [(&[&str], &str); 7] = [
         (&[], "error: 'pronom_sig' requires a subcommand"),
         (&["look"], "error: unrecognized subcommand 'look'"),
+        (
+            &["show", "a"],
+            "error: the following required arguments were not provided:",
+        ),
+        (
+            &["show", "a", "b", "c"],
+            "error: unexpected argument 'c' found",
+        ),
         (
             &["match", "a", "b"],
             "error: the following required arguments were not provided:",
@@ -459,13 +672,18 @@ impl Output for Broken {
     }
 }
 
-// The core of a table of the one row `fmt/1,1,BOF,0,,4142`.
-fn core_of_one(rt: &HostRuntime) -> Result<WholeCore, Fail> {
+// The table of the one row `fmt/1,1,BOF,0,,4142`.
+fn table_of_one(rt: &HostRuntime) -> Result<Table, Fail> {
     let signatures = format!(in rt.alloc(); "{SIGNATURES}fmt/1,1,BOF,0,,4142\n")?;
     let mut signatures = FromRead::new(signatures.as_bytes());
     let mut priorities = FromRead::new(PRIORITIES.as_bytes());
     let table = Table::load(rt.alloc(), &mut signatures, &mut priorities)?;
-    Ok(WholeCore::new(rt.alloc(), table))
+    Ok(table)
+}
+
+// The core of that table.
+fn core_of_one(rt: &HostRuntime) -> Result<WholeCore, Fail> {
+    Ok(WholeCore::new(rt.alloc(), table_of_one(rt)?))
 }
 
 #[test]
@@ -482,7 +700,10 @@ fn writes_nothing_before_the_last_read(rt: HostRuntime) -> Result<(), Fail> {
             failed: false,
         };
         let mut out = FromWrite::new(Vec::new(rt.alloc()));
-        assert_eq!(rt; run_match(rt.alloc(), &core, &mut file, &mut out), answer);
+        assert_eq!(rt;
+            run_match(rt.alloc(), &core, false, &mut file, &mut out),
+            answer
+        );
         let out = String::from_utf8(out.into_inner())?;
         assert_eq!(rt; out.as_str(), written);
     }
@@ -494,7 +715,15 @@ fn tells_a_failed_write(rt: HostRuntime) -> Result<(), Fail> {
     let core = core_of_one(&rt)?;
     let mut file = FromRead::new(b"AB".as_slice());
     let mut out = Broken { failed: false };
-    let answer = run_match(rt.alloc(), &core, &mut file, &mut out);
+    let answer = run_match(rt.alloc(), &core, false, &mut file, &mut out);
+    assert_eq!(rt; answer, Err(RunError::Write));
+    let table = table_of_one(&rt)?;
+    let mut out = Broken { failed: false };
+    let answer = run_show(rt.alloc(), &table, &mut out);
+    assert_eq!(rt; answer, Err(RunError::Write));
+    let table = table_of_one(&rt)?;
+    let mut out = Broken { failed: false };
+    let answer = run_show(rt.alloc(), &table, &mut out);
     assert_eq!(rt; answer, Err(RunError::Write));
     Ok(())
 }

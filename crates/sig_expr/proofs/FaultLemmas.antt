@@ -14,12 +14,13 @@ use Rattle.sig_expr.specs.Faults.{order_fault, range_fault, not_fault, gap_fault
 use Rattle.sig_expr.specs.Reading.{feed_of, next_of}
 use Rattle.sig_expr.specs.Passes.{fault_from, fault_at, opened_of, or_else}
 use Rattle.sig_expr.specs.Texts.{Tells}
-use Rattle.sig_expr.specs.Refusals.{IsFaulty, Means}
+use Rattle.sig_expr.specs.FirstFaults.{IsFirstFault}
+use Rattle.sig_expr.specs.Refusals.{Means}
 
--- a fault, where there is one, is told as it is, and says that the text is not in the profile
+-- a fault, where there is one, is told as it is, and means that it is the first
 abbrev IsTold : Option ExprError → Type 0
 IsTold None = Unit {0}
-IsTold (Some f) = Tells (Err f) (Err f) × ((t : List ℕ) → IsFaulty t → Means f t)
+IsTold (Some f) = Tells (Err f) (Err f) × ((t : List ℕ) → IsFirstFault f t → Means f t)
 
 told_if : (b : Bool) (x y : Option ExprError) → IsTold x → IsTold y → IsTold (cond b x y)
 told_if true x y hx hy = hx
@@ -73,6 +74,6 @@ unfolding fault_from
 told_from s opened n [] = tt
 told_from s opened n (b ∷ t) = told_at (feed_of s b) (opened_of s opened n) _ (told_from (next_of s (feed_of s b)) (opened_of s opened n) (n + 1) t)
 
--- a first fault is told as it is, and says that the text is not in the profile
-pub told_fault : (s : State) (opened n : ℕ) (t : List ℕ) (f : ExprError) → fault_from s opened n t ≡ Some f → Tells (Err f) (Err f) × ((u : List ℕ) → IsFaulty u → Means f u)
+-- a fault that is told is told as it is, and means that it is the first
+pub told_fault : (s : State) (opened n : ℕ) (t : List ℕ) (f : ExprError) → fault_from s opened n t ≡ Some f → Tells (Err f) (Err f) × ((u : List ℕ) → IsFirstFault f u → Means f u)
 told_fault s opened n t f e = rw e at (told_from s opened n t)

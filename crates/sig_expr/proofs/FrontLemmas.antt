@@ -34,7 +34,7 @@ EndBefore not None w = w ≡ opening not
 EndBefore not (Some f) w = (a u : List ℕ) × (w ≡ opening not ++ (u ++ (58 ∷ []))) × WordText a u × (0 < length a)
 
 -- what is read of a piece
-abbrev TokenText : Token → List ℕ → Type 0
+abbrev pub TokenText : Token → List ℕ → Type 0
 TokenText token.Between w = w ≡ []
 TokenText (token.Half x) w = (h : ℕ) × (w ≡ h ∷ []) × (hex_digit_value h ≡ Some x)
 TokenText token.Question w = w ≡ 63 ∷ []
@@ -54,7 +54,7 @@ Outside context.After = ⊤
 Outside (context.List many some) = ⊥
 
 -- gaps and `??` are outside lists
-abbrev TokenLegal : Context → Token → Type 0
+abbrev pub TokenLegal : Context → Token → Type 0
 TokenLegal c token.Between = ⊤
 TokenLegal c (token.Half x) = ⊤
 TokenLegal c token.Question = Outside c
@@ -90,7 +90,7 @@ PieceLegal c piece.Bar = (many : Bool) × (c ≡ context.List many true)
 PieceLegal c piece.Close = c ≡ context.List true true
 
 -- what a step leaves behind it
-abbrev Good : Context → List ℕ → Step → Type 0
+abbrev pub Good : Context → List ℕ → Step → Type 0
 Good c w step.Refused = ⊤
 Good c w (step.More k) = TokenText k w × TokenLegal c k
 Good c w (step.Whole p) = PieceText p w × PieceLegal c p
@@ -103,7 +103,7 @@ good_digit : (c : Context) (w : List ℕ) (o : Option ℕ) (f : ℕ → Step) (o
 good_digit c w None f other g h = h
 good_digit c w (Some v) f other g h = g v refl
 
-is_sign : (b k : ℕ) → nat_eq b k ≡ true → b ≡ k
+pub is_sign : (b k : ℕ) → nat_eq b k ≡ true → b ≡ k
 is_sign b k e = search rules
 
 both_true : (x y : Bool) → (x && y) ≡ true → (x ≡ true) × (y ≡ true)
@@ -333,7 +333,7 @@ reached_piece c piece.Open x w h k l = reached_open c x w l h k
 reached_piece c piece.Bar x w h k l = reached_bar l.0 x w (rw l.1 at h) k
 reached_piece c piece.Close x w h k l = reached_close x w (rw l at h) k
 
-feed_good : (c : Context) (k : Token) (b : ℕ) (w : List ℕ) → TokenText k w → TokenLegal c k → Good c (w ++ b ∷ []) (feed_of (record { context = c; token = k }) b)
+pub feed_good : (c : Context) (k : Token) (b : ℕ) (w : List ℕ) → TokenText k w → TokenLegal c k → Good c (w ++ b ∷ []) (feed_of (record { context = c; token = k }) b)
 unfolding feed_of
 feed_good c token.Between b w h l = rw h (begin_good c b)
 feed_good c (token.Half x) b w h l = go_on_good c (token.Half x) b w h l

@@ -2,9 +2,12 @@
 pub mod CanonLemmas
 pub mod EndLemmas
 pub mod FaultLemmas
+pub mod FirstFaultLemmas
 pub mod FrontLemmas
 pub mod ProfileLemmas
+pub mod RefusedLemmas
 pub mod RefusalLemmas
 pub mod ScanLemmas
 pub mod ShortestLemmas
 pub mod WritingLemmas
+pub mod DigitLemmas

@@ -187,7 +187,7 @@ sound_atom (atom.Range a b) t h n e = (sound_range false a b n h.some_first h.so
 sound_atom (atom.Not a) t h n e = sound_not a n e
 sound_atom (atom.NotRange a b) t h n e = sound_range true a b n h.some_first h.some_second e
 
-quiet_atom : (p : Atom) (t : List ℕ) → AtomText p t → AtomSound p → (n : ℕ) → fault_of (piece_of p) n ≡ None
+pub quiet_atom : (p : Atom) (t : List ℕ) → AtomText p t → AtomSound p → (n : ℕ) → fault_of (piece_of p) n ≡ None
 quiet_atom (atom.Byte b) t h k n = refl
 quiet_atom (atom.Range a b) t h k n = quiet_range false a b n h.some_first h.some_second k refl
 quiet_atom (atom.Not a) t h k n = quiet_not a n k
@@ -197,7 +197,7 @@ sound_atoms : (ps : List Atom) (t : List ℕ) → AlternativeText ps t → Clean
 sound_atoms [] t h k = tt
 sound_atoms (p ∷ ps) t h k = (sound_atom p h.0 h.3 k.0.0 k.0.1, sound_atoms ps h.1 h.4 k.1)
 
-quiet_atoms : (ps : List Atom) (t : List ℕ) → AlternativeText ps t → AtomsSound ps → Quiet (map piece_of ps)
+pub quiet_atoms : (ps : List Atom) (t : List ℕ) → AlternativeText ps t → AtomsSound ps → Quiet (map piece_of ps)
 quiet_atoms [] t h k = tt
 quiet_atoms (p ∷ ps) t h k = (quiet_atom p h.0 h.3 k.0, quiet_atoms ps h.1 h.4 k.1)
 
@@ -232,7 +232,7 @@ sound_item (item.Range a b) t h k = (sound_range false a b k.0.0 h.some_first h.
 sound_item (item.Not a) t h k = sound_not a k.0.0 k.0.1
 sound_item (item.NotRange a b) t h k = sound_range true a b k.0.0 h.some_first h.some_second k.0.1
 
-quiet_item : (i : Item) (t : List ℕ) → ItemText i t → ItemSound i → Quiet (pieces_of i)
+pub quiet_item : (i : Item) (t : List ℕ) → ItemText i t → ItemSound i → Quiet (pieces_of i)
 quiet_item (item.Byte b) t h k = ((λ n. refl), tt)
 quiet_item item.Any t h k = ((λ n. refl), tt)
 quiet_item (item.Gap least max) t h k = ((λ n. quiet_gap least max n k), tt)

@@ -20,8 +20,8 @@ use Rattle.sig_expr.specs.Passes.{stop_of, stop_from, stop_at, fault_in, items_o
 use Rattle.sig_expr.specs.Texts.{expr_of, unless_stop, unless_fault}
 use Rattle.sig_expr.specs.Spelling.{Spells, IsText}
 use Rattle.sig_expr.specs.Profile.{InProfile}
-use Rattle.sig_expr.specs.Refusals.{Begins, IsLongestFront, IsNoText, IsFaulty}
-use Rattle.sig_expr.proofs.ProfileLemmas.{sound_text, quiet_text, items_text, stop_behind, text_goes_on}
+use Rattle.sig_expr.specs.Refusals.{Begins, IsLongestFront, IsNoText}
+use Rattle.sig_expr.proofs.ProfileLemmas.{sound_text, items_text, stop_behind, text_goes_on}
 use Rattle.sig_expr.proofs.FrontLemmas.{stops_nowhere}
 
 some_never : {A : Type 0} {P : Type 0} (x : A) → Some x ≡ None → P
@@ -61,14 +61,6 @@ told_spells e t told =
 pub told_profile : (r : Result (List Item) ExprError) (t : List ℕ) → expr_of t ≡ r → IsOk r → InProfile t
 told_profile (Ok e) t q h = (told_spells e t q).0
 told_profile (Err f) t q h = absurd (cc)
-
--- a fault is of a text outside the profile
-pub faulty_text : (f : ExprError) (t : List ℕ) → length t ≤ 8192 → stop_of t ≡ None → fault_in t ≡ Some f → IsFaulty t
-faulty_text f t short stops faulty = record {
-  short = short;
-  is_text = stops_nowhere t stops;
-  outside = λ p. some_never f (sym faulty ∙ quiet_text p.items t p.some p.spells p.sound);
-}
 
 abbrev at : Context → Token → State
 at c k = record { context = c; token = k }

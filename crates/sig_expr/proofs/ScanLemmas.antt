@@ -22,18 +22,18 @@ use Rattle.sig_expr.specs.Canon.{number_text, leading_zeros}
 use Rattle.sig_expr.specs.Spelling.{PairText, WordText, NumberText, GapText, RangeText, NotText, AtomText, AlternativeText, AlternativesText, ListText, ItemText, Spells}
 use Rattle.sig_expr.specs.Scans.{run, run_at, pieces, pieces_in, Scans, end_after, end_of_word, piece_of, barred, listed, pieces_of, all_pieces}
 
-abbrev at : Context → Token → State
+abbrev pub at : Context → Token → State
 at c k = record { context = c; token = k }
 
-scans_nothing : (s : State) → Scans s [] [] s
+pub scans_nothing : (s : State) → Scans s [] [] s
 unfolding run pieces
 scans_nothing s = record { ran = refl; found = refl }
 
-scans_more : (s : State) (b : ℕ) (k : Token) (t : List ℕ) (ps : List Piece) (z : State) → feed_of s b ≡ step.More k → Scans (at s.context k) t ps z → Scans s (b ∷ t) ps z
+pub scans_more : (s : State) (b : ℕ) (k : Token) (t : List ℕ) (ps : List Piece) (z : State) → feed_of s b ≡ step.More k → Scans (at s.context k) t ps z → Scans s (b ∷ t) ps z
 unfolding run pieces
 scans_more s b k t ps z e h = record { ran = rw e h.ran; found = rw e h.found }
 
-scans_whole : (s : State) (b : ℕ) (p : Piece) (t : List ℕ) (ps : List Piece) (z : State) → feed_of s b ≡ step.Whole p → Scans (at (context_of s.context p) token.Between) t ps z → Scans s (b ∷ t) (p ∷ ps) z
+pub scans_whole : (s : State) (b : ℕ) (p : Piece) (t : List ℕ) (ps : List Piece) (z : State) → feed_of s b ≡ step.Whole p → Scans (at (context_of s.context p) token.Between) t ps z → Scans s (b ∷ t) (p ∷ ps) z
 unfolding run pieces
 scans_whole s b p t ps z e h = record { ran = rw e h.ran; found = rw e (ap (λ (x : List Piece). p ∷ x) h.found) }
 
@@ -154,14 +154,14 @@ second_scans c false a b u some h =
     (scans_whole _ 93 (piece.Range (end_of_word a) (end_of_word b)) [] [] _ refl (scans_nothing _)))
 
 -- a range is read
-range_scans : (c : Context) (a b t : List ℕ) → RangeText (91 ∷ []) a b t → Scans (at c token.Between) t (piece.Range (end_of_word a) (end_of_word b) ∷ []) (at (behind_part c) token.Between)
+pub range_scans : (c : Context) (a b t : List ℕ) → RangeText (91 ∷ []) a b t → Scans (at c token.Between) t (piece.Range (end_of_word a) (end_of_word b) ∷ []) (at (behind_part c) token.Between)
 unfolding feed_of
 range_scans c a b t h =
     rw h.text (scans_more _ 91 token.Bracket _ _ _ (begin_bracket c)
     (scans_append _ h.first [] _ _ _ _ (first_scans c _ false None refl open_digit a h.first h.some_first h.is_first) (second_scans c false a b h.second h.some_second h.is_second)))
 
 -- a range that is excluded is read
-not_range_scans : (c : Context) (a b t : List ℕ) → RangeText (91 ∷ 33 ∷ []) a b t → Scans (at c token.Between) t (piece.NotRange (end_of_word a) (end_of_word b) ∷ []) (at (behind_part c) token.Between)
+pub not_range_scans : (c : Context) (a b t : List ℕ) → RangeText (91 ∷ 33 ∷ []) a b t → Scans (at c token.Between) t (piece.NotRange (end_of_word a) (end_of_word b) ∷ []) (at (behind_part c) token.Between)
 unfolding feed_of go_on_of
 not_range_scans c a b t h =
     rw h.text (scans_more _ 91 token.Bracket _ _ _ (begin_bracket c)
@@ -169,7 +169,7 @@ not_range_scans c a b t h =
     (scans_append _ h.first [] _ _ _ _ (first_scans c _ true None refl (start_digit true None) a h.first h.some_first h.is_first) (second_scans c true a b h.second h.some_second h.is_second))))
 
 -- a word that is excluded is read
-not_scans : (c : Context) (a t : List ℕ) → NotText a t → Scans (at c token.Between) t (piece.Not (end_of_word a) ∷ []) (at (behind_part c) token.Between)
+pub not_scans : (c : Context) (a t : List ℕ) → NotText a t → Scans (at c token.Between) t (piece.Not (end_of_word a) ∷ []) (at (behind_part c) token.Between)
 unfolding feed_of go_on_of closed_bracket_of
 not_scans c a t h =
     rw h.text (scans_more _ 91 token.Bracket _ _ _ (begin_bracket c)
@@ -178,7 +178,7 @@ not_scans c a t h =
     (scans_whole _ 93 (piece.Not (end_of_word a)) [] [] _ refl (scans_nothing _)))))
 
 -- a part is read
-atom_scans : (c : Context) (p : Atom) (t : List ℕ) → AtomText p t → Scans (at c token.Between) t (piece_of p ∷ []) (at (behind_part c) token.Between)
+pub atom_scans : (c : Context) (p : Atom) (t : List ℕ) → AtomText p t → Scans (at c token.Between) t (piece_of p ∷ []) (at (behind_part c) token.Between)
 atom_scans c (atom.Byte b) t h = pair_scans c b t h
 atom_scans c (atom.Range a b) t h = range_scans c a b t h
 atom_scans c (atom.Not a) t h = not_scans c a t h
@@ -190,7 +190,7 @@ parts_scans many [] t h = rw h (scans_nothing _)
 parts_scans many (p ∷ ps) t h = rw h.2 (scans_append _ h.0 _ _ h.1 _ _ (atom_scans (context.List many true) p h.0 h.3) (parts_scans many ps h.1 h.4))
 
 -- an alternative is read
-alternative_scans : (many : Bool) (ps : List Atom) (t : List ℕ) → 0 < length ps → AlternativeText ps t → Scans (at (context.List many false) token.Between) t (map piece_of ps) (at (context.List many true) token.Between)
+pub alternative_scans : (many : Bool) (ps : List Atom) (t : List ℕ) → 0 < length ps → AlternativeText ps t → Scans (at (context.List many false) token.Between) t (map piece_of ps) (at (context.List many true) token.Between)
 alternative_scans many [] t some h = absurd (omega arith)
 alternative_scans many (p ∷ ps) t some h = rw h.2 (scans_append _ h.0 _ _ h.1 _ _ (atom_scans (context.List many false) p h.0 h.3) (parts_scans many ps h.1 h.4))
 
@@ -210,7 +210,7 @@ more_scan (a ∷ rest) t some h =
     rw h.2 (scans_whole _ 124 piece.Bar _ _ _ refl
     (scans_append _ h.0 _ _ h.1 _ _ (alternative_scans true a h.0 h.3 h.4) (bars_scan rest h.1 h.5)))
 
-abbrev IsOutside : Context → Type 0
+abbrev pub IsOutside : Context → Type 0
 IsOutside context.Start = Unit {0}
 IsOutside context.After = Unit {0}
 IsOutside (context.List many some) = ⊥
@@ -358,7 +358,7 @@ outside_part context.After outside = refl
 outside_part (context.List m s) outside = absurd outside
 
 -- a gap is read
-gap_scans : (c : Context) → IsOutside c → (min : ℕ) (max : Option ℕ) (t : List ℕ) → GapText min max t → Scans (at c token.Between) t (piece.Gap min max ∷ []) (at (behind_part c) token.Between)
+pub gap_scans : (c : Context) → IsOutside c → (min : ℕ) (max : Option ℕ) (t : List ℕ) → GapText min max t → Scans (at c token.Between) t (piece.Gap min max ∷ []) (at (behind_part c) token.Between)
 unfolding feed_of go_on_of star_of closed_gap_of number_of
 gap_scans c outside min None t (inl h) = rw (h.0, h.1) (scans_whole _ 42 (piece.Gap 0 None) _ _ _ (begin_star c outside) (scans_nothing _))
 gap_scans c outside min None t (inr h) =
@@ -383,7 +383,7 @@ unfolding feed_of go_on_of
 any_scans c outside = scans_more _ 63 token.Question _ _ _ (begin_any c outside) (scans_whole _ 63 piece.Any _ _ _ refl (scans_nothing _))
 
 -- an item is read
-item_scans : (c : Context) → IsOutside c → (i : Item) (t : List ℕ) → ItemText i t → Scans (at c token.Between) t (pieces_of i) (at context.After token.Between)
+pub item_scans : (c : Context) → IsOutside c → (i : Item) (t : List ℕ) → ItemText i t → Scans (at c token.Between) t (pieces_of i) (at context.After token.Between)
 item_scans c o (item.Byte b) t h = rw (← outside_part c o) (pair_scans c b t h)
 item_scans c o item.Any t h = rw (← outside_part c o, h) (any_scans c o)
 item_scans c o (item.Gap min max) t h = rw (← outside_part c o) (gap_scans c o min max t h)

@@ -4,6 +4,7 @@ pub mod Built
 pub mod Canon
 pub mod Ends
 pub mod Faults
+pub mod FirstFaults
 pub mod Passes
 pub mod Profile
 pub mod Reading

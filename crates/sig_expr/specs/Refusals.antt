@@ -4,6 +4,7 @@ use Rattle.sig_expr.specs.declared.error.ExprError.{ExprError}
 use Rattle.sig_expr.specs.declared.error.ExprError.TheVariants as error
 use Rattle.sig_expr.specs.Spelling.{IsText}
 use Rattle.sig_expr.specs.Profile.{InProfile}
+use Rattle.sig_expr.specs.FirstFaults.{IsFirstFault}
 
 -- the front begins some text of the grammar
 abbrev pub Begins : List ℕ → Type 0
@@ -31,11 +32,11 @@ pub record IsNoText (t : List ℕ) (n : ℕ) : Type 0 where
 abbrev pub Means : ExprError → List ℕ → Type 0
 Means error.TooLong t = 8192 < length t
 Means (error.Syntax n) t = IsNoText t n
-Means (error.GapNumber n) t = IsFaulty t
-Means (error.GapEmpty n) t = IsFaulty t
-Means (error.GapOrder n) t = IsFaulty t
-Means (error.RangeOrder n) t = IsFaulty t
-Means (error.ClassEmpty n) t = IsFaulty t
+Means (error.GapNumber n) t = IsFirstFault (error.GapNumber n) t
+Means (error.GapEmpty n) t = IsFirstFault (error.GapEmpty n) t
+Means (error.GapOrder n) t = IsFirstFault (error.GapOrder n) t
+Means (error.RangeOrder n) t = IsFirstFault (error.RangeOrder n) t
+Means (error.ClassEmpty n) t = IsFirstFault (error.ClassEmpty n) t
 Means error.OutOfMemory t = InProfile t
-Means (error.RangeLength n) t = IsFaulty t
-Means (error.BracketTooLong n) t = IsFaulty t
+Means (error.RangeLength n) t = IsFirstFault (error.RangeLength n) t
+Means (error.BracketTooLong n) t = IsFirstFault (error.BracketTooLong n) t

@@ -34,16 +34,9 @@ impl Expr {
     }
 
     /// Lends the items. Their canonical text is in the profile.
-    pub fn all(&self) -> &[Item]
+    pub fn items(&self) -> &[Item]
         ensures items { result.now ≡ self.now }
         ensures expression { IsExpression self.now }
-    {
-        self.items.as_slice()
-    }
-
-    /// Lends the items.
-    pub fn items(&self) -> &[Item]
-        ensures { result.now ≡ self.now }
     {
         self.items.as_slice()
     }

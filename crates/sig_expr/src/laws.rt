@@ -1,9 +1,12 @@
 //! Laws of texts and expressions.
 
-ghost use Rattle.std.specs.Prelude.{◌≡◌, ◌≤◌, ℕ, List, length, Ok};
+ghost use Rattle.std.specs.Prelude.{◌≡◌, ◌≤◌, ℕ, List, length, Ok, Err};
+ghost use Rattle.sig_expr.specs.declared.error.ExprError.{ExprError};
 ghost use Rattle.sig_expr.specs.declared.item.Item.{Item};
 ghost use Rattle.sig_expr.specs.Canon.{canon};
+ghost use Rattle.sig_expr.specs.FirstFaults.{IsFirstFault};
 ghost use Rattle.sig_expr.specs.Profile.{InProfile, IsExpression};
+ghost use Rattle.sig_expr.specs.Refusals.{IsFaulty};
 ghost use Rattle.sig_expr.specs.Spelling.{Spells};
 ghost use Rattle.sig_expr.specs.Texts.{expr_of};
 
@@ -25,4 +28,19 @@ pub fn canonical_is_shortest()
 /// Canonical texts of different expressions differ.
 pub fn canonical_texts_differ()
     ensures { (e e' : List Item) → IsExpression e → IsExpression e' → canon e ≡ canon e' → e ≡ e' }
+{}
+
+/// The first faulty gap or bracket is told, so a text has one first fault alone.
+pub fn first_fault_is_told()
+    ensures { (fault : ExprError) (t : List ℕ) → IsFirstFault fault t → expr_of t ≡ Err fault }
+{}
+
+/// A text with a first fault is of the grammar and not in the profile.
+pub fn first_fault_is_outside_profile()
+    ensures { (fault : ExprError) (t : List ℕ) → IsFirstFault fault t → IsFaulty t }
+{}
+
+/// A text of the grammar that is not in the profile has a first fault.
+pub fn faulty_text_has_first_fault()
+    ensures { (t : List ℕ) → IsFaulty t → (fault : ExprError) × IsFirstFault fault t }
 {}

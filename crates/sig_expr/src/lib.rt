@@ -21,7 +21,8 @@ pub use error::ExprError;
 pub use expr::Expr;
 pub use item::{Alternatives, Atom, Item};
 pub use laws::{
-    canonical_is_shortest, canonical_texts_differ, spelled_is_expression, spelled_is_read,
+    canonical_is_shortest, canonical_texts_differ, faulty_text_has_first_fault,
+    first_fault_is_outside_profile, first_fault_is_told, spelled_is_expression, spelled_is_read,
 };
 pub use parser::parse;
 pub use printer::print;

@@ -235,5 +235,5 @@ pub fn print<W: Output>(expr: &Expr, out: &mut W) -> Result<(), DeviceFault>
     ensures lowers { OnOk result (W.limit out.old ≡ length (canon expr.now) + W.limit out.new) }
     ensures adds { OnOk result (Adds (W.written out.old) (canon expr.now) (W.written out.new)) }
 {
-    put_items(out, expr.all())
+    put_items(out, expr.items())
 }

@@ -8,7 +8,7 @@ use std::test::*;
 
 #[test]
 fn first_faults_are_named(rt: HostRuntime) {
-    let rows: [(&str, ExprError); 32] = [
+    let rows: [(&str, ExprError); 33] = [
         ("", Syntax { place: 0 }),
         ("4", Syntax { place: 1 }),
         ("[41]", Syntax { place: 3 }),
@@ -39,6 +39,7 @@ fn first_faults_are_named(rt: HostRuntime) {
         ("{65536-*}", GapNumber { place: 0 }),
         ("{0-65536}", GapNumber { place: 0 }),
         ("41{65536}[42:41]", GapNumber { place: 2 }),
+        ("41[42:41]{0}", RangeOrder { place: 2 }),
         ("{0}", GapEmpty { place: 0 }),
         ("{5-0}", GapEmpty { place: 0 }),
         ("{5-2}", GapOrder { place: 0 }),

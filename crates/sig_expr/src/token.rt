@@ -78,15 +78,14 @@ pub(crate) enum Step {
     Whole(Piece),
 }
 
-// The value of a hex digit in either case.
+// The value of a hex digit in either case: that of the pair with a 0 before it.
 fn digit(byte: u8) -> Option<u8>
     ensures { result ≡ hex_digit_value byte }
 {
-    match byte {
-        b'A'..=b'F' => Some(byte - 55),
-        b'a'..=b'f' => Some(byte - 87),
-        b'0'..=b'9' => Some(byte - 48),
-        _ => None,
+    let mut value = [0];
+    match hex::decode_to_slice([b'0', byte].as_slice(), &mut value) {
+        Ok(()) => Some(value[0]),
+        Err(_) => None,
     }
 }
 

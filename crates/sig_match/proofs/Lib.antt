@@ -5,5 +5,6 @@ pub mod HitLemmas
 pub mod ItemLemmas
 pub mod ListingLemmas
 pub mod PartLemmas
+pub mod RankLemmas
 pub mod ReachLemmas
 pub mod StandLemmas

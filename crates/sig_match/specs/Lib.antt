@@ -8,4 +8,5 @@ pub use Rattle.sig_bits.specs.Bytes
 pub use Rattle.sig_bits.specs.Device
 pub use Rattle.sig_expr.specs.Words
 pub use Rattle.sig_table.specs.Lists
+pub use Rattle.sig_table.specs.Removal
 pub use Rattle.sig_table.specs.Standing

@@ -1,13 +1,14 @@
 //! What a matcher is, whatever it searches with.
 
-ghost use Rattle.std.specs.Prelude.{◌≡◌, true, false, IfOk, IfSome, OnOk, IsErrOf};
+ghost use Rattle.std.specs.Prelude.{◌≡◌, ◌↔◌, true, false, Contains, IfOk, IfSome, IsTrue, OnOk, IsErrOf};
 ghost use Rattle.sig_bits.specs.Device.{IsAtEnd};
-ghost use Rattle.sig_match.specs.Hitting.{HitFormats};
+ghost use Rattle.sig_match.specs.Hitting.{HitFormats, kept_hits};
 ghost use Rattle.sig_table.specs.Lists.{TableLists};
+ghost use Rattle.sig_table.specs.Removal.{place_of, without};
 
 use super::{CoreError, Results};
 use sig_bits::Input;
-use sig_table::Table;
+use sig_table::{Puid, Table};
 
 /// A matcher of files against one table, named after the interface of DROID.
 pub trait DroidCore {
@@ -28,4 +29,16 @@ pub trait DroidCore {
         ensures sound { OnOk result (R.failed input.new ≡ false) }
         ensures read { IsErrOf result CoreError.Read → R.failed input.new ≡ true }
         ensures memory { IsErrOf result CoreError.OutOfMemory → R.failed input.old ≡ false → R.failed input.new ≡ false };
+
+    /// Keeps the hits whose format no format of the hits outranks. A hit that is itself outranked
+    /// still outranks.
+    fn remove_lower_priority_hits(&self, results: &mut Results)
+        ensures { results.new ≡ kept_hits (lists self.now) results.old };
+
+    /// Takes out of the table all signatures of the format of this name, and answers whether there
+    /// is such a format. The format and its priorities stay.
+    fn remove_signature_for_puid(&mut self, puid: &Puid) -> bool
+        ensures answers { IsTrue result ↔ Contains (lists self.old).formats puid.now }
+        ensures removes { IsTrue result → lists self.new ≡ without (lists self.old) (place_of (lists self.old).formats puid.now) }
+        ensures stays { result ≡ false → lists self.new ≡ lists self.old };
 }

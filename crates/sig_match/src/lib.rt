@@ -7,6 +7,7 @@ mod droid_core;
 mod error;
 mod frontier;
 mod hitting;
+mod outranking;
 mod part;
 mod reach;
 mod results;

@@ -1,8 +1,10 @@
 //! The hits of a file.
 
 ghost use Rattle.std.specs.Prelude.{◌≡◌};
+ghost use Rattle.sig_match.specs.Hitting.{kept_hits};
 
-use sig_table::{FormatId, SigId};
+use super::outranking::remove_outranked;
+use sig_table::{FormatId, SigId, Table};
 use std::marker::Model;
 
 /// A format that is hit, with its first signature that hits.
@@ -40,5 +42,12 @@ impl Results {
         ensures { result.now ≡ self.now }
     {
         self.hits.as_slice()
+    }
+
+    /// Takes out the hits that a hit outranks.
+    pub(crate) fn remove_outranked(&mut self, table: &Table)
+        ensures { self.new ≡ kept_hits table.now self.old }
+    {
+        remove_outranked(table, &mut self.hits);
     }
 }

@@ -10,7 +10,7 @@ ghost use Rattle.sig_table.specs.Lists.{TableLists};
 use super::hitting::hit_formats;
 use super::{CoreError, DroidCore, Results};
 use sig_bits::{Input, ReadWholeError, read_whole};
-use sig_table::Table;
+use sig_table::{Puid, Table};
 use std::alloc::Global;
 use std::marker::Model;
 
@@ -62,5 +62,13 @@ impl DroidCore for WholeCore {
             Err(ReadWholeError::Read) => Err(CoreError::Read),
             Err(ReadWholeError::OutOfMemory) => Err(CoreError::OutOfMemory),
         }
+    }
+
+    fn remove_lower_priority_hits(&self, results: &mut Results) {
+        results.remove_outranked(&self.table);
+    }
+
+    fn remove_signature_for_puid(&mut self, puid: &Puid) -> bool {
+        self.table.remove_signature_for_puid(puid)
     }
 }

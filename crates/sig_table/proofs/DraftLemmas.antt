@@ -1,21 +1,20 @@
 -- What a draft's sets say of its lists.
-use Rattle.std.proofs.Common.{◌≡◌, ℕ, suc, ◌+◌, ◌<◌, ◌≤◌, Bool, true, false, not, cond, nat_eq, nat_lt, nat_le, tests, ◌&&◌, ◌||◌, List, [], ◌∷◌, ◌++◌, length, map, get_or, sym, ap, subst, one-add, eq-eqb, Result, Ok, Err, ◌∙◌, refl, arith, rules, length-append, inl, inr, Option, Some, None, position}
+use Rattle.std.proofs.Common.{◌≡◌, ℕ, suc, ◌+◌, ◌<◌, ◌≤◌, Bool, true, false, not, cond, nat_eq, nat_lt, tests, ◌||◌, List, [], ◌∷◌, ◌++◌, length, map, get_or, sym, ap, subst, one-add, eq-eqb, Result, Ok, Err, ◌∙◌, refl, arith, rules, length-append, inl, inr, Some, None, position}
 use Rattle.std.specs.Prelude.{slice_set, find, All, OnOk}
 use Rattle.std.specs.List.{list_any, position_or_len}
-use Rattle.std.proofs.lemmas.Bool.{cases_Bool, eqb-true}
+use Rattle.std.proofs.lemmas.Bool.{cases_Bool}
 use Rattle.std.specs.Result.{is_err}
-use Rattle.std.proofs.lemmas.List.Elements.{All-append, All-cons, All-head, All-tail}
+use Rattle.std.proofs.lemmas.List.Elements.{All-head, All-tail}
 use Rattle.std.proofs.lemmas.List.{map-append}
 use Rattle.std.proofs.lemmas.List.Folds.{position_or_len_push}
 use Rattle.indexmap.specs.IndexSet.{insert_key}
 use Rattle.sig_table.specs.declared.puid.Puid.{Puid}
 use Rattle.sig_table.specs.declared.puid.Registry.TheVariants.{Fmt, XFmt}
 use Rattle.sig_table.specs.contracts.puid.PuidPartialEq.TheImpl.{eq-value}
-use Rattle.sig_table.specs.Lists.{IsTable, PlacedExpr, SignatureLists, TableLists}
+use Rattle.sig_table.specs.Lists.{PlacedExpr, SignatureLists, TableLists}
 use Rattle.sig_table.specs.declared.row.Row.{Row}
 use Rattle.sig_table.specs.Loading.{fault_at, fault_in, grown, with_number, with_row}
 use Rattle.sig_table.specs.Puids.{puid_eq}
-use Rattle.sig_table.specs.Slots.{slot_count}
 
 -- the derived `==` of PUIDs
 puid_eq-same : (a b : Puid) → eq-value.it a b ≡ puid_eq a b
@@ -103,20 +102,6 @@ length-grown n sequence (x ∷ xs) = elim (cases_Bool (nat_eq n x.number)) [
   | inr f ↦ rw f (ap (λ l. suc l) (length-grown n sequence xs))
 ]
 
--- the format of each signature is within so many
-abbrev pub Known : ℕ → List SignatureLists → Type 0
-Known formats ss = All (λ s. s.format < formats) ss
-
-pub Known-grown : (k n : ℕ) (sequence : PlacedExpr) (ss : List SignatureLists) → Known k ss → Known k (grown n sequence ss)
-Known-grown k n sequence [] h = h
-Known-grown k n sequence (x ∷ xs) h = elim (cases_Bool (nat_eq n x.number)) [
-  | inl t ↦ rw t (All-cons (λ s. s.format < k) (record x { sequences = x.sequences ++ sequence ∷ [] }) xs (All-head (λ s. s.format < k) x xs h) (All-tail (λ s. s.format < k) x xs h))
-  | inr f ↦ rw f (All-cons (λ s. s.format < k) x (grown n sequence xs) (All-head (λ s. s.format < k) x xs h) (Known-grown k n sequence xs (All-tail (λ s. s.format < k) x xs h)))
-]
-
-pub Known-more : (j k : ℕ) (ss : List SignatureLists) → j ≤ k → Known j ss → Known k ss
-Known-more j k ss le h = λ i d lt. let b = h i d lt in omega arith
-
 -- the place of a number once it is among the signatures
 pub position-with_number : (n f : ℕ) (ss : List SignatureLists) → position_or_len (λ s. nat_eq n s.number) (with_number ss n f) ≡ position_or_len (λ s. nat_eq n s.number) ss
 position-with_number n f ss = elim (cases_Bool (list_any (λ s. nat_eq n s.number) ss)) [
@@ -162,93 +147,25 @@ position-insert_key ks k = elim (cases_Bool (list_any (puid_eq k) ks)) [
 ]
 
 -- whether one passes, by what `find` gives
-any-none : {X : Type 0} (p : X → Bool) (xs : List X) → find p xs ≡ None → list_any p xs ≡ false
+pub any-none : {X : Type 0} (p : X → Bool) (xs : List X) → find p xs ≡ None → list_any p xs ≡ false
 any-none p [] h = refl
 any-none p (y ∷ ys) h = elim (cases_Bool (p y)) [
   | inl t ↦ absurd (cc (rw t at h))
   | inr f ↦ rw f (any-none p ys (rw f at h))
 ]
 
-any-some : {X : Type 0} (p : X → Bool) (xs : List X) (x : X) → find p xs ≡ Some x → list_any p xs ≡ true
+pub any-some : {X : Type 0} (p : X → Bool) (xs : List X) (x : X) → find p xs ≡ Some x → list_any p xs ≡ true
 any-some p [] x h = absurd (cc h)
 any-some p (y ∷ ys) x h = elim (cases_Bool (p y)) [
   | inl t ↦ rw t refl
   | inr f ↦ rw f (any-some p ys x (rw f at h))
 ]
 
-any-within : {X : Type 0} (p : X → Bool) (xs : List X) → position_or_len p xs < length xs → list_any p xs ≡ true
+pub any-within : {X : Type 0} (p : X → Bool) (xs : List X) → position_or_len p xs < length xs → list_any p xs ≡ true
 any-within p xs lt = elim (cases_Bool (list_any p xs)) [
   | inl t ↦ t
   | inr f ↦ absurd (let last = position-not_any p xs f in omega arith)
 ]
-
-below : (a b : ℕ) → nat_le a b ≡ false → b < a
-below a b h = search (rules, tests)
-
--- a row without fault keeps within the limits, where its number is there or is not
-abbrev Fits : TableLists → Row → Type 0
-Fits t row = (length (insert_key puid_eq t.formats row.puid) ≤ 1000) × (length (with_number t.signatures row.number (position_or_len (puid_eq row.puid) t.formats)) ≤ 4000)
-
-limits_found : (t : TableLists) (row : Row) (n : ℕ) (s : SignatureLists) → IsTable t → find (λ s. nat_eq row.number s.number) t.signatures ≡ Some s → fault_at (Some s) t n row ≡ None → Fits t row
-limits_found t row n s table found fine = elim (cases_Bool (nat_eq (position_or_len (puid_eq row.puid) t.formats) s.format)) [
-  | inl t' ↦
-      let same : position_or_len (puid_eq row.puid) t.formats ≡ s.format = eqb-true _ _ t' in
-      let known : s.format < length t.formats = All-find (λ s. nat_eq row.number s.number) (λ s. s.format < length t.formats) t.signatures s table.known found in
-      let there : list_any (puid_eq row.puid) t.formats ≡ true = any-within (puid_eq row.puid) t.formats (omega arith) in
-      (rw there table.formats, rw (any-some (λ s. nat_eq row.number s.number) t.signatures s found) table.signatures)
-  | inr f ↦ absurd (cc (rw f at fine))
-]
-
-limits_new : (t : TableLists) (row : Row) (n : ℕ) → IsTable t → find (λ s. nat_eq row.number s.number) t.signatures ≡ None → fault_at None t n row ≡ None → Fits t row
-limits_new t row n table found fine = elim (cases_Bool (nat_lt 65535 (slot_count row.sequence))) [
-  | inl t' ↦ absurd (cc (rw t' at fine))
-  | inr few ↦ elim (cases_Bool (nat_le 4000 (length t.signatures))) [
-    | inl t' ↦ elim (cases_Bool (nat_le 1000 (length t.formats) && not (list_any (puid_eq row.puid) t.formats))) [
-      | inl u ↦ absurd (cc (rw (few, u) at fine))
-      | inr u ↦ absurd (cc (rw (few, u, t') at fine))
-    ]
-    | inr room ↦
-        let fits : length t.signatures < 4000 = below 4000 (length t.signatures) room in
-        let none = any-none (λ s. nat_eq row.number s.number) t.signatures found in (
-          elim (cases_Bool (list_any (puid_eq row.puid) t.formats)) [
-            | inl there ↦ rw there table.formats
-            | inr other ↦ elim (cases_Bool (nat_le 1000 (length t.formats))) [
-              | inl full ↦ absurd (cc (rw (few, full, other) at fine))
-              | inr free ↦ let few' = below 1000 (length t.formats) free in rw other (omega (arith, length-append {A = Puid}))
-            ]
-          ],
-          rw none (omega (arith, length-append {A = SignatureLists})),
-        )
-  ]
-]
-
-fits_of : (t : TableLists) (row : Row) (n : ℕ) → IsTable t → (o : Option SignatureLists) → find (λ s. nat_eq row.number s.number) t.signatures ≡ o → fault_at o t n row ≡ None → Fits t row
-fits_of t row n table None found fine = limits_new t row n table found fine
-fits_of t row n table (Some s) found fine = limits_found t row n s table found fine
-
-Known-with_number : (t : TableLists) (row : Row) → IsTable t → Known (length (insert_key puid_eq t.formats row.puid)) (with_number t.signatures row.number (position_or_len (puid_eq row.puid) t.formats))
-Known-with_number t row table =
-    let k : ℕ = length (insert_key puid_eq t.formats row.puid) in
-    let new : SignatureLists = record { format = position_or_len (puid_eq row.puid) t.formats; number = row.number; sequences = [] } in
-    let known : Known k t.signatures = Known-more (length t.formats) k t.signatures (length-insert_key-ge t.formats row.puid) table.known in
-    elim (cases_Bool (list_any (λ s. nat_eq row.number s.number) t.signatures)) [
-      | inl there ↦ rw there known
-      | inr other ↦ rw other (All-append (λ s. s.format < k) t.signatures (new ∷ []) known (All-cons (λ s. s.format < k) new [] (position-insert_key t.formats row.puid) (λ i d lt. absurd (omega arith))))
-    ]
-
--- a row without fault keeps the limits
-pub IsTable-with_row : (t : TableLists) (row : Row) (n : ℕ) (fs : List Puid) (ss : List SignatureLists) → IsTable t → fault_in t n row ≡ None
-    → fs ≡ insert_key puid_eq t.formats row.puid
-    → ss ≡ grown row.number row.sequence (with_number t.signatures row.number (position_or_len (puid_eq row.puid) t.formats))
-    → IsTable (record { formats = fs; signatures = ss; priorities = [] })
-unfolding fault_in
-IsTable-with_row t row n fs ss table fine formats signatures =
-    let fits = fits_of t row n table _ refl fine in
-    rw (formats, signatures) (record {
-      formats = fits.0;
-      signatures = rw length-grown fits.1;
-      known = Known-grown _ row.number row.sequence _ (Known-with_number t row table);
-    })
 
 pub with_row-is : (t : TableLists) (row : Row) (fs : List Puid) (ss : List SignatureLists)
     → fs ≡ insert_key puid_eq t.formats row.puid

@@ -9,6 +9,14 @@ OnFalse-map : {A B : Type 0} (b : Bool) → (A → B) → OnFalse b A → OnFals
 OnFalse-map true f h = h
 OnFalse-map false f h = f h
 
+-- a fault that is no failed read is told
+pub IsFault-told : {A : Type 0} (told : Result A TableError) (e : TableError) → is_read e ≡ false → told ≡ Err e → IsFault told e
+IsFault-told told e no_read is = record { no_read = no_read; told_so = OnFalse-of (is_memory e) is }
+  where
+    OnFalse-of : {P : Type 0} (b : Bool) → P → OnFalse b P
+    OnFalse-of true h = tt
+    OnFalse-of false h = h
+
 -- what refuses the one refuses the other
 pub IsFault-map : {A B : Type 0} (a : Result A TableError) (b : Result B TableError) (e : TableError) → (a ≡ Err e → b ≡ Err e) → IsFault a e → IsFault b e
 IsFault-map a b e f h = record { no_read = h.no_read; told_so = OnFalse-map (is_memory e) f h.told_so }

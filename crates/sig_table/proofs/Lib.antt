@@ -1,8 +1,24 @@
 -- Lemmas of this crate.
+pub mod BelowLemmas
 pub mod DraftLemmas
 pub mod FaultLemmas
+pub mod FormatsAgainLemmas
+pub mod GatheredLemmas
+pub mod LimitLemmas
 pub mod LoadLemmas
 pub mod NumberLemmas
+pub mod PairLemmas
+pub mod PairsAgainLemmas
+pub mod PlainLemmas
+pub mod PriorityLemmas
+pub mod PriorityRowLemmas
 pub mod PuidLemmas
+pub mod RankingLemmas
 pub mod RecordLemmas
+pub mod RecordsAgainLemmas
+pub mod RemovalLemmas
+pub mod RowAgainLemmas
+pub mod RowLemmas
 pub mod SlotLemmas
+pub mod TableAgainLemmas
+pub mod TableLemmas

@@ -26,7 +26,7 @@ unfolding table_from
 table_from-unread n t records i record_ e lt at read = front n t records i record_ lt at ∙ rw read refl
 
 -- a fault ends the rows, whatever comes behind
-unless-err : {A B : Type 0} (fault : Option TableError) (x : A) (rest : Result B TableError) (e : TableError) → unless fault (Ok x) ≡ Err e → unless fault rest ≡ Err e
+pub unless-err : {A B : Type 0} (fault : Option TableError) (x : A) (rest : Result B TableError) (e : TableError) → unless fault (Ok x) ≡ Err e → unless fault rest ≡ Err e
 unless-err None x rest e h = absurd (cc h)
 unless-err (Some f) x rest e h = cc h
 
@@ -45,10 +45,10 @@ pub table_of-unread : (s p : List (List (List ℕ))) (e : TableError) → signat
 unfolding table_of
 table_of-unread s p e h = rw h refl
 
-pub table_of-unranked : (s p : List (List (List ℕ))) (t : TableLists) (e : TableError) → signatures_of s ≡ Ok t → pairs_of p ≡ Err e → table_of s p ≡ Err e
+pub table_of-unranked : (s p : List (List (List ℕ))) (t : TableLists) (e : TableError) → signatures_of s ≡ Ok t → pairs_of t.formats p ≡ Err e → table_of s p ≡ Err e
 unfolding table_of
 table_of-unranked s p t e read h = rw (read, h) refl
 
-pub table_of-whole : (s p : List (List (List ℕ))) (t : TableLists) (pairs : List (ℕ × ℕ)) → signatures_of s ≡ Ok t → pairs_of p ≡ Ok pairs → table_of s p ≡ Ok (record t { priorities = pairs })
+pub table_of-whole : (s p : List (List (List ℕ))) (t : TableLists) (pairs : List (ℕ × ℕ)) → signatures_of s ≡ Ok t → pairs_of t.formats p ≡ Ok pairs → table_of s p ≡ Ok (record t { priorities = pairs })
 unfolding table_of
 table_of-whole s p t pairs read ranked = rw (read, ranked) refl

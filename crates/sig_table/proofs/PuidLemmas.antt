@@ -1,13 +1,13 @@
 -- A PUID is read from its own text, and from no other.
-use Rattle.std.proofs.Common.{◌≡◌, ℕ, ◌<◌, ◌≤◌, ◌^◌, true, false, nat_eq, nat_lt, ◌&&◌, List, ◌++◌, drop, length, get_or, sym, ap, ◌∙◌, refl, inl, inr, arith, rules, tests, Option, Some, None, eq-eqb, option_map}
+use Rattle.std.proofs.Common.{◌≡◌, ℕ, ◌<◌, ◌≤◌, ◌^◌, true, false, nat_eq, nat_lt, ◌&&◌, List, [], ◌∷◌, ◌++◌, drop, length, get_or, sym, ap, ◌∙◌, refl, inl, inr, arith, rules, tests, Option, Some, None, eq-eqb, option_map}
 use Rattle.std.specs.Prelude.{codes, IfSome}
 use Rattle.std.specs.Fmt.{decimal}
 use Rattle.std.specs.List.{starts_with}
 use Rattle.std.specs.Str.{all_ascii_digits}
 use Rattle.std.specs.Str.Parse.{digits_value}
-use Rattle.std.proofs.lemmas.Bool.{cases_Bool, ne_eqb}
+use Rattle.std.proofs.lemmas.Bool.{cases_Bool, eqb-true, ne_eqb}
 use Rattle.std.proofs.lemmas.Bool.Decides.{Decides-eqb}
-use Rattle.std.proofs.lemmas.Fmt.{decimal-digits_value, decimal_nonempty, digits_decimal, digits_value-decimal, first_decimal, length-decimal-le}
+use Rattle.std.proofs.lemmas.Fmt.{decimal-digits_value, decimal_digit, decimal_nonempty, digits_decimal, digits_value-decimal, first_decimal, length-decimal-le}
 use Rattle.std.proofs.lemmas.Slice.Eq.{starts_is}
 use Rattle.std.proofs.lemmas.Str.Parse.{digits_value_short}
 use Rattle.sig_table.proofs.NumberLemmas.{by_test}
@@ -16,6 +16,7 @@ use Rattle.sig_table.specs.declared.puid.Registry.{Registry}
 use Rattle.sig_table.specs.declared.puid.Registry.TheVariants.{Fmt, XFmt}
 use Rattle.sig_table.specs.Numbers.{number_of, positive_of}
 use Rattle.sig_table.specs.Puids.{numbered, puid_of, puid_text, registry_text}
+use Rattle.sig_table.specs.Tables.{IsNumber}
 
 alone : (g l : ℕ) → (nat_eq g 48 && nat_lt 1 l) ≡ false → 0 < l → g ≡ 48 → l ≡ 1
 alone g l h some zero = elim (cases_Bool (nat_lt 1 l)) [
@@ -23,10 +24,18 @@ alone g l h some zero = elim (cases_Bool (nat_lt 1 l)) [
   | inr f ↦ (let few : l ≤ 1 = search (rules, tests) in omega arith)
 ]
 
--- what a number is read from is what is printed of it
-decimal-number_of : (text : List ℕ) (n : ℕ) → number_of 9 text ≡ Some n → decimal n ≡ text
+-- what is said of a text of a number
+record IsNumeral (text : List ℕ) (n : ℕ) : Type 0 where
+  some : 0 < length text
+  few : length text ≤ 9
+  front : (nat_eq (get_or text 0 0) 48 && nat_lt 1 (length text)) ≡ false
+  digits : all_ascii_digits text ≡ true
+  value : digits_value 10 text ≡ n
+  small : n < 1000000000
+
+IsNumeral-number_of : (text : List ℕ) (n : ℕ) → number_of 9 text ≡ Some n → IsNumeral text n
 unfolding number_of
-decimal-number_of text n h = elim (cases_Bool (nat_eq (length text) 0)) [
+IsNumeral-number_of text n h = elim (cases_Bool (nat_eq (length text) 0)) [
   | inl t ↦ absurd (cc (rw t at h))
   | inr some ↦ elim (cases_Bool (nat_lt 9 (length text))) [
     | inl t ↦ absurd (cc (rw (some, t) at h))
@@ -38,18 +47,39 @@ decimal-number_of text n h = elim (cases_Bool (nat_eq (length text) 0)) [
             let least : 0 < length text = search (rules, tests) in
             let most : length text ≤ 9 = search (rules, tests) in
             let small : digits_value 10 text < 1000000000 = digits_value_short by_test text 9 digits most in
-            rw (← value) (decimal-digits_value by_test text digits least (alone (get_or text 0 0) (length text) front least) (omega arith))
+            record { some = least; few = most; front = front; digits = digits; value = value; small = omega arith }
         | inr other ↦ absurd (cc (rw (some, few, front, other) at h))
       ]
     ]
   ]
 ]
 
+-- what a number is read from is what is printed of it
+decimal-number_of : (text : List ℕ) (n : ℕ) → number_of 9 text ≡ Some n → decimal n ≡ text
+decimal-number_of text n h =
+    let is = IsNumeral-number_of text n h in
+    rw (← is.value) (decimal-digits_value by_test text is.digits is.some (alone (get_or text 0 0) (length text) is.front is.some) (let value = is.value in let small = is.small in omega arith))
+
 number_of-positive : (text : List ℕ) (n : ℕ) → positive_of text ≡ Some n → number_of 9 text ≡ Some n
 unfolding positive_of
 number_of-positive text n h = elim (cases_Bool (nat_eq (get_or text 0 0) 48)) [
   | inl t ↦ absurd (cc (rw t at h))
   | inr f ↦ rw f at h
+]
+
+-- a number with no 0 in front is above 0, and has at most nine digits
+pub IsNumber-positive_of : (text : List ℕ) (n : ℕ) → positive_of text ≡ Some n → IsNumber n
+unfolding positive_of
+IsNumber-positive_of text n h = elim (cases_Bool (nat_eq (get_or text 0 0) 48)) [
+  | inl t ↦ absurd (cc (rw t at h))
+  | inr f ↦
+      let read : number_of 9 text ≡ Some n = rw f at h in
+      let is = IsNumeral-number_of text n read in
+      let printed = decimal-number_of text n read in
+      elim (cases_Bool (nat_eq n 0)) [
+        | inl zero ↦ absurd (let none : n ≡ 0 = eqb-true n 0 zero in let text_is : 48 ∷ [] ≡ text = sym (decimal_digit 0 (omega arith)) ∙ rw none at printed in cc (rw (← text_is) at f))
+        | inr some ↦ (let least : 0 < n = search (rules, tests) in (least, is.small))
+      ]
 ]
 
 -- and the other way
@@ -74,7 +104,7 @@ numbered-text r digits p h = go (positive_of digits) refl h
     go None e h = absurd (cc h)
     go (Some n) e h = let same : record { registry = r; number = n } ≡ p = cc h in rw (← same) (ap (λ d. registry_text r ++ d) (decimal-number_of digits n (number_of-positive digits n e)))
 
-positive_of-decimal : (n : ℕ) → 0 < n → n < 1000000000 → positive_of (decimal n) ≡ Some n
+pub positive_of-decimal : (n : ℕ) → 0 < n → n < 1000000000 → positive_of (decimal n) ≡ Some n
 unfolding positive_of
 positive_of-decimal n least h =
     let wide : n < 2 ^ 64 = omega arith in

@@ -24,7 +24,7 @@ shorter cfg s fields field c (d ∷ rest) p h = elim (cases_Bool (is_end (step c
 ]
 
 -- at the end of the text there is no record at the start of one
-none_left : (cfg : Config) → next_record cfg st.StartRecord [] [] [] ≡ None
+pub none_left : (cfg : Config) → next_record cfg st.StartRecord [] [] [] ≡ None
 unfolding next_record
 none_left cfg = refl
 

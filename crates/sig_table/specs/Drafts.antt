@@ -1,9 +1,15 @@
 -- What a draft keeps.
 use Rattle.std.specs.Prelude.{◌≡◌, [], map}
 use Rattle.sig_table.specs.declared.draft.Draft.TheInside.{Inside}
-use Rattle.sig_table.specs.Lists.{IsTable}
+use Rattle.sig_table.specs.Lists.{TableLists}
+use Rattle.sig_table.specs.Tables.{HasAllSignatures, IsTable}
 
--- the limits of a table, and the numbers are those of the signatures
+-- the rows so far as a table
+abbrev pub rows_so_far : Inside → TableLists
+rows_so_far d = record { formats = d.puids.keys; signatures = d.signatures.items; priorities = [] }
+
+-- the limits of a table in which each format has a signature, and the numbers are those of the signatures
 pub record IsDraft (d : Inside) : Type 0 where
-  pub limits : IsTable (record { formats = d.puids.keys; signatures = d.signatures.items; priorities = [] })
+  pub table : IsTable (rows_so_far d)
+  pub has_all : HasAllSignatures (rows_so_far d)
   pub numbers : d.numbers.keys ≡ map (λ s. s.number) d.signatures.items

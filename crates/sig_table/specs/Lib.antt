@@ -1,13 +1,25 @@
 -- The definitions of this crate, and those of the crates below that its clauses cite.
 pub mod Allowance
+pub mod Canonical
 pub mod Drafts
+pub mod FormatSets
+pub mod Gathered
+pub mod Left
+pub mod Lines
 pub mod Lists
 pub mod Loading
 pub mod Numbers
+pub mod Places
+pub mod PriorityRows
 pub mod Puids
+pub mod Ranking
+pub mod Rankings
+pub mod Removal
 pub mod Rows
 pub mod Slots
 pub mod Standing
+pub mod Tables
+pub use Rattle.sig_bits.specs.BitSets
 pub use Rattle.sig_bits.specs.Bytes
 pub use Rattle.sig_expr.specs.Words
 pub use Rattle.sig_expr.specs.Texts

@@ -1,5 +1,5 @@
 -- A table as its lists.
-use Rattle.std.specs.Prelude.{ℕ, ◌<◌, ◌≤◌, List, length, All}
+use Rattle.std.specs.Prelude.{ℕ, List}
 use Rattle.sig_expr.specs.declared.item.Item.{Item}
 use Rattle.sig_table.specs.declared.position.Position.{Position}
 use Rattle.sig_table.specs.declared.puid.Puid.{Puid}
@@ -20,9 +20,3 @@ pub record TableLists : Type 0 where
   pub formats : List Puid
   pub signatures : List SignatureLists
   pub priorities : List (ℕ × ℕ)
-
--- the limits of a table, and that each signature is of a format of it
-pub record IsTable (t : TableLists) : Type 0 where
-  pub formats : length t.formats ≤ 1000
-  pub signatures : length t.signatures ≤ 4000
-  pub known : All (λ s. s.format < length t.formats) t.signatures

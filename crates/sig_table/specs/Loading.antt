@@ -1,6 +1,7 @@
 -- The table of two lists of records, or their first fault.
-use Rattle.std.specs.Prelude.{ℕ, ◌+◌, ◌==◌, ◌&&◌, ◌||◌, not, find, nat_eq, nat_le, nat_lt, Bool, true, false, if◌then◌else◌, List, [], ◌∷◌, ◌++◌, length, codes, Option, Some, None, Result, Ok, Err}
+use Rattle.std.specs.Prelude.{ℕ, ◌+◌, ◌==◌, ◌&&◌, ◌||◌, not, find, nat_eq, nat_le, nat_lt, Bool, true, false, if◌then◌else◌, List, [], ◌∷◌, ◌++◌, length, codes, position, Option, Some, None, Result, Ok, Err}
 use Rattle.std.specs.List.{list_any, position_or_len}
+use Rattle.std.specs.Option.{ok_or}
 use Rattle.indexmap.specs.IndexSet.{insert_key}
 use Rattle.csv.specs.Reading.{default_config, records, strip_bom}
 use Rattle.sig_table.specs.declared.error.TableError.{TableError}
@@ -9,7 +10,8 @@ use Rattle.sig_table.specs.declared.error.TableFile.TheVariants.{Signatures, Pri
 use Rattle.sig_table.specs.declared.puid.Puid.{Puid}
 use Rattle.sig_table.specs.declared.row.Row.{Row}
 use Rattle.sig_table.specs.Lists.{PlacedExpr, SignatureLists, TableLists}
-use Rattle.sig_table.specs.Puids.{puid_eq}
+use Rattle.sig_table.specs.Puids.{puid_eq, puid_of}
+use Rattle.sig_table.specs.Ranking.{is_above}
 use Rattle.sig_table.specs.Slots.{slot_count}
 use Rattle.sig_table.specs.Rows.{◌>>=◌, is_word, row_of, text_at}
 
@@ -108,12 +110,48 @@ unfoldable pub signatures_of : List (List (List ℕ)) → Result TableLists Tabl
 signatures_of [] = Err (error.Header Signatures)
 signatures_of (header ∷ rows) = if is_signature_header header then table_from 1 empty_table rows else Err (error.Header Signatures)
 
--- the pairs of a priority file, which has none yet
-unfoldable pub pairs_of : List (List (List ℕ)) → Result (List (ℕ × ℕ)) TableError
-pairs_of [] = Err (error.Header Priorities)
-pairs_of (header ∷ rows) =
-    if is_priority_header header then (if length rows == 0 then Ok [] else Err (error.PriorityUnknown 1)) else Err (error.Header Priorities)
+-- the format's place, where the PUID is among the formats
+abbrev pub place_in : List Puid → Puid → Option ℕ
+place_in formats puid = position (puid_eq puid) formats
+
+-- the pair, where its formats are two
+abbrev pub pair_of_two : ℕ → ℕ → ℕ → Result (ℕ × ℕ) TableError
+pair_of_two n higher lower = if nat_eq higher lower then Err (error.PrioritySelf n) else Ok (higher, lower)
+
+-- the pair of two PUIDs: both are to be read before either is looked for
+abbrev pub pair_with : List Puid → ℕ → List ℕ → List ℕ → Result (ℕ × ℕ) TableError
+pair_with formats n higher lower = do
+  h ← ok_or (puid_of higher) (error.Puid Priorities n)
+  l ← ok_or (puid_of lower) (error.Puid Priorities n)
+  above ← ok_or (place_in formats h) (error.PriorityUnknown n)
+  below ← ok_or (place_in formats l) (error.PriorityUnknown n)
+  pair_of_two n above below
+
+-- the pair that the fields write, by the places of its formats, or its first fault
+unfoldable pub pair_of : List Puid → ℕ → List (List ℕ) → Result (ℕ × ℕ) TableError
+pair_of formats n fields = if length fields == 2 then pair_with formats n (text_at fields 0) (text_at fields 1) else Err (error.Fields Priorities n)
+
+-- whether the pair is listed
+abbrev pub is_listed : List (ℕ × ℕ) → ℕ × ℕ → Bool
+is_listed pairs pair = list_any (λ q. nat_eq pair.0 q.0 && nat_eq pair.1 q.1) pairs
+
+-- the fault of a pair behind these: it is one of them, or they lead from its lower format down to its higher one
+unfoldable pub pair_fault : List (ℕ × ℕ) → ℕ → ℕ × ℕ → Option TableError
+pair_fault pairs n pair =
+    if is_listed pairs pair then Some (error.PriorityTwice n)
+    else (if is_above pairs pair.1 pair.0 then Some (error.PriorityCycle n) else None)
+
+-- the pairs with these records, which are counted on
+unfoldable pub pairs_from : List Puid → ℕ → List (ℕ × ℕ) → List (List (List ℕ)) → Result (List (ℕ × ℕ)) TableError
+pairs_from formats n pairs [] = Ok pairs
+pairs_from formats n pairs (fields ∷ later) =
+    pair_of formats n fields >>= (λ pair. unless (pair_fault pairs n pair) (pairs_from formats (n + 1) (pairs ++ pair ∷ []) later))
+
+-- the pairs of a priority file in the order of their rows, or its first fault
+unfoldable pub pairs_of : List Puid → List (List (List ℕ)) → Result (List (ℕ × ℕ)) TableError
+pairs_of formats [] = Err (error.Header Priorities)
+pairs_of formats (header ∷ rows) = if is_priority_header header then pairs_from formats 1 [] rows else Err (error.Header Priorities)
 
 -- the table of the records of both files, or their first fault: the signature file is judged first
 unfoldable pub table_of : List (List (List ℕ)) → List (List (List ℕ)) → Result TableLists TableError
-table_of signatures priorities = signatures_of signatures >>= (λ table. pairs_of priorities >>= (λ pairs. Ok (record table { priorities = pairs })))
+table_of signatures priorities = signatures_of signatures >>= (λ table. pairs_of table.formats priorities >>= (λ pairs. Ok (record table { priorities = pairs })))

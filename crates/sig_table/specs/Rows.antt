@@ -6,6 +6,7 @@ use Rattle.std.specs.Option.{ok_or}
 use Rattle.csv.specs.Records.{field_at}
 use Rattle.sig_expr.specs.declared.item.Item.{Item}
 use Rattle.sig_expr.specs.declared.error.ExprError.{ExprError}
+use Rattle.sig_expr.specs.Profile.{IsExpression}
 use Rattle.sig_expr.specs.Texts.{expr_of}
 use Rattle.sig_table.specs.declared.error.TableError.{TableError}
 use Rattle.sig_table.specs.declared.error.TableError.TheVariants as error
@@ -15,6 +16,7 @@ use Rattle.sig_table.specs.declared.position.Position.TheVariants as position
 use Rattle.sig_table.specs.declared.row.Row.{Row}
 use Rattle.sig_table.specs.Numbers.{number_of, positive_of}
 use Rattle.sig_table.specs.Puids.{puid_of}
+use Rattle.sig_table.specs.Tables.{InOrder, IsNumber}
 
 infixl 10 ◌>>=◌
 -- a value read on, or the fault that is there
@@ -107,3 +109,10 @@ row_of row fields =
     if length fields == 6
     then row_with row (text_at fields 0) (text_at fields 1) (text_at fields 2) (text_at fields 3) (text_at fields 4) (text_at fields 5)
     else Err (error.Fields Signatures row)
+
+-- what holds of each row that is read: its numbers, offsets in order, and an expression of the profile
+pub record IsRow (row : Row) : Type 0 where
+  pub puid : IsNumber row.puid.number
+  pub number : IsNumber row.number
+  pub offsets : InOrder row.sequence.position
+  pub expression : IsExpression row.sequence.items

@@ -2,10 +2,11 @@
 //!
 //! Formats and numbers are kept in sets that know their places, so no list is searched for a row.
 
-ghost use Rattle.std.specs.Prelude.{◌≡◌, ◌<◌, ◌∷◌, ◌++◌, ℕ, [], false, length, nat_eq, not, OnOk, MatchResult, None, Some, Ok, IfOk, IfErr, IfSome};
+ghost use Rattle.std.specs.Prelude.{◌≡◌, ◌<◌, ◌≤◌, ◌∷◌, ◌++◌, ℕ, [], false, length, nat_eq, not, OnOk, MatchResult, None, Some, Ok, IfOk, IfErr, IfSome};
 ghost use Rattle.std.specs.List.{list_any, position_or_len};
-ghost use Rattle.sig_table.specs.Loading.{empty_table, fault_at, fault_in, grown, unless, with_number, with_row};
-ghost use Rattle.sig_table.specs.Rows.{IsFault, is_read};
+ghost use Rattle.sig_table.specs.Loading.{empty_table, fault_at, fault_in, grown, place_in, unless, with_number, with_row};
+ghost use Rattle.sig_table.specs.Rows.{IsFault, IsRow, is_read};
+ghost use Rattle.sig_table.specs.Tables.{ArePriorities};
 
 use super::row::Row;
 use super::slots::has_too_many_slots;
@@ -50,6 +51,7 @@ impl Draft {
 
     // Judges the row after those so far, and adds it.
     pub(crate) fn add(self, alloc: Global, row: Row, n: usize) -> Result<Draft, TableError>
+        requires { IsRow row }
         ensures { MatchResult result
             (λ draft. (fault_in self n row ≡ None) × (draft ≡ with_row self row))
             (λ e. IsFault (unless (fault_in self n row) (Ok self)) e) }
@@ -109,7 +111,8 @@ impl Draft {
 
     // Adds a row that has no fault.
     fn insert(self, alloc: Global, row: Row) -> Result<Draft, TableError>
-        requires { (n : ℕ) × (fault_in self n row ≡ None) }
+        requires read { IsRow row }
+        requires judged { (n : ℕ) × (fault_in self n row ≡ None) }
         ensures row { IfOk result (λ draft. draft ≡ with_row self row) }
         ensures memory { IfErr result (λ e. e ≡ TableError.OutOfMemory) }
     {
@@ -128,7 +131,8 @@ impl Draft {
         if enroll(alloc, &mut signatures, is_new, format, row.number).is_err() {
             return Err(TableError::OutOfMemory);
         }
-        if grow(&mut signatures, place, row.number, row.sequence).is_err() {
+        let sequence = Sequence::new(row.sequence);
+        if grow(&mut signatures, place, row.number, sequence).is_err() {
             return Err(TableError::OutOfMemory);
         }
         Ok(Draft {
@@ -138,9 +142,30 @@ impl Draft {
         })
     }
 
-    // The table, with no priority.
-    pub(crate) fn into_table(self, alloc: Global) -> Result<Table, TableError>
-        ensures table { IfOk result (λ table. table ≡ record self { priorities = [] }) }
+    // The place of the format of this name.
+    pub(crate) fn place_of(&self, puid: &Puid) -> Option<u16>
+        ensures place { result ≡ place_in self.now.formats puid.now }
+        ensures within { IfSome result (λ place. place < length self.now.formats) }
+    {
+        let place = self.puids.get_index_of(puid)?;
+        Some(place as u16)
+    }
+
+    pub(crate) fn format_count(&self) -> usize
+        ensures count { result ≡ length self.now.formats }
+        ensures few { result ≤ 1000 }
+    {
+        self.puids.len()
+    }
+
+    // The table, with these priorities.
+    pub(crate) fn into_table(
+        self,
+        alloc: Global,
+        priorities: IndexSet<(u16, u16)>,
+    ) -> Result<Table, TableError>
+        requires { ArePriorities (length self.formats) priorities.keys }
+        ensures table { IfOk result (λ table. table ≡ record self { priorities = priorities.keys }) }
         ensures memory { IfErr result (λ e. e ≡ TableError.OutOfMemory) }
     {
         let Draft {
@@ -151,7 +176,7 @@ impl Draft {
         let Ok(formats) = puids.iter().copied().collect(alloc) else {
             return Err(TableError::OutOfMemory);
         };
-        Ok(Table::new(formats, signatures, Vec::new(alloc)))
+        Ok(Table::new(formats, signatures, priorities))
     }
 }
 

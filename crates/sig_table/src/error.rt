@@ -65,3 +65,14 @@ pub enum TableError {
     #[error("out of memory")]
     OutOfMemory,
 }
+
+/// Why a table was not written.
+#[derive(Clone, Copy, Debug, PartialEq, Eq, Error)]
+pub enum OutError {
+    /// A write failed.
+    #[error("write failed")]
+    Write,
+    /// A growth was refused.
+    #[error("out of memory")]
+    OutOfMemory,
+}

@@ -1,27 +1,38 @@
 //! A table of signatures: formats, their signatures and the priorities among them.
 //!
-//! What a table is to its callers is in `specs/Lists.antt`, when a sequence stands in a file and a
-//! signature hits it in `specs/Standing.antt`.
+//! What a table is to its callers is in `specs/Lists.antt`, its limits in `specs/Tables.antt`, when a
+//! sequence stands in a file and a signature hits it in `specs/Standing.antt`.
 #![tactic(auto)]
 
 mod draft;
 mod error;
+mod format_set;
 mod ids;
+mod laws;
+mod lines;
 mod loader;
 mod numbers;
 mod position;
 mod puid;
+mod ranking;
 mod records;
 mod row;
 mod sequence;
+mod signatures_of;
 mod slots;
 mod table;
 #[cfg(test)]
 mod tests;
+mod writer;
 
-pub use error::{TableError, TableFile};
+pub use error::{OutError, TableError, TableFile};
 pub use ids::{FormatId, SigId};
+pub use laws::{
+    first_fault_is_told, first_priority_fault_is_told, pairs_are_listed, rows_are_gathered,
+    written_is_loaded,
+};
 pub use position::Position;
 pub use puid::{Puid, Registry};
 pub use sequence::Sequence;
+pub use signatures_of::SignaturesOf;
 pub use table::Table;

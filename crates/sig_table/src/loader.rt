@@ -1,17 +1,21 @@
 //! From the two files to the table.
 
-ghost use Rattle.std.specs.Prelude.{◌≡◌, ◌⊎◌, [], List, ℕ, Some, map, true, false, Ok, Err, OnOk, IfOk, IfErr, IfSome, IsErrOf, MatchResult};
+ghost use Rattle.std.specs.Prelude.{◌≡◌, ◌<◌, ◌⊎◌, [], List, ℕ, length, Some, map, true, false, Ok, Err, OnOk, IfOk, IfErr, IfSome, IsErrOf, MatchResult};
 ghost use Rattle.csv.specs.Records.{fields_of};
-ghost use Rattle.sig_table.specs.Loading.{is_of_signatures, is_priority_header, is_signature_header, empty_table, pairs_of, records_of, signatures_of, table_from, table_of};
-ghost use Rattle.sig_table.specs.Rows.{IsFault, Tells};
+ghost use Rattle.sig_table.specs.Loading.{is_of_signatures, is_priority_header, is_signature_header, empty_table, pair_of, pairs_from, pairs_of, place_in, records_of, signatures_of, table_from, table_of};
+ghost use Rattle.sig_table.specs.Rows.{IsFault, Tells, is_read};
+ghost use Rattle.sig_table.specs.Tables.{ArePriorities};
+ghost use Rattle.std.specs.Option.{ok_or};
 ghost use Rattle.sig_table.specs.declared.row.Row.{Row};
 ghost use Rattle.sig_table.specs.declared.error.TableError.{TableError};
 
 use super::draft::Draft;
+use super::ranking::Ranking;
 use super::records::all_records;
-use super::row::{field, read_row};
-use super::{Table, TableError, TableFile};
+use super::row::{field, read_puid, read_row};
+use super::{Puid, Table, TableError, TableFile};
 use csv::ByteRecord;
+use indexmap::IndexSet;
 use sig_bits::{Input, ReadWholeError, read_whole};
 use std::alloc::Global;
 
@@ -41,8 +45,8 @@ impl Table {
         let text = read_text(alloc, signatures, TableFile::Signatures)?;
         let draft = read_signatures(alloc, &text)?;
         let text = read_text(alloc, priorities, TableFile::Priorities)?;
-        read_priorities(alloc, &text)?;
-        draft.into_table(alloc)
+        let pairs = read_priorities(alloc, &draft, &text)?;
+        draft.into_table(alloc, pairs)
     }
 }
 
@@ -116,21 +120,31 @@ fn is_signature_header(line: &ByteRecord) -> bool
 }
 
 // The pairs of the priority file.
-fn read_priorities(alloc: Global, text: &[u8]) -> Result<(), TableError>
-    ensures { MatchResult result
-        (λ _. pairs_of (records_of text.now) ≡ Ok [])
-        (λ e. (is_of_signatures e ≡ false) × IsFault (pairs_of (records_of text.now)) e) }
+fn read_priorities(
+    alloc: Global,
+    draft: &Draft,
+    text: &[u8],
+) -> Result<IndexSet<(u16, u16)>, TableError>
+    ensures pairs { MatchResult result
+        (λ pairs. pairs_of draft.now.formats (records_of text.now) ≡ Ok pairs.keys)
+        (λ e. (is_of_signatures e ≡ false) × IsFault (pairs_of draft.now.formats (records_of text.now)) e) }
+    ensures limits { IfOk result (λ pairs. ArePriorities (length draft.now.formats) pairs.keys) }
 {
     let records = all_records(alloc, text)?;
-    judge_priorities(&records)
+    judge_priorities(alloc, draft, &records)
 }
 
 // The same, of the records.
 #[tactic(auto, unfolding(crate::specs::Loading::pairs_of))]
-fn judge_priorities(records: &[ByteRecord]) -> Result<(), TableError>
-    ensures { MatchResult result
-        (λ _. pairs_of (map fields_of records.now) ≡ Ok [])
-        (λ e. (is_of_signatures e ≡ false) × IsFault (pairs_of (map fields_of records.now)) e) }
+fn judge_priorities(
+    alloc: Global,
+    draft: &Draft,
+    records: &[ByteRecord],
+) -> Result<IndexSet<(u16, u16)>, TableError>
+    ensures pairs { MatchResult result
+        (λ pairs. pairs_of draft.now.formats (map fields_of records.now) ≡ Ok pairs.keys)
+        (λ e. (is_of_signatures e ≡ false) × IsFault (pairs_of draft.now.formats (map fields_of records.now)) e) }
+    ensures limits { IfOk result (λ pairs. ArePriorities (length draft.now.formats) pairs.keys) }
 {
     let fault = TableError::Header {
         file: TableFile::Priorities,
@@ -141,10 +155,62 @@ fn judge_priorities(records: &[ByteRecord]) -> Result<(), TableError>
     if !is_priority_header(header) {
         return Err(fault);
     }
-    if !rows.is_empty() {
-        return Err(TableError::PriorityUnknown { row: 1 });
+    read_pairs(alloc, draft, rows)
+}
+
+// The pairs of the rows in turn, each judged after those before it.
+fn read_pairs(
+    alloc: Global,
+    draft: &Draft,
+    records: &[ByteRecord],
+) -> Result<IndexSet<(u16, u16)>, TableError>
+    ensures pairs { MatchResult result
+        (λ pairs. pairs_from draft.now.formats 1 [] (map fields_of records.now) ≡ Ok pairs.keys)
+        (λ e. (is_of_signatures e ≡ false) × IsFault (pairs_from draft.now.formats 1 [] (map fields_of records.now)) e) }
+    ensures limits { IfOk result (λ pairs. ArePriorities (length draft.now.formats) pairs.keys) }
+{
+    let Ok(mut ranking) = Ranking::new(alloc, draft.format_count()) else {
+        return Err(TableError::OutOfMemory);
+    };
+    for (i, line) in records.iter().enumerate() {
+        let pair = read_pair(draft, line, i + 1)?;
+        ranking = ranking.add(pair, i + 1)?;
     }
-    Ok(())
+    Ok(ranking.into_pairs())
+}
+
+// The pair that the record writes.
+#[tactic(auto, unfolding(crate::specs::Loading::pair_of))]
+fn read_pair(draft: &Draft, line: &ByteRecord, row: usize) -> Result<(u16, u16), TableError>
+    ensures pair { result ≡ pair_of draft.now.formats row (fields_of line.now) }
+    ensures later { IfErr result (λ e. (is_of_signatures e ≡ false) × (is_read e ≡ false)) }
+    ensures higher { IfOk result (λ pair. pair.0 < length draft.now.formats) }
+    ensures lower { IfOk result (λ pair. pair.1 < length draft.now.formats) }
+    ensures other { IfOk result (λ pair. ¬ (pair.0 ≡ pair.1)) }
+{
+    let file = TableFile::Priorities;
+    if line.len() != 2 {
+        return Err(TableError::Fields { file, row });
+    }
+    let higher = read_puid(field(line, 0), file, row)?;
+    let lower = read_puid(field(line, 1), file, row)?;
+    let higher = read_format(draft, &higher, row)?;
+    let lower = read_format(draft, &lower, row)?;
+    if higher == lower {
+        return Err(TableError::PrioritySelf { row });
+    }
+    Ok((higher, lower))
+}
+
+// The format of this name.
+fn read_format(draft: &Draft, puid: &Puid, row: usize) -> Result<u16, TableError>
+    ensures format { result ≡ ok_or (place_in draft.now.formats puid.now) (TableError.PriorityUnknown row) }
+    ensures within { IfOk result (λ format. format < length draft.now.formats) }
+{
+    let Some(format) = draft.place_of(puid) else {
+        return Err(TableError::PriorityUnknown { row });
+    };
+    Ok(format)
 }
 
 // Whether the record is the header of a priority file.

@@ -9,17 +9,18 @@ ghost use Rattle.sig_table.specs.Numbers.{positive_of};
 ghost use Rattle.sig_table.specs.Rows.{Judges, items_in, offset_of, offsets_of, position_of, row_of, text_at, up_to};
 
 use super::numbers::{read_number, read_positive};
-use super::{Position, Puid, Sequence, TableError, TableFile};
+use super::sequence::Placed;
+use super::{Position, Puid, TableError, TableFile};
 use csv::ByteRecord;
 use sig_expr::{Expr, ExprError, parse};
 use std::alloc::Global;
 
-// What a row says: a format, a signature of it, and a sequence of that.
+// What a row says: a format, a signature of it, and the expression of a sequence at its place.
 #[derive(Debug, Drop)]
 pub(crate) struct Row {
     pub(crate) puid: Puid,
     pub(crate) number: u32,
-    pub(crate) sequence: Sequence,
+    pub(crate) sequence: Placed,
 }
 
 // The row that the record writes.
@@ -40,7 +41,7 @@ pub(crate) fn read_row(alloc: Global, line: &ByteRecord, row: usize) -> Result<R
     Ok(Row {
         puid,
         number,
-        sequence: Sequence::new(position, expr),
+        sequence: Placed { position, expr },
     })
 }
 

@@ -1,12 +1,28 @@
 //! An expression at its place.
 
 ghost use Rattle.std.specs.Prelude.{◌≡◌};
+ghost use Rattle.sig_table.specs.Tables.{IsSequence};
 
 use super::Position;
 use sig_expr::Expr;
 use std::marker::Model;
 
-/// An expression with the place where it stands in a file.
+// An expression at its place, as a row spells it: its slots are not judged yet.
+#[derive(Debug, Drop)]
+pub(crate) struct Placed {
+    pub(crate) position: Position,
+    pub(crate) expr: Expr,
+}
+
+impl Model for Placed {
+    ghost use Rattle.sig_table.specs.Lists.{PlacedExpr};
+
+    ghost Value = { PlacedExpr };
+
+    ghost view = { λ s. record { position = s.position; items = s.expr } };
+}
+
+/// An expression with the place where it stands in a file, within the limits of both.
 #[derive(Debug, Drop)]
 pub struct Sequence {
     position: Position,
@@ -15,18 +31,22 @@ pub struct Sequence {
 
 impl Model for Sequence {
     ghost use Rattle.sig_table.specs.Lists.{PlacedExpr};
+    ghost use Rattle.sig_table.specs.Tables.{IsSequence};
 
     ghost Value = { PlacedExpr };
 
     ghost view = { λ s. record { position = s.position; items = s.expr } };
+
+    ghost invariant = { λ s. IsSequence (record { position = s.position; items = s.expr }) };
 }
 
 impl Sequence {
-    // The expression at its place.
-    pub(crate) fn new(position: Position, expr: Expr) -> Sequence
-        ensures position { result.position ≡ position }
-        ensures items { result.items ≡ expr }
+    // The sequence of what is placed, once its slots are judged.
+    pub(crate) fn new(placed: Placed) -> Sequence
+        requires { IsSequence placed }
+        ensures { result ≡ placed }
     {
+        let Placed { position, expr } = placed;
         Sequence { position, expr }
     }
 
@@ -39,7 +59,8 @@ impl Sequence {
 
     /// Lends the expression.
     pub fn expr(&self) -> &Expr
-        ensures { result.now ≡ self.now.items }
+        ensures items { result.now ≡ self.now.items }
+        ensures sequence { IsSequence self.now }
     {
         &self.expr
     }

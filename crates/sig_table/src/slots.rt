@@ -6,20 +6,21 @@ ghost use Rattle.std.specs.Prelude.{◌≡◌, ◌≤◌, ◌+◌, nat_lt, lengt
 ghost use Rattle.sig_table.specs.Allowance.{minus};
 ghost use Rattle.sig_table.specs.Slots.{above_rows, atom_slots, below_rows, between_rows, bracket_slots, item_slots, place_slots, slot_count};
 
-use super::{Position, Sequence};
+use super::Position;
+use super::sequence::Placed;
 use sig_expr::{Atom, Item};
 
 // The greatest number of slots.
 const MOST: usize = 65535;
 
 // Whether the sequence has over 65,535 slots.
-pub(crate) fn has_too_many_slots(sequence: &Sequence) -> bool
+pub(crate) fn has_too_many_slots(sequence: &Placed) -> bool
     ensures { result ≡ nat_lt 65535 (slot_count sequence.now) }
 {
-    let Some(left) = minus(MOST, place_slots(sequence.position())) else {
+    let Some(left) = minus(MOST, place_slots(sequence.position)) else {
         return true;
     };
-    left_after_items(left, sequence.expr().items()).is_none()
+    left_after_items(left, sequence.expr.items()).is_none()
 }
 
 // How many slots the offsets take.

@@ -1,8 +1,10 @@
 //! A table, and the calls that read it.
 
-ghost use Rattle.std.specs.Prelude.{◌≡◌, ◌<◌, ◌≤◌, ◌↔◌, [], ◌∷◌, ◌++◌, IsTrue, OnOk, Some, Contains, length, option_map, slice_get};
+ghost use Rattle.std.specs.Prelude.{◌≡◌, ◌<◌, ◌≤◌, ◌↔◌, [], ◌∷◌, ◌++◌, false, IsTrue, OnOk, Some, Contains, length, option_map, position, slice_get};
+ghost use Rattle.sig_table.specs.Puids.{puid_eq};
 
-use super::{FormatId, Puid, Sequence, SigId};
+use super::{FormatId, Puid, Sequence, SigId, SignaturesOf};
+use indexmap::IndexSet;
 use std::alloc::{AllocError, Global};
 use std::marker::Model;
 
@@ -27,17 +29,18 @@ impl Model for Signature {
 pub struct Table {
     formats: Vec<Puid>,
     signatures: Vec<Signature>,
-    priorities: Vec<(u16, u16)>,
+    priorities: IndexSet<(u16, u16)>,
 }
 
 impl Model for Table {
-    ghost use Rattle.sig_table.specs.Lists.{IsTable, TableLists};
+    ghost use Rattle.sig_table.specs.Lists.{TableLists};
+    ghost use Rattle.sig_table.specs.Tables.{IsTable};
 
     ghost Value = { TableLists };
 
-    ghost view = { λ t. record { formats = t.formats.items; signatures = t.signatures.items; priorities = t.priorities.items } };
+    ghost view = { λ t. record { formats = t.formats.items; signatures = t.signatures.items; priorities = t.priorities.keys } };
 
-    ghost invariant = { λ t. IsTable (record { formats = t.formats.items; signatures = t.signatures.items; priorities = t.priorities.items }) };
+    ghost invariant = { λ t. IsTable (record { formats = t.formats.items; signatures = t.signatures.items; priorities = t.priorities.keys }) };
 }
 
 impl Signature {
@@ -75,16 +78,19 @@ impl Signature {
 }
 
 impl Table {
-    ghost use Rattle.sig_table.specs.Lists.{IsTable};
+    ghost use Rattle.sig_table.specs.Left.{left_of};
+    ghost use Rattle.sig_table.specs.Places.{places_of};
+    ghost use Rattle.sig_table.specs.Removal.{place_of, without};
+    ghost use Rattle.sig_table.specs.Tables.{IsNumber, IsTable};
 
     // The table of these lists.
     pub(crate) fn new(
         formats: Vec<Puid>,
         signatures: Vec<Signature>,
-        priorities: Vec<(u16, u16)>,
+        priorities: IndexSet<(u16, u16)>,
     ) -> Table
-        requires { IsTable (record { formats = formats.items; signatures = signatures.items; priorities = priorities.items }) }
-        ensures { result ≡ record { formats = formats.items; signatures = signatures.items; priorities = priorities.items } }
+        requires { IsTable (record { formats = formats.items; signatures = signatures.items; priorities = priorities.keys }) }
+        ensures { result ≡ record { formats = formats.items; signatures = signatures.items; priorities = priorities.keys } }
     {
         Table {
             formats,
@@ -97,6 +103,7 @@ impl Table {
     pub fn format_count(&self) -> usize
         ensures count { result ≡ length self.now.formats }
         ensures limit { result ≤ 1000 }
+        ensures table { IsTable self.now }
     {
         self.formats.len()
     }
@@ -130,16 +137,26 @@ impl Table {
     /// The signature's number, which the signature file gives.
     pub fn number_of(&self, signature: SigId) -> u32
         requires { signature.0 < length self.now.signatures }
-        ensures { option_map (λ s. s.number) (slice_get self.now.signatures signature.0) ≡ Some result }
+        ensures number { option_map (λ s. s.number) (slice_get self.now.signatures signature.0) ≡ Some result }
+        ensures digits { IsNumber result }
     {
         let signature = &self.signatures[signature.0 as usize];
         signature.number
     }
 
-    /// Lends the signature's sequences, in row order.
+    /// The format's signatures, rising.
+    pub fn signatures_of(&self, format: FormatId) -> SignaturesOf<'_>
+        ensures { left_of result ≡ places_of format.0 0 self.now.signatures }
+    {
+        SignaturesOf::new(self.signatures.as_slice(), format)
+    }
+
+    /// Lends the signature's sequences, in row order: one to eight.
     pub fn sequences_of(&self, signature: SigId) -> &[Sequence]
         requires { signature.0 < length self.now.signatures }
-        ensures { option_map (λ s. s.sequences) (slice_get self.now.signatures signature.0) ≡ Some result.now }
+        ensures sequences { option_map (λ s. s.sequences) (slice_get self.now.signatures signature.0) ≡ Some result.now }
+        ensures some { 0 < length result.now }
+        ensures few { length result.now ≤ 8 }
     {
         let signature = &self.signatures[signature.0 as usize];
         signature.sequences.as_slice()
@@ -150,5 +167,71 @@ impl Table {
         ensures { IsTrue result ↔ Contains self.now.priorities (higher.0, lower.0) }
     {
         self.priorities.contains(&(higher.0, lower.0))
+    }
+
+    /// Takes out all signatures of the format of this name, and moves later ones down. The format
+    /// and its priorities stay.
+    ///
+    /// It answers whether there is such a format.
+    pub fn remove_signature_for_puid(&mut self, puid: &Puid) -> bool
+        ensures answers { IsTrue result ↔ Contains self.old.formats puid.now }
+        ensures removes { IsTrue result → self.new ≡ without self.old (place_of self.old.formats puid.now) }
+        ensures stays { result ≡ false → self.new ≡ self.old }
+    {
+        let Some(place) = self.place_of(puid) else {
+            return false;
+        };
+        self.signatures
+            .retain(|signature| signature.format().0 as usize != place);
+        true
+    }
+
+    // Where the format of this name stands.
+    fn place_of(&self, puid: &Puid) -> Option<usize>
+        ensures { result ≡ position (λ p. puid_eq p puid.now) self.now.formats }
+    {
+        self.formats.iter().position(|format| is_same(format, puid))
+    }
+}
+
+// The derived `==`, as the test of the definitions.
+fn is_same(a: &Puid, b: &Puid) -> bool
+    ensures { result ≡ puid_eq a.now b.now }
+{
+    a == b
+}
+
+// What the writer reads.
+impl Signature {
+    pub(crate) fn number(&self) -> u32
+        ensures { result ≡ self.now.number }
+    {
+        self.number
+    }
+
+    pub(crate) fn sequences(&self) -> &[Sequence]
+        ensures { result.now ≡ self.now.sequences }
+    {
+        self.sequences.as_slice()
+    }
+}
+
+impl Table {
+    pub(crate) fn formats(&self) -> &[Puid]
+        ensures { result.now ≡ self.now.formats }
+    {
+        self.formats.as_slice()
+    }
+
+    pub(crate) fn signatures(&self) -> &[Signature]
+        ensures { result.now ≡ self.now.signatures }
+    {
+        self.signatures.as_slice()
+    }
+
+    pub(crate) fn priorities(&self) -> &[(u16, u16)]
+        ensures { result.now ≡ self.now.priorities }
+    {
+        self.priorities.as_slice()
     }
 }

@@ -3,8 +3,9 @@ use Rattle.sig_expr.specs.Reading.{start}
 use Rattle.sig_expr.specs.Passes.{stop_of, fault_in}
 use Rattle.sig_expr.specs.Texts.{expr_of}
 use Rattle.sig_expr.proofs.FaultLemmas.{told_fault}
+use Rattle.sig_expr.proofs.FirstFaultLemmas.{told_first}
 use Rattle.sig_expr.proofs.ShortestLemmas.{is_expression}
-use Rattle.sig_expr.proofs.RefusalLemmas.{spells_built, faulty_text, no_text}
+use Rattle.sig_expr.proofs.RefusalLemmas.{spells_built, no_text}
 use Rattle.sig_expr.proofs.parser.parse.Goals as goal
 
 pub returns-in-Some-clause-refused : goal.returns-in-Some-clause-refused
@@ -23,7 +24,7 @@ pub returns-in-Some-fault-clause-refused : goal.returns-in-Some-fault-clause-ref
 returns-in-Some-fault-clause-refused c =
     let stops : stop_of c.args.text.now ≡ None = search rules in
     let faulty : fault_in c.args.text.now ≡ Some c.in-Some-fault.fault = search rules in
-    (told_fault start 0 0 c.args.text.now c.in-Some-fault.fault faulty).1 c.args.text.now (faulty_text c.in-Some-fault.fault c.args.text.now (omega arith) stops faulty)
+    (told_fault start 0 0 c.args.text.now c.in-Some-fault.fault faulty).1 c.args.text.now (told_first c.in-Some-fault.fault c.args.text.now (omega arith) stops faulty)
 
 pub new-requires : goal.new-requires
 new-requires c =

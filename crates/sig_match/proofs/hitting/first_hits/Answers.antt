@@ -24,7 +24,7 @@ loop-place-preserved c =
     let read : c.index.result.now ≡ get_or firsts format None = get_or_read firsts format c.index.result.now within c.index.ensures None in
     elim c.if-is_none.branch [
       | then-is_none+in_ok-all_stand+then-branch w ↦ (
-          let is = IsSignature-read table place format w.sequences_of.result.now c.format_of-format.ensures.format w.sequences_of.ensures in
+          let is = IsSignature-read table place format w.sequences_of.result.now c.format_of-format.ensures.format w.sequences_of.ensures.sequences in
           let stand = w.in_ok-all_stand.ensures.0 w.if-branch.true in
           let none : get_or firsts format None ≡ None = sym read ∙ none_by_test c.index.result.now c.is_none.result c.is_none.ensures w.if-is_none.true in
           rw w.firsts-is (record {
@@ -38,7 +38,7 @@ loop-place-preserved c =
             firsts = FirstHits-keep table file place firsts (
                 elim w.else-is_none.branch [
                   | else-is_none-via-then-is_none+in_ok-all_stand+else-branch v ↦ (
-                      let is = IsSignature-read table place format v.sequences_of.result.now c.format_of-format.ensures.format v.sequences_of.ensures in
+                      let is = IsSignature-read table place format v.sequences_of.result.now c.format_of-format.ensures.format v.sequences_of.ensures.sequences in
                       λ other none hit. false≢true (sym v.if-branch.false ∙ v.in_ok-all_stand.ensures.1 (HitsAt-only table file place format other v.sequences_of.result.now is hit).1))
                   | else-is_none-via-else-is_none v ↦ (λ other none hit. not_none_by_test c.index.result.now c.is_none.result c.is_none.ensures v.if-is_none.false (read ∙ ap (λ k. get_or firsts k None) (sym (HitsAt-format table file place format other c.format_of-format.ensures.format hit)) ∙ none))
                 ]

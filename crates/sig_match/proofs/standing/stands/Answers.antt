@@ -24,7 +24,7 @@ loop-item-preserved c =
 
 pub returns : goal.returns
 returns c =
-    let items : c.items-item-items.result.now ≡ c.args.sequence.now.items = c.items-item-items.ensures ∙ c.expr.ensures in
+    let items : c.items-item-items.result.now ≡ c.args.sequence.now.items = c.items-item-items.ensures.items ∙ c.expr.ensures.items in
     let by_end = stands_by_end c.position-position.result c.items-item-items.result.now c.loop-item.item-index c.args.file.now c.loop-item.frontier.items (omega arith) c.loop-item.invariant in
     let ends = rw c.deref-2.ensures.value at c.has_end.ensures in
     rw (← items, ← c.position-position.ensures) (λ t. by_end.0 (ends.0 t), λ h. ends.1 (by_end.1 h))

@@ -2,7 +2,11 @@ use Rattle.std.proofs.Common.{◌∙◌, arith}
 use Rattle.std.proofs.lemmas.Result.{err_from_is_err_and}
 use Rattle.sig_table.proofs.FaultLemmas.{IsFault-map}
 use Rattle.sig_table.proofs.LoadLemmas.{table_from-end, table_from-faulty, table_from-more, table_from-unread}
+use Rattle.sig_table.proofs.RowLemmas.{IsRow-row_of}
 use Rattle.sig_table.proofs.loader.read_rows.Goals as goal
+
+pub add-requires : goal.add-requires
+add-requires c = IsRow-row_of _ _ c.in_ok-row.row c.in_ok-row.ensures
 
 pub returns-in_err-row : goal.returns-in_err-row
 returns-in_err-row c =

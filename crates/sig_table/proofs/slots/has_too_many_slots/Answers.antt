@@ -6,12 +6,12 @@ use Rattle.sig_table.proofs.slots.has_too_many_slots.Goals as goal
 pub returns-in_default : goal.returns-in_default
 unfolding slot_count
 returns-in_default c =
-    let none = rw (c.place_slots.ensures, c.position.ensures) at (sym c.in_default.ensures) in
-    too_many-place (place_slots c.args.sequence.now.position) _ none
+    let none = rw c.place_slots.ensures at (sym c.in_default.ensures) in
+    rw (← c.sequence.view_is) (too_many-place (place_slots c.sequence.inside.position) _ none)
 
 pub returns : goal.returns
 unfolding slot_count
 returns c =
-    let some = rw (c.place_slots.ensures, c.position.ensures) at (sym c.in-Some.ensures) in
-    let items = rw (c.items.ensures, c.expr.ensures) at c.left_after_items.ensures in
-    too_many-items (place_slots c.args.sequence.now.position) (sum_by item_slots c.args.sequence.now.items) c.in-Some.left c.left_after_items.result c.is_none.result some items c.is_none.ensures
+    let some = rw c.place_slots.ensures at (sym c.in-Some.ensures) in
+    let items = rw c.items.ensures.items at c.left_after_items.ensures in
+    rw (← c.sequence.view_is) (too_many-items (place_slots c.sequence.inside.position) (sum_by item_slots c.sequence.inside.expr) c.in-Some.left c.left_after_items.result c.is_none.result some items c.is_none.ensures)

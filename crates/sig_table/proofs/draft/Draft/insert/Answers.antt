@@ -2,11 +2,15 @@ use Rattle.std.proofs.Common.{◌≡◌, ◌∙◌, sym, ap, not, []}
 use Rattle.std.specs.List.{position_or_len}
 use Rattle.sig_table.specs.Puids.{puid_eq}
 use Rattle.sig_table.specs.Lists.{TableLists}
-use Rattle.sig_table.proofs.DraftLemmas.{IsTable-with_row, OnOk-holds, any-numbers, numbers-with_row, place-of, place-within, position-puid, puid_eq-is, with_row-is}
+use Rattle.sig_table.proofs.LimitLemmas.{IsSequence-judged, IsWhole-with_row}
+use Rattle.sig_table.proofs.DraftLemmas.{OnOk-holds, any-numbers, numbers-with_row, place-of, place-within, position-puid, puid_eq-is, with_row-is}
 use Rattle.sig_table.proofs.draft.Draft.insert.Goals as goal
 
 pub enroll-requires : goal.enroll-requires
 enroll-requires c = c.in-Ok-insert_full.ensures.added ∙ ap (λ b. not b) (rw c.self.invariant.numbers (any-numbers c.args.row.number c.self.inside.signatures.items))
+
+pub new-sequence-requires : goal.new-sequence-requires
+new-sequence-requires c = IsSequence-judged c.args.self c.args.row c.requires.judged.0 c.requires.read c.requires.judged.1
 
 pub grow-requires-clause-at : goal.grow-requires-clause-at
 grow-requires-clause-at c =
@@ -25,9 +29,11 @@ invariant_of-result c =
     let grew = OnOk-holds c.grow.result (sym c.is_err-2.ensures.value ∙ c.if-is_err-2.false) c.grow.ensures in
     let formats = rw puid_eq-is at c.in-Ok.ensures.keys in
     let format : c.in-Ok.format ≡ position_or_len (puid_eq c.args.row.puid) c.self.inside.puids.keys = c.in-Ok.ensures.index ∙ position-puid c.args.row.puid c.self.inside.puids.keys in
-    let signatures = rw (enrolled, format) at grew in
+    let signatures = rw (enrolled, format, c.new-sequence.ensures) at grew in
+    let whole = IsWhole-with_row t c.args.row c.requires.judged.0 _ _ (record { limits = c.self.invariant.table; has_all = c.self.invariant.has_all }) c.requires.read (rw (← c.self.view_is) at c.requires.judged.1) formats signatures in
     record {
-      limits = IsTable-with_row t c.args.row c.requires.0 _ _ c.self.invariant.limits (rw (← c.self.view_is) at c.requires.1) formats signatures;
+      table = whole.limits;
+      has_all = whole.has_all;
       numbers = numbers-with_row c.args.row.number _ c.args.row.sequence _ _ c.self.inside.signatures.items _ c.self.invariant.numbers c.in-Ok-insert_full.ensures.keys signatures;
     }
 
@@ -38,5 +44,5 @@ returns-clause-row c =
     let grew = OnOk-holds c.grow.result (sym c.is_err-2.ensures.value ∙ c.if-is_err-2.false) c.grow.ensures in
     let formats = rw puid_eq-is at c.in-Ok.ensures.keys in
     let format : c.in-Ok.format ≡ position_or_len (puid_eq c.args.row.puid) c.self.inside.puids.keys = c.in-Ok.ensures.index ∙ position-puid c.args.row.puid c.self.inside.puids.keys in
-    let signatures = rw (enrolled, format) at grew in
+    let signatures = rw (enrolled, format, c.new-sequence.ensures) at grew in
     rw (← c.self.view_is) (with_row-is t c.args.row _ _ formats signatures)

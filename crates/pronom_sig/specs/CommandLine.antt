@@ -1,0 +1,49 @@
+-- The command line in clap's words, and what its words ask for.
+use Rattle.std.specs.Prelude.{◌≡◌, ℕ, Bool, true, false, List, [], ◌∷◌, Option, Some, codes}
+use Rattle.clap.specs.Simple.{on_top}
+use Rattle.clap.specs.Words.{App, Row, Rule, Text, first_of, one_of, new_app, new_rule, with_rule, with_subcommand}
+use Rattle.clap.specs.declared.builder.action.ArgAction.TheVariants.{SetTrue}
+use Rattle.pronom_sig.specs.declared.words.Asked.{Asked}
+use Rattle.pronom_sig.specs.declared.words.Asked.TheVariants.{Match, Show}
+use Rattle.pronom_sig.specs.declared.words.TableWords.{TableWords}
+
+-- a word that must be there
+abbrev pub wanted : Text → Rule
+wanted name = record (new_rule name) { required = true }
+
+-- a command with the two words that name a table
+abbrev pub of_table : App → App
+of_table app = with_rule (with_rule app (wanted (codes "SIGS"))) (wanted (codes "PRIOS"))
+
+-- `show SIGS PRIOS`
+abbrev pub show_command : App
+show_command = of_table (new_app (codes "show"))
+
+-- a flag, with two hyphens before its name
+abbrev pub given : Text → Rule
+given name = record (new_rule name) { long = Some name; action = Some SetTrue }
+
+-- `match [--all] SIGS PRIOS FILE`
+abbrev pub match_command : App
+match_command = with_rule (with_rule (of_table (new_app (codes "match"))) (wanted (codes "FILE"))) (given (codes "all"))
+
+-- the program, whose first word is a subcommand
+abbrev pub program : App
+program =
+    let top = on_top (λ s. record s { no_binary_name = true; subcommand_required = true }) (new_app (codes "pronom_sig")) in
+    with_subcommand (with_subcommand top show_command.top) match_command.top
+
+-- the two words of a table are the first values of their arguments
+pub record NamesTable (words : TableWords) (rows : List Row) : Type 0 where
+  pub signatures : first_of (codes "SIGS") rows ≡ Some words.signatures.now
+  pub priorities : first_of (codes "PRIOS") rows ≡ Some words.priorities.now
+
+-- whether the flag is among the words
+pub record TellsFlag (name : Text) (is_given : Bool) (rows : List Row) : Type 0 where
+  pub given : one_of name rows ≡ Some (codes "true") → is_given ≡ true
+  pub left_out : one_of name rows ≡ Some (codes "false") → is_given ≡ false
+
+-- the subcommand and its arguments ask for this
+abbrev pub Asks : Option (Text × List Row) → Asked → Type 0
+Asks found (Show table) = (rows : List Row) × (found ≡ Some (codes "show", rows)) × NamesTable table rows
+Asks found (Match all table file) = (rows : List Row) × (found ≡ Some (codes "match", rows)) × NamesTable table rows × (first_of (codes "FILE") rows ≡ Some file.now) × TellsFlag (codes "all") all rows

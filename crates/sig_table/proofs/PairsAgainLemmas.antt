@@ -1,0 +1,86 @@
+-- The pairs of the records of a table's pairs are those pairs.
+use Rattle.std.proofs.Common.{◌≡◌, ℕ, zero, suc, ◌+◌, ◌<◌, false, nat_eq, List, [], ◌∷◌, ◌++◌, length, map, Contains, sym, ap, subst, append_assoc, append-nil, ◌∙◌, refl, arith, inl, inr, Some, None, Ok}
+use Rattle.std.specs.Prelude.{slice_get, All}
+use Rattle.std.specs.List.{position_or_len}
+use Rattle.std.proofs.lemmas.Bool.{cases_Bool, eqb-true, lt-ltb}
+use Rattle.std.proofs.lemmas.List.{take_all}
+use Rattle.std.proofs.lemmas.List.Elements.{All-contains, Contains-append_left, Contains-append_right}
+use Rattle.csv.specs.Records.{field_at}
+use Rattle.sig_table.proofs.BelowLemmas.{listed-Decides}
+use Rattle.sig_table.proofs.FormatsAgainLemmas.{Contains-slice_get, position-first, slice_get-within}
+use Rattle.sig_table.proofs.PuidLemmas.{puid_of-puid_text}
+use Rattle.sig_table.proofs.RankingLemmas.{is_above-Decides, wider}
+use Rattle.sig_table.specs.Canonical.{pair_record, priority_header}
+use Rattle.sig_table.specs.declared.puid.Puid.{Puid}
+use Rattle.sig_table.specs.Loading.{is_listed, pair_fault, pair_of, pairs_from, pairs_of, place_in}
+use Rattle.sig_table.specs.Puids.{puid_eq}
+use Rattle.sig_table.specs.Ranking.{is_above}
+use Rattle.sig_table.specs.Tables.{AllDifferent, ArePriorities, IsNumber}
+
+-- where all differ, none of the later ones is among those before
+not_before : {A : Type 0} (done later : List A) (x : A) → AllDifferent (done ++ x ∷ later) → Contains done x → ⊥
+not_before [] later x d c = absurd (let none = c.1 in omega arith)
+not_before (y ∷ done) later x d (zero, lt, same) = d.0 (subst (Contains (done ++ x ∷ later)) (sym same) (Contains-append_right done (x ∷ later) x (0, omega arith, refl)))
+not_before (y ∷ done) later x d (suc k, lt, same) = not_before done later x d.1 (k, omega arith, same)
+
+-- a format is found by its PUID
+place-found : (formats : List Puid) (f : ℕ) (p : Puid) → AllDifferent formats → f < length formats → slice_get formats f ≡ Some p → place_in formats p ≡ Some f
+place-found formats f p different within at =
+    let place : position_or_len (puid_eq p) formats ≡ f = rw (take_all (length formats) formats (omega arith)) at (position-first formats (length formats) f p different at (omega arith)) in
+    rw (place, lt-ltb f (length formats) within) refl
+
+module _ (formats : List Puid) (puids : All (λ p. IsNumber p.number) formats) (different : AllDifferent formats) where
+  -- the record of a pair is read as the pair
+  pair_again : (n : ℕ) (pair : ℕ × ℕ) → pair.0 < length formats → pair.1 < length formats → nat_eq pair.0 pair.1 ≡ false → pair_of formats n (pair_record formats pair) ≡ Ok pair
+  unfolding pair_of field_at
+  pair_again n pair higher lower other =
+      let h = slice_get-within formats pair.0 higher in
+      let l = slice_get-within formats pair.1 lower in
+      let h_is : IsNumber h.0.number = All-contains (λ p. IsNumber p.number) formats h.0 puids (Contains-slice_get formats pair.0 h.0 h.1) in
+      let l_is : IsNumber l.0.number = All-contains (λ p. IsNumber p.number) formats l.0 puids (Contains-slice_get formats pair.1 l.0 l.1) in
+      rw (
+        h.1,
+        l.1,
+        puid_of-puid_text h.0.registry h.0.number h_is.0 h_is.1,
+        puid_of-puid_text l.0.registry l.0.number l_is.0 l_is.1,
+        place-found formats pair.0 h.0 different higher h.1,
+        place-found formats pair.1 l.0 different lower l.1,
+        other,
+      ) refl
+
+  module _ (all : List (ℕ × ℕ)) (are : ArePriorities (length formats) all) where
+    -- a pair behind others of them has no fault
+    fine : (n : ℕ) (done later : List (ℕ × ℕ)) (pair : ℕ × ℕ) → done ++ pair ∷ later ≡ all → pair_fault done n pair ≡ None
+    unfolding pair_fault
+    fine n done later pair whole =
+        let new : is_listed done pair ≡ false = elim (cases_Bool (is_listed done pair)) [
+          | inl t ↦ absurd (not_before done later pair (subst AllDifferent (sym whole) are.different) ((listed-Decides done pair).0 t))
+          | inr f ↦ f
+        ] in
+        let none : is_above done pair.1 pair.0 ≡ false = elim (cases_Bool (is_above done pair.1 pair.0)) [
+          | inl t ↦
+              let way = (is_above-Decides done pair.1 pair.0).0 t in
+              let listed : Contains all pair = subst (λ l. Contains l pair) whole (Contains-append_right done (pair ∷ later) pair (0, omega arith, refl)) in
+              absurd (are.no_cycle pair.0 (pair.1 ∷ way.0, (listed, wider done all (λ p c. subst (λ l. Contains l p) whole (Contains-append_left done (pair ∷ later) p c)) pair.1 way.0 pair.0 way.1)))
+          | inr f ↦ f
+        ] in
+        rw (new, none) refl
+
+    two : (pair : ℕ × ℕ) → Contains all pair → nat_eq pair.0 pair.1 ≡ false
+    two pair listed = elim (cases_Bool (nat_eq pair.0 pair.1)) [
+      | inl t ↦ absurd (are.no_cycle pair.0 ([], subst (λ x. Contains all (pair.0, x)) (sym (eqb-true pair.0 pair.1 t)) listed))
+      | inr f ↦ f
+    ]
+
+    -- the pairs behind the first ones
+    later_pairs : (later done : List (ℕ × ℕ)) (n : ℕ) → done ++ later ≡ all → pairs_from formats n done (map (pair_record formats) later) ≡ Ok all
+    unfolding pairs_from
+    later_pairs [] done n whole = ap (λ l. Ok l) (sym (append-nil done) ∙ whole)
+    later_pairs (pair ∷ later) done n whole =
+        let listed : Contains all pair = subst (λ l. Contains l pair) whole (Contains-append_right done (pair ∷ later) pair (0, omega arith, refl)) in
+        let within = All-contains (λ p. (p.0 < length formats) × (p.1 < length formats)) all pair are.known listed in
+        rw (pair_again n pair within.0 within.1 (two pair listed), fine n done later pair whole) (later_pairs later (done ++ pair ∷ []) (n + 1) (append_assoc done (pair ∷ []) later ∙ whole))
+
+    pub pairs_again : pairs_of formats (priority_header ∷ map (pair_record formats) all) ≡ Ok all
+    unfolding pairs_of field_at
+    pairs_again = later_pairs all [] 1 refl

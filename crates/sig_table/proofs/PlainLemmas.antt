@@ -1,0 +1,258 @@
+-- No field of the canonical text has a byte that calls for quotes, so `csv` writes each record as it stands.
+use Rattle.std.proofs.Common.{◌≡◌, ℕ, zero, suc, ◌+◌, ◌/◌, ◌%◌, ◌<◌, Bool, true, false, cond, nat_eq, nat_lt, List, [], ◌∷◌, ◌++◌, drop, map, Option, Some, None, refl, sym, ap, append-nil, inl, inr, arith}
+use Rattle.std.specs.Prelude.{codes, slice_get, ⊤}
+use Rattle.std.specs.Fmt.{decimal, digit_glyph, digits, digits_onto}
+use Rattle.std.specs.List.{flat_map}
+use Rattle.std.proofs.lemmas.Bool.{cases_Bool, ne_eqb}
+use Rattle.std.proofs.lemmas.List.Folds.{list_any-append}
+use Rattle.csv.specs.Writing.{default_writer, fields_text, is_blank, needs_byte, needs_quotes, row_body, row_text}
+use Rattle.sig_expr.specs.Canon.{alternative_text, alternatives_text, atom_text, between_text, canon, count_text, five_digits, from_text, gap_text, hex_digit, item_text, leading_zeros, not_text, number_text, pair_text, range_text, word_text}
+use Rattle.sig_expr.specs.declared.item.Atom.{Atom}
+use Rattle.sig_expr.specs.declared.item.Atom.TheVariants as atom
+use Rattle.sig_expr.specs.declared.item.Item.{Item}
+use Rattle.sig_expr.specs.declared.item.Item.TheVariants as item
+use Rattle.sig_table.specs.Canonical.{joined, line_text, name_of, named, pair_record, priority_csv, priority_records, records_of_signature, sequence_record, signature_csv, signature_records}
+use Rattle.sig_table.specs.Lists.{PlacedExpr, SignatureLists, TableLists}
+use Rattle.sig_table.specs.Puids.{puid_text, registry_text}
+use Rattle.sig_table.specs.declared.position.Position.{Position}
+use Rattle.sig_table.specs.declared.position.Position.TheVariants as position
+use Rattle.sig_table.specs.declared.puid.Puid.{Puid}
+use Rattle.sig_table.specs.declared.puid.Registry.{Registry}
+use Rattle.sig_table.specs.declared.puid.Registry.TheVariants.{Fmt, XFmt}
+
+-- no byte of the field calls for quotes
+abbrev pub Plain : List ℕ → Type 0
+Plain field = needs_quotes default_writer field ≡ false
+
+abbrev pub AllPlain : List (List ℕ) → Type 0
+AllPlain [] = ⊤
+AllPlain (field ∷ later) = Plain field × AllPlain later
+
+-- two plain texts in turn
+pub plain-append : (xs ys : List ℕ) → Plain xs → Plain ys → Plain (xs ++ ys)
+plain-append xs ys p q = rw (list_any-append (needs_byte default_writer) xs ys, p, q) refl
+
+-- one plain byte more
+plain-cons : (x : ℕ) (xs : List ℕ) → needs_byte default_writer x ≡ false → Plain xs → Plain (x ∷ xs)
+plain-cons x xs p q = rw (p, q) refl
+
+-- each mark is below the digits
+above_marks : (b : ℕ) → 44 < b → needs_byte default_writer b ≡ false
+above_marks b h =
+    let comma : nat_eq b 44 ≡ false = ne_eqb b 44 (λ e. omega arith) in
+    let quote : nat_eq b 34 ≡ false = ne_eqb b 34 (λ e. omega arith) in
+    let carriage : nat_eq b 13 ≡ false = ne_eqb b 13 (λ e. omega arith) in
+    let feed : nat_eq b 10 ≡ false = ne_eqb b 10 (λ e. omega arith) in
+    rw (comma, quote, carriage, feed) refl
+
+plain-above : (x : ℕ) (xs : List ℕ) → 44 < x → Plain xs → Plain (x ∷ xs)
+plain-above x xs h p = plain-cons x xs (above_marks x h) p
+
+-- decimals
+
+glyph_above : (d : ℕ) → 44 < digit_glyph false d
+glyph_above d = elim (cases_Bool (nat_lt d 10)) [
+  | inl t ↦ rw t (omega arith)
+  | inr f ↦ rw f (omega arith)
+]
+
+plain-onto : (k n : ℕ) (acc : List ℕ) → Plain acc → Plain (digits_onto k 10 false n acc)
+plain-onto zero n acc p = p
+plain-onto (suc k) n acc p =
+    let more = plain-above (digit_glyph false (n % 10)) acc (glyph_above (n % 10)) p in
+    elim (cases_Bool (nat_eq (n / 10) 0)) [
+      | inl t ↦ rw t more
+      | inr f ↦ rw f (plain-onto k (n / 10) (digit_glyph false (n % 10) ∷ acc) more)
+    ]
+
+pub plain-decimal : (n : ℕ) → Plain (decimal n)
+unfolding digits
+plain-decimal n = plain-onto 64 n [] refl
+
+-- PUIDs
+
+pub plain-puid_text : (p : Puid) → Plain (puid_text p)
+plain-puid_text p = plain-append (registry_text p.registry) (decimal p.number) (plain_registry p.registry) (plain-decimal p.number)
+  where
+    plain_registry : (r : Registry) → Plain (registry_text r)
+    plain_registry Fmt = refl
+    plain_registry XFmt = refl
+
+plain-named : (o : Option Puid) → Plain (named o)
+plain-named None = refl
+plain-named (Some p) = plain-puid_text p
+
+pub plain-name_of : (formats : List Puid) (format : ℕ) → Plain (name_of formats format)
+plain-name_of formats format = plain-named (slice_get formats format)
+
+-- canonical expressions
+
+hex_above : (v : ℕ) → 44 < hex_digit v
+hex_above v = elim (cases_Bool (nat_lt v 10)) [
+  | inl t ↦ rw t (omega arith)
+  | inr f ↦ rw f (omega arith)
+]
+
+plain-pair : (b : ℕ) → Plain (pair_text b)
+plain-pair b = plain-above (hex_digit (b / 16)) (hex_digit (b % 16) ∷ []) (hex_above (b / 16)) (plain-above (hex_digit (b % 16)) [] (hex_above (b % 16)) refl)
+
+plain-word : (bs : List ℕ) → Plain (word_text bs)
+unfolding word_text
+plain-word [] = refl
+plain-word (b ∷ bs) = plain-append (pair_text b) (word_text bs) (plain-pair b) (plain-word bs)
+
+plain-drop : (k : ℕ) (xs : List ℕ) → Plain xs → Plain (drop k xs)
+plain-drop zero xs p = p
+plain-drop (suc k) [] p = p
+plain-drop (suc k) (x ∷ xs) p = plain-drop k xs (elim (cases_Bool (needs_byte default_writer x)) [
+  | inl t ↦ absurd (cc (rw t at p))
+  | inr f ↦ rw f at p
+])
+
+plain-digits : (a b c d e : ℕ) → Plain ((48 + a) ∷ (48 + b) ∷ (48 + c) ∷ (48 + d) ∷ (48 + e) ∷ [])
+plain-digits a b c d e =
+    digit a ((48 + b) ∷ (48 + c) ∷ (48 + d) ∷ (48 + e) ∷ [])
+    (digit b ((48 + c) ∷ (48 + d) ∷ (48 + e) ∷ []) (digit c ((48 + d) ∷ (48 + e) ∷ []) (digit d ((48 + e) ∷ []) (digit e [] refl))))
+  where
+    digit : (v : ℕ) (xs : List ℕ) → Plain xs → Plain ((48 + v) ∷ xs)
+    digit v xs p = plain-above (48 + v) xs (omega arith) p
+
+plain-five : (n : ℕ) → Plain (five_digits n)
+plain-five n = plain-digits (n / 10000 % 10) (n / 1000 % 10) (n / 100 % 10) (n / 10 % 10) (n % 10)
+
+plain-number : (n : ℕ) → Plain (number_text n)
+unfolding number_text
+plain-number n = plain-drop (leading_zeros n) (five_digits n) (plain-five n)
+
+plain-count : (n : ℕ) → Plain (count_text n)
+unfolding count_text
+plain-count n = plain-append (123 ∷ []) (number_text n ++ (125 ∷ [])) refl (plain-append (number_text n) (125 ∷ []) (plain-number n) refl)
+
+plain-from : (n : ℕ) → Plain (from_text n)
+unfolding from_text
+plain-from n = plain-append (123 ∷ []) (number_text n ++ (45 ∷ 42 ∷ 125 ∷ [])) refl (plain-append (number_text n) (45 ∷ 42 ∷ 125 ∷ []) (plain-number n) refl)
+
+plain-between : (min max : ℕ) → Plain (between_text min max)
+unfolding between_text
+plain-between min max =
+    plain-append (123 ∷ []) (number_text min ++ ((45 ∷ []) ++ (number_text max ++ (125 ∷ [])))) refl
+    (plain-append (number_text min) ((45 ∷ []) ++ (number_text max ++ (125 ∷ []))) (plain-number min)
+    (plain-append (45 ∷ []) (number_text max ++ (125 ∷ [])) refl
+    (plain-append (number_text max) (125 ∷ []) (plain-number max) refl)))
+
+plain-if : (b : Bool) (xs ys : List ℕ) → Plain xs → Plain ys → Plain (cond b xs ys)
+plain-if true xs ys p q = p
+plain-if false xs ys p q = q
+
+plain-gap : (min : ℕ) (max : Option ℕ) → Plain (gap_text min max)
+plain-gap min None = plain-if (nat_eq min 0) (42 ∷ []) (from_text min) refl (plain-from min)
+plain-gap min (Some max) = plain-if (nat_eq min max) (count_text max) (between_text min max) (plain-count max) (plain-between min max)
+
+plain-range : (opening a b : List ℕ) → Plain opening → Plain (range_text opening a b)
+unfolding range_text
+plain-range opening a b p =
+    plain-append opening (word_text a ++ ((58 ∷ []) ++ (word_text b ++ (93 ∷ [])))) p
+    (plain-append (word_text a) ((58 ∷ []) ++ (word_text b ++ (93 ∷ []))) (plain-word a)
+    (plain-append (58 ∷ []) (word_text b ++ (93 ∷ [])) refl
+    (plain-append (word_text b) (93 ∷ []) (plain-word b) refl)))
+
+plain-not : (a : List ℕ) → Plain (not_text a)
+unfolding not_text
+plain-not a = plain-append (91 ∷ 33 ∷ []) (word_text a ++ (93 ∷ [])) refl (plain-append (word_text a) (93 ∷ []) (plain-word a) refl)
+
+plain-atom : (a : Atom) → Plain (atom_text a)
+plain-atom (atom.Byte b) = plain-pair b
+plain-atom (atom.Range a b) = plain-range (91 ∷ []) a b refl
+plain-atom (atom.Not a) = plain-not a
+plain-atom (atom.NotRange a b) = plain-range (91 ∷ 33 ∷ []) a b refl
+
+plain-alternative : (ps : List Atom) → Plain (alternative_text ps)
+unfolding alternative_text
+plain-alternative [] = refl
+plain-alternative (p ∷ ps) = plain-append (atom_text p) (alternative_text ps) (plain-atom p) (plain-alternative ps)
+
+plain-alternatives : (sign : ℕ) (alternatives : List (List Atom)) → needs_byte default_writer sign ≡ false → Plain (alternatives_text sign alternatives)
+unfolding alternatives_text
+plain-alternatives sign [] h = refl
+plain-alternatives sign (a ∷ later) h =
+    plain-append (sign ∷ []) (alternative_text a ++ alternatives_text 124 later) (plain-cons sign [] h refl)
+    (plain-append (alternative_text a) (alternatives_text 124 later) (plain-alternative a) (plain-alternatives 124 later refl))
+
+plain-item : (i : Item) → Plain (item_text i)
+plain-item (item.Byte b) = plain-pair b
+plain-item item.Any = refl
+plain-item (item.Gap min max) = plain-gap min max
+plain-item (item.Alt alternatives) = plain-append (alternatives_text 40 alternatives) (41 ∷ []) (plain-alternatives 40 alternatives refl) refl
+plain-item (item.Range a b) = plain-range (91 ∷ []) a b refl
+plain-item (item.Not a) = plain-not a
+plain-item (item.NotRange a b) = plain-range (91 ∷ 33 ∷ []) a b refl
+
+pub plain-canon : (is : List Item) → Plain (canon is)
+unfolding canon
+plain-canon [] = refl
+plain-canon (i ∷ is) = plain-append (item_text i) (canon is) (plain-item i) (plain-canon is)
+
+-- records
+
+plain_row_body : (x : List ℕ) (ys : List (List ℕ)) → AllPlain (x ∷ ys) → row_body default_writer (x ∷ ys) ≡ joined (x ∷ ys)
+unfolding fields_text joined
+plain_row_body x [] (p, q) = rw p (append-nil x)
+plain_row_body x (y ∷ ys) (p, q) = rw p (ap (λ text. x ++ (44 ∷ text)) (plain_row_body y ys q))
+
+-- a record of two fields or more, none of which calls for quotes, is its fields with commas between them
+pub plain_row : (x y : List ℕ) (ys : List (List ℕ)) → AllPlain (x ∷ y ∷ ys) → row_text default_writer (x ∷ y ∷ ys) ≡ line_text (x ∷ y ∷ ys)
+unfolding is_blank
+plain_row x y ys p = ap (λ text. text ++ 10 ∷ []) (plain_row_body x (y ∷ ys) p)
+
+-- each record is written as it stands
+abbrev Stand : List (List (List ℕ)) → Type 0
+Stand [] = ⊤
+Stand (record' ∷ later) = (line_text record' ≡ row_text default_writer record') × Stand later
+
+stand_text : (records : List (List (List ℕ))) → Stand records → flat_map line_text records ≡ flat_map (row_text default_writer) records
+stand_text [] h = refl
+stand_text (r ∷ rs) h = rw (h.0, stand_text rs h.1) refl
+
+stand-append : (xs ys : List (List (List ℕ))) → Stand xs → Stand ys → Stand (xs ++ ys)
+stand-append [] ys h g = g
+stand-append (x ∷ xs) ys h g = (h.0, stand-append xs ys h.1 g)
+
+stand-map : {X : Type 0} (f : X → List (List ℕ)) (xs : List X) → ((x : X) → line_text (f x) ≡ row_text default_writer (f x)) → Stand (map f xs)
+stand-map f [] h = tt
+stand-map f (x ∷ xs) h = (h x, stand-map f xs h)
+
+stand-flat_map : {X : Type 0} (f : X → List (List (List ℕ))) (xs : List X) → ((x : X) → Stand (f x)) → Stand (flat_map f xs)
+stand-flat_map f [] h = tt
+stand-flat_map f (x ∷ xs) h = stand-append (f x) (flat_map f xs) (h x) (stand-flat_map f xs h)
+
+sequence_stands : (name : List ℕ) (number : ℕ) (s : PlacedExpr) → Plain name → line_text (sequence_record name number s) ≡ row_text default_writer (sequence_record name number s)
+sequence_stands name number s plain = go s.position
+  where
+    rest : (word offset max : List ℕ) → Plain word → Plain offset → Plain max → line_text (name ∷ decimal number ∷ word ∷ offset ∷ max ∷ canon s.items ∷ []) ≡ row_text default_writer (name ∷ decimal number ∷ word ∷ offset ∷ max ∷ canon s.items ∷ [])
+    rest word offset max p q r = sym (plain_row name (decimal number) (word ∷ offset ∷ max ∷ canon s.items ∷ []) (plain, (plain-decimal number, (p, (q, (r, (plain-canon s.items, tt)))))))
+
+    go : (place : Position) → line_text (sequence_record name number (record s { position = place })) ≡ row_text default_writer (sequence_record name number (record s { position = place }))
+    go (position.Bof min max) = rest (codes "BOF") (decimal min) (decimal max) refl (plain-decimal min) (plain-decimal max)
+    go (position.Eof min max) = rest (codes "EOF") (decimal min) (decimal max) refl (plain-decimal min) (plain-decimal max)
+    go position.Variable = rest (codes "Variable") [] [] refl refl refl
+
+signature_stands : (formats : List Puid) (s : SignatureLists) → Stand (records_of_signature formats s)
+signature_stands formats s = stand-map (sequence_record (name_of formats s.format) s.number) s.sequences (λ sequence. sequence_stands (name_of formats s.format) s.number sequence (plain-name_of formats s.format))
+
+pair_stands : (formats : List Puid) (pair : ℕ × ℕ) → line_text (pair_record formats pair) ≡ row_text default_writer (pair_record formats pair)
+pair_stands formats pair = sym (plain_row (name_of formats pair.0) (name_of formats pair.1) [] (plain-name_of formats pair.0, (plain-name_of formats pair.1, tt)))
+
+-- the canonical files as `csv` writes their records
+pub signature_csv-rows : (t : TableLists) → signature_csv t ≡ flat_map (row_text default_writer) (signature_records t)
+unfolding signature_csv
+signature_csv-rows t = stand_text (signature_records t) (header, stand-flat_map (records_of_signature t.formats) t.signatures (signature_stands t.formats))
+  where
+    header : line_text (codes "puid" ∷ codes "signature" ∷ codes "position" ∷ codes "offset" ∷ codes "max_offset" ∷ codes "expression" ∷ []) ≡ row_text default_writer (codes "puid" ∷ codes "signature" ∷ codes "position" ∷ codes "offset" ∷ codes "max_offset" ∷ codes "expression" ∷ [])
+    header = sym (plain_row (codes "puid") (codes "signature") (codes "position" ∷ codes "offset" ∷ codes "max_offset" ∷ codes "expression" ∷ []) (refl, (refl, (refl, (refl, (refl, (refl, tt)))))))
+
+pub priority_csv-rows : (t : TableLists) → priority_csv t ≡ flat_map (row_text default_writer) (priority_records t)
+unfolding priority_csv
+priority_csv-rows t = stand_text (priority_records t) (header, stand-map (pair_record t.formats) t.priorities (pair_stands t.formats))
+  where
+    header : line_text (codes "higher" ∷ codes "lower" ∷ []) ≡ row_text default_writer (codes "higher" ∷ codes "lower" ∷ [])
+    header = sym (plain_row (codes "higher") (codes "lower") [] (refl, (refl, tt)))

@@ -1,0 +1,86 @@
+-- The table that rows give, said of all rows at once.
+use Rattle.std.specs.Prelude.{◌≡◌, ◌⊎◌, ℕ, ◌+◌, Bool, true, not, nat_eq, List, [], ◌∷◌, ◌++◌, length, map, filter, Some, Ok, Err}
+use Rattle.std.specs.List.{position_or_len}
+use Rattle.sig_table.specs.declared.error.TableError.{TableError}
+use Rattle.sig_table.specs.declared.error.TableError.TheVariants as error
+use Rattle.sig_table.specs.declared.error.TableFile.TheVariants.{Signatures}
+use Rattle.sig_table.specs.declared.puid.Puid.{Puid}
+use Rattle.sig_table.specs.declared.row.Row.{Row}
+use Rattle.sig_table.specs.Lists.{SignatureLists, TableLists}
+use Rattle.sig_table.specs.Loading.{fault_in, is_signature_header}
+use Rattle.sig_table.specs.Puids.{puid_eq}
+use Rattle.sig_table.specs.Rows.{row_of}
+
+-- the different members, in order of first appearance
+abbrev pub firsts : {A : Type 0} → (A → A → Bool) → List A → List A
+firsts eq [] = []
+firsts eq (x ∷ later) = x ∷ filter (λ y. not (eq x y)) (firsts eq later)
+
+-- the different PUIDs, in order of first row
+abbrev pub formats_of : List Row → List Puid
+formats_of rows = firsts puid_eq (map (λ row. row.puid) rows)
+
+-- the different signature numbers, in order of first row
+abbrev pub numbers_of : List Row → List ℕ
+numbers_of rows = firsts nat_eq (map (λ row. row.number) rows)
+
+-- the rows of a number, in row order
+abbrev pub rows_of : ℕ → List Row → List Row
+rows_of number rows = filter (λ row. nat_eq number row.number) rows
+
+-- the place of the first row's PUID among the formats
+abbrev pub first_format : List Puid → List Row → ℕ
+first_format formats [] = 0
+first_format formats (row ∷ later) = position_or_len (puid_eq row.puid) formats
+
+-- the signature of a number: its first row's format, and the sequences of its rows in row order
+abbrev pub signature_of : List Row → ℕ → SignatureLists
+signature_of rows number = record {
+  format = first_format (formats_of rows) (rows_of number rows);
+  number = number;
+  sequences = map (λ row. row.sequence) (rows_of number rows);
+}
+
+-- the table of the rows, with no priority
+abbrev pub gathered : List Row → TableLists
+gathered rows = record { formats = formats_of rows; signatures = map (signature_of rows) (numbers_of rows); priorities = [] }
+
+-- each record writes the row in its place, the first one being the n-th
+abbrev pub Write : ℕ → List (List (List ℕ)) → List Row → Type 0
+Write n [] rows = rows ≡ []
+Write n (fields ∷ later) [] = ⊥
+Write n (fields ∷ later) (row ∷ rows) = (row_of n fields ≡ Ok row) × Write (n + 1) later rows
+
+-- behind a header, each record writes a row, and the table is that of the rows
+pub record IsTableOf (file : List (List (List ℕ))) (table : TableLists) : Type 0 where
+  pub header : List (List ℕ)
+  pub records : List (List (List ℕ))
+  pub cut : file ≡ header ∷ records
+  pub is_header : is_signature_header header ≡ true
+  pub rows : List Row
+  pub write : Write 1 records rows
+  pub gathers : table ≡ gathered rows
+
+-- the fault of the n-th record, which comes after these rows: it writes no row, or one that their table can't take
+abbrev pub IsFaultAfter : List Row → ℕ → List (List ℕ) → TableError → Type 0
+IsFaultAfter rows n fields fault = (row_of n fields ≡ Err fault) ⊎ ((row : Row) × (row_of n fields ≡ Ok row) × (fault_in (gathered rows) n row ≡ Some fault))
+
+-- behind a header, some record has this fault, and those before it write rows
+pub record HasFirstFault (file : List (List (List ℕ))) (fault : TableError) : Type 0 where
+  pub header : List (List ℕ)
+  pub earlier : List (List (List ℕ))
+  pub fields : List (List ℕ)
+  pub later : List (List (List ℕ))
+  pub cut : file ≡ header ∷ (earlier ++ fields ∷ later)
+  pub is_header : is_signature_header header ≡ true
+  pub rows : List Row
+  pub write : Write 1 earlier rows
+  pub has : IsFaultAfter rows (1 + length earlier) fields fault
+
+-- the file begins with the header
+abbrev pub BeginsWithHeader : List (List (List ℕ)) → Type 0
+BeginsWithHeader file = (header : List (List ℕ)) × (records : List (List (List ℕ))) × (file ≡ header ∷ records) × (is_signature_header header ≡ true)
+
+-- there is no header, or some record has the fault
+abbrev pub IsFaultOf : List (List (List ℕ)) → TableError → Type 0
+IsFaultOf file fault = ((BeginsWithHeader file → ⊥) × (fault ≡ error.Header Signatures)) ⊎ HasFirstFault file fault

@@ -1,0 +1,9 @@
+-- What an iterator over the signatures of a format has left.
+use Rattle.std.specs.Prelude.{List}
+use Rattle.sig_table.specs.declared.ids.SigId.{SigId}
+use Rattle.sig_table.specs.declared.signatures_of.SignaturesOf.{SignaturesOf}
+use Rattle.sig_table.specs.Places.{places_of}
+
+-- the signatures still to come, in order
+abbrev pub left_of : SignaturesOf → List SigId
+left_of signatures = places_of signatures.format.0 signatures.place signatures.later.now

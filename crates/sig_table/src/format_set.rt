@@ -1,0 +1,44 @@
+//! Sets of formats, one bit for each of the at most 1,000.
+
+ghost use Rattle.std.specs.Prelude.{◌≡◌, ℕ, ◌<◌, ◌⊎◌, ◌↔◌, IsTrue};
+ghost use Rattle.sig_table.specs.FormatSets.{HasFormat};
+
+use sig_bits::{get_bit, or_into, set_bit};
+
+// A set of formats.
+#[derive(Clone, Copy, Debug)]
+pub(crate) struct FormatSet {
+    bits: [u8; 125],
+}
+
+impl FormatSet {
+    // No format.
+    pub(crate) fn new() -> FormatSet
+        ensures { (f : ℕ) → ¬ HasFormat result f }
+    {
+        FormatSet { bits: [0; 125] }
+    }
+
+    // Whether the format is in it.
+    pub(crate) fn contains(&self, format: u16) -> bool
+        requires { format < 1000 }
+        ensures { IsTrue result ↔ HasFormat self.now format }
+    {
+        get_bit(&self.bits, format as usize)
+    }
+
+    // Adds one format.
+    pub(crate) fn insert(&mut self, format: u16)
+        requires { format < 1000 }
+        ensures { (f : ℕ) → HasFormat self.new f ↔ ((f ≡ format) ⊎ HasFormat self.old f) }
+    {
+        set_bit(&mut self.bits, format as usize);
+    }
+
+    // Adds the formats of the other.
+    pub(crate) fn join(&mut self, other: &FormatSet)
+        ensures { (f : ℕ) → HasFormat self.new f ↔ (HasFormat self.old f ⊎ HasFormat other.now f) }
+    {
+        or_into(&mut self.bits, &other.bits);
+    }
+}

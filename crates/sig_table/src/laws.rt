@@ -1,0 +1,45 @@
+//! Laws of tables and their texts.
+
+ghost use Rattle.std.specs.Prelude.{◌≡◌, ℕ, List, [], Err, Ok};
+ghost use Rattle.sig_table.specs.declared.error.TableError.{TableError};
+ghost use Rattle.sig_table.specs.declared.puid.Puid.{Puid};
+ghost use Rattle.sig_table.specs.Canonical.{priority_csv, signature_csv};
+ghost use Rattle.sig_table.specs.Gathered.{IsFaultOf, IsTableOf};
+ghost use Rattle.sig_table.specs.Lists.{TableLists};
+ghost use Rattle.sig_table.specs.Loading.{pairs_of, records_of, signatures_of, table_of};
+ghost use Rattle.sig_table.specs.PriorityRows.{ArePairsOf, IsPriorityFaultOf};
+ghost use Rattle.sig_table.specs.Tables.{HasAllSignatures, IsTable};
+
+/// The table of a signature file is that of its rows: the different PUIDs and numbers in order of
+/// first row, and for each number its rows' sequences in row order.
+pub fn rows_are_gathered()
+    ensures { (file : List (List (List ℕ))) (table : TableLists) → signatures_of file ≡ Ok table → IsTableOf file table }
+{}
+
+/// A refused signature file has no header, or a first faulty row: those before it make a table.
+pub fn first_fault_is_told()
+    ensures { (file : List (List (List ℕ))) (fault : TableError) → signatures_of file ≡ Err fault → IsFaultOf file fault }
+{}
+
+/// The pairs of a priority file are those of its rows, in their order: none stands twice, and they
+/// make no cycle.
+pub fn pairs_are_listed()
+    ensures { (formats : List Puid) (file : List (List (List ℕ))) (pairs : List (ℕ × ℕ)) → pairs_of formats file ≡ Ok pairs → ArePairsOf formats file pairs }
+{}
+
+/// A refused priority file has no header, or a first faulty row: those before it give priorities, and
+/// it writes no pair, or one of theirs, or else one that makes a cycle with them.
+pub fn first_priority_fault_is_told()
+    ensures { (formats : List Puid) (file : List (List (List ℕ))) (fault : TableError) → pairs_of formats file ≡ Err fault → IsPriorityFaultOf formats file fault }
+{}
+
+/// Loading what was written gives the same table, where each format has a signature.
+///
+/// A format without one has no row, so the signature file does not name it.
+pub fn written_is_loaded()
+    // The signature file gives the formats and the signatures.
+    ensures signatures { (t : TableLists) → IsTable t → HasAllSignatures t → signatures_of (records_of (signature_csv t)) ≡ Ok (record t { priorities = [] }) }
+
+    // Both files give the table.
+    ensures table { (t : TableLists) → IsTable t → HasAllSignatures t → table_of (records_of (signature_csv t)) (records_of (priority_csv t)) ≡ Ok t }
+{}

@@ -1,0 +1,55 @@
+//! Records as lines in memory.
+
+ghost use Rattle.std.specs.Prelude.{◌≡◌, [], ◌++◌, IfOk};
+ghost use Rattle.csv.specs.Records.{fields_of};
+ghost use Rattle.csv.specs.Writing.{default_writer, row_text};
+
+use csv::{ByteRecord, Writer};
+use std::alloc::{AllocError, Global};
+use std::marker::Model;
+
+// The text of the records so far, as `csv` writes them by default.
+#[derive(Drop)]
+pub(crate) struct Lines {
+    writer: Writer<Vec<u8>>,
+}
+
+impl Model for Lines {
+    ghost use Rattle.std.specs.Prelude.{ℕ, List, ◌++◌};
+    ghost use Rattle.csv.specs.Writing.{writer_pending, writer_under};
+    ghost use Rattle.sig_table.specs.Lines.{IsAtStart};
+
+    ghost Value = { List ℕ };
+
+    ghost view = { λ l. (writer_under l.writer).items ++ writer_pending l.writer };
+
+    ghost invariant = { λ l. IsAtStart l.writer };
+}
+
+impl Lines {
+    // No record yet.
+    pub(crate) fn new(alloc: Global) -> Lines
+        ensures { result ≡ [] }
+    {
+        Lines {
+            writer: Writer::from_writer(Vec::new(alloc)),
+        }
+    }
+
+    // The lines with one more record. Memory alone can be wanting.
+    pub(crate) fn with(self, row: &ByteRecord) -> Result<Lines, AllocError>
+        ensures { IfOk result (λ lines. lines ≡ self ++ row_text default_writer (fields_of row.now)) }
+    {
+        let Lines { mut writer } = self;
+        writer.write_byte_record(row).map_err(|_| AllocError)?;
+        Ok(Lines { writer })
+    }
+
+    // The text.
+    pub(crate) fn into_text(self) -> Result<Vec<u8>, AllocError>
+        ensures { IfOk result (λ text. text.items ≡ self) }
+    {
+        let Lines { writer } = self;
+        writer.into_inner().map_err(|_| AllocError)
+    }
+}

@@ -1,0 +1,157 @@
+//! Pairs of formats as they grow, row by row.
+//!
+//! Beside the pairs stand, for each format, all formats below it, so no way down is searched for a
+//! row. The sets grow by a bit or more at each change, so all changes together are few.
+
+ghost use Rattle.std.specs.Prelude.{◌≡◌, ◌⊎◌, ℕ, ◌<◌, ◌≤◌, ◌↔◌, ◌∷◌, ◌++◌, [], List, IsTrue, IfOk, IfSome, MatchResult, None, Ok, false, length};
+ghost use Rattle.sig_table.specs.FormatSets.{HasFormat};
+ghost use Rattle.sig_table.specs.Loading.{is_listed, is_of_signatures, pair_fault, unless};
+ghost use Rattle.sig_table.specs.Ranking.{is_above};
+ghost use Rattle.sig_table.specs.Rankings.{AreBelow};
+ghost use Rattle.sig_table.specs.Rows.{IsFault, is_read};
+ghost use Rattle.sig_table.specs.Tables.{ArePriorities};
+
+use super::TableError;
+use super::format_set::FormatSet;
+use indexmap::IndexSet;
+use std::alloc::{AllocError, Global};
+use std::marker::Model;
+
+// The pairs so far.
+#[derive(Debug, Drop)]
+pub(crate) struct Ranking {
+    pairs: IndexSet<(u16, u16)>,
+    below: Vec<FormatSet>,
+}
+
+impl Model for Ranking {
+    ghost use Rattle.std.specs.Prelude.{length};
+    ghost use Rattle.sig_table.specs.Rankings.{IsRanking, RankingLists};
+
+    ghost Value = { RankingLists };
+
+    ghost view = { λ r. record { format_count = length r.below.items; pairs = r.pairs.keys } };
+
+    ghost invariant = { IsRanking };
+}
+
+impl Ranking {
+    // No pair yet, of so many formats.
+    pub(crate) fn new(alloc: Global, format_count: usize) -> Result<Ranking, AllocError>
+        requires { format_count ≤ 1000 }
+        ensures { IfOk result (λ r. r ≡ record { format_count = format_count; pairs = [] }) }
+    {
+        let below = vec![in alloc; FormatSet::new(); format_count]?;
+        Ok(Ranking {
+            pairs: IndexSet::new(alloc),
+            below,
+        })
+    }
+
+    // Judges the pair of the row, and adds it.
+    pub(crate) fn add(self, pair: (u16, u16), n: usize) -> Result<Ranking, TableError>
+        requires higher { pair.0 < self.format_count }
+        requires lower { pair.1 < self.format_count }
+        requires other { ¬ (pair.0 ≡ pair.1) }
+        ensures { MatchResult result
+            (λ r. (pair_fault self.pairs n pair ≡ None) × (r ≡ record self { pairs = self.pairs ++ pair ∷ [] }))
+            (λ e. (is_of_signatures e ≡ false) × IsFault (unless (pair_fault self.pairs n pair) (Ok self)) e) }
+    {
+        if let Some(fault) = self.fault(pair, n) {
+            return Err(fault);
+        }
+        match self.insert(pair) {
+            Ok(ranking) => Ok(ranking),
+            Err(AllocError) => Err(TableError::OutOfMemory),
+        }
+    }
+
+    // The fault of the pair.
+    #[tactic(auto, unfolding(crate::specs::Loading::pair_fault))]
+    fn fault(&self, pair: (u16, u16), n: usize) -> Option<TableError>
+        requires higher { pair.0 < self.now.format_count }
+        requires lower { pair.1 < self.now.format_count }
+        ensures fault { result ≡ pair_fault self.now.pairs n pair }
+        ensures no_read { IfSome result (λ e. is_read e ≡ false) }
+        ensures later { IfSome result (λ e. is_of_signatures e ≡ false) }
+    {
+        if self.contains(pair) {
+            return Some(TableError::PriorityTwice { row: n });
+        }
+        if self.is_above(pair.1, pair.0) {
+            return Some(TableError::PriorityCycle { row: n });
+        }
+        None
+    }
+
+    // Whether the pair is listed.
+    fn contains(&self, pair: (u16, u16)) -> bool
+        ensures { result ≡ is_listed self.now.pairs pair }
+    {
+        self.pairs.contains(&pair)
+    }
+
+    // Whether the pairs lead from the one down to the other.
+    fn is_above(&self, higher: u16, lower: u16) -> bool
+        requires higher { higher < self.now.format_count }
+        requires lower { lower < self.now.format_count }
+        ensures { result ≡ is_above self.now.pairs higher lower }
+    {
+        self.below[higher as usize].contains(lower)
+    }
+
+    // Adds a pair that closes no cycle.
+    fn insert(self, pair: (u16, u16)) -> Result<Ranking, AllocError>
+        requires higher { pair.0 < self.format_count }
+        requires lower { pair.1 < self.format_count }
+        requires other { ¬ (pair.0 ≡ pair.1) }
+        requires judged { (n : ℕ) × (pair_fault self.pairs n pair ≡ None) }
+        ensures { IfOk result (λ r. r ≡ record self { pairs = self.pairs ++ pair ∷ [] }) }
+    {
+        let Ranking {
+            mut pairs,
+            mut below,
+        } = self;
+        if pairs.insert(pair).is_err() {
+            return Err(AllocError);
+        }
+        put_over(&mut below, pair.0, pair.1);
+        Ok(Ranking { pairs, below })
+    }
+
+    // The pairs.
+    pub(crate) fn into_pairs(self) -> IndexSet<(u16, u16)>
+        ensures pairs { result.keys ≡ self.pairs }
+        ensures limits { ArePriorities self.format_count result.keys }
+    {
+        self.pairs
+    }
+}
+
+// Puts the lower format, and those below it, below the higher one and those above it.
+fn put_over(below: &mut [FormatSet], higher: u16, lower: u16)
+    requires few { length below.old ≤ 1000 }
+    requires higher { higher < length below.old }
+    requires lower { lower < length below.old }
+    requires below { (pairs : List (ℕ × ℕ)) × AreBelow below.old pairs }
+    ensures { (pairs : List (ℕ × ℕ)) → AreBelow below.old pairs → AreBelow below.new (pairs ++ (higher, lower) ∷ []) }
+{
+    let mut added = below[lower as usize];
+    added.insert(lower);
+    for (x, set) in below.iter_mut().enumerate() {
+        raise(set, x == higher as usize, higher, lower, &added);
+    }
+}
+
+// Adds these formats to the set of the higher format, or of one above it. Where the lower one is
+// there already, so are they.
+fn raise(set: &mut FormatSet, is_higher: bool, higher: u16, lower: u16, added: &FormatSet)
+    requires higher { higher < 1000 }
+    requires lower { lower < 1000 }
+    requires there { HasFormat set.old lower → (f : ℕ) → HasFormat added.now f → HasFormat set.old f }
+    ensures { (f : ℕ) → HasFormat set.new f ↔ (HasFormat set.old f ⊎ ((IsTrue is_higher ⊎ HasFormat set.old higher) × HasFormat added.now f)) }
+{
+    if (is_higher || set.contains(higher)) && !set.contains(lower) {
+        set.join(added);
+    }
+}

@@ -1,0 +1,55 @@
+//! The signatures of a format, in order.
+
+ghost use Rattle.std.specs.Prelude.{◌≡◌, ◌+◌, ◌≤◌, length};
+
+use super::table::Signature;
+use super::{FormatId, SigId};
+
+/// An iterator over the signatures of a format, rising.
+///
+/// Each step goes on to the format's next signature in the table.
+#[derive(Debug, Drop)]
+pub struct SignaturesOf<'a> {
+    later: &'a [Signature],
+    place: u16,
+    format: FormatId,
+    ghost few: { place + length later.now ≤ 4000 },
+}
+
+impl<'a> SignaturesOf<'a> {
+    pub(crate) fn new(signatures: &'a [Signature], format: FormatId) -> SignaturesOf<'a>
+        requires { length signatures.now ≤ 4000 }
+        ensures later { result.later.now ≡ signatures.now }
+        ensures place { result.place ≡ 0 }
+        ensures format { result.format ≡ format }
+    {
+        SignaturesOf {
+            later: signatures,
+            place: 0,
+            format,
+        }
+    }
+}
+
+impl Iterator for SignaturesOf<'_> {
+    ghost use Rattle.std.specs.Iterator.{YieldsFirst, item_count};
+    ghost use Rattle.sig_table.specs.Left.{left_of};
+
+    type Item = SigId;
+
+    ghost next_gives = { YieldsFirst left_of };
+
+    ghost remaining = { item_count left_of };
+
+    fn next(&mut self) -> Option<SigId> {
+        while let Some((first, later)) = self.later.split_first() {
+            let place = SigId(self.place);
+            self.later = later;
+            self.place += 1;
+            if first.format() == self.format {
+                return Some(place);
+            }
+        }
+        None
+    }
+}

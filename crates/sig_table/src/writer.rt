@@ -1,0 +1,198 @@
+//! From the table to its canonical files.
+
+ghost use Rattle.std.specs.Prelude.{◌≡◌, ◌∷◌, ◌+◌, ◌++◌, [], true, false, length, slice_get, string_bytes, IfOk, IsErrOf, OnOk};
+ghost use Rattle.std.specs.Fmt.{decimal};
+ghost use Rattle.std.specs.List.{flat_map};
+ghost use Rattle.csv.specs.Records.{fields_of, partial_of};
+ghost use Rattle.csv.specs.Writing.{default_writer, row_text};
+ghost use Rattle.sig_bits.specs.Device.{Adds, AddsFront};
+ghost use Rattle.sig_expr.specs.Canon.{canon};
+ghost use Rattle.sig_table.specs.Canonical.{name_of, pair_record, place_fields, priority_csv, records_of_signature, sequence_record, signature_csv, signature_header};
+
+use super::lines::Lines;
+use super::table::Signature;
+use super::{OutError, Position, Puid, Sequence, Table};
+use csv::ByteRecord;
+use sig_bits::{FromWrite, Output};
+use sig_expr::{Expr, print};
+use std::alloc::{AllocError, Global};
+
+impl Table {
+    /// Writes the canonical signature file: signatures in table order, the sequences of each together.
+    ///
+    /// The whole text is made first, so nothing is written where memory runs out.
+    pub fn write_signatures<W: Output>(&self, alloc: Global, out: &mut W) -> Result<(), OutError>
+        ensures text { OnOk result (Adds (W.written out.old) (signature_csv self.now) (W.written out.new)) }
+        ensures lowers { OnOk result (W.limit out.old ≡ length (signature_csv self.now) + W.limit out.new) }
+        ensures writes { OnOk result (W.failed out.new ≡ false) }
+        ensures write { IsErrOf result OutError.Write → W.failed out.new ≡ true }
+
+        // After a failed write only a front of the text may be written, and where memory ran out nothing is.
+        ensures front { IsErrOf result OutError.Write → AddsFront (W.written out.old) (signature_csv self.now) (W.written out.new) }
+        ensures memory_stays { IsErrOf result OutError.OutOfMemory → out.new ≡ out.old }
+    {
+        let text = signature_text(alloc, self).map_err(|_| OutError::OutOfMemory)?;
+        out.write_all(&text).map_err(|_| OutError::Write)
+    }
+
+    /// Writes the canonical priority file: the pairs in their order.
+    ///
+    /// The whole text is made first, so nothing is written where memory runs out.
+    pub fn write_priorities<W: Output>(&self, alloc: Global, out: &mut W) -> Result<(), OutError>
+        ensures text { OnOk result (Adds (W.written out.old) (priority_csv self.now) (W.written out.new)) }
+        ensures lowers { OnOk result (W.limit out.old ≡ length (priority_csv self.now) + W.limit out.new) }
+        ensures writes { OnOk result (W.failed out.new ≡ false) }
+        ensures write { IsErrOf result OutError.Write → W.failed out.new ≡ true }
+
+        // After a failed write only a front of the text may be written, and where memory ran out nothing is.
+        ensures front { IsErrOf result OutError.Write → AddsFront (W.written out.old) (priority_csv self.now) (W.written out.new) }
+        ensures memory_stays { IsErrOf result OutError.OutOfMemory → out.new ≡ out.old }
+    {
+        let text = priority_text(alloc, self).map_err(|_| OutError::OutOfMemory)?;
+        out.write_all(&text).map_err(|_| OutError::Write)
+    }
+}
+
+// The text of the signature file.
+fn signature_text(alloc: Global, table: &Table) -> Result<Vec<u8>, AllocError>
+    ensures { IfOk result (λ text. text.items ≡ signature_csv table.now) }
+{
+    let mut lines = Lines::new(alloc).with(&signature_header(alloc)?)?;
+    for signature in table.signatures() {
+        lines = with_signature(alloc, lines, table.formats(), signature)?;
+    }
+    lines.into_text()
+}
+
+// The first record of a signature file.
+fn signature_header(alloc: Global) -> Result<ByteRecord, AllocError>
+    ensures { IfOk result (λ row. fields_of row ≡ signature_header) }
+{
+    let fields: [&[u8]; 6] = [
+        b"puid",
+        b"signature",
+        b"position",
+        b"offset",
+        b"max_offset",
+        b"expression",
+    ];
+    ByteRecord::from_fields(alloc, &fields)
+}
+
+// The lines with those of the signature.
+fn with_signature(
+    alloc: Global,
+    mut lines: Lines,
+    formats: &[Puid],
+    signature: &Signature,
+) -> Result<Lines, AllocError>
+    ensures { IfOk result (λ more. more ≡ lines ++ flat_map (row_text default_writer) (records_of_signature formats.now signature.now)) }
+{
+    let name = name_of(alloc, formats, signature.format().0)?;
+    let number = signature.number();
+    for sequence in signature.sequences() {
+        lines = lines.with(&sequence_record(alloc, &name, number, sequence)?)?;
+    }
+    Ok(lines)
+}
+
+// The record of the sequence, of the signature of this number and of the format of this name.
+fn sequence_record(
+    alloc: Global,
+    name: &str,
+    number: u32,
+    sequence: &Sequence,
+) -> Result<ByteRecord, AllocError>
+    ensures { IfOk result (λ row. fields_of row ≡ sequence_record name.now number sequence.now) }
+{
+    let mut row = ByteRecord::new(alloc);
+    row.push_field(name.as_bytes())?;
+    push_number(alloc, &mut row, number)?;
+    push_place(alloc, &mut row, sequence.position())?;
+    row.push_field(&expression_text(alloc, sequence.expr())?)?;
+    Ok(row)
+}
+
+// Adds the fields of the position.
+fn push_place(alloc: Global, row: &mut ByteRecord, position: Position) -> Result<(), AllocError>
+    requires { partial_of row.old ≡ [] }
+    ensures fields { OnOk result (fields_of row.new ≡ fields_of row.old ++ place_fields position) }
+    ensures partial { OnOk result (partial_of row.new ≡ []) }
+{
+    match position {
+        Position::Bof { min, max } => push_offsets(alloc, row, b"BOF", min, max),
+        Position::Eof { min, max } => push_offsets(alloc, row, b"EOF", min, max),
+        Position::Variable => {
+            row.push_field(b"Variable")?;
+            row.push_field(b"")?;
+            row.push_field(b"")
+        }
+    }
+}
+
+// Adds a word and the two offsets.
+fn push_offsets(
+    alloc: Global,
+    row: &mut ByteRecord,
+    word: &[u8],
+    min: u16,
+    max: u16,
+) -> Result<(), AllocError>
+    requires { partial_of row.old ≡ [] }
+    ensures fields { OnOk result (fields_of row.new ≡ fields_of row.old ++ word.now ∷ decimal min ∷ decimal max ∷ []) }
+    ensures partial { OnOk result (partial_of row.new ≡ []) }
+{
+    row.push_field(word)?;
+    push_number(alloc, row, u32::from(min))?;
+    push_number(alloc, row, u32::from(max))
+}
+
+// Adds a number's digits.
+fn push_number(alloc: Global, row: &mut ByteRecord, number: u32) -> Result<(), AllocError>
+    requires { partial_of row.old ≡ [] }
+    ensures fields { OnOk result (fields_of row.new ≡ fields_of row.old ++ decimal number ∷ []) }
+    ensures partial { OnOk result (partial_of row.new ≡ []) }
+{
+    let digits = format!(in alloc; "{number}")?;
+    row.push_field(digits.as_bytes())
+}
+
+// The canonical text of the expression.
+fn expression_text(alloc: Global, expr: &Expr) -> Result<Vec<u8>, AllocError>
+    ensures { IfOk result (λ text. text.items ≡ canon expr.now) }
+{
+    let mut out = FromWrite::new(Vec::new(alloc));
+    print(expr, &mut out).map_err(|_| AllocError)?;
+    Ok(out.into_inner())
+}
+
+// The text of the priority file.
+fn priority_text(alloc: Global, table: &Table) -> Result<Vec<u8>, AllocError>
+    ensures { IfOk result (λ text. text.items ≡ priority_csv table.now) }
+{
+    let header = ByteRecord::from_fields(alloc, &[b"higher", b"lower"])?;
+    let mut lines = Lines::new(alloc).with(&header)?;
+    for pair in table.priorities() {
+        lines = lines.with(&pair_record(alloc, table.formats(), *pair)?)?;
+    }
+    lines.into_text()
+}
+
+// The record of the pair.
+fn pair_record(alloc: Global, formats: &[Puid], pair: (u16, u16)) -> Result<ByteRecord, AllocError>
+    ensures { IfOk result (λ row. fields_of row ≡ pair_record formats.now pair) }
+{
+    let higher = name_of(alloc, formats, pair.0)?;
+    let lower = name_of(alloc, formats, pair.1)?;
+    ByteRecord::from_fields(alloc, &[higher.as_bytes(), lower.as_bytes()])
+}
+
+// The format's name.
+fn name_of(alloc: Global, formats: &[Puid], format: u16) -> Result<String, AllocError>
+    ensures { IfOk result (λ name. string_bytes name ≡ name_of formats.now format) }
+{
+    match formats.get(format as usize) {
+        Some(puid) => puid.to_string(alloc),
+        None => Ok(String::new(alloc)),
+    }
+}
