@@ -20,7 +20,9 @@ use Rattle.sig_expr.specs.Passes.{stop_of, stop_from, stop_at, fault_in, items_o
 use Rattle.sig_expr.specs.Texts.{expr_of, unless_stop, unless_fault}
 use Rattle.sig_expr.specs.Spelling.{Spells, IsText}
 use Rattle.sig_expr.specs.Profile.{InProfile}
-use Rattle.sig_expr.specs.Refusals.{Begins, IsLongestFront, IsNoText}
+use Rattle.sig_expr.specs.Refusals.{Begins, IsLongestFront, IsNoText, Means}
+use Rattle.sig_expr.proofs.FaultLemmas.{told_fault}
+use Rattle.sig_expr.proofs.FirstFaultLemmas.{told_first}
 use Rattle.sig_expr.proofs.ProfileLemmas.{sound_text, items_text, stop_behind, text_goes_on}
 use Rattle.sig_expr.proofs.FrontLemmas.{stops_nowhere}
 
@@ -235,3 +237,30 @@ no_text t n short e = record {
   no_text = λ text. some_never n (sym e ∙ text_goes_on text.0 t text.1 text.2);
   front = longest_front t n e;
 }
+
+means_fault : (f : ExprError) (t : List ℕ) (x : Option ExprError) → length t ≤ 8192 → stop_of t ≡ None → fault_in t ≡ x → unless_fault x (items_of t) ≡ Err f → Means f t
+means_fault f t None short stops faulty told = absurd (cc)
+means_fault f t (Some g) short stops faulty told =
+    let same : g ≡ f = cc in
+    let found : fault_in t ≡ Some f = rw same at faulty in
+    (told_fault start 0 0 t f found).1 t (told_first f t short stops found)
+
+means_stop : (f : ExprError) (t : List ℕ) (x : Option ℕ) → length t ≤ 8192 → stop_of t ≡ x → unless_stop x (unless_fault (fault_in t) (items_of t)) ≡ Err f → Means f t
+means_stop f t None short stops told = means_fault f t (fault_in t) short stops refl told
+means_stop f t (Some n) short stops told =
+    let same : error.Syntax n ≡ f = cc in
+    rw (← same) (no_text t n short stops)
+
+means_long : (f : ExprError) (t : List ℕ) (b : Bool) → nat_lt 8192 (length t) ≡ b → cond b (Err error.TooLong) (unless_stop (stop_of t) (unless_fault (fault_in t) (items_of t))) ≡ Err f → Means f t
+means_long f t true e told =
+    let same : error.TooLong ≡ f = cc in
+    let long : 8192 < length t = grind (arith, nat_tests, e) in
+    rw (← same) long
+means_long f t false e told =
+    let short : length t ≤ 8192 = grind (arith, nat_tests, e) in
+    means_stop f t (stop_of t) short refl told
+
+-- a refusal that is told means what it says
+pub told_means : (f : ExprError) (t : List ℕ) → expr_of t ≡ Err f → Means f t
+unfolding expr_of
+told_means f t told = means_long f t (nat_lt 8192 (length t)) refl told

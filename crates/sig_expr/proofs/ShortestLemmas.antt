@@ -113,17 +113,17 @@ canon_shortest (i ∷ e) t h =
     let rest = canon_shortest e h.1 h.4 in
     ((item_text i, canon e, refl, first.0, rest.0), rw h.2 (simp length-append (omega (arith, first.1, rest.1))))
 
--- a text of the profile spells one expression
-one_expression : (e : List Item) (t : List ℕ) (p : InProfile t) → Spells e t → e ≡ p.items
-one_expression e t p h =
+-- a text of the profile spells one list of items alone
+pub spells_one : (e e' : List Item) (t : List ℕ) → InProfile t → Spells e t → Spells e' t → e ≡ e'
+spells_one e e' t p h h' =
     let one = read_text e t p h in
-    let two = read_text p.items t p p.spells in
+    let two = read_text e' t p h' in
     cc
 
 -- what a text of the profile spells is an expression
 pub is_expression : (e : List Item) (t : List ℕ) → InProfile t → Spells e t → IsExpression e
 is_expression e t p h =
-    let same = one_expression e t p h in
+    let same = spells_one e p.items t p h p.spells in
     let short = canon_shortest e t h in
     let profile : InProfile (canon e) = record { items = e; some = rw same p.some; short = omega (arith, short.1, p.short); spells = short.0; sound = rw same p.sound } in
     record { some = rw same p.some; in_profile = profile; spells = short.0 }

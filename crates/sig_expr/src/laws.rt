@@ -6,13 +6,28 @@ ghost use Rattle.sig_expr.specs.declared.item.Item.{Item};
 ghost use Rattle.sig_expr.specs.Canon.{canon};
 ghost use Rattle.sig_expr.specs.FirstFaults.{IsFirstFault};
 ghost use Rattle.sig_expr.specs.Profile.{InProfile, IsExpression};
-ghost use Rattle.sig_expr.specs.Refusals.{IsFaulty};
+ghost use Rattle.sig_expr.specs.Refusals.{IsFaulty, Means};
 ghost use Rattle.sig_expr.specs.Spelling.{Spells};
 ghost use Rattle.sig_expr.specs.Texts.{expr_of};
 
 /// What a text of the profile spells is read.
 pub fn spelled_is_read()
     ensures { (e : List Item) (t : List ℕ) → InProfile t → Spells e t → expr_of t ≡ Ok e }
+{}
+
+/// What is read of a text is spelled by it, and the text is in the profile.
+pub fn read_is_spelled()
+    ensures { (e : List Item) (t : List ℕ) → expr_of t ≡ Ok e → InProfile t × Spells e t }
+{}
+
+/// A text is refused for what the refusal means.
+pub fn refusals_mean_so()
+    ensures { (fault : ExprError) (t : List ℕ) → expr_of t ≡ Err fault → Means fault t }
+{}
+
+/// A text of the profile spells one list of items alone.
+pub fn text_spells_one()
+    ensures { (e e' : List Item) (t : List ℕ) → InProfile t → Spells e t → Spells e' t → e ≡ e' }
 {}
 
 /// What a text of the profile spells is an expression: its canonical text is in the profile.

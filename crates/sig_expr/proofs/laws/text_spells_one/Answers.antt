@@ -1,0 +1,5 @@
+use Rattle.sig_expr.proofs.ShortestLemmas.{spells_one}
+use Rattle.sig_expr.proofs.laws.text_spells_one.Goals as goal
+
+pub returns : goal.returns
+returns c = spells_one
