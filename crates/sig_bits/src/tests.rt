@@ -46,6 +46,40 @@ impl Write for Narrow {
     }
 }
 
+// Takes all of a write, and fails to see it through.
+#[derive(Drop)]
+struct NeverFlushed;
+
+impl Write for NeverFlushed {
+    fn write(&mut self, buf: &[u8]) -> IoResult<usize> {
+        Ok(buf.len())
+    }
+
+    fn flush(&mut self) -> IoResult<()> {
+        Err(Error::from(ErrorKind::Other))
+    }
+}
+
+// Is interrupted once, and then takes all of each write.
+#[derive(Drop)]
+struct InterruptedOnce {
+    done: bool,
+}
+
+impl Write for InterruptedOnce {
+    fn write(&mut self, buf: &[u8]) -> IoResult<usize> {
+        if self.done {
+            return Ok(buf.len());
+        }
+        self.done = true;
+        Err(Error::from(ErrorKind::Interrupted))
+    }
+
+    fn flush(&mut self) -> IoResult<()> {
+        Ok(())
+    }
+}
+
 #[test]
 fn a_reader_is_read_to_its_end(rt: HostRuntime) {
     let mut input = FromRead::new(&b"\x41\x42\x43\x44"[..]);
@@ -108,6 +142,19 @@ fn a_short_write_goes_on_and_a_failed_one_is_final(rt: HostRuntime) {
     assert_eq!(rt; output.write_all(b"cd"), Err(DeviceFault));
     assert_eq!(rt; output.write_all(b""), Err(DeviceFault));
     assert_eq!(rt; output.into_inner().taken, 3);
+}
+
+#[test]
+fn a_failed_flush_is_a_failed_write(rt: HostRuntime) {
+    let mut output = FromWrite::new(NeverFlushed);
+    assert_eq!(rt; output.write_all(b"ab"), Err(DeviceFault));
+}
+
+#[test]
+fn an_interrupted_write_is_final(rt: HostRuntime) {
+    let mut output = FromWrite::new(InterruptedOnce { done: false });
+    assert_eq!(rt; output.write_all(b"ab"), Err(DeviceFault));
+    assert_eq!(rt; output.write_all(b"ab"), Err(DeviceFault));
 }
 
 #[test]
