@@ -34,7 +34,8 @@ pub trait Input {
 /// The input of any reader.
 ///
 /// It gives at most 18,446,744,073,709,551,615 bytes, and any read after them fails, so an endless
-/// source ends in a fault.
+/// source ends in a fault. A source of exactly so many bytes does too: no clause tells its end from
+/// a fault.
 #[derive(Drop)]
 pub struct FromRead<R> {
     reader: R,

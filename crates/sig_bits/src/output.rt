@@ -8,7 +8,8 @@ use std::io::Write;
 
 /// A sink of bytes, written once from its front.
 ///
-/// A failed write is final, an interrupted one too. An unknown part of its bytes may be written.
+/// A failed write is final, an interrupted one too. A front of its bytes, of unknown length, may be
+/// written.
 pub trait Output {
     /// Whether a write has failed so far.
     ghost failed: { Self → Bool };

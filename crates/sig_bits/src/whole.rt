@@ -12,7 +12,7 @@ const PIECE: usize = 1 << 16;
 /// Reads all that is still to come, in pieces of at least 64 KiB.
 ///
 /// Each piece is read to its place, so no byte is copied again by this crate. The buffer's room
-/// doubles as it grows, and what is not yet read of it is at most two pieces.
+/// doubles as it grows; less than two pieces of it are cleared ahead of a read.
 pub fn read_whole<R: Input>(alloc: Global, input: &mut R) -> Result<Vec<u8>, ReadWholeError>
     ensures whole { IfOk result (λ bytes. IfSome (R.to_come input.old) (λ all. bytes.items ≡ all)) }
     ensures at_end { OnOk result (IsAtEnd (R.to_come input.new)) }

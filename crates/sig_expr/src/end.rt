@@ -46,7 +46,8 @@ impl End {
         End { bytes, len }
     }
 
-    /// The word, where it has one to eight bytes.
+    /// The word, where it has one to eight bytes. Else the eight bytes that are kept, which are not
+    /// the end: zeros for none read, and the first eight for more.
     #[tactic(auto, unfolding(crate::specs::Ends::word_of))]
     pub(crate) fn word(self) -> Short
         ensures { result ≡ word_of self }

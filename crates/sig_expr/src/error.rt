@@ -1,14 +1,14 @@
 use thiserror::Error;
 
-/// Why a text was refused as an expression, in the order of judging. A place is counted in bytes
-/// from 0.
+/// Why a text was refused as an expression: the refusals by their numbers, E1 to E10. A place is
+/// counted in bytes from 0.
 #[derive(Clone, Copy, Debug, PartialEq, Eq, Error)]
 pub enum ExprError {
     /// The text has over 8,192 bytes.
     #[error("the text is too long")]
     TooLong,
-    /// Not in the shape grammar. The place is the length of the longest front of the text that
-    /// begins some text of the grammar.
+    /// Not in the grammar. The place is the length of the longest front of the text that begins some
+    /// text of the grammar.
     #[error("no expression goes on so at {place}")]
     Syntax { place: usize },
     /// A gap number over 65,535.
@@ -32,7 +32,7 @@ pub enum ExprError {
     /// The ends of a range have different lengths.
     #[error("range of two lengths at {place}")]
     RangeLength { place: usize },
-    /// A bracket has over eight bytes.
+    /// An end of a bracket has over eight bytes.
     #[error("bracket over eight bytes at {place}")]
     BracketTooLong { place: usize },
 }

@@ -1,6 +1,8 @@
-//! Expressions: what a sequence of a signature spells of a file's bytes.
+//! Expressions: which words of bytes they have, and which texts spell them.
 //!
-//! The words of an expression are in `specs/Words.antt`, its texts in `specs/Texts.antt`.
+//! `parse` reads a text, and `print` writes the canonical one. The words stand in
+//! `specs/Words.antt`, the grammar in `specs/Spelling.antt`, and what each refusal means in
+//! `specs/Refusals.antt`.
 #![tactic(auto)]
 
 mod builder;

@@ -176,7 +176,7 @@ fn put_alternative<W: Output>(out: &mut W, alternative: &[Atom]) -> Result<(), D
     Ok(())
 }
 
-// The alternatives of a list, each behind its sign, and what closes the list.
+// The alternatives of a list, each behind its sign.
 fn put_alternatives<W: Output>(out: &mut W, alternatives: &[Vec<Atom>]) -> Result<(), DeviceFault>
     ensures fails { OnErr result (W.failed out.new ≡ true) }
     ensures wrote { OnOk result (Wrote (sink (W.failed out.old) (W.limit out.old) (W.written out.old)) (alternatives_text 40 (map (λ v. v.items) alternatives.now)) (sink (W.failed out.new) (W.limit out.new) (W.written out.new))) }
