@@ -5,7 +5,7 @@ use Rattle.std.proofs.Math.ListN.{length-set}
 use Rattle.std.proofs.lemmas.Bool.Decides.{nat_tests}
 use Rattle.sig_expr.specs.declared.end.End.{End}
 use Rattle.sig_expr.specs.Ends.{empty_end, push_of, word_of}
-use Rattle.sig_expr.specs.Scans.{end_after, end_of_word}
+use Rattle.sig_expr.proofs.Scans.{end_after, end_of_word}
 
 push_len : (e : End) (b : ℕ) → e.len ≤ 8192 → (push_of e b).len ≡ min (e.len + 1) 8192
 unfolding push_of

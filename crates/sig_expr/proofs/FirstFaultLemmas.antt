@@ -20,7 +20,7 @@ use Rattle.sig_expr.specs.Passes.{stop_of, fault_from, fault_at, fault_in, opene
 use Rattle.sig_expr.specs.Texts.{expr_of}
 use Rattle.sig_expr.specs.Spelling.{AtomText, AlternativeText, AlternativesText, ItemText, Spells}
 use Rattle.sig_expr.specs.Profile.{AtomsSound, AlternativesSound, ItemSound, ItemsSound}
-use Rattle.sig_expr.specs.Scans.{run, run_at, pieces, pieces_in, Scans, piece_of}
+use Rattle.sig_expr.proofs.Scans.{run, run_at, pieces, pieces_in, Scans, piece_of}
 use Rattle.sig_expr.specs.FirstFaults.{AtomHas, IsRefused, FirstOfAtoms, FirstOfAlternatives, FirstOfItem, FirstOfItems, IsFirstFault}
 use Rattle.sig_expr.specs.Refusals.{IsFaulty}
 use Rattle.sig_expr.proofs.ScanLemmas.{at, IsOutside, either, scans_nothing, scans_whole, atom_scans, alternative_scans, gap_scans, range_scans, not_scans, not_range_scans, item_scans}

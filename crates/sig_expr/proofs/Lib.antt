@@ -8,6 +8,7 @@ pub mod ProfileLemmas
 pub mod RefusedLemmas
 pub mod RefusalLemmas
 pub mod ScanLemmas
+pub mod Scans
 pub mod ShortestLemmas
 pub mod WritingLemmas
 pub mod DigitLemmas

@@ -24,7 +24,7 @@ use Rattle.sig_expr.specs.Passes.{stop_from, stop_at, stop_of, fault_from, fault
 use Rattle.sig_expr.specs.Texts.{expr_of}
 use Rattle.sig_expr.specs.Profile.{GapSound, RangeSound, AtomSound, AtomsSound, AlternativesSound, ItemSound, ItemsSound, InProfile}
 use Rattle.sig_expr.specs.Spelling.{Spells, ItemText, AtomText, AlternativeText, AlternativesText}
-use Rattle.sig_expr.specs.Scans.{run, run_at, pieces, pieces_in, end_of_word, piece_of, barred, listed, pieces_of, all_pieces}
+use Rattle.sig_expr.proofs.Scans.{run, run_at, pieces, pieces_in, end_of_word, piece_of, barred, listed, pieces_of, all_pieces}
 use Rattle.sig_expr.proofs.EndLemmas.{len_of_word, word_of_end}
 use Rattle.sig_expr.proofs.ScanLemmas.{text_scans}
 

@@ -15,7 +15,7 @@ use Rattle.sig_expr.specs.declared.token.State.{State}
 use Rattle.sig_expr.specs.declared.token.Step.{Step}
 use Rattle.sig_expr.specs.declared.token.Step.TheVariants as step
 use Rattle.sig_expr.specs.Reading.{feed_of, next_of, is_end_of, start, behind_part, is_between, begin_of, item_start_of, list_start_of, part_of, go_on_of, number_of, star_of, closed_gap_of, end_of, closed_bracket_of}
-use Rattle.sig_expr.specs.Scans.{run, run_at}
+use Rattle.sig_expr.proofs.Scans.{run, run_at}
 use Rattle.sig_expr.specs.Passes.{stop_of, stop_from, stop_at, fault_in, items_of}
 use Rattle.sig_expr.specs.Texts.{expr_of, unless_stop, unless_fault}
 use Rattle.sig_expr.specs.Spelling.{Spells, IsText}

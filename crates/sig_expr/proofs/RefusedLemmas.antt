@@ -15,7 +15,7 @@ use Rattle.sig_expr.specs.Faults.{are_all, is_less, order_fault, range_fault, no
 use Rattle.sig_expr.specs.Words.{IsBefore}
 use Rattle.sig_expr.specs.Profile.{GapSound, RangeSound, AtomSound}
 use Rattle.sig_expr.specs.Spelling.{WordText, RangeText, NotText, AtomText}
-use Rattle.sig_expr.specs.Scans.{end_of_word, piece_of}
+use Rattle.sig_expr.proofs.Scans.{end_of_word, piece_of}
 use Rattle.sig_expr.specs.FirstFaults.{refusal_number, GapHas, AreEnds, RangeHas, NotHas, AtomHas, IsRefused}
 use Rattle.sig_expr.proofs.EndLemmas.{len_of_word, word_of_end}
 use Rattle.sig_expr.proofs.ScanLemmas.{below, either}

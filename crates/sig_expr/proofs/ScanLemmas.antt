@@ -20,7 +20,7 @@ use Rattle.sig_expr.specs.Ends.{empty_end, push_of}
 use Rattle.sig_expr.specs.Reading.{decimal_of, pair_of, part_of, item_start_of, list_start_of, begin_of, number_of, closed_gap_of, star_of, end_of, closed_bracket_of, go_on_of, feed_of, next_of, is_between, context_of, behind_part}
 use Rattle.sig_expr.specs.Canon.{number_text, leading_zeros}
 use Rattle.sig_expr.specs.Spelling.{PairText, WordText, NumberText, GapText, RangeText, NotText, AtomText, AlternativeText, AlternativesText, ListText, ItemText, Spells}
-use Rattle.sig_expr.specs.Scans.{run, run_at, pieces, pieces_in, Scans, end_after, end_of_word, piece_of, barred, listed, pieces_of, all_pieces}
+use Rattle.sig_expr.proofs.Scans.{run, run_at, pieces, pieces_in, Scans, end_after, end_of_word, piece_of, barred, listed, pieces_of, all_pieces}
 
 abbrev pub at : Context → Token → State
 at c k = record { context = c; token = k }

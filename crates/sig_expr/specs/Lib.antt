@@ -9,7 +9,6 @@ pub mod Passes
 pub mod Profile
 pub mod Reading
 pub mod Refusals
-pub mod Scans
 pub mod Spelling
 pub mod Texts
 pub mod Words

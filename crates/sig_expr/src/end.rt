@@ -4,17 +4,13 @@ ghost use Rattle.std.specs.Prelude.{◌≡◌, ◌≤◌, ◌<◌, length};
 ghost use Rattle.sig_expr.specs.Ends.{push_of, word_of, empty_end};
 
 use super::Short;
+use super::parser::LONGEST_TEXT;
 
-/// The greatest length of a word that is kept.
-const KEPT: usize = 8;
-
-/// The greatest count of bytes, which no end in a text exceeds.
-const MOST: usize = 8192;
-
-/// The first eight bytes of an end, and how many it has.
+/// The first eight bytes of an end, and how many it has. No count goes beyond `LONGEST_TEXT`, as no
+/// end in a text does.
 #[derive(Clone, Copy, Debug, PartialEq, Eq)]
 pub(crate) struct End {
-    pub bytes: [u8; 8],
+    pub bytes: [u8; Short::MAX_LEN],
     pub len: usize,
 }
 
@@ -24,7 +20,7 @@ impl End {
         ensures { result ≡ empty_end }
     {
         End {
-            bytes: [0; KEPT],
+            bytes: [0; Short::MAX_LEN],
             len: 0,
         }
     }
@@ -35,10 +31,10 @@ impl End {
         ensures { result ≡ push_of self byte }
     {
         let mut bytes = self.bytes;
-        if self.len < KEPT {
+        if self.len < Short::MAX_LEN {
             bytes[self.len] = byte;
         }
-        let len = if self.len < MOST {
+        let len = if self.len < LONGEST_TEXT {
             self.len + 1
         } else {
             self.len
@@ -52,7 +48,7 @@ impl End {
     pub(crate) fn word(self) -> Short
         ensures { result ≡ word_of self }
     {
-        if 0 < self.len && self.len <= KEPT {
+        if 0 < self.len && self.len <= Short::MAX_LEN {
             Short::new(&self.bytes[..self.len])
         } else {
             Short::new(&self.bytes)

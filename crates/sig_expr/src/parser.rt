@@ -1,7 +1,7 @@
 //! From a text to its items.
 //!
-//! Two passes find every refusal and grow nothing: `stop` the place where no expression goes on, and
-//! `fault` the first gap or bracket out of the profile. `items` then builds the value.
+//! Two passes find every refusal and grow nothing: `syntax_place` where no expression goes on, and
+//! `first_fault` the first gap or bracket out of the profile. `build_items` then builds the value.
 
 ghost use Rattle.std.specs.Prelude.{◌≡◌, ◌<◌, IfOk, IfErr, length, OnOk};
 ghost use Rattle.sig_expr.specs.Built.{built};
@@ -18,11 +18,11 @@ use super::{Expr, ExprError, Item};
 use std::alloc::{AllocError, Global};
 
 /// The greatest length of a text.
-const LONGEST: usize = 8192;
+pub(crate) const LONGEST_TEXT: usize = 8192;
 
 // Where no expression goes on.
 #[tactic(auto, unfolding(crate::specs::Passes::stop_from))]
-fn stop(text: &[u8]) -> Option<usize>
+fn syntax_place(text: &[u8]) -> Option<usize>
     ensures { result ≡ stop_of text.now }
 {
     let mut state = State::START;
@@ -42,7 +42,7 @@ fn stop(text: &[u8]) -> Option<usize>
 
 // The first fault of a gap or a bracket.
 #[tactic(auto, unfolding(crate::specs::Passes::fault_from))]
-fn fault(text: &[u8]) -> Option<ExprError>
+fn first_fault(text: &[u8]) -> Option<ExprError>
     ensures { result ≡ fault_in text.now }
 {
     let mut state = State::START;
@@ -74,7 +74,7 @@ fn build(builder: &mut Builder, alloc: Global, step: Step) -> Result<(), AllocEr
 
 // The items of a text.
 #[tactic(auto, unfolding(crate::specs::Passes::built_from))]
-fn items(alloc: Global, text: &[u8]) -> Result<Vec<Item>, AllocError>
+fn build_items(alloc: Global, text: &[u8]) -> Result<Vec<Item>, AllocError>
     ensures { IfOk result (λ v. v.items ≡ items_of text.now) }
 {
     let mut builder = Builder::new(alloc);
@@ -96,16 +96,16 @@ pub fn parse(alloc: Global, text: &[u8]) -> Result<Expr, ExprError>
     ensures spelled { IfOk result (λ e. InProfile text.now × Spells e text.now) }
     ensures refused { IfErr result (λ f. Means f text.now) }
 {
-    if text.len() > LONGEST {
+    if text.len() > LONGEST_TEXT {
         return Err(ExprError::TooLong);
     }
-    if let Some(place) = stop(text) {
+    if let Some(place) = syntax_place(text) {
         return Err(ExprError::Syntax { place });
     }
-    if let Some(fault) = fault(text) {
+    if let Some(fault) = first_fault(text) {
         return Err(fault);
     }
-    match items(alloc, text) {
+    match build_items(alloc, text) {
         Ok(items) => Ok(Expr::new(items)),
         Err(_) => Err(ExprError::OutOfMemory),
     }

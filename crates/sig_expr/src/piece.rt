@@ -11,9 +11,6 @@ use std::cmp::Ordering;
 /// The greatest gap number.
 const GREATEST_GAP: u32 = 65_535;
 
-/// The greatest length of an end.
-const LONGEST_END: usize = 8;
-
 // Whether each byte is this one.
 #[tactic(auto, unfolding(crate::specs::Faults::are_all))]
 fn is_all(bytes: &[u8], value: u8) -> bool
@@ -49,7 +46,7 @@ fn judge_range(not: bool, first: End, second: End, place: usize) -> Option<ExprE
     if first.len != second.len {
         return Some(ExprError::RangeLength { place });
     }
-    if first.len > LONGEST_END {
+    if first.len > Short::MAX_LEN {
         return Some(ExprError::BracketTooLong { place });
     }
     judge_order(not, first.word(), second.word(), place)
@@ -60,7 +57,7 @@ fn judge_range(not: bool, first: End, second: End, place: usize) -> Option<ExprE
 fn judge_not(end: End, place: usize) -> Option<ExprError>
     ensures { result ≡ not_fault end place }
 {
-    (end.len > LONGEST_END).then_some(ExprError::BracketTooLong { place })
+    (end.len > Short::MAX_LEN).then_some(ExprError::BracketTooLong { place })
 }
 
 // A gap.

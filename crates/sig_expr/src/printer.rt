@@ -22,7 +22,11 @@ fn digit(value: u8) -> u8
     requires { value < 16 }
     ensures { result ≡ hex_digit value }
 {
-    if value < 10 { 48 + value } else { 55 + value }
+    if value < 10 {
+        b'0' + value
+    } else {
+        b'A' + (value - 10)
+    }
 }
 
 // The two digits of a byte.
@@ -61,7 +65,7 @@ fn zeros(number: u32) -> usize
 fn last_digit(number: u32) -> u8
     ensures { result ≡ 48 + number % 10 }
 {
-    48 + (number % 10) as u8
+    b'0' + (number % 10) as u8
 }
 
 // A number below 100,000.

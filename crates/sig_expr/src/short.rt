@@ -4,13 +4,10 @@ ghost use Rattle.std.specs.Prelude.{◌≡◌, ◌+◌, ◌-◌, ◌≤◌, ◌<
 
 use std::marker::Model;
 
-/// The greatest length of a `Short`.
-const GREATEST: usize = 8;
-
 /// One to eight bytes, kept without a growth: an end of a range, or what a bracket excludes.
 #[derive(Clone, Copy, Debug, PartialEq, Eq)]
 pub struct Short {
-    bytes: [u8; 8],
+    bytes: [u8; Short::MAX_LEN],
     len: u8,
 }
 
@@ -31,13 +28,16 @@ impl Model for Short {
 }
 
 impl Short {
+    /// The greatest length.
+    pub const MAX_LEN: usize = 8;
+
     /// The bytes, of which there are one to eight.
     pub fn new(bytes: &[u8]) -> Short
         requires least { 0 < length bytes.now }
         requires greatest { length bytes.now ≤ 8 }
         ensures { result ≡ bytes.now }
     {
-        let mut kept = [0; GREATEST];
+        let mut kept = [0; Short::MAX_LEN];
         kept[..bytes.len()].copy_from_slice(bytes);
         Short {
             bytes: kept,

@@ -94,7 +94,7 @@ fn decimal(byte: u8) -> Option<u32>
     ensures { result ≡ decimal_of byte }
 {
     match byte {
-        b'0'..=b'9' => Some(u32::from(byte) - 48),
+        b'0'..=b'9' => Some(u32::from(byte - b'0')),
         _ => None,
     }
 }

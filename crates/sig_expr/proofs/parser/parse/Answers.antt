@@ -13,18 +13,18 @@ returns-in-Some-clause-refused c =
     let stops : stop_of c.args.text.now ≡ Some c.in-Some.place = search rules in
     no_text c.args.text.now c.in-Some.place (omega arith) stops
 
-pub returns-in-Some-fault-clause-exact : goal.returns-in-Some-fault-clause-exact
+pub returns-in-Some-first_fault-clause-exact : goal.returns-in-Some-first_fault-clause-exact
 unfolding expr_of
-returns-in-Some-fault-clause-exact c =
-    let told = told_fault start 0 0 c.args.text.now c.in-Some-fault.fault (search rules) in
-    let refused : expr_of c.args.text.now ≡ Err c.in-Some-fault.fault = search rules in
+returns-in-Some-first_fault-clause-exact c =
+    let told = told_fault start 0 0 c.args.text.now c.in-Some-first_fault.fault (search rules) in
+    let refused : expr_of c.args.text.now ≡ Err c.in-Some-first_fault.fault = search rules in
     rw refused told.0
 
-pub returns-in-Some-fault-clause-refused : goal.returns-in-Some-fault-clause-refused
-returns-in-Some-fault-clause-refused c =
+pub returns-in-Some-first_fault-clause-refused : goal.returns-in-Some-first_fault-clause-refused
+returns-in-Some-first_fault-clause-refused c =
     let stops : stop_of c.args.text.now ≡ None = search rules in
-    let faulty : fault_in c.args.text.now ≡ Some c.in-Some-fault.fault = search rules in
-    (told_fault start 0 0 c.args.text.now c.in-Some-fault.fault faulty).1 c.args.text.now (told_first c.in-Some-fault.fault c.args.text.now (omega arith) stops faulty)
+    let faulty : fault_in c.args.text.now ≡ Some c.in-Some-first_fault.fault = search rules in
+    (told_fault start 0 0 c.args.text.now c.in-Some-first_fault.fault faulty).1 c.args.text.now (told_first c.in-Some-first_fault.fault c.args.text.now (omega arith) stops faulty)
 
 pub new-requires : goal.new-requires
 new-requires c =

@@ -2,7 +2,7 @@ use Rattle.std.proofs.Common.{◌≡◌, drop}
 use Rattle.sig_expr.specs.Built.{built, fresh}
 use Rattle.sig_expr.specs.Reading.{start}
 use Rattle.sig_expr.specs.Passes.{built_from}
-use Rattle.sig_expr.proofs.parser.items.Given as goal
+use Rattle.sig_expr.proofs.parser.build_items.Given as goal
 
 -- what is built so far and of the rest is what is built of the text
 abbrev pub invariant-loop-byte : goal.invariant-loop-byte

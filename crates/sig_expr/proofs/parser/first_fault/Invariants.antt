@@ -1,6 +1,6 @@
 use Rattle.std.proofs.Common.{◌≡◌, drop}
 use Rattle.sig_expr.specs.Passes.{fault_in, fault_from}
-use Rattle.sig_expr.proofs.parser.fault.Given as goal
+use Rattle.sig_expr.proofs.parser.first_fault.Given as goal
 
 -- what is said of the rest is said of the text
 abbrev pub invariant-loop-place : goal.invariant-loop-place
