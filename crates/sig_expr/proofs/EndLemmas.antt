@@ -1,5 +1,5 @@
 -- An end that is read byte by byte holds its word.
-use Rattle.std.proofs.Common.{◌≡◌, ℕ, ◌+◌, ◌<◌, ◌≤◌, min, Bool, true, false, cond, List, [], ◌∷◌, ◌++◌, length, take, refl, sym, ◌∙◌, ap, arith, nat_le, nat_lt, slice_set, append_assoc, append-nil, add-one}
+use Rattle.std.proofs.Common.{◌≡◌, ℕ, ◌+◌, ◌<◌, ◌≤◌, min, Bool, true, false, cond, List, [], ◌∷◌, ◌++◌, length, take, Some, refl, sym, ◌∙◌, ap, arith, nat_le, nat_lt, slice_set, append_assoc, append-nil, add-one}
 use Rattle.std.proofs.Math.Seq.{take-suc-set}
 use Rattle.std.proofs.Math.ListN.{length-set}
 use Rattle.std.proofs.lemmas.Bool.Decides.{nat_tests}
@@ -48,10 +48,10 @@ bytes_after e (b ∷ bs) room h =
     bytes_after (push_of e b) bs (push_room e b room) (omega arith) ∙ ap (λ (x : List ℕ). x ++ bs) (push_bytes e b room (omega arith)) ∙ append_assoc (take e.len e.bytes) (b ∷ []) bs
 
 -- an end of one to eight bytes holds them
-pub word_of_end : (a : List ℕ) → 0 < length a → length a ≤ 8 → word_of (end_of_word a) ≡ a
+pub word_of_end : (a : List ℕ) → 0 < length a → length a ≤ 8 → word_of (end_of_word a) ≡ Some a
 unfolding word_of
 word_of_end a some short =
     let n = len_of_word a in
     let low : nat_lt 0 (end_of_word a).len ≡ true = grind (arith, nat_tests) in
     let high : nat_le (end_of_word a).len 8 ≡ true = grind (arith, nat_tests) in
-    rw (low, high) (bytes_after empty_end a refl (omega arith))
+    rw (low, high) (ap (λ (x : List ℕ). Some x) (bytes_after empty_end a refl (omega arith)))

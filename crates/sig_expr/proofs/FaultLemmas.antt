@@ -9,7 +9,7 @@ use Rattle.sig_expr.specs.declared.token.Piece.TheVariants as piece
 use Rattle.sig_expr.specs.declared.token.Step.{Step}
 use Rattle.sig_expr.specs.declared.token.Step.TheVariants as step
 use Rattle.sig_expr.specs.declared.error.ExprError.{ExprError}
-use Rattle.sig_expr.specs.Ends.{word_of}
+use Rattle.sig_expr.specs.Ends.{word_of, with_words}
 use Rattle.sig_expr.specs.Faults.{order_fault, range_fault, not_fault, gap_fault, gap_fault_to, fault_of, is_less, are_all}
 use Rattle.sig_expr.specs.Reading.{feed_of, next_of}
 use Rattle.sig_expr.specs.Passes.{fault_from, fault_at, opened_of, or_else}
@@ -39,10 +39,15 @@ told_gap : (min : ℕ) (max : Option ℕ) (n : ℕ) → IsTold (gap_fault min ma
 unfolding gap_fault
 told_gap min max n = told_if (nat_lt 65535 min) _ _ (refl, λ t h. h) (told_gap_to min max n)
 
+told_words : (f : List ℕ → List ℕ → Option ExprError) (x y : Option (List ℕ)) → ((a b : List ℕ) → IsTold (f a b)) → IsTold (with_words f x y)
+told_words f None y h = tt
+told_words f (Some a) None h = tt
+told_words f (Some a) (Some b) h = h a b
+
 told_range : (not : Bool) (a b : _) (n : ℕ) → IsTold (range_fault not a b n)
 unfolding range_fault
 told_range not a b n =
-    told_if (nat_eq a.len b.len) _ _ (told_if (nat_lt 8 a.len) _ _ (refl, λ t h. h) (told_order not (word_of a) (word_of b) n)) (refl, λ t h. h)
+    told_if (nat_eq a.len b.len) _ _ (told_if (nat_lt 8 a.len) _ _ (refl, λ t h. h) (told_words _ (word_of a) (word_of b) (λ x y. told_order not x y n))) (refl, λ t h. h)
 
 told_not : (a : _) (n : ℕ) → IsTold (not_fault a n)
 unfolding not_fault

@@ -128,11 +128,12 @@ sound_range not a b n some some' e =
     let few : (end_of_word a).len ≤ 8 = grind (arith, nat_tests, two.0) in
     let lengths = both_short a b same few in
     let short' : length b ≤ 8 = omega (arith, lengths.0, lengths.1) in
-    let three = some_else (is_less (slice_cmp nat_cmp (word_of (end_of_word a)) (word_of (end_of_word b)))) _ _ two.1 in
-    let four = none_if (not && (are_all 0 (word_of (end_of_word a)) && are_all 255 (word_of (end_of_word b)))) _ _ three.1 in
     let word = word_of_end a some lengths.1 in
     let word' = word_of_end b some' short' in
-    (record { same_length = lengths.0; short = lengths.1; order = rw (word, word') at (less_is _ three.0) }, rw (word, word') at four.0)
+    let words : order_fault not a b n ≡ None = rw (word, word') at two.1 in
+    let three = some_else (is_less (slice_cmp nat_cmp a b)) _ _ words in
+    let four = none_if (not && (are_all 0 a && are_all 255 b)) _ _ three.1 in
+    (record { same_length = lengths.0; short = lengths.1; order = less_is _ three.0 }, four.0)
 
 quiet_range : (not : Bool) (a b : List ℕ) (n : ℕ) → 0 < length a → 0 < length b → RangeSound a b → ((not && (are_all 0 a && are_all 255 b)) ≡ false) → range_fault not (end_of_word a) (end_of_word b) n ≡ None
 unfolding range_fault order_fault
@@ -262,7 +263,7 @@ built_append : (u : Built) (ps qs : List Piece) → built_all u (ps ++ qs) ≡ b
 built_append u [] qs = refl
 built_append u (p ∷ ps) qs = built_append (built_of u p) ps qs
 
-word_range : (a b : List ℕ) → 0 < length a → 0 < length b → RangeSound a b → (word_of (end_of_word a) ≡ a) × (word_of (end_of_word b) ≡ b)
+word_range : (a b : List ℕ) → 0 < length a → 0 < length b → RangeSound a b → (word_of (end_of_word a) ≡ Some a) × (word_of (end_of_word b) ≡ Some b)
 word_range a b some some' h = let short' : length b ≤ 8 = omega (arith, h.same_length, h.short) in (word_of_end a some h.short, word_of_end b some' short')
 
 builds_atom : (is : List Item) (as' : List (List Atom)) (a : List Atom) (p : Atom) (t : List ℕ) → AtomText p t → AtomSound p → built_of (within is as' a) (piece_of p) ≡ within is as' (a ++ p ∷ [])
@@ -299,9 +300,9 @@ builds_item is (item.Byte b) t h k = refl
 builds_item is item.Any t h k = refl
 builds_item is (item.Gap least max) t h k = refl
 builds_item is (item.Alt as') t h k = builds_list is as' h.inside h.two h.is_inside k
-builds_item is (item.Range a b) t h k = let w = word_range a b h.some_first h.some_second k in ap (λ (x : List ℕ). outside (is ++ item.Range x (word_of (end_of_word b)) ∷ [])) w.0 ∙ ap (λ (x : List ℕ). outside (is ++ item.Range a x ∷ [])) w.1
-builds_item is (item.Not a) t h k = ap (λ (x : List ℕ). outside (is ++ item.Not x ∷ [])) (word_of_end a h.some k)
-builds_item is (item.NotRange a b) t h k = let w = word_range a b h.some_first h.some_second k.0 in ap (λ (x : List ℕ). outside (is ++ item.NotRange x (word_of (end_of_word b)) ∷ [])) w.0 ∙ ap (λ (x : List ℕ). outside (is ++ item.NotRange a x ∷ [])) w.1
+builds_item is (item.Range a b) t h k = let w = word_range a b h.some_first h.some_second k in rw (w.0, w.1) refl
+builds_item is (item.Not a) t h k = rw (word_of_end a h.some k) refl
+builds_item is (item.NotRange a b) t h k = let w = word_range a b h.some_first h.some_second k.0 in rw (w.0, w.1) refl
 
 builds_items : (is e : List Item) (t : List ℕ) → Spells e t → ItemsSound e → built_all (outside is) (all_pieces e) ≡ outside (is ++ e)
 builds_items is [] t h k = ap outside (sym (append-nil is))

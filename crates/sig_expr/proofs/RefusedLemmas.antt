@@ -81,7 +81,7 @@ not_over x h = by_test (nat_lt 65535 x) refl
 
 -- what is read of ends of one length, of at most eight bytes
 told_ends : (a b : List ℕ) → 0 < length a → 0 < length b → AreEnds a b
-    → (nat_eq (end_of_word a).len (end_of_word b).len ≡ true) × (nat_lt 8 (end_of_word a).len ≡ false) × (word_of (end_of_word a) ≡ a) × (word_of (end_of_word b) ≡ b)
+    → (nat_eq (end_of_word a).len (end_of_word b).len ≡ true) × (nat_lt 8 (end_of_word a).len ≡ false) × (word_of (end_of_word a) ≡ Some a) × (word_of (end_of_word b) ≡ Some b)
 told_ends a b some some' h =
     let p = len_of_word a in
     let q = len_of_word b in

@@ -7,7 +7,7 @@ use Rattle.sig_expr.specs.declared.item.Atom.{Atom}
 use Rattle.sig_expr.specs.declared.item.Atom.TheVariants as atom
 use Rattle.sig_expr.specs.declared.item.Item.{Item}
 use Rattle.sig_expr.specs.declared.item.Item.TheVariants as item
-use Rattle.sig_expr.specs.Ends.{word_of}
+use Rattle.sig_expr.specs.Ends.{word_of, with_word, with_words}
 
 -- the items so far; in a list its alternatives so far, and the parts of the one that is read
 pub record Built : Type 0 where
@@ -28,26 +28,26 @@ built b = record {
 abbrev pub fresh : Built
 fresh = record { items = []; alternatives = []; alternative = []; inside = false }
 
--- the part of a list, where the piece is one
+-- the part of a list, where the piece is one and its ends have words
 abbrev pub atom_of : Piece → Option Atom
 atom_of (piece.Byte b) = Some (atom.Byte b)
 atom_of piece.Any = None
 atom_of (piece.Gap min max) = None
-atom_of (piece.Range a b) = Some (atom.Range (word_of a) (word_of b))
-atom_of (piece.Not a) = Some (atom.Not (word_of a))
-atom_of (piece.NotRange a b) = Some (atom.NotRange (word_of a) (word_of b))
+atom_of (piece.Range a b) = with_words (λ x y. Some (atom.Range x y)) (word_of a) (word_of b)
+atom_of (piece.Not a) = with_word (λ x. Some (atom.Not x)) (word_of a)
+atom_of (piece.NotRange a b) = with_words (λ x y. Some (atom.NotRange x y)) (word_of a) (word_of b)
 atom_of piece.Open = None
 atom_of piece.Bar = None
 atom_of piece.Close = None
 
--- the item, where the piece is one
+-- the item, where the piece is one and its ends have words
 abbrev pub item_of : Piece → Option Item
 item_of (piece.Byte b) = Some (item.Byte b)
 item_of piece.Any = Some item.Any
 item_of (piece.Gap min max) = Some (item.Gap min max)
-item_of (piece.Range a b) = Some (item.Range (word_of a) (word_of b))
-item_of (piece.Not a) = Some (item.Not (word_of a))
-item_of (piece.NotRange a b) = Some (item.NotRange (word_of a) (word_of b))
+item_of (piece.Range a b) = with_words (λ x y. Some (item.Range x y)) (word_of a) (word_of b)
+item_of (piece.Not a) = with_word (λ x. Some (item.Not x)) (word_of a)
+item_of (piece.NotRange a b) = with_words (λ x y. Some (item.NotRange x y)) (word_of a) (word_of b)
 item_of piece.Open = None
 item_of piece.Bar = None
 item_of piece.Close = None

@@ -9,7 +9,7 @@ use Rattle.sig_expr.specs.declared.token.Piece.{Piece}
 use Rattle.sig_expr.specs.declared.token.Piece.TheVariants as piece
 use Rattle.sig_expr.specs.declared.error.ExprError.{ExprError}
 use Rattle.sig_expr.specs.declared.error.ExprError.TheVariants as error
-use Rattle.sig_expr.specs.Ends.{word_of}
+use Rattle.sig_expr.specs.Ends.{word_of, with_words}
 
 -- whether each byte is this one
 unfoldable pub are_all : ℕ → List ℕ → Bool
@@ -30,7 +30,7 @@ order_fault not a b n =
 -- a bracket with two ends
 unfoldable pub range_fault : Bool → End → End → ℕ → Option ExprError
 range_fault not a b n =
-    if nat_eq a.len b.len then (if nat_lt 8 a.len then Some (error.BracketTooLong n) else order_fault not (word_of a) (word_of b) n)
+    if nat_eq a.len b.len then (if nat_lt 8 a.len then Some (error.BracketTooLong n) else with_words (λ x y. order_fault not x y n) (word_of a) (word_of b))
     else Some (error.RangeLength n)
 
 -- a bracket with one end

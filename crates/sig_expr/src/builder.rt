@@ -17,20 +17,20 @@ pub(crate) struct Builder {
     pub inside: bool,
 }
 
-// The part of a list, where the piece is one.
+// The part of a list, where the piece is one and its ends have words.
 fn atom(piece: Piece) -> Option<Atom>
     ensures { result ≡ atom_of piece }
 {
     match piece {
         Piece::Byte(byte) => Some(Atom::Byte(byte)),
-        Piece::Range(first, second) => Some(Atom::Range(first.word(), second.word())),
-        Piece::Not(end) => Some(Atom::Not(end.word())),
-        Piece::NotRange(first, second) => Some(Atom::NotRange(first.word(), second.word())),
+        Piece::Range(first, second) => Some(Atom::Range(first.word()?, second.word()?)),
+        Piece::Not(end) => Some(Atom::Not(end.word()?)),
+        Piece::NotRange(first, second) => Some(Atom::NotRange(first.word()?, second.word()?)),
         _ => None,
     }
 }
 
-// The item, where the piece is one.
+// The item, where the piece is one and its ends have words.
 fn item(piece: Piece) -> Option<Item>
     ensures { result ≡ item_of piece }
 {
@@ -38,9 +38,9 @@ fn item(piece: Piece) -> Option<Item>
         Piece::Byte(byte) => Some(Item::Byte(byte)),
         Piece::Any => Some(Item::Any),
         Piece::Gap { min, max } => Some(Item::Gap { min, max }),
-        Piece::Range(first, second) => Some(Item::Range(first.word(), second.word())),
-        Piece::Not(end) => Some(Item::Not(end.word())),
-        Piece::NotRange(first, second) => Some(Item::NotRange(first.word(), second.word())),
+        Piece::Range(first, second) => Some(Item::Range(first.word()?, second.word()?)),
+        Piece::Not(end) => Some(Item::Not(end.word()?)),
+        Piece::NotRange(first, second) => Some(Item::NotRange(first.word()?, second.word()?)),
         _ => None,
     }
 }

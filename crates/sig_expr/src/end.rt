@@ -42,16 +42,15 @@ impl End {
         End { bytes, len }
     }
 
-    /// The word, where it has one to eight bytes. Else the eight bytes that are kept, which are not
-    /// the end: zeros for none read, and the first eight for more.
+    /// The word, where it has one to eight bytes.
     #[tactic(auto, unfolding(crate::specs::Ends::word_of))]
-    pub(crate) fn word(self) -> Short
+    pub(crate) fn word(self) -> Option<Short>
         ensures { result ≡ word_of self }
     {
         if 0 < self.len && self.len <= Short::MAX_LEN {
-            Short::new(&self.bytes[..self.len])
+            Some(Short::new(&self.bytes[..self.len]))
         } else {
-            Short::new(&self.bytes)
+            None
         }
     }
 }

@@ -49,7 +49,8 @@ fn judge_range(not: bool, first: End, second: End, place: usize) -> Option<ExprE
     if first.len > Short::MAX_LEN {
         return Some(ExprError::BracketTooLong { place });
     }
-    judge_order(not, first.word(), second.word(), place)
+    // An end of a text has a byte at least, so here both have words.
+    judge_order(not, first.word()?, second.word()?, place)
 }
 
 // A bracket with one end.
