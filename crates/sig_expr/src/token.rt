@@ -31,19 +31,38 @@ pub(crate) enum Token {
     /// The first of two question marks.
     Question,
     /// A gap up to where a number begins. Behind a dash, the least length is known.
-    NumberStart(Option<u32>),
+    NumberStart {
+        least: Option<u32>,
+    },
     /// A gap up to a digit of a number.
-    Number(Option<u32>, u32),
+    Number {
+        least: Option<u32>,
+        number: u32,
+    },
     /// `{`, the least length and `-*`.
-    Star(u32),
+    Star {
+        min: u32,
+    },
     /// `[`.
     Bracket,
     /// A bracket up to where an end begins: whether it excludes, and the first end behind a colon.
-    EndStart(bool, Option<End>),
+    EndStart {
+        excludes: bool,
+        first: Option<End>,
+    },
     /// A bracket up to the first digit of a pair of an end.
-    EndHalf(bool, Option<End>, End, u8),
+    EndHalf {
+        excludes: bool,
+        first: Option<End>,
+        end: End,
+        high: u8,
+    },
     /// A bracket up to a pair of an end.
-    EndPair(bool, Option<End>, End),
+    EndPair {
+        excludes: bool,
+        first: Option<End>,
+        end: End,
+    },
 }
 
 /// A part of a text that stands for something.
@@ -126,7 +145,7 @@ fn begin_item(byte: u8) -> Step
     match byte {
         b'?' => Step::More(Token::Question),
         b'*' => Step::Whole(Piece::Gap { min: 0, max: None }),
-        b'{' => Step::More(Token::NumberStart(None)),
+        b'{' => Step::More(Token::NumberStart { least: None }),
         b'(' => Step::Whole(Piece::Open),
         _ => begin_part(byte),
     }
@@ -161,8 +180,8 @@ fn begin_number(least: Option<u32>, byte: u8) -> Step
     ensures { result ≡ number_of least byte }
 {
     match (decimal(byte), least) {
-        (Some(value), _) => Step::More(Token::Number(least, value)),
-        (None, Some(least)) if byte == b'*' => Step::More(Token::Star(least)),
+        (Some(number), _) => Step::More(Token::Number { least, number }),
+        (None, Some(min)) if byte == b'*' => Step::More(Token::Star { min }),
         (None, _) => Step::Refused,
     }
 }
@@ -174,7 +193,10 @@ fn go_on_number(least: Option<u32>, number: u32, byte: u8) -> Step
 {
     match decimal(byte) {
         Some(value) if 0 < number && number < 10_000 => {
-            Step::More(Token::Number(least, number * 10 + value))
+            Step::More(Token::Number {
+                least,
+                number: number * 10 + value,
+            })
         }
         Some(_) => Step::Refused,
         None => close_gap(least, number, byte),
@@ -195,33 +217,43 @@ fn close_gap(least: Option<u32>, number: u32, byte: u8) -> Step
             min: number,
             max: Some(number),
         }),
-        None if byte == b'-' => Step::More(Token::NumberStart(Some(number))),
+        None if byte == b'-' => Step::More(Token::NumberStart {
+            least: Some(number),
+        }),
         _ => Step::Refused,
     }
 }
 
 // An end of a bracket begins.
 #[tactic(auto, unfolding(crate::specs::Reading::end_of))]
-fn begin_end(not: bool, first: Option<End>, end: End, byte: u8) -> Step
-    ensures { result ≡ end_of not first end byte }
+fn begin_end(excludes: bool, first: Option<End>, end: End, byte: u8) -> Step
+    ensures { result ≡ end_of excludes first end byte }
 {
     match digit(byte) {
-        Some(high) => Step::More(Token::EndHalf(not, first, end, high)),
+        Some(high) => Step::More(Token::EndHalf {
+            excludes,
+            first,
+            end,
+            high,
+        }),
         None => Step::Refused,
     }
 }
 
 // Behind an end: the colon, or the end of the bracket.
 #[tactic(auto, unfolding(crate::specs::Reading::closed_bracket_of))]
-fn close_bracket(not: bool, first: Option<End>, end: End, byte: u8) -> Step
-    ensures { result ≡ closed_bracket_of not first end byte }
+fn close_bracket(excludes: bool, first: Option<End>, end: End, byte: u8) -> Step
+    ensures { result ≡ closed_bracket_of excludes first end byte }
 {
     match first {
-        Some(first) if byte == b']' && not => Step::Whole(Piece::NotRange(first, end)),
+        Some(first) if byte == b']' && excludes => Step::Whole(Piece::NotRange(first, end)),
         Some(first) if byte == b']' => Step::Whole(Piece::Range(first, end)),
-        None if byte == b']' && not => Step::Whole(Piece::Not(end)),
-        None if byte == b':' => Step::More(Token::EndStart(not, Some(end))),
-        _ => begin_end(not, first, end, byte),
+        None if byte == b']' && excludes => Step::Whole(Piece::Not(end)),
+        None if byte == b':' => Step::More(Token::EndStart {
+            excludes,
+            first: Some(end),
+        }),
+        _ => begin_end(excludes, first, end, byte),
     }
 }
 
@@ -238,18 +270,34 @@ fn go_on(token: Token, byte: u8) -> Step
         },
         Token::Question if byte == b'?' => Step::Whole(Piece::Any),
         Token::Question => Step::Refused,
-        Token::NumberStart(least) => begin_number(least, byte),
-        Token::Number(least, number) => go_on_number(least, number, byte),
-        Token::Star(min) if byte == b'}' => Step::Whole(Piece::Gap { min, max: None }),
-        Token::Star(_) => Step::Refused,
-        Token::Bracket if byte == b'!' => Step::More(Token::EndStart(true, None)),
+        Token::NumberStart { least } => begin_number(least, byte),
+        Token::Number { least, number } => go_on_number(least, number, byte),
+        Token::Star { min } if byte == b'}' => Step::Whole(Piece::Gap { min, max: None }),
+        Token::Star { min: _ } => Step::Refused,
+        Token::Bracket if byte == b'!' => Step::More(Token::EndStart {
+            excludes: true,
+            first: None,
+        }),
         Token::Bracket => begin_end(false, None, End::empty(), byte),
-        Token::EndStart(not, first) => begin_end(not, first, End::empty(), byte),
-        Token::EndHalf(not, first, end, high) => match digit(byte) {
-            Some(low) => Step::More(Token::EndPair(not, first, end.push(pair(high, low)))),
+        Token::EndStart { excludes, first } => begin_end(excludes, first, End::empty(), byte),
+        Token::EndHalf {
+            excludes,
+            first,
+            end,
+            high,
+        } => match digit(byte) {
+            Some(low) => Step::More(Token::EndPair {
+                excludes,
+                first,
+                end: end.push(pair(high, low)),
+            }),
             None => Step::Refused,
         },
-        Token::EndPair(not, first, end) => close_bracket(not, first, end, byte),
+        Token::EndPair {
+            excludes,
+            first,
+            end,
+        } => close_bracket(excludes, first, end, byte),
     }
 }
 
