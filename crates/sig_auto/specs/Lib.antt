@@ -1,4 +1,5 @@
 -- The definitions of this crate, and those of the crates below that its clauses cite.
+pub mod Automata
 pub mod Classes
 pub mod Local
 pub mod Rows

@@ -43,3 +43,7 @@ abbrev pub between : List ℕ → List ℕ → List (List Class)
 between [] ys = []
 between (x ∷ xs) [] = []
 between (x ∷ xs) (y ∷ ys) = if x == y then behind x (between xs ys) else only_these (x ∷ xs) ∷ (behind x (above xs) ++ (inner_at x y xs ++ (behind y (below ys) ++ only_these (y ∷ ys) ∷ [])))
+
+-- each row behind these bytes
+abbrev pub behind_these : List ℕ → List (List Class) → List (List Class)
+behind_these front rows = map (λ row. only_these front ++ row) rows

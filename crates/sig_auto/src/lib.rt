@@ -3,9 +3,13 @@
 //! Some run of a file accepts exactly where the sequence stands in it (`specs/Runs.antt`).
 #![tactic(auto)]
 
+mod auto;
 mod class;
 mod laws;
 mod node;
+mod row;
+mod unroll;
 
+pub use auto::Auto;
 pub use class::Class;
 pub use laws::runs_accept_what_stands;

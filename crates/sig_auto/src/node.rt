@@ -1,6 +1,6 @@
 //! The tree of a sequence: its slots, and in which order bytes take them.
 
-ghost use Rattle.std.specs.Prelude.{◌≡◌, ◌+◌, ◌≤◌};
+ghost use Rattle.std.specs.Prelude.{◌≡◌, ◌+◌, ◌-◌, ◌<◌, ◌≤◌};
 ghost use Rattle.sig_auto.specs.Local.{begins, ends, goes, skips};
 ghost use Rattle.sig_auto.specs.Seen.{seen};
 ghost use Rattle.sig_auto.specs.TreeSlots.{class_of, slots_of};
@@ -65,6 +65,62 @@ impl Node {
                 a.begins(before, q) || (a.skips() && b.begins(before + a.slots(), q))
             }
             Node::Or(a, b) => a.begins(before, q) || b.begins(before + a.slots(), q),
+        }
+    }
+
+    // Whether some track ends with p.
+    pub(crate) fn ends(&self, before: usize, p: usize) -> bool
+        requires { before + slots_of (seen self.now) ≤ 65535 }
+        ensures { result ≡ ends (seen self.now) before p }
+    {
+        match self {
+            Node::Never | Node::Empty => false,
+            Node::Slot(_) => p == before + 1,
+            Node::Gap { min, .. } => {
+                before < p && before as u64 + *min as u64 <= p as u64 && p <= before + self.slots()
+            }
+            Node::Then(a, b) => {
+                (a.ends(before, p) && b.skips()) || b.ends(before + a.slots(), p)
+            }
+            Node::Or(a, b) => a.ends(before, p) || b.ends(before + a.slots(), p),
+        }
+    }
+
+    // Whether q stands directly behind p in some track.
+    pub(crate) fn goes(&self, before: usize, p: usize, q: usize) -> bool
+        requires { before + slots_of (seen self.now) ≤ 65535 }
+        ensures { result ≡ goes (seen self.now) before p q }
+    {
+        match self {
+            Node::Never | Node::Empty | Node::Slot(_) => false,
+            Node::Gap { max, .. } => {
+                let last = before + self.slots();
+                (before < p && p < last && q == p + 1) || (max.is_none() && p == last && q == p)
+            }
+            Node::Then(a, b) => {
+                let between = before + a.slots();
+                a.goes(before, p, q)
+                    || b.goes(between, p, q)
+                    || (a.ends(before, p) && b.begins(between, q))
+            }
+            Node::Or(a, b) => a.goes(before, p, q) || b.goes(before + a.slots(), p, q),
+        }
+    }
+
+    // The class of slot q.
+    pub(crate) fn class(&self, before: usize, q: usize) -> Class
+        requires slots { before + slots_of (seen self.now) ≤ 65535 }
+        requires above { before < q }
+        requires within { q ≤ before + slots_of (seen self.now) }
+        ensures { result ≡ class_of (seen self.now) (q - before) }
+    {
+        match self {
+            Node::Never | Node::Empty | Node::Gap { .. } => Class::ANY,
+            Node::Slot(class) => *class,
+            Node::Then(a, b) | Node::Or(a, b) => {
+                let between = before + a.slots();
+                if q <= between { a.class(before, q) } else { b.class(between, q) }
+            }
         }
     }
 }
