@@ -1,5 +1,5 @@
 -- In a tree in which each slot stands in some track, the slots that begin, end and go next to each other do so in some track.
-use Rattle.std.proofs.Common.{◌≡◌, ◌↔◌, ℕ, zero, suc, ◌+◌, ◌-◌, ◌≤◌, ◌==◌, if◌then◌else◌, true, List, [], ◌∷◌, ◌++◌, Option, Some, None, append_assoc, subst, sym, ap, ◌∙◌, refl, inl, inr, arith}
+use Rattle.std.proofs.Common.{◌≡◌, ◌↔◌, Bool, false, ℕ, zero, suc, ◌+◌, ◌-◌, ◌≤◌, ◌==◌, if◌then◌else◌, true, List, [], ◌∷◌, ◌++◌, Option, Some, None, append_assoc, subst, sym, ap, ◌∙◌, refl, inl, inr, arith}
 use Rattle.std.proofs.lemmas.Bool.{cases_eq, cases_lt, eq-eqb, ne_eqb}
 use Rattle.sig_expr.specs.Words.{IsAtMost}
 use Rattle.sig_table.specs.Slots.{gap_slots}
@@ -167,3 +167,16 @@ accepting_exact tree trim p = (
   ],
   accepting_shown tree p,
 )
+
+-- the same for an answer of the code, at the start and at a slot
+pub follows_start : (tree : Tree) → IsTrim tree → (p q : ℕ) (b : Bool) → p ≡ 0 → b ≡ begins tree 0 q → (b ≡ true) ↔ Follows tree p q
+follows_start tree trim p q b start is = rw start (rw is (follows_exact tree trim 0 q))
+
+pub follows_slot : (tree : Tree) → IsTrim tree → (p q : ℕ) (b : Bool) → (p == 0) ≡ false → b ≡ goes tree 0 p q → (b ≡ true) ↔ Follows tree p q
+follows_slot tree trim p q b slot is = let law = follows_exact tree trim p q in rw is (simp slot at law)
+
+pub accepting_start : (tree : Tree) → IsTrim tree → (p : ℕ) (b : Bool) → p ≡ 0 → b ≡ skips tree → (b ≡ true) ↔ Accepting tree p
+accepting_start tree trim p b start is = rw start (rw is (accepting_exact tree trim 0))
+
+pub accepting_slot : (tree : Tree) → IsTrim tree → (p : ℕ) (b : Bool) → (p == 0) ≡ false → b ≡ ends tree 0 p → (b ≡ true) ↔ Accepting tree p
+accepting_slot tree trim p b slot is = let law = accepting_exact tree trim p in rw is (simp slot at law)

@@ -1,5 +1,4 @@
 -- The definitions of this crate, and those of the crates below that its clauses cite.
-pub mod Automata
 pub mod Classes
 pub mod Local
 pub mod Rows

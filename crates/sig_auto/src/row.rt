@@ -1,7 +1,7 @@
 //! Brackets of several bytes as rows of classes.
 
-ghost use Rattle.std.specs.Prelude.{◌≡◌, ◌++◌, ◌+◌, ◌≤◌, ◌<◌, [], ◌∷◌, OnOk, drop, length, map, take, IfOk};
-ghost use Rattle.sig_auto.specs.Rows.{above, behind_these, below, between, only_these, rest};
+ghost use Rattle.std.specs.Prelude.{◌≡◌, ◌++◌, ◌+◌, ◌≤◌, ◌<◌, [], ◌∷◌, OnOk, drop, length, map, slice_index, take, IfOk};
+ghost use Rattle.sig_auto.specs.Rows.{above, behind_these, below, between, inner_at, only_these, rest};
 
 use super::Class;
 use std::alloc::{AllocError, Global};
@@ -21,9 +21,10 @@ fn push_below(
         ++ behind_these (take agreed bytes.now) (below (drop agreed bytes.now))) }
 {
     for j in agreed..bytes.len() {
-        if bytes[j] > 0 {
-            rows.push(row(alloc, bytes, j, Class::Within(0, bytes[j] - 1))?)?;
+        if bytes[j] == 0 {
+            continue;
         }
+        rows.push(row(alloc, bytes, j, Class::Within(0, bytes[j] - 1))?)?;
     }
     Ok(())
 }
@@ -42,10 +43,30 @@ fn push_above(
     let mut j = bytes.len();
     while j > agreed {
         j -= 1;
-        if bytes[j] < 255 {
-            rows.push(row(alloc, bytes, j, Class::Within(bytes[j] + 1, 255))?)?;
+        if bytes[j] == 255 {
+            continue;
         }
+        rows.push(row(alloc, bytes, j, Class::Within(bytes[j] + 1, 255))?)?;
     }
+    Ok(())
+}
+
+// Adds the row of the words that agree with the bytes before place j, and are there between the two.
+fn push_inner(
+    alloc: Global,
+    rows: &mut Vec<Row>,
+    bytes: &[u8],
+    j: usize,
+    last: u8,
+) -> Result<(), AllocError>
+    requires { j < length bytes.now }
+    ensures { OnOk result (map (λ v. v.items) rows.new.items ≡ map (λ v. v.items) rows.old.items
+        ++ behind_these (take j bytes.now) (inner_at (slice_index bytes.now j) last (drop (j + 1) bytes.now))) }
+{
+    if bytes[j] as u32 + 1 >= last as u32 {
+        return Ok(());
+    }
+    rows.push(row(alloc, bytes, j, Class::Within(bytes[j] + 1, last - 1))?)?;
     Ok(())
 }
 
@@ -87,19 +108,16 @@ pub(crate) fn outside_rows(alloc: Global, a: &[u8], b: &[u8]) -> Result<Vec<Row>
     Ok(rows)
 }
 
-// The rows of the words from the first bytes to the second, which are as many and differ.
+// The rows of the words from the first bytes to the second.
 pub(crate) fn range_rows(alloc: Global, a: &[u8], b: &[u8]) -> Result<Vec<Row>, AllocError>
-    requires { length a.now ≡ length b.now }
     ensures { IfOk result (λ rows. map (λ v. v.items) rows.items ≡ between a.now b.now) }
 {
     let mut rows = Vec::new(alloc);
-    for j in 0..a.len() {
+    for j in 0..a.len().min(b.len()) {
         if a[j] != b[j] {
             rows.push(only_these(alloc, a)?)?;
             push_above(alloc, &mut rows, a, j + 1)?;
-            if a[j] as u32 + 1 < b[j] as u32 {
-                rows.push(row(alloc, a, j, Class::Within(a[j] + 1, b[j] - 1))?)?;
-            }
+            push_inner(alloc, &mut rows, a, j, b[j])?;
             push_below(alloc, &mut rows, b, j + 1)?;
             rows.push(only_these(alloc, b)?)?;
             return Ok(rows);

@@ -13,15 +13,18 @@ use super::Class;
 use crate::node::Node;
 use crate::row::{Row, outside_rows, range_rows};
 use sig_expr::{Atom, Item};
-use sig_table::{Position, Sequence};
+use sig_table::Position;
 use std::alloc::{AllocError, Global};
 
 // The tree of the whole file.
-pub(crate) fn whole_node(alloc: Global, sequence: &Sequence) -> Result<Node, AllocError>
-    ensures { IfOk result (λ node. seen node ≡ whole_tree sequence.now) }
+pub(crate) fn whole_node(
+    alloc: Global,
+    position: Position,
+    items: &[Item],
+) -> Result<Node, AllocError>
+    ensures { IfOk result (λ node. seen node ≡ whole_tree (record { position = position; items = items.now })) }
 {
-    let position = sequence.position();
-    let items = items_node(alloc, sequence.expr().items(), back(position))?;
+    let items = items_node(alloc, items, back(position))?;
     then(alloc, front(position), items)
 }
 
