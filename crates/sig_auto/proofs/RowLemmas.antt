@@ -1,0 +1,378 @@
+-- The words of the rows of a bracket: those before an end, after an end, and from one end to another.
+use Rattle.std.proofs.Common.{◌≡◌, ◌≢◌, ◌⊎◌, ◌↔◌, ℕ, ◌+◌, ◌-◌, ◌<◌, ◌≤◌, Bool, true, false, nat_lt, nat_eq, cond, List, [], ◌∷◌, ◌++◌, length, refl, sym, ap, subst, ◌∙◌, inl, inr, arith, nat_cmp, Less, Equal, Greater, eq-eqb, ne_eqb, tests, rules}
+use Rattle.std.specs.Cmp.{nat_cmp_is}
+use Rattle.std.specs.Cmp.Lexicographic.{slice_cmp}
+use Rattle.std.proofs.lemmas.Bool.{cases_lt}
+use Rattle.sig_auto.proofs.ByteLemmas.{IsBytes-nil, IsBytes-cons, IsBytes-head, IsBytes-tail}
+use Rattle.sig_auto.specs.declared.class.Class.{Class}
+use Rattle.sig_auto.specs.declared.class.Class.TheVariants.{Within}
+use Rattle.sig_auto.specs.Classes.{InClass, any, only}
+use Rattle.sig_auto.specs.Rows.{above, behind, below, between, inner_at, lower_at, only_these, rest, upper_at}
+use Rattle.sig_auto.specs.Trees.{row_tree, rows_tree}
+use Rattle.sig_auto.specs.Unfolded.{TreeWord}
+use Rattle.sig_bits.specs.Bytes.{IsBytes}
+use Rattle.sig_expr.specs.Words.{IsBefore, IsBytesOf, IsUpTo}
+
+-- two numbers are in one order or the other, or the same
+pub three : (x y : ℕ) → (x < y) ⊎ ((x ≡ y) ⊎ (y < x))
+three x y = elim (cases_lt x y) [
+  | inl below ↦ inl below
+  | inr up ↦ elim (cases_lt y x) [ inl above ↦ inr (inr above) | inr down ↦ inr (inl (omega arith)) ]
+]
+
+-- words by their first bytes
+cmp_lower : (x y : ℕ) (xs ys : List ℕ) → x < y → slice_cmp nat_cmp (x ∷ xs) (y ∷ ys) ≡ Less
+cmp_lower x y xs ys h = rw (← nat_cmp_is x y Less h) refl
+
+cmp_same : (x y : ℕ) (xs ys : List ℕ) → x ≡ y → slice_cmp nat_cmp (x ∷ xs) (y ∷ ys) ≡ slice_cmp nat_cmp xs ys
+cmp_same x y xs ys h = rw (← nat_cmp_is x y Equal h) refl
+
+cmp_upper : (x y : ℕ) (xs ys : List ℕ) → y < x → slice_cmp nat_cmp (x ∷ xs) (y ∷ ys) ≡ Greater
+cmp_upper x y xs ys h = rw (← nat_cmp_is x y Greater h) refl
+
+pub IsBefore-lower : (x y : ℕ) (xs ys : List ℕ) → x < y → IsBefore (x ∷ xs) (y ∷ ys)
+IsBefore-lower x y xs ys h = cmp_lower x y xs ys h
+
+pub IsBefore-same : (x y : ℕ) (xs ys : List ℕ) → x ≡ y → IsBefore xs ys → IsBefore (x ∷ xs) (y ∷ ys)
+IsBefore-same x y xs ys h k = cmp_same x y xs ys h ∙ k
+
+pub IsBefore-cases : (x y : ℕ) (xs ys : List ℕ) → IsBefore (x ∷ xs) (y ∷ ys) → (x < y) ⊎ ((x ≡ y) × IsBefore xs ys)
+IsBefore-cases x y xs ys h = elim (three x y) [
+  | inl lower ↦ inl lower
+  | inr more ↦ elim more [
+    | inl same ↦ inr (same, sym (cmp_same x y xs ys same) ∙ h)
+    | inr upper ↦ absurd (cc (cmp_upper x y xs ys upper, h))
+  ]
+]
+
+-- up to a word: before it, or the word itself
+pub IsUpTo-before : (v w : List ℕ) → IsBefore v w → IsUpTo v w
+IsUpTo-before v w h = λ e. cc
+
+cmp_itself : (w : List ℕ) → slice_cmp nat_cmp w w ≡ Equal
+cmp_itself [] = refl
+cmp_itself (b ∷ w) = cmp_same b b w w refl ∙ cmp_itself w
+
+pub IsUpTo-itself : (w : List ℕ) → IsUpTo w w
+IsUpTo-itself w = λ e. cc (cmp_itself w, e)
+
+pub IsUpTo-same : (v w : List ℕ) → v ≡ w → IsUpTo v w
+IsUpTo-same v w h = subst (IsUpTo v) h (IsUpTo-itself v)
+
+pub IsUpTo-cases : (v w : List ℕ) → IsUpTo v w → IsBefore v w ⊎ (v ≡ w)
+IsUpTo-cases [] [] h = inr refl
+IsUpTo-cases [] (y ∷ w) h = inl refl
+IsUpTo-cases (x ∷ v) [] h = absurd (h refl)
+IsUpTo-cases (x ∷ v) (y ∷ w) h = elim (three x y) [
+  | inl lower ↦ inl (IsBefore-lower x y v w lower)
+  | inr more ↦ elim more [
+    | inl same ↦ elim (IsUpTo-cases v w (λ e. h (cmp_same x y v w same ∙ e))) [
+      | inl before ↦ inl (IsBefore-same x y v w same before)
+      | inr equal ↦ inr (cc)
+    ]
+    | inr upper ↦ absurd (h (cmp_upper x y v w upper))
+  ]
+]
+
+-- words that are not the same are in one order or the other
+pub IsBefore-either : (v w : List ℕ) → v ≢ w → IsBefore v w ⊎ IsBefore w v
+IsBefore-either [] [] h = absurd (h refl)
+IsBefore-either [] (y ∷ w) h = inl refl
+IsBefore-either (x ∷ v) [] h = inr refl
+IsBefore-either (x ∷ v) (y ∷ w) h = elim (three x y) [
+  | inl lower ↦ inl (IsBefore-lower x y v w lower)
+  | inr more ↦ elim more [
+    | inl same ↦ elim (IsBefore-either v w (λ e. h (cc))) [
+      | inl before ↦ inl (IsBefore-same x y v w same before)
+      | inr after ↦ inr (IsBefore-same y x w v (sym same) after)
+    ]
+    | inr upper ↦ inr (IsBefore-lower y x w v upper)
+  ]
+]
+
+-- no word is before itself
+pub not_before_itself : (v w : List ℕ) → IsBefore v w → v ≢ w
+not_before_itself v w h = λ e. (let same : slice_cmp nat_cmp v v ≡ Less = rw (← e) at h in cc (cmp_itself v, same))
+
+-- a word of a row: a byte of its first class, and a word of the others
+row_word : (c : Class) (cs : List Class) (b : ℕ) (v : List ℕ) → InClass c b → TreeWord (row_tree cs) v → TreeWord (row_tree (c ∷ cs)) (b ∷ v)
+row_word c cs b v h k = (b ∷ [], v, refl, (b, refl, h), k)
+
+of_row : (c : Class) (cs : List Class) (w : List ℕ) → TreeWord (row_tree (c ∷ cs)) w → (b : ℕ) × (v : List ℕ) × (w ≡ b ∷ v) × InClass c b × TreeWord (row_tree cs) v
+of_row c cs w h = (h.3.0, h.1, h.2 ∙ ap (λ u. u ++ h.1) h.3.1, h.3.2, h.4)
+
+-- any bytes, as many as these
+rest_word : (xs w : List ℕ) → IsBytesOf (length xs) w → TreeWord (row_tree (rest xs)) w
+rest_word [] [] h = refl
+rest_word [] (b ∷ w) h = let len = h.0 in absurd (omega arith)
+rest_word (x ∷ xs) [] h = let len = h.0 in absurd (omega arith)
+rest_word (x ∷ xs) (b ∷ w) h =
+    let len = h.0 in
+    let byte = IsBytes-head b w h.1 in
+    row_word any (rest xs) b w (omega arith, omega arith) (rest_word xs w (omega arith, IsBytes-tail b w h.1))
+
+of_rest : (xs w : List ℕ) → TreeWord (row_tree (rest xs)) w → IsBytesOf (length xs) w
+of_rest [] w h = rw h (refl, IsBytes-nil)
+of_rest (x ∷ xs) w h =
+    let r = of_row any (rest xs) w h in
+    let k = of_rest xs r.1 r.4 in
+    let len = k.0 in
+    let most = r.3.1 in
+    rw r.2 (omega arith, IsBytes-cons r.0 r.1 (omega arith) k.1)
+
+-- these bytes alone
+only_word : (xs : List ℕ) → TreeWord (row_tree (only_these xs)) xs
+only_word [] = refl
+only_word (x ∷ xs) = row_word (only x) (only_these xs) x xs (omega arith, omega arith) (only_word xs)
+
+of_only : (xs w : List ℕ) → TreeWord (row_tree (only_these xs)) w → w ≡ xs
+of_only [] w h = h
+of_only (x ∷ xs) w h =
+    let r = of_row (only x) (only_these xs) w h in
+    let low = r.3.0 in
+    let high = r.3.1 in
+    let first : r.0 ≡ x = omega arith in
+    let others = of_only xs r.1 r.4 in
+    r.2 ∙ cc
+
+-- the words of rows are those of the one rows and of the other
+rows_left : (rs ss : List (List Class)) (w : List ℕ) → TreeWord (rows_tree rs) w → TreeWord (rows_tree (rs ++ ss)) w
+rows_left [] ss w h = absurd h
+rows_left (r ∷ rs) ss w (inl h) = inl h
+rows_left (r ∷ rs) ss w (inr h) = inr (rows_left rs ss w h)
+
+rows_right : (rs ss : List (List Class)) (w : List ℕ) → TreeWord (rows_tree ss) w → TreeWord (rows_tree (rs ++ ss)) w
+rows_right [] ss w h = h
+rows_right (r ∷ rs) ss w h = inr (rows_right rs ss w h)
+
+of_rows : (rs ss : List (List Class)) (w : List ℕ) → TreeWord (rows_tree (rs ++ ss)) w → TreeWord (rows_tree rs) w ⊎ TreeWord (rows_tree ss) w
+of_rows [] ss w h = inr h
+of_rows (r ∷ rs) ss w (inl h) = inl (inl h)
+of_rows (r ∷ rs) ss w (inr h) = elim (of_rows rs ss w h) [ inl one ↦ inl (inr one) | inr other ↦ inr other ]
+
+pub rows_append : (rs ss : List (List Class)) (w : List ℕ) → TreeWord (rows_tree (rs ++ ss)) w ↔ (TreeWord (rows_tree rs) w ⊎ TreeWord (rows_tree ss) w)
+rows_append rs ss w = (λ h. of_rows rs ss w h, λ h. elim h [ inl one ↦ rows_left rs ss w one | inr other ↦ rows_right rs ss w other ])
+
+-- rows behind a byte
+behind_word : (b : ℕ) (rs : List (List Class)) (v : List ℕ) → TreeWord (rows_tree rs) v → TreeWord (rows_tree (behind b rs)) (b ∷ v)
+behind_word b [] v h = absurd h
+behind_word b (r ∷ rs) v (inl h) = inl (row_word (only b) r b v (omega arith, omega arith) h)
+behind_word b (r ∷ rs) v (inr h) = inr (behind_word b rs v h)
+
+of_behind : (b : ℕ) (rs : List (List Class)) (w : List ℕ) → TreeWord (rows_tree (behind b rs)) w → (v : List ℕ) × (w ≡ b ∷ v) × TreeWord (rows_tree rs) v
+of_behind b [] w h = absurd h
+of_behind b (r ∷ rs) w (inl h) =
+    let k = of_row (only b) r w h in
+    let low = k.3.0 in
+    let high = k.3.1 in
+    let first : k.0 ≡ b = omega arith in
+    (k.1, k.2 ∙ ap (λ c. c ∷ k.1) first, inl k.4)
+of_behind b (r ∷ rs) w (inr h) = let k = of_behind b rs w h in (k.0, k.1, inr k.2)
+
+-- a byte between two and others: the words of a row that is there where some byte is between them
+first_word : (t : Bool) (low high b : ℕ) (xs v : List ℕ) → t ≡ true → low ≤ b → b ≤ high → IsBytesOf (length xs) v → TreeWord (rows_tree (cond t ((Within low high ∷ rest xs) ∷ []) [])) (b ∷ v)
+first_word true low high b xs v e h k bytes = inl (row_word (Within low high) (rest xs) b v (h, k) (rest_word xs v bytes))
+first_word false low high b xs v e h k bytes = absurd (cc)
+
+of_first : (t : Bool) (low high : ℕ) (xs w : List ℕ) → TreeWord (rows_tree (cond t ((Within low high ∷ rest xs) ∷ []) [])) w → (t ≡ true) × (b : ℕ) × (v : List ℕ) × (w ≡ b ∷ v) × (low ≤ b) × (b ≤ high) × IsBytesOf (length xs) v
+of_first true low high xs w (inl h) = let r = of_row (Within low high) (rest xs) w h in (refl, r.0, r.1, r.2, r.3.0, r.3.1, of_rest xs r.1 r.4)
+of_first true low high xs w (inr h) = absurd h
+of_first false low high xs w h = absurd h
+
+-- what the test of two numbers says
+is_less : (a b : ℕ) → nat_lt a b ≡ true → a < b
+is_less a b h = search (rules, tests)
+
+-- the converse
+pub less_is : (a b : ℕ) → a < b → nat_lt a b ≡ true
+less_is a b h = search (rules, tests)
+
+lower_word : (x b : ℕ) (xs v : List ℕ) → b < x → IsBytesOf (length xs) v → TreeWord (rows_tree (lower_at x xs)) (b ∷ v)
+lower_word x b xs v h bytes = first_word (nat_lt 0 x) 0 (x - 1) b xs v (less_is 0 x (omega arith)) (omega arith) (omega arith) bytes
+
+of_lower : (x : ℕ) (xs w : List ℕ) → TreeWord (rows_tree (lower_at x xs)) w → (b : ℕ) × (v : List ℕ) × (w ≡ b ∷ v) × (b < x) × IsBytesOf (length xs) v
+of_lower x xs w h =
+    let r = of_first (nat_lt 0 x) 0 (x - 1) xs w h in
+    let some = is_less 0 x r.0 in
+    let high = r.5 in
+    (r.1, r.2, r.3, omega arith, r.6)
+
+upper_word : (x b : ℕ) (xs v : List ℕ) → x < b → b < 256 → IsBytesOf (length xs) v → TreeWord (rows_tree (upper_at x xs)) (b ∷ v)
+upper_word x b xs v h byte bytes = first_word (nat_lt x 255) (x + 1) 255 b xs v (less_is x 255 (omega arith)) (omega arith) (omega arith) bytes
+
+of_upper : (x : ℕ) (xs w : List ℕ) → TreeWord (rows_tree (upper_at x xs)) w → (b : ℕ) × (v : List ℕ) × (w ≡ b ∷ v) × (x < b) × (b < 256) × IsBytesOf (length xs) v
+of_upper x xs w h =
+    let r = of_first (nat_lt x 255) (x + 1) 255 xs w h in
+    let low = r.4 in
+    let high = r.5 in
+    (r.1, r.2, r.3, omega arith, omega arith, r.6)
+
+inner_word : (x y b : ℕ) (xs v : List ℕ) → x < b → b < y → IsBytesOf (length xs) v → TreeWord (rows_tree (inner_at x y xs)) (b ∷ v)
+inner_word x y b xs v h k bytes = first_word (nat_lt (x + 1) y) (x + 1) (y - 1) b xs v (less_is (x + 1) y (omega arith)) (omega arith) (omega arith) bytes
+
+of_inner : (x y : ℕ) (xs w : List ℕ) → TreeWord (rows_tree (inner_at x y xs)) w → (b : ℕ) × (v : List ℕ) × (w ≡ b ∷ v) × (x < b) × (b < y) × IsBytesOf (length xs) v
+of_inner x y xs w h =
+    let r = of_first (nat_lt (x + 1) y) (x + 1) (y - 1) xs w h in
+    let some = is_less (x + 1) y r.0 in
+    let low = r.4 in
+    let high = r.5 in
+    (r.1, r.2, r.3, omega arith, omega arith, r.6)
+
+-- one more byte
+longer : (b x : ℕ) (v xs : List ℕ) → b < 256 → IsBytesOf (length xs) v → IsBytesOf (length (x ∷ xs)) (b ∷ v)
+longer b x v xs h k = let len = k.0 in (omega arith, IsBytes-cons b v h k.1)
+
+shorter : (b x : ℕ) (v xs : List ℕ) → IsBytesOf (length (x ∷ xs)) (b ∷ v) → IsBytesOf (length xs) v
+shorter b x v xs h = let len = h.0 in (omega arith, IsBytes-tail b v h.1)
+
+of_below : (xs w : List ℕ) → IsBytes xs → TreeWord (rows_tree (below xs)) w → IsBytesOf (length xs) w × IsBefore w xs
+of_below [] w bytes h = absurd h
+of_below (x ∷ xs) w bytes h =
+    let byte = IsBytes-head x xs bytes in
+    elim (of_rows (lower_at x xs) (behind x (below xs)) w h) [
+      | inl lower ↦
+          let r = of_lower x xs w lower in
+          let low = r.3 in
+          rw r.2 (longer r.0 x r.1 xs (omega arith) r.4, IsBefore-lower r.0 x r.1 xs r.3)
+      | inr same ↦
+          let r = of_behind x (below xs) w same in
+          let k = of_below xs r.0 (IsBytes-tail x xs bytes) r.2 in
+          rw r.1 (longer x x r.0 xs byte k.0, IsBefore-same x x r.0 xs refl k.1)
+    ]
+
+below_word : (xs w : List ℕ) → IsBytesOf (length xs) w → IsBefore w xs → TreeWord (rows_tree (below xs)) w
+below_word [] [] bytes h = absurd (cc)
+below_word [] (b ∷ w) bytes h = absurd (cc)
+below_word (x ∷ xs) [] bytes h = let len = bytes.0 in absurd (omega arith)
+below_word (x ∷ xs) (b ∷ w) bytes h = elim (IsBefore-cases b x w xs h) [
+  | inl lower ↦ rows_left (lower_at x xs) (behind x (below xs)) (b ∷ w) (lower_word x b xs w lower (shorter b x w xs bytes))
+  | inr same ↦ rows_right (lower_at x xs) (behind x (below xs)) (b ∷ w) (rw same.0 (behind_word x (below xs) w (below_word xs w (shorter b x w xs bytes) same.1)))
+]
+
+of_above : (xs w : List ℕ) → IsBytes xs → TreeWord (rows_tree (above xs)) w → IsBytesOf (length xs) w × IsBefore xs w
+of_above [] w bytes h = absurd h
+of_above (x ∷ xs) w bytes h =
+    elim (of_rows (behind x (above xs)) (upper_at x xs) w h) [
+      | inl same ↦
+          let r = of_behind x (above xs) w same in
+          let k = of_above xs r.0 (IsBytes-tail x xs bytes) r.2 in
+          rw r.1 (longer x x r.0 xs (IsBytes-head x xs bytes) k.0, IsBefore-same x x xs r.0 refl k.1)
+      | inr upper ↦
+          let r = of_upper x xs w upper in
+          rw r.2 (longer r.0 x r.1 xs r.4 r.5, IsBefore-lower x r.0 xs r.1 r.3)
+    ]
+
+above_word : (xs w : List ℕ) → IsBytesOf (length xs) w → IsBefore xs w → TreeWord (rows_tree (above xs)) w
+above_word [] [] bytes h = absurd (cc)
+above_word [] (b ∷ w) bytes h = let len = bytes.0 in absurd (omega arith)
+above_word (x ∷ xs) [] bytes h = absurd (cc)
+above_word (x ∷ xs) (b ∷ w) bytes h = elim (IsBefore-cases x b xs w h) [
+  | inl upper ↦ rows_right (behind x (above xs)) (upper_at x xs) (b ∷ w) (upper_word x b xs w upper (IsBytes-head b w bytes.1) (shorter b x w xs bytes))
+  | inr same ↦ rows_left (behind x (above xs)) (upper_at x xs) (b ∷ w) (rw (← same.0) (behind_word x (above xs) w (above_word xs w (shorter b x w xs bytes) same.1)))
+]
+
+-- the words before these bytes
+pub below_is : (xs w : List ℕ) → IsBytes xs → TreeWord (rows_tree (below xs)) w ↔ (IsBytesOf (length xs) w × IsBefore w xs)
+below_is xs w bytes = (λ h. of_below xs w bytes h, λ h. below_word xs w h.0 h.1)
+
+-- the words after them
+pub above_is : (xs w : List ℕ) → IsBytes xs → TreeWord (rows_tree (above xs)) w ↔ (IsBytesOf (length xs) w × IsBefore xs w)
+above_is xs w bytes = (λ h. of_above xs w bytes h, λ h. above_word xs w h.0 h.1)
+
+-- the ends differ at the first place: both of them, what is behind their first bytes, and the words whose first byte is between
+abbrev pub split_rows : ℕ → ℕ → List ℕ → List ℕ → List (List Class)
+split_rows x y xs ys = only_these (x ∷ xs) ∷ (behind x (above xs) ++ (inner_at x y xs ++ (behind y (below ys) ++ only_these (y ∷ ys) ∷ [])))
+
+of_split : (x y : ℕ) (xs ys w : List ℕ) → x < y → length xs ≡ length ys → IsBytes (x ∷ xs) → IsBytes (y ∷ ys) → TreeWord (rows_tree (split_rows x y xs ys)) w → IsBytesOf (length (x ∷ xs)) w × IsUpTo (x ∷ xs) w × IsUpTo w (y ∷ ys)
+of_split x y xs ys w order same a b (inl h) =
+    rw (of_only (x ∷ xs) w h) ((refl, a), IsUpTo-itself (x ∷ xs), IsUpTo-before (x ∷ xs) (y ∷ ys) (IsBefore-lower x y xs ys order))
+of_split x y xs ys w order same a b (inr h) =
+    let high = IsBytes-head y ys b in
+    elim (of_rows (behind x (above xs)) (inner_at x y xs ++ (behind y (below ys) ++ only_these (y ∷ ys) ∷ [])) w h) [
+      | inl first ↦
+          let r = of_behind x (above xs) w first in
+          let k = of_above xs r.0 (IsBytes-tail x xs a) r.2 in
+          rw r.1 (longer x x r.0 xs (IsBytes-head x xs a) k.0, IsUpTo-before (x ∷ xs) (x ∷ r.0) (IsBefore-same x x xs r.0 refl k.1), IsUpTo-before (x ∷ r.0) (y ∷ ys) (IsBefore-lower x y r.0 ys order))
+      | inr others ↦ elim (of_rows (inner_at x y xs) (behind y (below ys) ++ only_these (y ∷ ys) ∷ []) w others) [
+        | inl inner ↦
+            let r = of_inner x y xs w inner in
+            let below_y = r.4 in
+            rw r.2 (longer r.0 x r.1 xs (omega arith) r.5, IsUpTo-before (x ∷ xs) (r.0 ∷ r.1) (IsBefore-lower x r.0 xs r.1 r.3), IsUpTo-before (r.0 ∷ r.1) (y ∷ ys) (IsBefore-lower r.0 y r.1 ys r.4))
+        | inr rest ↦ elim (of_rows (behind y (below ys)) (only_these (y ∷ ys) ∷ []) w rest) [
+          | inl last ↦
+              let r = of_behind y (below ys) w last in
+              let k = of_below ys r.0 (IsBytes-tail y ys b) r.2 in
+              rw r.1 (longer y x r.0 xs high (rw same k.0), IsUpTo-before (x ∷ xs) (y ∷ r.0) (IsBefore-lower x y xs r.0 order), IsUpTo-before (y ∷ r.0) (y ∷ ys) (IsBefore-same y y r.0 ys refl k.1))
+          | inr end ↦ elim end [
+            | inl is_end ↦
+                rw (of_only (y ∷ ys) w is_end) ((omega arith, b), IsUpTo-before (x ∷ xs) (y ∷ ys) (IsBefore-lower x y xs ys order), IsUpTo-itself (y ∷ ys))
+            | inr none ↦ absurd none
+          ]
+        ]
+      ]
+    ]
+
+split_word : (x y b : ℕ) (xs ys v : List ℕ) → length xs ≡ length ys → IsBytesOf (length (x ∷ xs)) (b ∷ v) → IsUpTo (x ∷ xs) (b ∷ v) → IsUpTo (b ∷ v) (y ∷ ys) → TreeWord (rows_tree (split_rows x y xs ys)) (b ∷ v)
+split_word x y b xs ys v same bytes low high =
+    let rest = shorter b x v xs bytes in
+    elim (IsUpTo-cases (x ∷ xs) (b ∷ v) low) [
+      | inr is_first ↦ inl (rw (← is_first) (only_word (x ∷ xs)))
+      | inl after ↦ inr (elim (IsBefore-cases x b xs v after) [
+        | inr on_first ↦ rows_left (behind x (above xs)) _ (b ∷ v) (rw (← on_first.0) (behind_word x (above xs) v (above_word xs v rest on_first.1)))
+        | inl above_x ↦ rows_right (behind x (above xs)) _ (b ∷ v) (elim (IsUpTo-cases (b ∷ v) (y ∷ ys) high) [
+          | inr is_last ↦ rows_right (inner_at x y xs) _ (b ∷ v) (rows_right (behind y (below ys)) _ (b ∷ v) (inl (rw is_last (only_word (y ∷ ys)))))
+          | inl before ↦ elim (IsBefore-cases b y v ys before) [
+            | inl below_y ↦ rows_left (inner_at x y xs) _ (b ∷ v) (inner_word x y b xs v above_x below_y rest)
+            | inr on_last ↦ rows_right (inner_at x y xs) _ (b ∷ v) (rows_left (behind y (below ys)) _ (b ∷ v) (rw on_last.0 (behind_word y (below ys) v (below_word ys v (rw (← same) rest) on_last.1))))
+          ]
+        ])
+      ])
+    ]
+
+-- the ends agree at the first place, or differ there
+between_same : (x y : ℕ) (xs ys : List ℕ) → x ≡ y → between (x ∷ xs) (y ∷ ys) ≡ behind x (between xs ys)
+between_same x y xs ys h = rw (eq-eqb x y h) refl
+
+between_split : (x y : ℕ) (xs ys : List ℕ) → x < y → between (x ∷ xs) (y ∷ ys) ≡ split_rows x y xs ys
+between_split x y xs ys h = let apart : nat_eq x y ≡ false = ne_eqb x y (λ e. omega arith) in rw apart refl
+
+of_between : (xs ys w : List ℕ) → length xs ≡ length ys → IsBefore xs ys → IsBytes xs → IsBytes ys → TreeWord (rows_tree (between xs ys)) w → IsBytesOf (length xs) w × IsUpTo xs w × IsUpTo w ys
+of_between [] ys w same order a b h = absurd h
+of_between (x ∷ xs) [] w same order a b h = absurd h
+of_between (x ∷ xs) (y ∷ ys) w same order a b h = elim (IsBefore-cases x y xs ys order) [
+  | inl lower ↦ of_split x y xs ys w lower (omega arith) a b (rw (between_split x y xs ys lower) at h)
+  | inr level ↦
+      let r = of_behind x (between xs ys) w (rw (between_same x y xs ys level.0) at h) in
+      let k = of_between xs ys r.0 (omega arith) level.1 (IsBytes-tail x xs a) (IsBytes-tail y ys b) r.2 in
+      rw r.1 (
+        longer x x r.0 xs (IsBytes-head x xs a) k.0,
+        λ e. k.1 (sym (cmp_same x x xs r.0 refl) ∙ e),
+        λ e. k.2 (sym (cmp_same x y r.0 ys level.0) ∙ e),
+      )
+]
+
+between_word : (xs ys w : List ℕ) → length xs ≡ length ys → IsBefore xs ys → IsBytesOf (length xs) w → IsUpTo xs w → IsUpTo w ys → TreeWord (rows_tree (between xs ys)) w
+between_word [] [] w same order bytes low high = absurd (cc)
+between_word [] (y ∷ ys) w same order bytes low high = absurd (omega arith)
+between_word (x ∷ xs) [] w same order bytes low high = absurd (omega arith)
+between_word (x ∷ xs) (y ∷ ys) [] same order bytes low high = absurd (low refl)
+between_word (x ∷ xs) (y ∷ ys) (b ∷ v) same order bytes low high = elim (IsBefore-cases x y xs ys order) [
+  | inl lower ↦ rw (between_split x y xs ys lower) (split_word x y b xs ys v (omega arith) bytes low high)
+  | inr level ↦
+      let here : x ≡ b = first_is x y b xs ys v level.0 low high in
+      rw (between_same x y xs ys level.0, ← here) (behind_word x (between xs ys) v (
+      between_word xs ys v (omega arith) level.1 (shorter b x v xs bytes)
+      (λ e. low (cmp_same x b xs v here ∙ e))
+      (λ e. high (cmp_same b y v ys (sym here ∙ level.0) ∙ e))
+      ))
+]
+  where
+    first_is : (x y b : ℕ) (xs ys v : List ℕ) → x ≡ y → IsUpTo (x ∷ xs) (b ∷ v) → IsUpTo (b ∷ v) (y ∷ ys) → x ≡ b
+    first_is x y b xs ys v level low high = elim (three x b) [
+      | inl lower ↦ absurd (high (cmp_upper b y v ys (omega arith)))
+      | inr more ↦ elim more [ inl same ↦ same | inr upper ↦ absurd (low (cmp_upper x b xs v upper)) ]
+    ]
+
+-- the words from the first to the second
+pub between_is : (xs ys w : List ℕ) → length xs ≡ length ys → IsBefore xs ys → IsBytes xs → IsBytes ys → TreeWord (rows_tree (between xs ys)) w ↔ (IsBytesOf (length xs) w × IsUpTo xs w × IsUpTo w ys)
+between_is xs ys w same order a b = (λ h. of_between xs ys w same order a b h, λ h. between_word xs ys w same order h.0 h.1 h.2)

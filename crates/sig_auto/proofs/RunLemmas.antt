@@ -1,0 +1,135 @@
+-- The runs that accept a file are the tracks whose slots take its bytes.
+use Rattle.std.proofs.Common.{◌≡◌, ◌↔◌, ℕ, ◌<◌, ◌==◌, if◌then◌else◌, true, List, [], ◌∷◌, ◌++◌, append_assoc, subst, sym, ap, ◌∙◌, refl, inl, inr, arith}
+use Rattle.std.proofs.lemmas.Bool.{cases_eq, eq-eqb, ne_eqb}
+use Rattle.sig_auto.specs.Local.{begins, ends, goes, skips}
+use Rattle.sig_auto.specs.Runs.{Accepts, Run, Steps}
+use Rattle.sig_auto.specs.Tracks.{Accepting, Follows, Track}
+use Rattle.sig_auto.specs.Trees.{Tree}
+use Rattle.sig_auto.specs.Unfolded.{TakesAll}
+use Rattle.sig_auto.proofs.LocalLemmas.{Chain, IsLocal, goes-slots, begins-slot, local_track, track_begins, track_ends, track_goes, track_skips, track_slot}
+
+-- behind the start a slot begins, behind another it goes
+follows_start : (tree : Tree) (t front back : List ℕ) (q : ℕ) → Track tree 0 t → 0 ∷ t ≡ front ++ 0 ∷ q ∷ back → begins tree 0 q ≡ true
+follows_start tree t [] back q is e =
+    let same : t ≡ q ∷ back = cc in
+    track_begins tree 0 q back (subst (λ l. Track tree 0 l) same is)
+follows_start tree t (x ∷ front) back q is e =
+    let same : t ≡ front ++ 0 ∷ q ∷ back = cc in
+    let slot = track_slot tree 0 0 front (q ∷ back) (subst (λ l. Track tree 0 l) same is) in
+    absurd (omega arith)
+
+follows_slot : (tree : Tree) (t front back : List ℕ) (p q : ℕ) → 0 < p → Track tree 0 t → 0 ∷ t ≡ front ++ p ∷ q ∷ back → goes tree 0 p q ≡ true
+follows_slot tree t [] back p q some is e =
+    let same : 0 ≡ p = cc in
+    absurd (omega arith)
+follows_slot tree t (x ∷ front) back p q some is e =
+    let same : t ≡ front ++ p ∷ q ∷ back = cc in
+    track_goes tree 0 p q front back (subst (λ l. Track tree 0 l) same is)
+
+accepting_start : (tree : Tree) (t front : List ℕ) → Track tree 0 t → 0 ∷ t ≡ front ++ 0 ∷ [] → skips tree ≡ true
+accepting_start tree t [] is e =
+    let same : t ≡ [] = cc in
+    track_skips tree 0 (subst (λ l. Track tree 0 l) same is)
+accepting_start tree t (x ∷ front) is e =
+    let same : t ≡ front ++ 0 ∷ [] = cc in
+    let slot = track_slot tree 0 0 front [] (subst (λ l. Track tree 0 l) same is) in
+    absurd (omega arith)
+
+accepting_slot : (tree : Tree) (t front : List ℕ) (p : ℕ) → 0 < p → Track tree 0 t → 0 ∷ t ≡ front ++ p ∷ [] → ends tree 0 p ≡ true
+accepting_slot tree t [] p some is e =
+    let same : 0 ≡ p = cc in
+    absurd (omega arith)
+accepting_slot tree t (x ∷ front) p some is e =
+    let same : t ≡ front ++ p ∷ [] = cc in
+    track_ends tree 0 p front (subst (λ l. Track tree 0 l) same is)
+
+-- the same by one test, with no premise on the tree
+pub follows_shown : (tree : Tree) (p q : ℕ) → Follows tree p q → (if p == 0 then begins tree 0 q else goes tree 0 p q) ≡ true
+follows_shown tree p q f = elim (cases_eq p 0) [
+  | inl start ↦ rw (eq-eqb p 0 start) (follows_start tree f.track f.front f.back q f.is_track (subst (λ x. 0 ∷ f.track ≡ f.front ++ x ∷ q ∷ f.back) start f.next))
+  | inr other ↦ rw (ne_eqb p 0 other) (follows_slot tree f.track f.front f.back p q (omega arith) f.is_track f.next)
+]
+
+pub accepting_shown : (tree : Tree) (p : ℕ) → Accepting tree p → (if p == 0 then skips tree else ends tree 0 p) ≡ true
+accepting_shown tree p a = elim (cases_eq p 0) [
+  | inl start ↦ rw (eq-eqb p 0 start) (accepting_start tree a.track a.front a.is_track (subst (λ x. 0 ∷ a.track ≡ a.front ++ x ∷ []) start a.last))
+  | inr other ↦ rw (ne_eqb p 0 other) (accepting_slot tree a.track a.front p (omega arith) a.is_track a.last)
+]
+
+-- the last of one state is that state
+only_last : (p last : ℕ) (front : List ℕ) → p ∷ [] ≡ front ++ last ∷ [] → last ≡ p
+only_last p last [] e = cc
+only_last p last (x ∷ []) e = absurd (cc)
+only_last p last (x ∷ (y ∷ front)) e = absurd (cc)
+
+-- the states behind a slot
+steps_local : (tree : Tree) (p last : ℕ) (file states front : List ℕ) → 0 < p → Steps tree p file states → p ∷ states ≡ front ++ last ∷ [] → Accepting tree last → Chain tree 0 p states × TakesAll tree states file
+steps_local tree p last [] [] front some steps e a =
+    let same = only_last p last front e in
+    let at : Accepting tree p = subst (λ x. Accepting tree x) same a in
+    (accepting_slot tree at.track at.front p some at.is_track at.last, tt)
+steps_local tree p last [] (q ∷ states) front some steps e a = absurd steps
+steps_local tree p last (byte ∷ bytes) [] front some steps e a = absurd steps
+steps_local tree p last (byte ∷ bytes) (q ∷ states) [] some steps e a = absurd (cc)
+steps_local tree p last (byte ∷ bytes) (q ∷ states) (x ∷ front) some steps e a =
+    let f : Follows tree p q = steps.0 in
+    let go : goes tree 0 p q ≡ true = follows_slot tree f.track f.front f.back p q some f.is_track f.next in
+    let rest : q ∷ states ≡ front ++ last ∷ [] = cc in
+    let more = steps_local tree q last bytes states front (goes-slots tree 0 p q go).1.0 steps.2 rest a in
+    ((go, more.0), (steps.1, more.1))
+
+-- and those behind the start
+start_local : (tree : Tree) (last : ℕ) (file states front : List ℕ) → Steps tree 0 file states → 0 ∷ states ≡ front ++ last ∷ [] → Accepting tree last → IsLocal tree 0 states × TakesAll tree states file
+start_local tree last [] [] front steps e a =
+    let same = only_last 0 last front e in
+    let at : Accepting tree 0 = subst (λ x. Accepting tree x) same a in
+    (accepting_start tree at.track at.front at.is_track at.last, tt)
+start_local tree last [] (q ∷ states) front steps e a = absurd steps
+start_local tree last (byte ∷ bytes) [] front steps e a = absurd steps
+start_local tree last (byte ∷ bytes) (q ∷ states) [] steps e a = absurd (cc)
+start_local tree last (byte ∷ bytes) (q ∷ states) (x ∷ front) steps e a =
+    let f : Follows tree 0 q = steps.0 in
+    let begun : begins tree 0 q ≡ true = follows_start tree f.track f.front f.back q f.is_track f.next in
+    let rest : q ∷ states ≡ front ++ last ∷ [] = cc in
+    let more = steps_local tree q last bytes states front (begins-slot tree 0 q begun).0 steps.2 rest a in
+    ((begun, more.0), (steps.1, more.1))
+
+-- a run begins with the start
+run_states : (tree : Tree) (file states : List ℕ) → Run tree file states → (behind : List ℕ) × (0 ∷ behind ≡ states) × Steps tree 0 file behind
+run_states tree file [] run = absurd run
+run_states tree file (p ∷ behind) run = (behind, sym (ap (λ x. x ∷ behind) run.0), subst (λ x. Steps tree x file behind) run.0 run.1)
+
+-- a list that is not empty has a last
+last_of : (p : ℕ) (t : List ℕ) → (front : List ℕ) × (last : ℕ) × (p ∷ t ≡ front ++ last ∷ [])
+last_of p [] = ([], p, refl)
+last_of p (q ∷ t) =
+    let more = last_of q t in
+    (p ∷ more.0, more.1, ap (λ l. p ∷ l) more.2)
+
+-- a track's slots follow each other
+steps_of : (tree : Tree) (track front : List ℕ) (p : ℕ) (t file : List ℕ) → Track tree 0 track → 0 ∷ track ≡ front ++ p ∷ t → TakesAll tree t file → Steps tree p file t
+steps_of tree track front p [] [] is e takes = tt
+steps_of tree track front p [] (byte ∷ bytes) is e takes = absurd takes
+steps_of tree track front p (q ∷ t) [] is e takes = absurd takes
+steps_of tree track front p (q ∷ t) (byte ∷ bytes) is e takes = (
+  record { track = track; is_track = is; front = front; back = t; next = e },
+  takes.0,
+  steps_of tree track (front ++ p ∷ []) q t bytes is (e ∙ sym (append_assoc front (p ∷ []) (q ∷ t))) takes.1,
+)
+
+-- a file is accepted exactly where the slots of some track take its bytes
+pub accepts_is_taken : (tree : Tree) (file : List ℕ) → Accepts tree file ↔ ((t : List ℕ) × Track tree 0 t × TakesAll tree t file)
+accepts_is_taken tree file = (
+  λ a.
+      let states = run_states tree file (a.front ++ a.last ∷ []) a.run in
+      let local = start_local tree a.last file states.0 a.front states.2 states.1 a.accepting in
+      (states.0, local_track tree 0 states.0 local.0, local.1),
+  λ taken.
+      let last = last_of 0 taken.0 in
+      record {
+        front = last.0;
+        last = last.1;
+        run = subst (λ l. Run tree file l) last.2 (refl, steps_of tree taken.0 [] 0 taken.0 file taken.1 refl taken.2);
+        accepting = record { track = taken.0; is_track = taken.1; front = last.0; last = last.2 };
+      },
+)

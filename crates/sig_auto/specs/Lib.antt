@@ -1,0 +1,19 @@
+-- The definitions of this crate, and those of the crates below that its clauses cite.
+pub mod Classes
+pub mod Local
+pub mod Rows
+pub mod Runs
+pub mod Seen
+pub mod Tracks
+pub mod TreeSlots
+pub mod Trees
+pub mod Trim
+pub mod Unfolded
+pub use Rattle.sig_bits.specs.BitSets
+pub use Rattle.sig_bits.specs.ByteClasses
+pub use Rattle.sig_bits.specs.Bytes
+pub use Rattle.sig_expr.specs.Words
+pub use Rattle.sig_table.specs.Lists
+pub use Rattle.sig_table.specs.Slots
+pub use Rattle.sig_table.specs.Standing
+pub use Rattle.sig_table.specs.Tables

@@ -1,0 +1,179 @@
+//! From a sequence to its tree: the whole-file expression, with each bracket of several bytes
+//! unfolded into rows of classes.
+//!
+//! `[4142:4241]` has the rows `41 42`, `41 43-FF`, `42 00-40` and `42 41`.
+
+ghost use Rattle.std.specs.Prelude.{◌≡◌, ◌<◌, ◌++◌, IfOk, None, Some, length, map, slice_index};
+ghost use Rattle.sig_auto.specs.declared.class.Class.{Class};
+ghost use Rattle.sig_auto.specs.Rows.{above, below, between};
+ghost use Rattle.sig_auto.specs.Seen.{seen};
+ghost use Rattle.sig_auto.specs.Trees.{alternatives_tree, atom_tree, atoms_tree, back_tree, bracket_tree, front_tree, item_tree, items_tree, row_tree, rows_tree, whole_tree, Gap, Then, Or};
+
+use super::Class;
+use crate::node::Node;
+use crate::row::{Row, outside_rows, range_rows};
+use sig_expr::{Atom, Item};
+use sig_table::Position;
+use std::alloc::{AllocError, Global};
+
+// The tree of the whole file.
+pub(crate) fn whole_node(
+    alloc: Global,
+    position: Position,
+    items: &[Item],
+) -> Result<Node, AllocError>
+    ensures { IfOk result (λ node. seen node ≡ whole_tree (record { position = position; items = items.now })) }
+{
+    let items = items_node(alloc, items, back(position))?;
+    then(alloc, front(position), items)
+}
+
+// What may stand before the expression.
+fn front(position: Position) -> Node
+    ensures { seen result ≡ front_tree position }
+{
+    match position {
+        Position::Bof { min, max } => gap(min, max),
+        Position::Eof { .. } | Position::Variable => anything(),
+    }
+}
+
+// What may stand behind it.
+fn back(position: Position) -> Node
+    ensures { seen result ≡ back_tree position }
+{
+    match position {
+        Position::Eof { min, max } => gap(min, max),
+        Position::Bof { .. } | Position::Variable => anything(),
+    }
+}
+
+// Some bytes, at least `min` and at most `max`.
+fn gap(min: u16, max: u16) -> Node
+    ensures { seen result ≡ Gap min (Some max) }
+{
+    Node::Gap {
+        min: min as u32,
+        max: Some(max as u32),
+    }
+}
+
+// Any bytes.
+fn anything() -> Node
+    ensures { seen result ≡ Gap 0 None }
+{
+    Node::Gap { min: 0, max: None }
+}
+
+// The items, and then this.
+fn items_node(alloc: Global, items: &[Item], last: Node) -> Result<Node, AllocError>
+    ensures { IfOk result (λ node. seen node ≡ items_tree items.now (seen last)) }
+{
+    let Some((first, later)) = items.split_first() else {
+        return Ok(last);
+    };
+    let later = items_node(alloc, later, last)?;
+    then(alloc, item_node(alloc, first)?, later)
+}
+
+fn item_node(alloc: Global, item: &Item) -> Result<Node, AllocError>
+    ensures { IfOk result (λ node. seen node ≡ item_tree item.now) }
+{
+    match item {
+        Item::Byte(b) => Ok(Node::Slot(Class::Within(*b, *b))),
+        Item::Any => Ok(Node::Slot(Class::ANY)),
+        Item::Gap { min, max } => Ok(Node::Gap {
+            min: *min,
+            max: *max,
+        }),
+        Item::Alt(alternatives) => alternatives_node(alloc, alternatives.as_slice()),
+        Item::Range(a, b) => atom_node(alloc, &Atom::Range(*a, *b)),
+        Item::Not(a) => atom_node(alloc, &Atom::Not(*a)),
+        Item::NotRange(a, b) => atom_node(alloc, &Atom::NotRange(*a, *b)),
+    }
+}
+
+// One of the alternatives.
+fn alternatives_node(alloc: Global, alternatives: &[Vec<Atom>]) -> Result<Node, AllocError>
+    ensures { IfOk result (λ node. seen node ≡ alternatives_tree (map (λ v. v.items) alternatives.now)) }
+{
+    let Some((first, later)) = alternatives.split_first() else {
+        return Ok(Node::Never);
+    };
+    let first = atoms_node(alloc, first.as_slice())?;
+    or(alloc, first, alternatives_node(alloc, later)?)
+}
+
+// The parts, one after the other.
+fn atoms_node(alloc: Global, atoms: &[Atom]) -> Result<Node, AllocError>
+    ensures { IfOk result (λ node. seen node ≡ atoms_tree atoms.now) }
+{
+    let Some((first, later)) = atoms.split_first() else {
+        return Ok(Node::Empty);
+    };
+    let first = atom_node(alloc, first)?;
+    then(alloc, first, atoms_node(alloc, later)?)
+}
+
+fn atom_node(alloc: Global, atom: &Atom) -> Result<Node, AllocError>
+    ensures { IfOk result (λ node. seen node ≡ atom_tree atom.now) }
+{
+    match atom {
+        Atom::Byte(b) => Ok(Node::Slot(Class::Within(*b, *b))),
+        Atom::Range(a, b) => {
+            let (a, b) = (a.as_bytes(), b.as_bytes());
+            if a.len() == 1 {
+                return Ok(Node::Slot(Class::Within(a[0], b[0])));
+            }
+            rows_node(alloc, range_rows(alloc, a, b)?.as_slice())
+        }
+        Atom::Not(a) => outside_node(alloc, a.as_bytes(), a.as_bytes()),
+        Atom::NotRange(a, b) => outside_node(alloc, a.as_bytes(), b.as_bytes()),
+    }
+}
+
+// What is before the first bytes or after the second.
+fn outside_node(alloc: Global, a: &[u8], b: &[u8]) -> Result<Node, AllocError>
+    requires a { 0 < length a.now }
+    requires b { 0 < length b.now }
+    ensures { IfOk result (λ node. seen node ≡ bracket_tree a.now (Class.Outside (slice_index a.now 0) (slice_index b.now 0)) (below a.now ++ above b.now)) }
+{
+    if a.len() == 1 {
+        return Ok(Node::Slot(Class::Outside(a[0], b[0])));
+    }
+    rows_node(alloc, outside_rows(alloc, a, b)?.as_slice())
+}
+
+// One of the rows.
+fn rows_node(alloc: Global, rows: &[Row]) -> Result<Node, AllocError>
+    ensures { IfOk result (λ node. seen node ≡ rows_tree (map (λ v. v.items) rows.now)) }
+{
+    let Some((first, later)) = rows.split_first() else {
+        return Ok(Node::Never);
+    };
+    let first = row_node(alloc, first.as_slice())?;
+    or(alloc, first, rows_node(alloc, later)?)
+}
+
+// The slots of a row, one after the other.
+fn row_node(alloc: Global, row: &[Class]) -> Result<Node, AllocError>
+    ensures { IfOk result (λ node. seen node ≡ row_tree row.now) }
+{
+    let Some((first, later)) = row.split_first() else {
+        return Ok(Node::Empty);
+    };
+    let later = row_node(alloc, later)?;
+    then(alloc, Node::Slot(*first), later)
+}
+
+fn then(alloc: Global, a: Node, b: Node) -> Result<Node, AllocError>
+    ensures { IfOk result (λ node. seen node ≡ Then (seen a) (seen b)) }
+{
+    Ok(Node::Then(Box::new(alloc, a)?, Box::new(alloc, b)?))
+}
+
+fn or(alloc: Global, a: Node, b: Node) -> Result<Node, AllocError>
+    ensures { IfOk result (λ node. seen node ≡ Or (seen a) (seen b)) }
+{
+    Ok(Node::Or(Box::new(alloc, a)?, Box::new(alloc, b)?))
+}
