@@ -20,6 +20,7 @@ pub mod RemovalLemmas
 pub mod RowAgainLemmas
 pub mod RowLemmas
 pub mod SignatureFaultLemmas
+pub mod SignatureRowLemmas
 pub mod SlotLemmas
 pub mod TableAgainLemmas
 pub mod TableLemmas

@@ -315,11 +315,14 @@ fn as_many_slots_as_the_limit_are_taken(rt: HostRuntime) {
     }
 }
 
-// The table of so many rows, each of a signature of its own, of so many formats in turn.
+// The table of so many rows, each of a signature of its own: the first ones each of a format of its
+// own, and all from the last of so many formats on of that one.
 fn loaded_many(alloc: Global, count: u32, formats: u32) -> Result<Result<Table, TableError>, Fail> {
     let mut rows = Vec::new(alloc);
     for i in 0..count {
-        let row = format!(in alloc; "fmt/{},{},BOF,0,,41\n", i % formats + 1, i + 1)?;
+        let number = i + 1;
+        let format = number.min(formats);
+        let row = format!(in alloc; "fmt/{format},{number},BOF,0,,41\n")?;
         rows.extend_from_slice(row.as_bytes())?;
     }
     Ok(loaded_rows(alloc, &rows))
