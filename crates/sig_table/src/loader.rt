@@ -5,7 +5,7 @@ ghost use Rattle.csv.specs.Records.{fields_of};
 ghost use Rattle.sig_bits.specs.Device.{IsAtEnd};
 ghost use Rattle.sig_table.specs.Loading.{is_of_signatures, is_priority_header, is_signature_header, empty_table, pair_of, pairs_from, pairs_of, place_in, records_of, signatures_of, table_from, table_of};
 ghost use Rattle.sig_table.specs.Rows.{IsFault, Tells, is_judged, is_read};
-ghost use Rattle.sig_table.specs.Tables.{ArePriorities};
+ghost use Rattle.sig_table.specs.Tables.{ArePriorities, HasAllSignatures};
 ghost use Rattle.std.specs.Option.{ok_or};
 ghost use Rattle.sig_table.specs.declared.row.Row.{Row};
 ghost use Rattle.sig_table.specs.declared.error.TableError.{TableError};
@@ -32,6 +32,9 @@ impl Table {
         // The table of the records, or their first fault.
         ensures exact { (s p : List ℕ) → A.to_come signatures.old ≡ Some s → B.to_come priorities.old ≡ Some p
             → Tells result (table_of (records_of s) (records_of p)) }
+
+        // Each format has a signature.
+        ensures whole { IfOk result (λ table. HasAllSignatures table) }
 
         // A fault of the signature file is told by that file alone, and leaves the other as it was.
         ensures first { (s : List ℕ) (fault : TableError) → A.to_come signatures.old ≡ Some s → signatures_of (records_of s) ≡ Err fault
@@ -82,7 +85,7 @@ fn read_signatures(alloc: Global, text: &[u8]) -> Result<Draft, TableError>
     judge_signatures(alloc, &records)
 }
 
-// The same, of the records.
+// The formats and signatures of the records, whose first is to be the header.
 #[tactic(auto, unfolding(crate::specs::Loading::signatures_of))]
 fn judge_signatures(alloc: Global, records: &[ByteRecord]) -> Result<Draft, TableError>
     ensures { MatchResult result
@@ -143,7 +146,7 @@ fn read_priorities(
     judge_priorities(alloc, draft, &records)
 }
 
-// The same, of the records.
+// The pairs of the records, whose first is to be the header.
 #[tactic(auto, unfolding(crate::specs::Loading::pairs_of))]
 fn judge_priorities(
     alloc: Global,

@@ -315,8 +315,8 @@ fn as_many_slots_as_the_limit_are_taken(rt: HostRuntime) {
     }
 }
 
-// The table of so many rows, each of a signature of its own: the first ones each of a format of its
-// own, and all from the last of so many formats on of that one.
+// The table of so many rows, each of a signature of its own. The first ones are each of a format of
+// its own, and where there are as many formats as asked for, the others are of the last one.
 fn loaded_many(alloc: Global, count: u32, formats: u32) -> Result<Result<Table, TableError>, Fail> {
     let mut rows = Vec::new(alloc);
     for i in 0..count {
