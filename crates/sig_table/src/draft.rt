@@ -16,11 +16,13 @@ use indexmap::IndexSet;
 use std::alloc::{AllocError, Global};
 use std::marker::Model;
 
-// How many formats and signatures a table has at most, and how many sequences a signature.
+// How many formats a table has at most.
 const MOST_FORMATS: usize = 1000;
 
+// How many signatures a table has at most.
 const MOST_SIGNATURES: usize = 4000;
 
+// How many sequences a signature has at most.
 const MOST_SEQUENCES: usize = 8;
 
 // The formats and the signatures of the rows so far.
