@@ -1,22 +1,20 @@
 -- A table that grows row by row is the table of all its rows.
-use Rattle.std.proofs.Common.{◌≡◌, ℕ, suc, ◌+◌, Bool, true, false, not, cond, nat_eq, ◌||◌, List, [], ◌∷◌, ◌++◌, length, map, filter, sym, ap, subst, eq-eqb, Result, Ok, Err, ◌∙◌, refl, arith, inl, inr, Option, Some, None, append-nil, append_assoc, ◌⊎◌}
-use Rattle.std.proofs.Math.Nat.{add-zero}
-use Rattle.std.specs.Prelude.{⊤}
+use Rattle.std.proofs.Common.{◌≡◌, ℕ, ◌+◌, Bool, true, false, not, cond, nat_eq, ◌||◌, List, [], ◌∷◌, ◌++◌, length, map, filter, sym, ap, subst, eq-eqb, ◌∙◌, refl, arith, inl, inr, append-nil}
+use Rattle.std.specs.Prelude.{⊤, Contains, get_or}
 use Rattle.std.specs.List.{list_any, position_or_len}
 use Rattle.std.proofs.lemmas.Bool.{cases_Bool, eqb-true}
-use Rattle.std.proofs.lemmas.List.{map-append}
+use Rattle.std.proofs.lemmas.List.{get_or-map, length-map, map-append}
 use Rattle.std.proofs.lemmas.List.Elements.{filter-append}
+use Rattle.std.proofs.lemmas.List.Folds.{list_any_at}
 use Rattle.indexmap.specs.IndexSet.{insert_key}
-use Rattle.sig_table.specs.declared.error.TableError.{TableError}
 use Rattle.sig_table.specs.declared.puid.Puid.{Puid}
 use Rattle.sig_table.specs.declared.puid.Registry.{Registry}
 use Rattle.sig_table.specs.declared.puid.Registry.TheVariants.{Fmt, XFmt}
 use Rattle.sig_table.specs.declared.row.Row.{Row}
-use Rattle.sig_table.specs.Gathered.{BeginsWithHeader, IsFaultAfter, IsFaultOf, IsTableOf, Write, first_format, firsts, formats_of, gathered, numbers_of, rows_of, signature_of}
-use Rattle.sig_table.specs.Lists.{PlacedExpr, SignatureLists, TableLists}
-use Rattle.sig_table.specs.Loading.{fault_in, grown, is_signature_header, signatures_of, table_from, with_number, with_row}
+use Rattle.sig_table.specs.Gathered.{first_format, firsts, formats_of, gathered, numbers_of, rows_of, signature_of}
+use Rattle.sig_table.specs.Lists.{PlacedExpr, SignatureLists}
+use Rattle.sig_table.specs.Loading.{grown, with_number, with_row}
 use Rattle.sig_table.specs.Puids.{puid_eq}
-use Rattle.sig_table.specs.Rows.{row_of}
 use Rattle.sig_table.proofs.DraftLemmas.{any-numbers, position-not_any}
 
 or-right-true : (a b : Bool) → b ≡ true → (a || b) ≡ true
@@ -102,7 +100,7 @@ module _ {A : Type 0} (eq : A → A → Bool) (same : (x y : A) → eq x y ≡ t
 number_self : (n : ℕ) → nat_eq n n ≡ true
 number_self n = eq-eqb n n refl
 
-number_same : (m n : ℕ) → nat_eq m n ≡ true → m ≡ n
+pub number_same : (m n : ℕ) → nat_eq m n ≡ true → m ≡ n
 number_same m n h = eqb-true m n h
 
 puid_self : (p : Puid) → puid_eq p p ≡ true
@@ -117,14 +115,14 @@ puid_of Fmt XFmt m n h = absurd (cc h)
 puid_of XFmt Fmt m n h = absurd (cc h)
 puid_of XFmt XFmt m n h = ap (λ k. let p : Puid = record { registry = XFmt; number = k } in p) (number_same m n h)
 
-puid_same : (p q : Puid) → puid_eq p q ≡ true → p ≡ q
+pub puid_same : (p q : Puid) → puid_eq p q ≡ true → p ≡ q
 puid_same p q h = puid_of p.registry q.registry p.number q.number h
 
 -- the formats and the numbers of one row more
-formats_of-append : (rows : List Row) (row : Row) → formats_of (rows ++ row ∷ []) ≡ insert_key puid_eq (formats_of rows) row.puid
+pub formats_of-append : (rows : List Row) (row : Row) → formats_of (rows ++ row ∷ []) ≡ insert_key puid_eq (formats_of rows) row.puid
 formats_of-append rows row = ap (firsts puid_eq) (map-append (λ r. r.puid) rows (row ∷ [])) ∙ firsts-append puid_eq puid_same puid_self (map (λ r. r.puid) rows) row.puid
 
-numbers_of-append : (rows : List Row) (row : Row) → numbers_of (rows ++ row ∷ []) ≡ insert_key nat_eq (numbers_of rows) row.number
+pub numbers_of-append : (rows : List Row) (row : Row) → numbers_of (rows ++ row ∷ []) ≡ insert_key nat_eq (numbers_of rows) row.number
 numbers_of-append rows row = ap (firsts nat_eq) (map-append (λ r. r.number) rows (row ∷ [])) ∙ firsts-append nat_eq number_same number_self (map (λ r. r.number) rows) row.number
 
 -- the place of what is there stays
@@ -174,14 +172,14 @@ first_format-append fs n (row ∷ rows) more h = elim (cases_Bool (nat_eq n row.
 ]
 
 -- a number that no row has
-rows_of-none : (n : ℕ) (rows : List Row) → list_any (nat_eq n) (map (λ r. r.number) rows) ≡ false → rows_of n rows ≡ []
+pub rows_of-none : (n : ℕ) (rows : List Row) → list_any (nat_eq n) (map (λ r. r.number) rows) ≡ false → rows_of n rows ≡ []
 rows_of-none n [] h = refl
 rows_of-none n (row ∷ rows) h = elim (cases_Bool (nat_eq n row.number)) [
   | inl t ↦ absurd (cc (rw t at h))
   | inr f ↦ rw f (rows_of-none n rows (rw f at h))
 ]
 
-rows_of-append : (n : ℕ) (rows : List Row) (row : Row) → rows_of n (rows ++ row ∷ []) ≡ rows_of n rows ++ cond (nat_eq n row.number) (row ∷ []) []
+pub rows_of-append : (n : ℕ) (rows : List Row) (row : Row) → rows_of n (rows ++ row ∷ []) ≡ rows_of n rows ++ cond (nat_eq n row.number) (row ∷ []) []
 rows_of-append n rows row = filter-append (λ r. nat_eq n r.number) rows (row ∷ [])
 
 -- the formats of earlier rows, by the formats with one row more
@@ -255,7 +253,7 @@ numbers-map : (rows : List Row) (ms : List ℕ) → map (λ s. s.number) (map (s
 numbers-map rows [] = refl
 numbers-map rows (m ∷ ms) = ap (λ l. m ∷ l) (numbers-map rows ms)
 
-any-signature : (rows : List Row) (n : ℕ) → list_any (λ s. nat_eq n s.number) (map (signature_of rows) (numbers_of rows)) ≡ list_any (nat_eq n) (map (λ r. r.number) rows)
+pub any-signature : (rows : List Row) (n : ℕ) → list_any (λ s. nat_eq n s.number) (map (signature_of rows) (numbers_of rows)) ≡ list_any (nat_eq n) (map (λ r. r.number) rows)
 any-signature rows n =
     sym (any-numbers n (map (signature_of rows) (numbers_of rows)))
     ∙ ap (list_any (nat_eq n)) (numbers-map rows (numbers_of rows))
@@ -280,110 +278,17 @@ pub gathered-append : (rows : List Row) (row : Row) → gathered (rows ++ row �
 unfolding with_row
 gathered-append rows row = rw (signatures-append rows row, formats_of-append rows row) refl
 
--- an answer and a refusal
-answered : {A : Type 0} (r : Result A TableError) → ((x : A) × (r ≡ Ok x)) ⊎ ((e : TableError) × (r ≡ Err e))
-answered (Ok x) = inl (x, refl)
-answered (Err e) = inr (e, refl)
+-- a row that is there has its number and its PUID there
+any-member : {X : Type 0} (eq : X → X → Bool) → ((x : X) → eq x x ≡ true) → (f : Row → X) (row : Row) (rows : List Row) → Contains rows row → list_any (eq (f row)) (map f rows) ≡ true
+any-member eq self f row rows c =
+    let at : get_or (map f rows) c.0 (f row) ≡ f row = get_or-map f rows c.0 row (f row) c.1 ∙ ap f c.2 in
+    list_any_at (eq (f row)) (map f rows) c.0 (f row) (rw length-map c.1) (rw at (self (f row)))
 
-told : {A : Type 0} (o : Option A) → (o ≡ None) ⊎ ((x : A) × (o ≡ Some x))
-told None = inl refl
-told (Some x) = inr (x, refl)
+pub any-number : (row : Row) (rows : List Row) → Contains rows row → list_any (nat_eq row.number) (map (λ r. r.number) rows) ≡ true
+any-number row rows c = any-member nat_eq number_self (λ r. r.number) row rows c
 
--- behind these rows, the records write more, and the table is that of all
-record Continues (done : List Row) (n : ℕ) (records : List (List (List ℕ))) (table : TableLists) : Type 0 where
-  pub rows : List Row
-  pub write : Write n records rows
-  pub gathers : table ≡ gathered (done ++ rows)
+pub any-puid_of : (row : Row) (rows : List Row) → Contains rows row → list_any (puid_eq row.puid) (formats_of rows) ≡ true
+any-puid_of row rows c = any-firsts puid_eq puid_same puid_self row.puid (map (λ r. r.puid) rows) ∙ any-member puid_eq puid_self (λ r. r.puid) row rows c
 
-continues : (done : List Row) (n : ℕ) (records : List (List (List ℕ))) (table : TableLists) → table_from n (gathered done) records ≡ Ok table → Continues done n records table
-unfolding table_from
-continues done n [] table h = record { rows = []; write = refl; gathers = rw (append-nil done) (cc h) }
-continues done n (fields ∷ later) table h = elim (answered (row_of n fields)) [
-  | inl a ↦ elim (told (fault_in (gathered done) n a.0)) [
-    | inl fine ↦
-        let rest = continues (done ++ a.0 ∷ []) (n + 1) later table (rw (gathered-append done a.0) (rw (a.1, fine) at h)) in
-        record { rows = a.0 ∷ rest.rows; write = (a.1, rest.write); gathers = rest.gathers ∙ ap gathered (append_assoc done (a.0 ∷ []) rest.rows) }
-    | inr fault ↦ absurd (cc (rw (a.1, fault.1) at h))
-  ]
-  | inr e ↦ absurd (cc (rw e.1 at h))
-]
-
--- behind these rows, some record has the fault, and those before it write rows
-record Stops (done : List Row) (n : ℕ) (records : List (List (List ℕ))) (fault : TableError) : Type 0 where
-  pub earlier : List (List (List ℕ))
-  pub fields : List (List ℕ)
-  pub later : List (List (List ℕ))
-  pub cut : records ≡ earlier ++ fields ∷ later
-  pub rows : List Row
-  pub write : Write n earlier rows
-  pub has : IsFaultAfter (done ++ rows) (n + length earlier) fields fault
-
-stops : (done : List Row) (n : ℕ) (records : List (List (List ℕ))) (fault : TableError) → table_from n (gathered done) records ≡ Err fault → Stops done n records fault
-unfolding table_from
-stops done n [] fault h = absurd (cc h)
-stops done n (fields ∷ later) fault h = elim (answered (row_of n fields)) [
-  | inl a ↦ elim (told (fault_in (gathered done) n a.0)) [
-    | inl fine ↦
-        let rest = stops (done ++ a.0 ∷ []) (n + 1) later fault (rw (gathered-append done a.0) (rw (a.1, fine) at h)) in
-        let at : (n + 1) + length rest.earlier ≡ n + suc (length rest.earlier) = omega arith in
-        record {
-          earlier = fields ∷ rest.earlier;
-          fields = rest.fields;
-          later = rest.later;
-          cut = ap (λ l. fields ∷ l) rest.cut;
-          rows = a.0 ∷ rest.rows;
-          write = (a.1, rest.write);
-          has = subst (λ k. IsFaultAfter (done ++ a.0 ∷ rest.rows) k rest.fields fault) at (subst (λ l. IsFaultAfter l ((n + 1) + length rest.earlier) rest.fields fault) (append_assoc done (a.0 ∷ []) rest.rows) rest.has);
-        }
-    | inr found ↦
-        let is : found.0 ≡ fault = cc (rw (a.1, found.1) at h) in
-        record {
-          earlier = [];
-          fields = fields;
-          later = later;
-          cut = refl;
-          rows = [];
-          write = refl;
-          has = rw (append-nil done, add-zero) (inr (a.0, a.1, found.1 ∙ ap (λ e. Some e) is));
-        }
-  ]
-  | inr e ↦
-      let is : e.0 ≡ fault = cc (rw e.1 at h) in
-      record {
-        earlier = [];
-        fields = fields;
-        later = later;
-        cut = refl;
-        rows = [];
-        write = refl;
-        has = rw (append-nil done, add-zero) (inl (e.1 ∙ ap (λ x. let r : Result Row TableError = Err x in r) is));
-      }
-]
-
--- no record is no header
-nothing_begins : BeginsWithHeader [] → ⊥
-nothing_begins b = cc b.2
-
--- a record that is no header is none
-other_begins : (header : List (List ℕ)) (records : List (List (List ℕ))) → is_signature_header header ≡ false → BeginsWithHeader (header ∷ records) → ⊥
-other_begins header records other b = let same : header ≡ b.0 = cc b.2 in cc (sym (subst (λ h. is_signature_header h ≡ true) (sym same) b.3) ∙ other)
-
-pub is_table_of : (file : List (List (List ℕ))) (table : TableLists) → signatures_of file ≡ Ok table → IsTableOf file table
-unfolding signatures_of
-is_table_of [] table h = absurd (cc h)
-is_table_of (header ∷ records) table h = elim (cases_Bool (is_signature_header header)) [
-  | inl t ↦
-      let c = continues [] 1 records table (rw t at h) in
-      record { header = header; records = records; cut = refl; is_header = t; rows = c.rows; write = c.write; gathers = c.gathers }
-  | inr f ↦ absurd (cc (rw f at h))
-]
-
-pub is_fault_of : (file : List (List (List ℕ))) (fault : TableError) → signatures_of file ≡ Err fault → IsFaultOf file fault
-unfolding signatures_of
-is_fault_of [] fault h = inl (nothing_begins, cc h)
-is_fault_of (header ∷ records) fault h = elim (cases_Bool (is_signature_header header)) [
-  | inl t ↦
-      let s = stops [] 1 records fault (rw t at h) in
-      inr (record { header = header; earlier = s.earlier; fields = s.fields; later = s.later; cut = ap (λ l. header ∷ l) s.cut; is_header = t; rows = s.rows; write = s.write; has = s.has })
-  | inr f ↦ inl (other_begins header records f, cc (rw f at h))
-]
+pub any-numbers_of : (rows : List Row) (n : ℕ) → list_any (nat_eq n) (numbers_of rows) ≡ list_any (nat_eq n) (map (λ r. r.number) rows)
+any-numbers_of rows n = any-firsts nat_eq number_same number_self n (map (λ r. r.number) rows)

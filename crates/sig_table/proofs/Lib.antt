@@ -19,6 +19,8 @@ pub mod RecordsAgainLemmas
 pub mod RemovalLemmas
 pub mod RowAgainLemmas
 pub mod RowLemmas
+pub mod SignatureFaultLemmas
+pub mod SignatureRowLemmas
 pub mod SlotLemmas
 pub mod TableAgainLemmas
 pub mod TableLemmas

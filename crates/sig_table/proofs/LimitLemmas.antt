@@ -20,12 +20,12 @@ use Rattle.sig_table.proofs.PriorityLemmas.{no_priorities}
 use Rattle.sig_table.proofs.TableLemmas.{All-grown, AllDifferent-insert_key, AllDifferent-push, FormatsRise-push, IsSignature-first, IsSignature-more, IsSignature-wider, formats-grown, grown-new, not_contained}
 
 -- a row without fault, whose signature is there
-record FitsIn (t : TableLists) (row : Row) (s : SignatureLists) : Type 0 where
-  same : position_or_len (puid_eq row.puid) t.formats ≡ s.format
-  room : length s.sequences < 8
-  slots : slot_count row.sequence ≤ 65535
+pub record FitsIn (t : TableLists) (row : Row) (s : SignatureLists) : Type 0 where
+  pub same : position_or_len (puid_eq row.puid) t.formats ≡ s.format
+  pub room : length s.sequences < 8
+  pub slots : slot_count row.sequence ≤ 65535
 
-fits_in : (t : TableLists) (row : Row) (n : ℕ) (s : SignatureLists) → fault_at (Some s) t n row ≡ None → FitsIn t row s
+pub fits_in : (t : TableLists) (row : Row) (n : ℕ) (s : SignatureLists) → fault_at (Some s) t n row ≡ None → FitsIn t row s
 fits_in t row n s fine = elim (cases_Bool (nat_eq (position_or_len (puid_eq row.puid) t.formats) s.format)) [
   | inl same ↦ elim (cases_Bool (nat_le 8 (length s.sequences))) [
     | inl full ↦ absurd (cc (rw (same, full) at fine))
@@ -38,12 +38,12 @@ fits_in t row n s fine = elim (cases_Bool (nat_eq (position_or_len (puid_eq row.
 ]
 
 -- and one whose signature is not there
-record FitsBeside (t : TableLists) (row : Row) : Type 0 where
-  slots : slot_count row.sequence ≤ 65535
-  formats : (nat_le 1000 (length t.formats) && not (list_any (puid_eq row.puid) t.formats)) ≡ false
-  signatures : length t.signatures < 4000
+pub record FitsBeside (t : TableLists) (row : Row) : Type 0 where
+  pub slots : slot_count row.sequence ≤ 65535
+  pub formats : (nat_le 1000 (length t.formats) && not (list_any (puid_eq row.puid) t.formats)) ≡ false
+  pub signatures : length t.signatures < 4000
 
-room_for : (fs : List Puid) (puid : Puid) → length fs ≤ 1000 → (nat_le 1000 (length fs) && not (list_any (puid_eq puid) fs)) ≡ false → length (insert_key puid_eq fs puid) ≤ 1000
+pub room_for : (fs : List Puid) (puid : Puid) → length fs ≤ 1000 → (nat_le 1000 (length fs) && not (list_any (puid_eq puid) fs)) ≡ false → length (insert_key puid_eq fs puid) ≤ 1000
 room_for fs puid within room = elim (cases_Bool (list_any (puid_eq puid) fs)) [
   | inl there ↦ rw there within
   | inr new ↦ elim (cases_Bool (nat_le 1000 (length fs))) [
@@ -52,7 +52,7 @@ room_for fs puid within room = elim (cases_Bool (list_any (puid_eq puid) fs)) [
   ]
 ]
 
-fits_beside : (t : TableLists) (row : Row) (n : ℕ) → fault_at None t n row ≡ None → FitsBeside t row
+pub fits_beside : (t : TableLists) (row : Row) (n : ℕ) → fault_at None t n row ≡ None → FitsBeside t row
 fits_beside t row n fine = elim (cases_Bool (nat_lt 65535 (slot_count row.sequence))) [
   | inl many ↦ absurd (cc (rw many at fine))
   | inr few ↦ elim (cases_Bool (nat_le 1000 (length t.formats) && not (list_any (puid_eq row.puid) t.formats))) [

@@ -1,5 +1,5 @@
 -- The table that rows give, said of all rows at once.
-use Rattle.std.specs.Prelude.{◌≡◌, ◌⊎◌, ℕ, ◌+◌, Bool, true, not, nat_eq, List, [], ◌∷◌, ◌++◌, length, map, filter, Some, Ok, Err}
+use Rattle.std.specs.Prelude.{◌≡◌, ◌⊎◌, ℕ, ◌+◌, ◌<◌, ◌≤◌, All, Contains, Bool, true, not, nat_eq, List, [], ◌∷◌, ◌++◌, length, map, filter, Ok, Err}
 use Rattle.std.specs.List.{position_or_len}
 use Rattle.sig_table.specs.declared.error.TableError.{TableError}
 use Rattle.sig_table.specs.declared.error.TableError.TheVariants as error
@@ -7,9 +7,10 @@ use Rattle.sig_table.specs.declared.error.TableFile.TheVariants.{Signatures}
 use Rattle.sig_table.specs.declared.puid.Puid.{Puid}
 use Rattle.sig_table.specs.declared.row.Row.{Row}
 use Rattle.sig_table.specs.Lists.{SignatureLists, TableLists}
-use Rattle.sig_table.specs.Loading.{fault_in, is_signature_header}
+use Rattle.sig_table.specs.Loading.{is_signature_header}
 use Rattle.sig_table.specs.Puids.{puid_eq}
 use Rattle.sig_table.specs.Rows.{row_of}
+use Rattle.sig_table.specs.Slots.{slot_count}
 
 -- the different members, in order of first appearance
 abbrev pub firsts : {A : Type 0} → (A → A → Bool) → List A → List A
@@ -51,7 +52,15 @@ Write n [] rows = rows ≡ []
 Write n (fields ∷ later) [] = ⊥
 Write n (fields ∷ later) (row ∷ rows) = (row_of n fields ≡ Ok row) × Write (n + 1) later rows
 
--- behind a header, each record writes a row, and the table is that of the rows
+-- rows of one table: a number is of one PUID and of at most eight rows, no sequence has too many slots, and there are not too many PUIDs and numbers
+pub record AreRows (rows : List Row) : Type 0 where
+  pub one_format : (x y : Row) → Contains rows x → Contains rows y → x.number ≡ y.number → x.puid ≡ y.puid
+  pub few_sequences : (number : ℕ) → length (rows_of number rows) ≤ 8
+  pub few_slots : All (λ row. slot_count row.sequence ≤ 65535) rows
+  pub few_formats : length (formats_of rows) ≤ 1000
+  pub few_signatures : length (numbers_of rows) ≤ 4000
+
+-- behind a header, each record writes a row of one table, and the table is that of the rows
 pub record IsTableOf (file : List (List (List ℕ))) (table : TableLists) : Type 0 where
   pub header : List (List ℕ)
   pub records : List (List (List ℕ))
@@ -59,13 +68,38 @@ pub record IsTableOf (file : List (List (List ℕ))) (table : TableLists) : Type
   pub is_header : is_signature_header header ≡ true
   pub rows : List Row
   pub write : Write 1 records rows
+  pub are : AreRows rows
   pub gathers : table ≡ gathered rows
 
--- the fault of the n-th record, which comes after these rows: it writes no row, or one that their table can't take
-abbrev pub IsFaultAfter : List Row → ℕ → List (List ℕ) → TableError → Type 0
-IsFaultAfter rows n fields fault = (row_of n fields ≡ Err fault) ⊎ ((row : Row) × (row_of n fields ≡ Ok row) × (fault_in (gathered rows) n row ≡ Some fault))
+-- an earlier row gives the row's number to another PUID
+abbrev pub IsOfTwo : List Row → Row → Type 0
+IsOfTwo rows row = (x : Row) × Contains rows x × (x.number ≡ row.number) × (x.puid ≡ row.puid → ⊥)
 
--- behind a header, some record has this fault, and those before it write rows
+-- eight earlier rows have the row's number
+abbrev pub HasEight : List Row → Row → Type 0
+HasEight rows row = 8 ≤ length (rows_of row.number rows)
+
+-- the row's sequence has over 65,535 slots
+abbrev pub HasTooManySlots : Row → Type 0
+HasTooManySlots row = 65535 < slot_count row.sequence
+
+-- the row is of the 1,001st PUID or of the 4,001st number
+abbrev pub IsBeyond : List Row → Row → Type 0
+IsBeyond rows row = (1000 < length (formats_of (rows ++ row ∷ []))) ⊎ (4000 < length (numbers_of (rows ++ row ∷ [])))
+
+-- the fault of the n-th row behind these rows: the first of the four that it has
+abbrev pub IsFaultOfRow : List Row → ℕ → Row → TableError → Type 0
+IsFaultOfRow rows n row (error.SignatureOfTwo at) = (at ≡ n) × IsOfTwo rows row
+IsFaultOfRow rows n row (error.TooManySequences at) = (at ≡ n) × (IsOfTwo rows row → ⊥) × HasEight rows row
+IsFaultOfRow rows n row (error.TooManySlots at) = (at ≡ n) × (IsOfTwo rows row → ⊥) × (HasEight rows row → ⊥) × HasTooManySlots row
+IsFaultOfRow rows n row (error.TooManyFormats at) = (at ≡ n) × (IsOfTwo rows row → ⊥) × (HasEight rows row → ⊥) × (HasTooManySlots row → ⊥) × IsBeyond rows row
+IsFaultOfRow rows n row _ = ⊥
+
+-- the fault of the n-th record behind these rows: it writes no row, or one with a fault
+abbrev pub IsFaultAfter : List Row → ℕ → List (List ℕ) → TableError → Type 0
+IsFaultAfter rows n fields fault = (row_of n fields ≡ Err fault) ⊎ ((row : Row) × (row_of n fields ≡ Ok row) × IsFaultOfRow rows n row fault)
+
+-- behind a header, some record has this fault, and those before it write rows of one table
 pub record HasFirstFault (file : List (List (List ℕ))) (fault : TableError) : Type 0 where
   pub header : List (List ℕ)
   pub earlier : List (List (List ℕ))
@@ -75,6 +109,7 @@ pub record HasFirstFault (file : List (List (List ℕ))) (fault : TableError) : 
   pub is_header : is_signature_header header ≡ true
   pub rows : List Row
   pub write : Write 1 earlier rows
+  pub are : AreRows rows
   pub has : IsFaultAfter rows (1 + length earlier) fields fault
 
 -- the file begins with the header

@@ -1,5 +1,5 @@
 -- What a row of the signature file spells, or its first fault.
-use Rattle.std.specs.Prelude.{◌≡◌, ◌&&◌, ◌||◌, ℕ, ◌==◌, nat_eq, nat_lt, Bool, true, false, if◌then◌else◌, List, [], length, codes, Option, Some, None, unwrap_or, Result, Ok, Err}
+use Rattle.std.specs.Prelude.{◌≡◌, ◌&&◌, ◌||◌, not, ℕ, ◌==◌, nat_eq, nat_lt, Bool, true, false, if◌then◌else◌, List, [], length, codes, Option, Some, None, unwrap_or, Result, Ok, Err}
 use Rattle.std.specs.Bool.{OnFalse}
 use Rattle.std.specs.Cmp.Lexicographic.{pointwise}
 use Rattle.std.specs.Option.{ok_or}
@@ -33,6 +33,10 @@ is_read _ = false
 abbrev pub is_memory : TableError → Bool
 is_memory error.OutOfMemory = true
 is_memory _ = false
+
+-- a fault of what a file holds
+abbrev pub is_judged : TableError → Bool
+is_judged e = not (is_read e || is_memory e)
 
 -- the refusal is the one that is told, unless memory ran out
 pub record IsFault {A : Type 0} (told : Result A TableError) (fault : TableError) : Type 0 where

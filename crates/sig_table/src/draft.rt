@@ -6,7 +6,7 @@ ghost use Rattle.std.specs.Prelude.{◌≡◌, ◌<◌, ◌≤◌, ◌∷◌, �
 ghost use Rattle.std.specs.List.{list_any, position_or_len};
 ghost use Rattle.sig_table.specs.Loading.{empty_table, fault_at, fault_in, grown, place_in, unless, with_number, with_row};
 ghost use Rattle.sig_table.specs.Rows.{IsFault, IsRow, is_read};
-ghost use Rattle.sig_table.specs.Tables.{ArePriorities};
+ghost use Rattle.sig_table.specs.Tables.{ArePriorities, HasAllSignatures};
 
 use super::row::Row;
 use super::slots::has_too_many_slots;
@@ -15,6 +15,15 @@ use super::{FormatId, Puid, Sequence, Table, TableError};
 use indexmap::IndexSet;
 use std::alloc::{AllocError, Global};
 use std::marker::Model;
+
+// How many formats a table has at most.
+const MOST_FORMATS: usize = 1000;
+
+// How many signatures a table has at most.
+const MOST_SIGNATURES: usize = 4000;
+
+// How many sequences a signature has at most.
+const MOST_SEQUENCES: usize = 8;
 
 // The formats and the signatures of the rows so far.
 #[derive(Debug, Drop)]
@@ -83,7 +92,7 @@ impl Draft {
         if self.puids.get_index_of(&row.puid) != Some(format) {
             return Some(TableError::SignatureOfTwo { row: n });
         }
-        if signature.sequence_count() >= 8 {
+        if signature.sequence_count() >= MOST_SEQUENCES {
             return Some(TableError::TooManySequences { row: n });
         }
         if has_too_many_slots(&row.sequence) {
@@ -100,10 +109,10 @@ impl Draft {
         if has_too_many_slots(&row.sequence) {
             return Some(TableError::TooManySlots { row: n });
         }
-        if self.puids.len() >= 1000 && !self.puids.contains(&row.puid) {
+        if self.puids.len() >= MOST_FORMATS && !self.puids.contains(&row.puid) {
             return Some(TableError::TooManyFormats { row: n });
         }
-        if self.signatures.len() >= 4000 {
+        if self.signatures.len() >= MOST_SIGNATURES {
             return Some(TableError::TooManyFormats { row: n });
         }
         None
@@ -166,6 +175,7 @@ impl Draft {
     ) -> Result<Table, TableError>
         requires { ArePriorities (length self.formats) priorities.keys }
         ensures table { IfOk result (λ table. table ≡ record self { priorities = priorities.keys }) }
+        ensures whole { IfOk result (λ table. HasAllSignatures table) }
         ensures memory { IfErr result (λ e. e ≡ TableError.OutOfMemory) }
     {
         let Draft {

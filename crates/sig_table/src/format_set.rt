@@ -5,10 +5,13 @@ ghost use Rattle.sig_table.specs.FormatSets.{HasFormat};
 
 use sig_bits::{get_bit, or_into, set_bit};
 
+// How many bytes hold a bit for each format.
+const SET_LEN: usize = 125;
+
 // A set of formats.
 #[derive(Clone, Copy, Debug)]
 pub(crate) struct FormatSet {
-    bits: [u8; 125],
+    bits: [u8; SET_LEN],
 }
 
 impl FormatSet {
@@ -16,7 +19,7 @@ impl FormatSet {
     pub(crate) fn new() -> FormatSet
         ensures { (f : ℕ) → ¬ HasFormat result f }
     {
-        FormatSet { bits: [0; 125] }
+        FormatSet { bits: [0; SET_LEN] }
     }
 
     // Whether the format is in it.

@@ -11,12 +11,13 @@ ghost use Rattle.sig_table.specs.PriorityRows.{ArePairsOf, IsPriorityFaultOf};
 ghost use Rattle.sig_table.specs.Tables.{HasAllSignatures, IsTable};
 
 /// The table of a signature file is that of its rows: the different PUIDs and numbers in order of
-/// first row, and for each number its rows' sequences in row order.
+/// first row, and for each number its rows' sequences in row order. No row has a fault.
 pub fn rows_are_gathered()
     ensures { (file : List (List (List ℕ))) (table : TableLists) → signatures_of file ≡ Ok table → IsTableOf file table }
 {}
 
-/// A refused signature file has no header, or a first faulty row: those before it make a table.
+/// A refused signature file has no header, or a first faulty row: those before it make a table, and
+/// the fault that is told is the first that the row has.
 pub fn first_fault_is_told()
     ensures { (file : List (List (List ℕ))) (fault : TableError) → signatures_of file ≡ Err fault → IsFaultOf file fault }
 {}

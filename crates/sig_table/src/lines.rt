@@ -36,7 +36,7 @@ impl Lines {
         }
     }
 
-    // The lines with one more record. Memory alone can be wanting.
+    // The lines with one more record, which has as many fields as the others.
     pub(crate) fn with(self, row: &ByteRecord) -> Result<Lines, AllocError>
         ensures { IfOk result (λ lines. lines ≡ self ++ row_text default_writer (fields_of row.now)) }
     {

@@ -2,9 +2,10 @@
 
 ghost use Rattle.std.specs.Prelude.{◌≡◌, ◌<◌, ◌⊎◌, [], List, ℕ, length, Some, map, true, false, Ok, Err, OnOk, IfOk, IfErr, IfSome, IsErrOf, MatchResult};
 ghost use Rattle.csv.specs.Records.{fields_of};
+ghost use Rattle.sig_bits.specs.Device.{IsAtEnd};
 ghost use Rattle.sig_table.specs.Loading.{is_of_signatures, is_priority_header, is_signature_header, empty_table, pair_of, pairs_from, pairs_of, place_in, records_of, signatures_of, table_from, table_of};
-ghost use Rattle.sig_table.specs.Rows.{IsFault, Tells, is_read};
-ghost use Rattle.sig_table.specs.Tables.{ArePriorities};
+ghost use Rattle.sig_table.specs.Rows.{IsFault, Tells, is_judged, is_read};
+ghost use Rattle.sig_table.specs.Tables.{ArePriorities, HasAllSignatures};
 ghost use Rattle.std.specs.Option.{ok_or};
 ghost use Rattle.sig_table.specs.declared.row.Row.{Row};
 ghost use Rattle.sig_table.specs.declared.error.TableError.{TableError};
@@ -32,15 +33,25 @@ impl Table {
         ensures exact { (s p : List ℕ) → A.to_come signatures.old ≡ Some s → B.to_come priorities.old ≡ Some p
             → Tells result (table_of (records_of s) (records_of p)) }
 
+        // Each format has a signature.
+        ensures whole { IfOk result (λ table. HasAllSignatures table) }
+
         // A fault of the signature file is told by that file alone, and leaves the other as it was.
         ensures first { (s : List ℕ) (fault : TableError) → A.to_come signatures.old ≡ Some s → signatures_of (records_of s) ≡ Err fault
-            → Tells result (Err fault) }
+            → Tells result (Err fault) × (IsErrOf result (TableError.Read TableFile.Priorities) → ⊥) × (priorities.new ≡ priorities.old) }
         ensures untouched { IfErr result (λ e. is_of_signatures e ≡ true → priorities.new ≡ priorities.old) }
 
+        // A file is judged once it was read to its end.
+        ensures judged { IfErr result (λ e. is_judged e ≡ true → (A.failed signatures.new ≡ false) × IsAtEnd (A.to_come signatures.new)) }
+        ensures judged_both { IfErr result (λ e. is_judged e ≡ true → is_of_signatures e ≡ false → (B.failed priorities.new ≡ false) × IsAtEnd (B.to_come priorities.new)) }
+        ensures at_end { OnOk result (IsAtEnd (A.to_come signatures.new) × IsAtEnd (B.to_come priorities.new)) }
+
         // A failed read is told, and only a failed read.
-        ensures read_signatures { IsErrOf result (TableError.Read TableFile.Signatures) → A.failed signatures.new ≡ true }
-        ensures read_priorities { IsErrOf result (TableError.Read TableFile.Priorities) → B.failed priorities.new ≡ true }
         ensures sound { OnOk result ((A.failed signatures.new ≡ false) × (B.failed priorities.new ≡ false)) }
+        ensures read_signatures { IsErrOf result (TableError.Read TableFile.Signatures) → A.failed signatures.new ≡ true }
+        ensures read_priorities { IsErrOf result (TableError.Read TableFile.Priorities) → (A.failed signatures.new ≡ false) × (B.failed priorities.new ≡ true) }
+        ensures memory_signatures { IsErrOf result TableError.OutOfMemory → A.failed signatures.old ≡ false → A.failed signatures.new ≡ false }
+        ensures memory_priorities { IsErrOf result TableError.OutOfMemory → B.failed priorities.old ≡ false → B.failed priorities.new ≡ false }
     {
         let text = read_text(alloc, signatures, TableFile::Signatures)?;
         let draft = read_signatures(alloc, &text)?;
@@ -53,8 +64,9 @@ impl Table {
 // All bytes of a file.
 fn read_text<R: Input>(alloc: Global, input: &mut R, file: TableFile) -> Result<Vec<u8>, TableError>
     ensures text { IfOk result (λ t. IfSome (R.to_come input.old) (λ all. t.items ≡ all)) }
+    ensures at_end { OnOk result (IsAtEnd (R.to_come input.new)) }
     ensures sound { OnOk result (R.failed input.new ≡ false) }
-    ensures fault { IfErr result (λ e. (e ≡ TableError.OutOfMemory) ⊎ ((e ≡ TableError.Read file) × (R.failed input.new ≡ true))) }
+    ensures fault { IfErr result (λ e. ((e ≡ TableError.OutOfMemory) × (R.failed input.new ≡ R.failed input.old)) ⊎ ((e ≡ TableError.Read file) × (R.failed input.new ≡ true))) }
 {
     match read_whole(alloc, input) {
         Ok(text) => Ok(text),
@@ -73,7 +85,7 @@ fn read_signatures(alloc: Global, text: &[u8]) -> Result<Draft, TableError>
     judge_signatures(alloc, &records)
 }
 
-// The same, of the records.
+// The formats and signatures of the records, whose first is to be the header.
 #[tactic(auto, unfolding(crate::specs::Loading::signatures_of))]
 fn judge_signatures(alloc: Global, records: &[ByteRecord]) -> Result<Draft, TableError>
     ensures { MatchResult result
@@ -134,7 +146,7 @@ fn read_priorities(
     judge_priorities(alloc, draft, &records)
 }
 
-// The same, of the records.
+// The pairs of the records, whose first is to be the header.
 #[tactic(auto, unfolding(crate::specs::Loading::pairs_of))]
 fn judge_priorities(
     alloc: Global,

@@ -15,6 +15,9 @@ use csv::ByteRecord;
 use sig_expr::{Expr, ExprError, parse};
 use std::alloc::Global;
 
+// The greatest offset.
+const MOST_OFFSET: u32 = 65535;
+
 // What a row says: a format, a signature of it, and the expression of a sequence at its place.
 #[derive(Debug, Drop)]
 pub(crate) struct Row {
@@ -119,7 +122,7 @@ fn read_offset(text: &[u8]) -> Option<u16>
     ensures { result ≡ offset_of text.now }
 {
     let number = read_number(text, 5)?;
-    if number > 65535 {
+    if number > MOST_OFFSET {
         return None;
     }
     Some(number as u16)

@@ -117,7 +117,7 @@ fn a_removal_takes_the_signatures_of_its_format_alone(rt: HostRuntime) -> Result
 #[test]
 fn the_first_fault_of_a_row_is_named(rt: HostRuntime) {
     let file = TableFile::Signatures;
-    let rows: [(&[u8], TableError); 15] = [
+    let rows: [(&[u8], TableError); 18] = [
         (b"fmt/1,1,BOF,0,41\n", TableError::Fields { file, row: 1 }),
         (b"fmt/0,0,BOF,0,,41\n", TableError::Puid { file, row: 1 }),
         (
@@ -141,6 +141,10 @@ fn the_first_fault_of_a_row_is_named(rt: HostRuntime) {
             TableError::SignatureOfTwo { row: 2 },
         ),
         (
+            b"fmt/1,1,BOF,0,,41\nfmt/2,1,BOF,0,,41\nfmt/0,3,BOF,0,,41\n",
+            TableError::SignatureOfTwo { row: 2 },
+        ),
+        (
             b"fmt/1,1,BOF,0,,41\nfmt/1,1,BOF,0,,41\nfmt/1,1,BOF,0,,41\nfmt/1,1,BOF,0,,41\n\
             fmt/1,1,BOF,0,,41\nfmt/1,1,BOF,0,,41\nfmt/1,1,BOF,0,,41\nfmt/1,1,BOF,0,,41\nfmt/1,1,BOF,0,,41\n",
             TableError::TooManySequences { row: 9 },
@@ -159,6 +163,14 @@ fn the_first_fault_of_a_row_is_named(rt: HostRuntime) {
         ),
         (
             b"fmt/1,1,Variable,,,{65526}[4142:4241]\n",
+            TableError::TooManySlots { row: 1 },
+        ),
+        (
+            b"fmt/1,1,Variable,,,{65526}[!4142]\n",
+            TableError::TooManySlots { row: 1 },
+        ),
+        (
+            b"fmt/1,1,Variable,,,{65532}[!0000:FFFE]\n",
             TableError::TooManySlots { row: 1 },
         ),
     ];
@@ -303,6 +315,31 @@ fn as_many_slots_as_the_limit_are_taken(rt: HostRuntime) {
     }
 }
 
+// The table of so many rows, each of a signature of its own. The first ones are each of a format of
+// its own, and where there are as many formats as asked for, the others are of the last one.
+fn loaded_many(alloc: Global, count: u32, formats: u32) -> Result<Result<Table, TableError>, Fail> {
+    let mut rows = Vec::new(alloc);
+    for i in 0..count {
+        let number = i + 1;
+        let format = number.min(formats);
+        let row = format!(in alloc; "fmt/{format},{number},BOF,0,,41\n")?;
+        rows.extend_from_slice(row.as_bytes())?;
+    }
+    Ok(loaded_rows(alloc, &rows))
+}
+
+#[test]
+fn formats_and_signatures_are_taken_to_their_limits(rt: HostRuntime) -> Result<(), Fail> {
+    let table = loaded_many(rt.alloc(), 4000, 1000)??;
+    assert_eq!(rt; table.format_count(), 1000);
+    assert_eq!(rt; table.signature_count(), 4000);
+    let refused = loaded_many(rt.alloc(), 4001, 1000)?.err();
+    assert_eq!(rt; refused, Some(TableError::TooManyFormats { row: 4001 }));
+    let refused = loaded_many(rt.alloc(), 1001, 1001)?.err();
+    assert_eq!(rt; refused, Some(TableError::TooManyFormats { row: 1001 }));
+    Ok(())
+}
+
 // A device whose every read and write fails.
 #[derive(Drop)]
 struct Failing;
@@ -328,6 +365,38 @@ fn a_failed_read_is_named_with_its_file(rt: HostRuntime) {
     let refused = Table::load(rt.alloc(), &mut faulty, &mut failing).err();
     let file = TableFile::Signatures;
     assert_eq!(rt; refused, Some(TableError::Header { file }));
+}
+
+// Gives a record that is no header, and then fails.
+#[derive(Drop)]
+struct Interrupted {
+    is_given: bool,
+}
+
+impl Read for Interrupted {
+    fn read(&mut self, buf: &mut [u8]) -> IoResult<usize> {
+        let record = b"puid\n".as_slice();
+        if self.is_given || buf.len() < record.len() {
+            return Err(Error::from(ErrorKind::Interrupted));
+        }
+        self.is_given = true;
+        buf[..record.len()].copy_from_slice(record);
+        Ok(record.len())
+    }
+}
+
+#[test]
+fn a_read_that_fails_later_is_named_before_a_fault(rt: HostRuntime) {
+    let mut interrupted = FromRead::new(Interrupted { is_given: false });
+    let mut priorities = FromRead::new(b"higher,lower\n".as_slice());
+    let refused = Table::load(rt.alloc(), &mut interrupted, &mut priorities).err();
+    let file = TableFile::Signatures;
+    assert_eq!(rt; refused, Some(TableError::Read { file }));
+    let mut signatures = FromRead::new(HEADER);
+    let mut interrupted = FromRead::new(Interrupted { is_given: false });
+    let refused = Table::load(rt.alloc(), &mut signatures, &mut interrupted).err();
+    let file = TableFile::Priorities;
+    assert_eq!(rt; refused, Some(TableError::Read { file }));
 }
 
 // The canonical signature file of the table of these rows.

@@ -1,4 +1,4 @@
-use Rattle.sig_table.proofs.GatheredLemmas.{is_table_of}
+use Rattle.sig_table.proofs.SignatureRowLemmas.{is_table_of}
 use Rattle.sig_table.proofs.laws.rows_are_gathered.Goals as goal
 
 pub returns : goal.returns

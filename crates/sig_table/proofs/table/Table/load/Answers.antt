@@ -1,8 +1,9 @@
-use Rattle.std.proofs.Common.{◌≡◌, ◌∙◌}
+use Rattle.std.proofs.Common.{◌≡◌, ◌∙◌, sym}
 use Rattle.std.proofs.lemmas.Result.{err_from_is_err_and}
 use Rattle.sig_table.specs.Loading.{records_of}
 use Rattle.sig_table.proofs.FaultLemmas.{Tells-from_IsFault, Tells-last}
 use Rattle.sig_table.proofs.LoadLemmas.{table_of-unranked, table_of-unread, table_of-whole}
+use Rattle.sig_table.proofs.SignatureFaultLemmas.{is_judged-of}
 use Rattle.sig_table.proofs.table.Table.load.Goals as goal
 
 pub returns-in_err-draft-clause-exact : goal.returns-in_err-draft-clause-exact
@@ -26,3 +27,8 @@ returns-clause-exact g c s p to_s to_p =
     let read = rw text at c.in_ok-draft.ensures in
     let ranked = rw later at c.in_ok-pairs.ensures.pairs in
     Tells-last _ _ _ c.into_table.ensures.table c.into_table.ensures.memory (table_of-whole (records_of s) (records_of p) _ _ read ranked)
+
+pub returns-in_err-draft-clause-judged_both : goal.returns-in_err-draft-clause-judged_both
+returns-in_err-draft-clause-judged_both g c =
+    let r = err_from_is_err_and c.from_residual-in_err-draft.result c.from_residual-in_err-draft.ensures.1 in
+    rw (r.1, r.2) (λ judged later. absurd (cc (sym (is_judged-of _ _ c.in_err-draft.ensures judged) ∙ later)))
