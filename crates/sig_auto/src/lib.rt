@@ -8,6 +8,8 @@ mod class;
 mod laws;
 mod node;
 mod row;
+#[cfg(test)]
+mod tests;
 mod unroll;
 
 pub use auto::Auto;
