@@ -13,5 +13,5 @@ mod tests;
 mod unroll;
 
 pub use auto::Auto;
-pub use class::Class;
+use class::Class;
 pub use laws::runs_accept_what_stands;
