@@ -143,13 +143,13 @@ between_differs a b j in_a in_b agreed differ =
     ap (λ r. behind_these (take j a) (between r (drop j b))) (drop_place a j in_a)
     ∙ ap (λ r. behind_these (take j a) (between (x ∷ xs) r)) (drop_place b j in_b)
     ∙ rw differ (
-        ap (λ r. r ∷ f (behind x (above xs) ++ (inner_at x y xs ++ (behind y (below ys) ++ only_these (y ∷ ys) ∷ [])))) first
-        ∙ ap (λ r. only_these a ∷ r) (map-append g (behind x (above xs)) (inner_at x y xs ++ (behind y (below ys) ++ only_these (y ∷ ys) ∷ []))
-            ∙ ap (λ r. r ++ f (inner_at x y xs ++ (behind y (below ys) ++ only_these (y ∷ ys) ∷ []))) raised
-            ∙ ap (λ r. behind_these (take (j + 1) a) (above xs) ++ r) (map-append g (inner_at x y xs) (behind y (below ys) ++ only_these (y ∷ ys) ∷ [])
-                ∙ ap (λ r. f (inner_at x y xs) ++ r) (map-append g (behind y (below ys)) (only_these (y ∷ ys) ∷ [])
-                    ∙ ap (λ r. r ++ f (only_these (y ∷ ys) ∷ [])) lowered
-                    ∙ ap (λ r. behind_these (take (j + 1) b) (below ys) ++ r ∷ []) last))))
+    ap (λ r. r ∷ f (behind x (above xs) ++ (inner_at x y xs ++ (behind y (below ys) ++ only_these (y ∷ ys) ∷ [])))) first
+    ∙ ap (λ r. only_these a ∷ r) (map-append g (behind x (above xs)) (inner_at x y xs ++ (behind y (below ys) ++ only_these (y ∷ ys) ∷ []))
+    ∙ ap (λ r. r ++ f (inner_at x y xs ++ (behind y (below ys) ++ only_these (y ∷ ys) ∷ []))) raised
+    ∙ ap (λ r. behind_these (take (j + 1) a) (above xs) ++ r) (map-append g (inner_at x y xs) (behind y (below ys) ++ only_these (y ∷ ys) ∷ [])
+    ∙ ap (λ r. f (inner_at x y xs) ++ r) (map-append g (behind y (below ys)) (only_these (y ∷ ys) ∷ [])
+    ∙ ap (λ r. r ++ f (only_these (y ∷ ys) ∷ [])) lowered
+    ∙ ap (λ r. behind_these (take (j + 1) b) (below ys) ++ r ∷ []) last))))
 
 -- five growths, one after the other
 pub range_is : {A : Type 0} (x y : A) (above inner below r0 r1 r2 r3 r4 r5 : List A) → r0 ≡ [] → r1 ≡ r0 ++ x ∷ [] → r2 ≡ r1 ++ above → r3 ≡ r2 ++ inner → r4 ≡ r3 ++ below → r5 ≡ r4 ++ y ∷ [] → r5 ≡ x ∷ (above ++ (inner ++ (below ++ y ∷ [])))

@@ -8,8 +8,10 @@ mod class;
 mod laws;
 mod node;
 mod row;
+#[cfg(test)]
+mod tests;
 mod unroll;
 
 pub use auto::Auto;
-pub use class::Class;
+use class::Class;
 pub use laws::runs_accept_what_stands;

@@ -119,7 +119,11 @@ impl Node {
             Node::Slot(class) => *class,
             Node::Then(a, b) | Node::Or(a, b) => {
                 let between = before + a.slots();
-                if q <= between { a.class(before, q) } else { b.class(between, q) }
+                if q <= between {
+                    a.class(before, q)
+                } else {
+                    b.class(between, q)
+                }
             }
         }
     }

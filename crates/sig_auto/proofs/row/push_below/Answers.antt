@@ -13,6 +13,6 @@ loop-j-preserved c =
     let within : c.loop-j.j < length c.args.bytes.now = search (rules, tests) in
     let some : 0 < slice_index c.args.bytes.now c.loop-j.j = search (rules, tests) in
     pushed_below _ _ _ _ _ _
-        (pushed_row (λ v. v.items) c.loop-j.rows.items c.push.new.self.items c.in_ok-row.field-0 _ c.in_ok-push.ensures.items c.in_ok-row.ensures)
-        (below_pushed c.args.bytes.now c.loop-j.j within some)
-        c.loop-j.invariant
+    (pushed_row (λ v. v.items) c.loop-j.rows.items c.push.new.self.items c.in_ok-row.field-0 _ c.in_ok-push.ensures.items c.in_ok-row.ensures)
+    (below_pushed c.args.bytes.now c.loop-j.j within some)
+    c.loop-j.invariant

@@ -27,12 +27,12 @@ returns-then-a-j c =
     let in_b : c.loop-j.j < length c.args.b.now = search (rules, tests) in
     let differ : nat_eq (slice_index c.args.a.now c.loop-j.j) (slice_index c.args.b.now c.loop-j.j) ≡ false = search (rules, tests) in
     range_is _ _ _ _ _ _ _ _ _ _ _
-        (ap (map (λ v. v.items)) c.loop-j.invariant.none)
-        (pushed_row (λ v. v.items) c.loop-j.rows.items c.push.new.self.items c.in_ok-only_these.field-0 _ c.in_ok-push.ensures.items c.in_ok-only_these.ensures)
-        c.in_ok-push_above.ensures
-        c.in_ok-push_inner.ensures
-        c.in_ok-push_below.ensures
-        (pushed_row (λ v. v.items) c.push_below.new.rows.items c.push-then-a-j.new.self.items c.in_ok-only_these-2.field-0 _ c.in_ok-push-2.ensures.items c.in_ok-only_these-2.ensures)
+    (ap (map (λ v. v.items)) c.loop-j.invariant.none)
+    (pushed_row (λ v. v.items) c.loop-j.rows.items c.push.new.self.items c.in_ok-only_these.field-0 _ c.in_ok-push.ensures.items c.in_ok-only_these.ensures)
+    c.in_ok-push_above.ensures
+    c.in_ok-push_inner.ensures
+    c.in_ok-push_below.ensures
+    (pushed_row (λ v. v.items) c.push_below.new.rows.items c.push-then-a-j.new.self.items c.in_ok-only_these-2.field-0 _ c.in_ok-push-2.ensures.items c.in_ok-only_these-2.ensures)
     ∙ sym (c.loop-j.invariant.rest ∙ between_differs c.args.a.now c.args.b.now c.loop-j.j in_a in_b c.loop-j.invariant.agreed differ)
 
 pub returns : goal.returns

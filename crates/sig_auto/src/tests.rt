@@ -1,0 +1,190 @@
+use super::*;
+use sig_bits::FromRead;
+use sig_table::{SigId, Table};
+use std::alloc::Global;
+use std::test::Fail;
+
+const HEADER: &[u8] = b"puid,signature,position,offset,max_offset,expression\nfmt/1,1,";
+
+// The automaton of the one sequence with this place and this expression.
+fn automaton(alloc: Global, placed: &str) -> Option<Auto> {
+    let mut signatures = HEADER.to_vec(alloc).ok()?;
+    signatures.extend_from_slice(placed.as_bytes()).ok()?;
+    let table = Table::load(
+        alloc,
+        &mut FromRead::new(signatures.as_slice()),
+        &mut FromRead::new(b"higher,lower\n".as_slice()),
+    );
+    let table = table.ok()?;
+    if table.signature_count() == 0 {
+        return None;
+    }
+    let sequence = table.sequences_of(SigId(0)).first()?;
+    Auto::of(alloc, sequence).ok()
+}
+
+// Whether these states, and no others, follow p.
+fn is_followed_by(auto: &Auto, p: u32, followers: &[u32]) -> bool {
+    for q in 0..=auto.slots() + 1 {
+        if auto.follows(p, q) != followers.contains(&q) {
+            return false;
+        }
+    }
+    true
+}
+
+// Whether slot q takes the bytes from the first to the last, and no others.
+fn takes(auto: &Auto, q: u32, first: u8, last: u8) -> bool {
+    if q == 0 || auto.slots() < q {
+        return false;
+    }
+    let class = auto.class(q);
+    for byte in 0..=255 {
+        if class.contains(byte) != (first <= byte && byte <= last) {
+            return false;
+        }
+    }
+    true
+}
+
+#[test]
+fn the_slots_of_a_list(rt: HostRuntime) -> Result<(), Fail> {
+    let auto = automaton(rt.alloc(), "BOF,0,,(41|4142)43").expect(&rt, "loads");
+    assert_eq!(rt; auto.slots(), 5);
+    let classes: [(u32, u8, u8); 5] = [
+        (1, 0x41, 0x41),
+        (2, 0x41, 0x41),
+        (3, 0x42, 0x42),
+        (4, 0x43, 0x43),
+        (5, 0, 255),
+    ];
+    for (q, first, last) in classes {
+        assert!(rt; takes(&auto, q, first, last), "class of {q}");
+    }
+    let followers: [(u32, [u32; 2]); 6] = [
+        (0, [1, 2]),
+        (1, [4, 4]),
+        (2, [3, 3]),
+        (3, [4, 4]),
+        (4, [5, 5]),
+        (5, [5, 5]),
+    ];
+    for (p, followers) in followers {
+        assert!(rt; is_followed_by(&auto, p, &followers), "behind {p}");
+    }
+    for p in 0..6 {
+        assert_eq!(rt; auto.accepting(p), p == 4 || p == 5, "{p}");
+    }
+    Ok(())
+}
+
+#[test]
+fn the_slots_of_a_gap_with_a_greatest_length(rt: HostRuntime) -> Result<(), Fail> {
+    let auto = automaton(rt.alloc(), "BOF,0,,41{1-2}42").expect(&rt, "loads");
+    assert_eq!(rt; auto.slots(), 5);
+    let classes: [(u32, u8, u8); 5] = [
+        (1, 0x41, 0x41),
+        (2, 0, 255),
+        (3, 0, 255),
+        (4, 0x42, 0x42),
+        (5, 0, 255),
+    ];
+    for (q, first, last) in classes {
+        assert!(rt; takes(&auto, q, first, last), "class of {q}");
+    }
+    let followers: [(u32, [u32; 2]); 6] = [
+        (0, [1, 1]),
+        (1, [2, 2]),
+        (2, [3, 4]),
+        (3, [4, 4]),
+        (4, [5, 5]),
+        (5, [5, 5]),
+    ];
+    for (p, followers) in followers {
+        assert!(rt; is_followed_by(&auto, p, &followers), "behind {p}");
+    }
+    for p in 0..6 {
+        assert_eq!(rt; auto.accepting(p), p == 4 || p == 5, "{p}");
+    }
+    Ok(())
+}
+
+#[test]
+fn the_slots_of_an_offset_from_the_end(rt: HostRuntime) -> Result<(), Fail> {
+    let auto = automaton(rt.alloc(), "EOF,0,2,4142").expect(&rt, "loads");
+    assert_eq!(rt; auto.slots(), 5);
+    let classes: [(u32, u8, u8); 5] = [
+        (1, 0, 255),
+        (2, 0x41, 0x41),
+        (3, 0x42, 0x42),
+        (4, 0, 255),
+        (5, 0, 255),
+    ];
+    for (q, first, last) in classes {
+        assert!(rt; takes(&auto, q, first, last), "class of {q}");
+    }
+    let followers: [(u32, [u32; 2]); 5] = [
+        (0, [1, 2]),
+        (1, [1, 2]),
+        (2, [3, 3]),
+        (3, [4, 4]),
+        (4, [5, 5]),
+    ];
+    for (p, followers) in followers {
+        assert!(rt; is_followed_by(&auto, p, &followers), "behind {p}");
+    }
+    assert!(rt; is_followed_by(&auto, 5, &[]), "behind 5");
+    for p in 0..6 {
+        assert_eq!(rt; auto.accepting(p), p >= 3, "{p}");
+    }
+    Ok(())
+}
+
+#[test]
+fn the_rows_of_brackets_of_two_bytes(rt: HostRuntime) -> Result<(), Fail> {
+    // `41 42`, `41 43-FF`, `42 00-40`, `42 41`
+    let auto = automaton(rt.alloc(), "BOF,0,,[4142:4241]").expect(&rt, "loads");
+    assert_eq!(rt; auto.slots(), 9);
+    let classes: [(u32, u8, u8); 8] = [
+        (1, 0x41, 0x41),
+        (2, 0x42, 0x42),
+        (3, 0x41, 0x41),
+        (4, 0x43, 0xFF),
+        (5, 0x42, 0x42),
+        (6, 0x00, 0x40),
+        (7, 0x42, 0x42),
+        (8, 0x41, 0x41),
+    ];
+    for (q, first, last) in classes {
+        assert!(rt; takes(&auto, q, first, last), "class of {q}");
+    }
+    assert!(rt; is_followed_by(&auto, 0, &[1, 3, 5, 7]), "the rows begin");
+    for p in 1..9 {
+        let next = if p % 2 == 1 { p + 1 } else { 9 };
+        assert!(rt; is_followed_by(&auto, p, &[next]), "behind {p}");
+    }
+
+    // `00-40 all`, `41 00-41`, `41 43-FF`, `42-FF all`
+    let auto = automaton(rt.alloc(), "BOF,0,,[!4142]").expect(&rt, "loads");
+    assert_eq!(rt; auto.slots(), 9);
+    let classes: [(u32, u8, u8); 8] = [
+        (1, 0x00, 0x40),
+        (2, 0x00, 0xFF),
+        (3, 0x41, 0x41),
+        (4, 0x00, 0x41),
+        (5, 0x41, 0x41),
+        (6, 0x43, 0xFF),
+        (7, 0x42, 0xFF),
+        (8, 0x00, 0xFF),
+    ];
+    for (q, first, last) in classes {
+        assert!(rt; takes(&auto, q, first, last), "class of {q}");
+    }
+
+    // `FF FF`
+    let auto = automaton(rt.alloc(), "BOF,0,,[!0000:FFFE]").expect(&rt, "loads");
+    assert_eq!(rt; auto.slots(), 3);
+    assert!(rt; takes(&auto, 1, 0xFF, 0xFF));
+    assert!(rt; takes(&auto, 2, 0xFF, 0xFF));
+    Ok(())
+}
