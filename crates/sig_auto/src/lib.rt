@@ -14,4 +14,4 @@ mod unroll;
 
 pub use auto::Auto;
 use class::Class;
-pub use laws::runs_accept_what_stands;
+pub use laws::{runs_accept_what_stands, slots_are_counted};
