@@ -1,4 +1,5 @@
 -- Lemmas of this crate.
 pub mod LocalLemmas
 pub mod RunLemmas
+pub mod StepLemmas
 pub mod TrimLemmas

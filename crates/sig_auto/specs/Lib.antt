@@ -5,6 +5,7 @@ pub mod Local
 pub mod Rows
 pub mod Runs
 pub mod Seen
+pub mod Stepping
 pub mod Tracks
 pub mod TreeSlots
 pub mod Trees

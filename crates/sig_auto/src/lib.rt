@@ -8,6 +8,7 @@ mod class;
 mod laws;
 mod node;
 mod row;
+mod state_set;
 mod unroll;
 
 pub use auto::Auto;
