@@ -1,16 +1,20 @@
 -- What a set of states does on a byte, from the branches of a tree to the tree.
 use Rattle.std.proofs.Common.{◌≡◌, ◌↔◌, ◌⊎◌, ℕ, ◌+◌, ◌-◌, ◌<◌, ◌≤◌, ◌==◌, ◌&&◌, ◌||◌, Bool, true, nat_lt, List, ◌++◌, length, get_or, replicate, Option, Some, None, IsTrue, subst, sym, ap, ◌∙◌, refl, inl, inr, arith}
-use Rattle.std.proofs.lemmas.Bool.{and_from, and_parts, cases_lt, eqb-true, false≢true, ltb-true, or_cases, or_left, or_right}
+use Rattle.std.proofs.lemmas.Bool.{and_from, and_parts, cases_eq, cases_lt, eq-eqb, ne_eqb, eqb-true, false≢true, or_cases, or_left, or_right}
 use Rattle.std.proofs.lemmas.List.{get_or_past, get_or-append_right, get_or-replicate, get_or_append_left, length-append, length-replicate}
-use Rattle.sig_auto.specs.declared.class.Class.{Class}
 use Rattle.sig_auto.specs.Classes.{InClass, any}
 use Rattle.sig_auto.specs.Local.{begins, ends, goes, loops, skips}
 use Rattle.sig_auto.specs.Stepping.{IsNext, IsNextInGap, IsStepped, Leads}
+use Rattle.sig_auto.specs.Tracks.{Follows}
 use Rattle.sig_auto.specs.Trees.{Tree, Never, Empty, Slot, Gap, Then, Or}
-use Rattle.sig_auto.specs.TreeSlots.{classes_of, class_of, slots_of}
+use Rattle.sig_auto.specs.TreeSlots.{Takes, classes_of, class_of, slots_of}
+use Rattle.sig_auto.specs.Trim.{IsTrim}
 use Rattle.sig_bits.specs.BitSets.{HasBit}
+use Rattle.sig_bits.proofs.BitLemmas.{no_bit_in_zeros}
 use Rattle.sig_table.specs.Slots.{gap_slots}
-use Rattle.sig_auto.proofs.LocalLemmas.{IsSlot, begins-slot, ends-slot, gap_begins, gap_goes_none, gap_goes_some, gap_next, gap_stays, goes-slots}
+use Rattle.sig_auto.proofs.LocalLemmas.{IsSlot, begins-slot, gap_begins, gap_goes_none, gap_goes_some, gap_next, gap_stays, goes-slots}
+use Rattle.sig_auto.proofs.RunLemmas.{follows_shown}
+use Rattle.sig_auto.proofs.TrimLemmas.{follows_exact}
 
 -- each slot has a class
 pub length-classes : (tree : Tree) → length (classes_of tree) ≡ slots_of tree
@@ -211,4 +215,33 @@ pub added_as : {New Old Named Added : Type 0} → (New ↔ (Old ⊎ Named)) → 
 added_as is same = (
   λ h. elim (is.0 h) [ inl old ↦ inl old | inr new ↦ inr (same.1 new) ],
   λ h. elim h [ inl old ↦ is.1 (inl old) | inr new ↦ is.1 (inr (same.0 new)) ],
+)
+
+-- in the whole tree, what comes next behind a set is what follows one of its states
+pub stepped_whole : (tree : Tree) (enter : Bool) (from : List ℕ) (byte q : ℕ) → IsTrim tree → (IsTrue enter ↔ HasBit from 0) → IsStepped tree 0 enter from byte q ↔ ((p : ℕ) × HasBit from p × Follows tree p q × Takes tree q byte)
+stepped_whole tree enter from byte q trim start =
+    let same : q - 0 ≡ q = omega arith in
+    (
+      λ h. let takes : Takes tree q byte = subst (λ x. InClass (class_of tree x) byte) same h.1 in
+      elim h.0 [
+        | inl begun ↦ (0, start.0 begun.0, (follows_exact tree trim 0 q).0 begun.1, takes)
+        | inr gone ↦
+            let slot = goes-slots tree 0 gone.0 q gone.2 in
+            let other : gone.0 ≡ 0 → ⊥ = λ e. omega arith in
+            (gone.0, gone.1, (follows_exact tree trim gone.0 q).0 (rw (ne_eqb gone.0 0 other) gone.2), takes)
+      ],
+      λ h. (
+        elim (cases_eq h.0 0) [
+          | inl none ↦ inl (start.1 (subst (HasBit from) none h.1), rw (eq-eqb h.0 0 none) at (follows_shown tree h.0 q h.2))
+          | inr other ↦ inr (h.0, h.1, rw (ne_eqb h.0 0 other) at (follows_shown tree h.0 q h.2))
+        ],
+        subst (λ x. InClass (class_of tree x) byte) (sym same) h.3,
+      ),
+    )
+
+-- bits that are added to none
+pub added_to_none : {New Named Added : Type 0} (zeros : List ℕ) (n q : ℕ) → zeros ≡ replicate n 0 → (New ↔ (HasBit zeros q ⊎ Named)) → (Named ↔ Added) → New ↔ Added
+added_to_none zeros n q none is same = (
+  λ h. elim (is.0 h) [ inl old ↦ absurd (no_bit_in_zeros n q (subst (λ l. HasBit l q) none old)) | inr new ↦ same.0 new ],
+  λ h. is.1 (inr (same.1 h)),
 )

@@ -6,13 +6,27 @@
 ghost use Rattle.std.specs.Prelude.{◌≡◌, ◌+◌, ◌*◌, ◌<◌, ◌≤◌, ◌↔◌, ◌⊎◌, ℕ, IsTrue, length};
 ghost use Rattle.sig_auto.specs.Seen.{seen};
 ghost use Rattle.sig_auto.specs.Stepping.{IsNextInGap, IsStepped, Leads};
-ghost use Rattle.sig_auto.specs.TreeSlots.{slots_of};
+ghost use Rattle.sig_auto.specs.Tracks.{Follows};
+ghost use Rattle.sig_auto.specs.TreeSlots.{Takes, set_len, slots_of};
+ghost use Rattle.sig_auto.specs.Trim.{IsTrim};
 ghost use Rattle.sig_bits.specs.BitSets.{HasBit};
 
 use crate::node::Node;
-use sig_bits::{get_bit, set_bit};
+use sig_bits::{clear, get_bit, set_bit};
 
 impl Node {
+    // Makes `to` the set of all states that follow a state of `from` and take the byte.
+    pub(crate) fn step_set(&self, from: &[u8], byte: u8, to: &mut [u8])
+        requires trim { IsTrim (seen self.now) }
+        requires few { slots_of (seen self.now) ≤ 65535 }
+        requires from_len { length from.now ≡ set_len (seen self.now) }
+        requires to_len { length to.old ≡ set_len (seen self.now) }
+        ensures { (q : ℕ) → HasBit to.new q ↔ ((p : ℕ) × HasBit from.now p × Follows (seen self.now) p q × Takes (seen self.now) q byte) }
+    {
+        clear(to);
+        self.step(0, get_bit(from, 0), byte, from, to);
+    }
+
     // Adds the slots that follow a state of `from` and take the byte, and those that begin the tree
     // where it is entered. Says whether what stands behind the tree is entered.
     pub(crate) fn step(
