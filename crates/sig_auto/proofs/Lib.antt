@@ -2,4 +2,5 @@
 pub mod LocalLemmas
 pub mod RunLemmas
 pub mod StepLemmas
+pub mod SuccessorLemmas
 pub mod TrimLemmas

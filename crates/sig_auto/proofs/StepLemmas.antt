@@ -38,18 +38,21 @@ class_right a b before q h =
 next_slot : (tree : Tree) (before : ℕ) (enter : Bool) (from : List ℕ) (q : ℕ) → IsNext tree before enter from q → IsSlot tree before q
 next_slot tree before enter from q h = elim h [ inl begun ↦ begins-slot tree before q begun.1 | inr gone ↦ (goes-slots tree before gone.0 q gone.2).1 ]
 
--- what is next in a branch and takes the byte is so in the tree
-joined : (tree a b : Tree) (before : ℕ) (enter led : Bool) (from : List ℕ) (byte q : ℕ) → classes_of tree ≡ classes_of a ++ classes_of b → (IsNext tree before enter from q ↔ (IsNext a before enter from q ⊎ IsNext b (before + slots_of a) led from q)) → IsStepped tree before enter from byte q ↔ (IsStepped a before enter from byte q ⊎ IsStepped b (before + slots_of a) led from byte q)
-joined tree a b before enter led from byte q classes next = (
-  λ h. elim (next.0 h.0) [
-    | inl first ↦ inl (first, subst (λ c. InClass c byte) (ap (λ l. get_or l (q - before - 1) any) classes ∙ class_left a b before q (next_slot a before enter from q first)) h.1)
-    | inr second ↦ inr (second, subst (λ c. InClass c byte) (ap (λ l. get_or l (q - before - 1) any) classes ∙ class_right a b before q (next_slot b (before + slots_of a) led from q second)) h.1)
+-- what is so of a branch's slot, and its class, is so in the tree
+pub class_joined : (tree a b : Tree) (before byte q : ℕ) {P A B : Type 0} → classes_of tree ≡ classes_of a ++ classes_of b → (A → IsSlot a before q) → (B → IsSlot b (before + slots_of a) q) → (P ↔ (A ⊎ B)) → (P × InClass (class_of tree (q - before)) byte) ↔ ((A × InClass (class_of a (q - before)) byte) ⊎ (B × InClass (class_of b (q - (before + slots_of a))) byte))
+class_joined tree a b before byte q classes left right either = (
+  λ h. elim (either.0 h.0) [
+    | inl first ↦ inl (first, subst (λ c. InClass c byte) (ap (λ l. get_or l (q - before - 1) any) classes ∙ class_left a b before q (left first)) h.1)
+    | inr second ↦ inr (second, subst (λ c. InClass c byte) (ap (λ l. get_or l (q - before - 1) any) classes ∙ class_right a b before q (right second)) h.1)
   ],
   λ h. elim h [
-    | inl first ↦ (next.1 (inl first.0), subst (λ c. InClass c byte) (sym (ap (λ l. get_or l (q - before - 1) any) classes ∙ class_left a b before q (next_slot a before enter from q first.0))) first.1)
-    | inr second ↦ (next.1 (inr second.0), subst (λ c. InClass c byte) (sym (ap (λ l. get_or l (q - before - 1) any) classes ∙ class_right a b before q (next_slot b (before + slots_of a) led from q second.0))) second.1)
+    | inl first ↦ (either.1 (inl first.0), subst (λ c. InClass c byte) (sym (ap (λ l. get_or l (q - before - 1) any) classes ∙ class_left a b before q (left first.0))) first.1)
+    | inr second ↦ (either.1 (inr second.0), subst (λ c. InClass c byte) (sym (ap (λ l. get_or l (q - before - 1) any) classes ∙ class_right a b before q (right second.0))) second.1)
   ],
 )
+
+joined : (tree a b : Tree) (before : ℕ) (enter led : Bool) (from : List ℕ) (byte q : ℕ) → classes_of tree ≡ classes_of a ++ classes_of b → (IsNext tree before enter from q ↔ (IsNext a before enter from q ⊎ IsNext b (before + slots_of a) led from q)) → IsStepped tree before enter from byte q ↔ (IsStepped a before enter from byte q ⊎ IsStepped b (before + slots_of a) led from byte q)
+joined tree a b before enter led from byte q classes next = class_joined tree a b before byte q classes (next_slot a before enter from q) (next_slot b (before + slots_of a) led from q) next
 
 next_then : (a b : Tree) (before : ℕ) (enter led : Bool) (from : List ℕ) (q : ℕ) → (IsTrue led ↔ Leads a before enter from) → IsNext (Then a b) before enter from q ↔ (IsNext a before enter from q ⊎ IsNext b (before + slots_of a) led from q)
 next_then a b before enter led from q leads = (
@@ -143,7 +146,7 @@ pub stepped_or : (tree a b x y : Tree) (n before : ℕ) (enter : Bool) (from : L
 stepped_or tree a b x y n before enter from byte q is one two many = rw (is, one, two, many) (joined (Or a b) a b before enter enter from byte q refl (next_or a b before enter from q))
 
 -- the slots of a gap take any byte
-class_in_gap : (min : ℕ) (max : Option ℕ) (k : ℕ) → class_of (Gap min max) k ≡ any
+pub class_in_gap : (min : ℕ) (max : Option ℕ) (k : ℕ) → class_of (Gap min max) k ≡ any
 class_in_gap min max k = elim (cases_lt (k - 1) (gap_slots min max)) [
   | inl within ↦ get_or-replicate (gap_slots min max) (k - 1) any any within
   | inr past ↦ get_or_past (replicate (gap_slots min max) any) (k - 1) any (rw length-replicate past)
@@ -161,7 +164,7 @@ gap_next_from min (Some max) before from p q bit h =
     let same : p ≡ q - 1 = omega arith in
     (omega arith, omega arith, inl (omega arith, subst (HasBit from) same bit))
 
-gap_last : (min : ℕ) (max : Option ℕ) (before q : ℕ) → q ≡ before + gap_slots min max → loops max ≡ true → goes (Gap min max) before q q ≡ true
+pub gap_last : (min : ℕ) (max : Option ℕ) (before q : ℕ) → q ≡ before + gap_slots min max → loops max ≡ true → goes (Gap min max) before q q ≡ true
 gap_last min None before q is loop =
     let same : before + min + 1 ≡ q = omega arith in
     subst (λ x. goes (Gap min None) before x x ≡ true) same (gap_stays min before)

@@ -9,8 +9,10 @@ mod laws;
 mod node;
 mod row;
 mod state_set;
+mod successors;
 mod unroll;
 
 pub use auto::Auto;
 pub use class::Class;
 pub use laws::runs_accept_what_stands;
+pub use successors::Successors;
