@@ -3,10 +3,12 @@
 //! The next one is found from the tree's root. A gap has one slot that begins it, and one behind
 //! each slot, so none is walked slot by slot.
 
-ghost use Rattle.std.specs.Prelude.{◌≡◌, ◌+◌, ◌≤◌, IfSome};
+ghost use Rattle.std.specs.Prelude.{◌≡◌, ◌↔◌, ℕ, ◌+◌, ◌≤◌, [], ◌∷◌, Contains, IfSome, MatchOption};
 ghost use Rattle.sig_auto.specs.Seen.{seen};
-ghost use Rattle.sig_auto.specs.Successions.{BeginsOn, GoesOn, IsLeastAbove};
-ghost use Rattle.sig_auto.specs.TreeSlots.{slots_of};
+ghost use Rattle.sig_auto.specs.Successions.{BeginsOn, GoesOn, IsLeastAbove, successors_above};
+ghost use Rattle.sig_auto.specs.Tracks.{Follows};
+ghost use Rattle.sig_auto.specs.TreeSlots.{Takes, slots_of};
+ghost use Rattle.sig_auto.specs.Trim.{IsTrim};
 
 use crate::node::Node;
 
@@ -21,12 +23,14 @@ pub struct Successors<'a> {
 }
 
 impl<'a> Successors<'a> {
+    ghost use Rattle.std.specs.List.Sorted.{IsStrictlyIncreasing};
+    ghost use Rattle.sig_auto.specs.SuccessorsLeft.{left_of};
+
     pub(crate) fn new(root: &'a Node, state: usize, byte: u8) -> Successors<'a>
-        requires { slots_of (seen root.now) ≤ 65535 }
-        ensures root { result.root.now ≡ root.now }
-        ensures state { result.state ≡ state }
-        ensures byte { result.byte ≡ byte }
-        ensures above { result.above ≡ 0 }
+        requires trim { IsTrim (seen root.now) }
+        requires few { slots_of (seen root.now) ≤ 65535 }
+        ensures members { (q : ℕ) → Contains (left_of result) q ↔ (Follows (seen root.now) state q × Takes (seen root.now) q byte) }
+        ensures rising { IsStrictlyIncreasing (left_of result) }
     {
         Successors {
             root,
@@ -48,18 +52,26 @@ impl Iterator for Successors<'_> {
     ghost remaining = { item_count left_of };
 
     fn next(&mut self) -> Option<u32> {
-        let next = if self.state == 0 {
-            self.root.next_begin(0, self.byte, self.above)
-        } else {
-            self.root.next_gone(0, self.state, self.byte, self.above)
-        };
-        let q = next?;
+        let q = self.root.next_state(self.state, self.byte, self.above)?;
         self.above = q;
         Some(q as u32)
     }
 }
 
 impl Node {
+    // The least slot above this one that follows the state and takes the byte.
+    fn next_state(&self, state: usize, byte: u8, above: usize) -> Option<usize>
+        requires { slots_of (seen self.now) ≤ 65535 }
+        ensures next { MatchOption result (successors_above (seen self.now) state byte above ≡ []) (λ q. successors_above (seen self.now) state byte above ≡ q ∷ successors_above (seen self.now) state byte q) }
+        ensures within { IfSome result (λ q. q ≤ slots_of (seen self.now)) }
+    {
+        if state == 0 {
+            self.next_begin(0, byte, above)
+        } else {
+            self.next_gone(0, state, byte, above)
+        }
+    }
+
     // The least slot above this one that begins the tree and takes the byte.
     fn next_begin(&self, before: usize, byte: u8, above: usize) -> Option<usize>
         requires { before + slots_of (seen self.now) ≤ 65535 }
