@@ -223,16 +223,15 @@ added_as is same = (
 -- in the whole tree, what comes next behind a set is what follows one of its states
 pub stepped_whole : (tree : Tree) (enter : Bool) (from : List ℕ) (byte q : ℕ) → IsTrim tree → (IsTrue enter ↔ HasBit from 0) → IsStepped tree 0 enter from byte q ↔ ((p : ℕ) × HasBit from p × Follows tree p q × Takes tree q byte)
 stepped_whole tree enter from byte q trim start =
-    let same : q - 0 ≡ q = omega arith in
-    (
+    let same : q - 0 ≡ q = omega arith in (
       λ h. let takes : Takes tree q byte = subst (λ x. InClass (class_of tree x) byte) same h.1 in
-      elim h.0 [
-        | inl begun ↦ (0, start.0 begun.0, (follows_exact tree trim 0 q).0 begun.1, takes)
-        | inr gone ↦
-            let slot = goes-slots tree 0 gone.0 q gone.2 in
-            let other : gone.0 ≡ 0 → ⊥ = λ e. omega arith in
-            (gone.0, gone.1, (follows_exact tree trim gone.0 q).0 (rw (ne_eqb gone.0 0 other) gone.2), takes)
-      ],
+          elim h.0 [
+            | inl begun ↦ (0, start.0 begun.0, (follows_exact tree trim 0 q).0 begun.1, takes)
+            | inr gone ↦
+                let slot = goes-slots tree 0 gone.0 q gone.2 in
+                let other : gone.0 ≡ 0 → ⊥ = λ e. omega arith in
+                (gone.0, gone.1, (follows_exact tree trim gone.0 q).0 (rw (ne_eqb gone.0 0 other) gone.2), takes)
+          ],
       λ h. (
         elim (cases_eq h.0 0) [
           | inl none ↦ inl (start.1 (subst (HasBit from) none h.1), rw (eq-eqb h.0 0 none) at (follows_shown tree h.0 q h.2))

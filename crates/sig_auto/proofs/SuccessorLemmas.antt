@@ -17,10 +17,14 @@ use Rattle.sig_auto.proofs.TrimLemmas.{follows_exact}
 
 -- the least of two kinds, of which the first are below the others
 least_first : (above m q : ℕ) (P A B : ℕ → Type 0) → ((r : ℕ) → P r ↔ (A r ⊎ B r)) → ((r : ℕ) → A r → r ≤ m) → ((r : ℕ) → B r → m < r) → IsLeastAbove above A (Some q) → IsLeastAbove above P (Some q)
-least_first above m q P A B either low high h = (h.0, (either q).1 (inl h.1), λ r more less p. elim ((either r).0 p) [
-  | inl a ↦ h.2 r more less a
-  | inr b ↦ let far = high r b in let near = low q h.1 in omega arith
-])
+least_first above m q P A B either low high h = (
+  h.0,
+  (either q).1 (inl h.1),
+  λ r more less p. elim ((either r).0 p) [
+    | inl a ↦ h.2 r more less a
+    | inr b ↦ let far = high r b in let near = low q h.1 in omega arith
+  ],
+)
 
 -- and where there is none of the first, the least of the others
 least_second : (above : ℕ) (o : Option ℕ) (P A B : ℕ → Type 0) → ((r : ℕ) → P r ↔ (A r ⊎ B r)) → IsLeastAbove above A None → IsLeastAbove above B o → IsLeastAbove above P o
@@ -45,7 +49,7 @@ begin_then_first tree a b x before byte above q is one h =
     let first : IsLeastAbove above (BeginsOn a before byte) (Some q) = subst (λ z. IsLeastAbove above (BeginsOn z before byte) (Some q)) one h in
     subst (λ z. IsLeastAbove above (BeginsOn z before byte) (Some q)) (sym is)
     (least_first above (before + slots_of a) q (BeginsOn (Then a b) before byte) (BeginsOn a before byte) (λ r. ((skips a ≡ true) × (begins b (before + slots_of a) r ≡ true)) × InClass (class_of b (r - (before + slots_of a))) byte)
-        (begins_then a b before byte) (λ r k. (begins-slot a before r k.0).1) (λ r k. (begins-slot b (before + slots_of a) r k.0.1).0) first)
+    (begins_then a b before byte) (λ r k. (begins-slot a before r k.0).1) (λ r k. (begins-slot b (before + slots_of a) r k.0.1).0) first)
 
 pub begin_then_second : (tree a b x y : Tree) (n before byte above : ℕ) (o : Option ℕ) → tree ≡ Then a b → x ≡ a → y ≡ b → n ≡ slots_of a → skips a ≡ true → IsLeastAbove above (BeginsOn x before byte) None → IsLeastAbove above (BeginsOn y (before + n) byte) o → IsLeastAbove above (BeginsOn tree before byte) o
 begin_then_second tree a b x y n before byte above o is one two many skipped none h =
@@ -54,11 +58,11 @@ begin_then_second tree a b x y n before byte above o is one two many skipped non
     let second : IsLeastAbove above (BeginsOn b (before + slots_of a) byte) o = subst (λ k. IsLeastAbove above (BeginsOn b (before + k) byte) o) many named in
     subst (λ z. IsLeastAbove above (BeginsOn z before byte) o) (sym is)
     (least_second above o (BeginsOn (Then a b) before byte) (BeginsOn a before byte) (BeginsOn b (before + slots_of a) byte)
-        (λ r. (
-          λ k. elim ((begins_then a b before byte r).0 k) [ inl at ↦ inl at | inr at ↦ inr (at.0.1, at.1) ],
-          λ k. (begins_then a b before byte r).1 (elim k [ inl at ↦ inl at | inr at ↦ inr ((skipped, at.0), at.1) ]),
-        ))
-        first second)
+    (λ r. (
+      λ k. elim ((begins_then a b before byte r).0 k) [ inl at ↦ inl at | inr at ↦ inr (at.0.1, at.1) ],
+      λ k. (begins_then a b before byte r).1 (elim k [ inl at ↦ inl at | inr at ↦ inr ((skipped, at.0), at.1) ]),
+    ))
+    first second)
 
 -- one of two branches
 begins_or : (a b : Tree) (before byte q : ℕ) → BeginsOn (Or a b) before byte q ↔ (BeginsOn a before byte q ⊎ BeginsOn b (before + slots_of a) byte q)
@@ -75,7 +79,7 @@ begin_or_first tree a b x before byte above q is one h =
     let first : IsLeastAbove above (BeginsOn a before byte) (Some q) = subst (λ z. IsLeastAbove above (BeginsOn z before byte) (Some q)) one h in
     subst (λ z. IsLeastAbove above (BeginsOn z before byte) (Some q)) (sym is)
     (least_first above (before + slots_of a) q (BeginsOn (Or a b) before byte) (BeginsOn a before byte) (BeginsOn b (before + slots_of a) byte)
-        (begins_or a b before byte) (λ r k. (begins-slot a before r k.0).1) (λ r k. (begins-slot b (before + slots_of a) r k.0).0) first)
+    (begins_or a b before byte) (λ r k. (begins-slot a before r k.0).1) (λ r k. (begins-slot b (before + slots_of a) r k.0).0) first)
 
 pub begin_or_second : (tree a b x y : Tree) (n before byte above : ℕ) (o : Option ℕ) → tree ≡ Or a b → x ≡ a → y ≡ b → n ≡ slots_of a → IsLeastAbove above (BeginsOn x before byte) None → IsLeastAbove above (BeginsOn y (before + n) byte) o → IsLeastAbove above (BeginsOn tree before byte) o
 begin_or_second tree a b x y n before byte above o is one two many none h =
@@ -112,10 +116,10 @@ gone_then_first tree a b x before p byte above q is one h =
     let first : IsLeastAbove above (GoesOn a before p byte) (Some q) = subst (λ z. IsLeastAbove above (GoesOn z before p byte) (Some q)) one h in
     subst (λ z. IsLeastAbove above (GoesOn z before p byte) (Some q)) (sym is)
     (least_first above (before + slots_of a) q (GoesOn (Then a b) before p byte) (GoesOn a before p byte)
-        (λ r. ((goes b (before + slots_of a) p r ≡ true) ⊎ ((ends a before p ≡ true) × (begins b (before + slots_of a) r ≡ true))) × InClass (class_of b (r - (before + slots_of a))) byte)
-        (goes_then a b before p byte) (λ r k. (goes-slots a before p r k.0).1.1)
-        (λ r k. elim k.0 [ inl gone ↦ (goes-slots b (before + slots_of a) p r gone).1.0 | inr over ↦ (begins-slot b (before + slots_of a) r over.1).0 ])
-        first)
+    (λ r. ((goes b (before + slots_of a) p r ≡ true) ⊎ ((ends a before p ≡ true) × (begins b (before + slots_of a) r ≡ true))) × InClass (class_of b (r - (before + slots_of a))) byte)
+    (goes_then a b before p byte) (λ r k. (goes-slots a before p r k.0).1.1)
+    (λ r k. elim k.0 [ inl gone ↦ (goes-slots b (before + slots_of a) p r gone).1.0 | inr over ↦ (begins-slot b (before + slots_of a) r over.1).0 ])
+    first)
 
 pub gone_then_over : (tree a b x y : Tree) (n before p byte above : ℕ) (o : Option ℕ) → tree ≡ Then a b → x ≡ a → y ≡ b → n ≡ slots_of a → ends a before p ≡ true → IsLeastAbove above (GoesOn x before p byte) None → IsLeastAbove above (BeginsOn y (before + n) byte) o → IsLeastAbove above (GoesOn tree before p byte) o
 gone_then_over tree a b x y n before p byte above o is one two many ended none h =
@@ -125,18 +129,18 @@ gone_then_over tree a b x y n before p byte above o is one two many ended none h
     let second : IsLeastAbove above (BeginsOn b (before + slots_of a) byte) o = subst (λ k. IsLeastAbove above (BeginsOn b (before + k) byte) o) many named in
     subst (λ z. IsLeastAbove above (GoesOn z before p byte) o) (sym is)
     (least_second above o (GoesOn (Then a b) before p byte) (GoesOn a before p byte) (BeginsOn b (before + slots_of a) byte)
-        (λ r. (
-          λ k. elim ((goes_then a b before p byte r).0 k) [
-            | inl at ↦ inl at
-            | inr at ↦
-                elim at.0 [
-                  | inl gone ↦ absurd (let far = (goes-slots b (before + slots_of a) p r gone).0 in omega arith)
-                  | inr over ↦ inr (over.1, at.1)
-                ]
-          ],
-          λ k. (goes_then a b before p byte r).1 (elim k [ inl at ↦ inl at | inr at ↦ inr (inr (ended, at.0), at.1) ]),
-        ))
-        first second)
+    (λ r. (
+      λ k. elim ((goes_then a b before p byte r).0 k) [
+        | inl at ↦ inl at
+        | inr at ↦
+            elim at.0 [
+              | inl gone ↦ absurd (let far = (goes-slots b (before + slots_of a) p r gone).0 in omega arith)
+              | inr over ↦ inr (over.1, at.1)
+            ]
+      ],
+      λ k. (goes_then a b before p byte r).1 (elim k [ inl at ↦ inl at | inr at ↦ inr (inr (ended, at.0), at.1) ]),
+    ))
+    first second)
 
 pub gone_then_second : (tree a b x y : Tree) (n before p byte above : ℕ) (o : Option ℕ) → tree ≡ Then a b → x ≡ a → y ≡ b → n ≡ slots_of a → ends a before p ≡ false → IsLeastAbove above (GoesOn x before p byte) None → IsLeastAbove above (GoesOn y (before + n) p byte) o → IsLeastAbove above (GoesOn tree before p byte) o
 gone_then_second tree a b x y n before p byte above o is one two many goes_on none h =
@@ -145,14 +149,14 @@ gone_then_second tree a b x y n before p byte above o is one two many goes_on no
     let second : IsLeastAbove above (GoesOn b (before + slots_of a) p byte) o = subst (λ k. IsLeastAbove above (GoesOn b (before + k) p byte) o) many named in
     subst (λ z. IsLeastAbove above (GoesOn z before p byte) o) (sym is)
     (least_second above o (GoesOn (Then a b) before p byte) (GoesOn a before p byte) (GoesOn b (before + slots_of a) p byte)
-        (λ r. (
-          λ k. elim ((goes_then a b before p byte r).0 k) [
-            | inl at ↦ inl at
-            | inr at ↦ elim at.0 [ inl gone ↦ inr (gone, at.1) | inr over ↦ absurd (false≢true (sym goes_on ∙ over.0)) ]
-          ],
-          λ k. (goes_then a b before p byte r).1 (elim k [ inl at ↦ inl at | inr at ↦ inr (inl at.0, at.1) ]),
-        ))
-        first second)
+    (λ r. (
+      λ k. elim ((goes_then a b before p byte r).0 k) [
+        | inl at ↦ inl at
+        | inr at ↦ elim at.0 [ inl gone ↦ inr (gone, at.1) | inr over ↦ absurd (false≢true (sym goes_on ∙ over.0)) ]
+      ],
+      λ k. (goes_then a b before p byte r).1 (elim k [ inl at ↦ inl at | inr at ↦ inr (inl at.0, at.1) ]),
+    ))
+    first second)
 
 goes_or : (a b : Tree) (before p byte q : ℕ) → GoesOn (Or a b) before p byte q ↔ (GoesOn a before p byte q ⊎ GoesOn b (before + slots_of a) p byte q)
 goes_or a b before p byte q = class_joined (Or a b) a b before byte q refl (λ h. (goes-slots a before p q h).1) (λ h. (goes-slots b (before + slots_of a) p q h).1) (
@@ -168,7 +172,7 @@ gone_or_first tree a b x before p byte above q is one h =
     let first : IsLeastAbove above (GoesOn a before p byte) (Some q) = subst (λ z. IsLeastAbove above (GoesOn z before p byte) (Some q)) one h in
     subst (λ z. IsLeastAbove above (GoesOn z before p byte) (Some q)) (sym is)
     (least_first above (before + slots_of a) q (GoesOn (Or a b) before p byte) (GoesOn a before p byte) (GoesOn b (before + slots_of a) p byte)
-        (goes_or a b before p byte) (λ r k. (goes-slots a before p r k.0).1.1) (λ r k. (goes-slots b (before + slots_of a) p r k.0).1.0) first)
+    (goes_or a b before p byte) (λ r k. (goes-slots a before p r k.0).1.1) (λ r k. (goes-slots b (before + slots_of a) p r k.0).1.0) first)
 
 pub gone_or_second : (tree a b x y : Tree) (n before p byte above : ℕ) (o : Option ℕ) → tree ≡ Or a b → x ≡ a → y ≡ b → n ≡ slots_of a → IsLeastAbove above (GoesOn x before p byte) None → IsLeastAbove above (GoesOn y (before + n) p byte) o → IsLeastAbove above (GoesOn tree before p byte) o
 gone_or_second tree a b x y n before p byte above o is one two many none h =
@@ -186,15 +190,15 @@ in_class_exact (Within first last) byte = (
 )
 in_class_exact (Outside first last) byte = (
   λ h. let parts = and_parts (nat_lt byte 256) (nat_lt byte first || nat_lt last byte) h in
-  (ltb-true byte 256 parts.0, elim (or_cases (nat_lt byte first) (nat_lt last byte) parts.1) [ inl low ↦ inl (ltb-true byte first low) | inr high ↦ inr (ltb-true last byte high) ]),
+      (ltb-true byte 256 parts.0, elim (or_cases (nat_lt byte first) (nat_lt last byte) parts.1) [ inl low ↦ inl (ltb-true byte first low) | inr high ↦ inr (ltb-true last byte high) ]),
   λ h. and_from (nat_lt byte 256) (nat_lt byte first || nat_lt last byte) (lt-ltb byte 256 h.0)
-  (elim h.1 [ inl low ↦ or_left (nat_lt byte first) (nat_lt last byte) (lt-ltb byte first low) | inr high ↦ or_right (nat_lt byte first) (nat_lt last byte) (lt-ltb last byte high) ]),
+      (elim h.1 [ inl low ↦ or_left (nat_lt byte first) (nat_lt last byte) (lt-ltb byte first low) | inr high ↦ or_right (nat_lt byte first) (nat_lt last byte) (lt-ltb last byte high) ]),
 )
 
 follows_and_takes : (tree : Tree) (p byte q : ℕ) (P : Type 0) → ((if p == 0 then begins tree 0 q else goes tree 0 p q) ≡ true) ↔ P → (succeeds tree p byte q ≡ true) ↔ (P × InClass (class_of tree q) byte)
 follows_and_takes tree p byte q P is = (
   λ h. let parts = and_parts (if p == 0 then begins tree 0 q else goes tree 0 p q) (in_class (class_of tree q) byte) h in
-  (is.0 parts.0, (in_class_exact (class_of tree q) byte).0 parts.1),
+      (is.0 parts.0, (in_class_exact (class_of tree q) byte).0 parts.1),
   λ h. and_from (if p == 0 then begins tree 0 q else goes tree 0 p q) (in_class (class_of tree q) byte) (is.1 h.0) ((in_class_exact (class_of tree q) byte).1 h.1),
 )
 
@@ -207,17 +211,17 @@ least_as above (Some q) P Q same h = (h.0, (same q).1 h.1, λ r more less k. h.2
 pub succeeds_start : (tree : Tree) (p byte above : ℕ) (o : Option ℕ) → p ≡ 0 → IsLeastAbove above (BeginsOn tree 0 byte) o → IsLeastAbove above (λ q. succeeds tree p byte q ≡ true) o
 succeeds_start tree p byte above o start h = least_as above o (λ q. succeeds tree p byte q ≡ true) (BeginsOn tree 0 byte)
     (λ q.
-        let same : q - 0 ≡ q = omega arith in
-        subst (λ x. (succeeds tree p byte q ≡ true) ↔ ((begins tree 0 q ≡ true) × InClass (class_of tree x) byte)) (sym same)
-        (follows_and_takes tree p byte q (begins tree 0 q ≡ true) (rw (eq-eqb p 0 start) (λ k. k, λ k. k))))
+    let same : q - 0 ≡ q = omega arith in
+    subst (λ x. (succeeds tree p byte q ≡ true) ↔ ((begins tree 0 q ≡ true) × InClass (class_of tree x) byte)) (sym same)
+    (follows_and_takes tree p byte q (begins tree 0 q ≡ true) (rw (eq-eqb p 0 start) (λ k. k, λ k. k))))
     h
 
 pub succeeds_slot : (tree : Tree) (p byte above : ℕ) (o : Option ℕ) → (p ≡ 0 → ⊥) → IsLeastAbove above (GoesOn tree 0 p byte) o → IsLeastAbove above (λ q. succeeds tree p byte q ≡ true) o
 succeeds_slot tree p byte above o other h = least_as above o (λ q. succeeds tree p byte q ≡ true) (GoesOn tree 0 p byte)
     (λ q.
-        let same : q - 0 ≡ q = omega arith in
-        subst (λ x. (succeeds tree p byte q ≡ true) ↔ ((goes tree 0 p q ≡ true) × InClass (class_of tree x) byte)) (sym same)
-        (follows_and_takes tree p byte q (goes tree 0 p q ≡ true) (rw (ne_eqb p 0 other) (λ k. k, λ k. k))))
+    let same : q - 0 ≡ q = omega arith in
+    subst (λ x. (succeeds tree p byte q ≡ true) ↔ ((goes tree 0 p q ≡ true) × InClass (class_of tree x) byte)) (sym same)
+    (follows_and_takes tree p byte q (goes tree 0 p q ≡ true) (rw (ne_eqb p 0 other) (λ k. k, λ k. k))))
     h
 
 -- the numbers that pass a test, from the least
@@ -271,17 +275,16 @@ pub Contains-passing : (test : ℕ → Bool) (above n q : ℕ) → Contains (pas
 Contains-passing test above zero q = (λ (k, within, is). absurd (omega arith), λ h. let more = h.0 in let less = h.1 in absurd (omega arith))
 Contains-passing test above (suc n) q =
     let later = Contains-passing test (above + 1) n q in
-    let either = contains_if (test (above + 1)) (above + 1) q (passing test (above + 1) n) in
-    (
+    let either = contains_if (test (above + 1)) (above + 1) q (passing test (above + 1) n) in (
       λ h. elim (either.0 h) [
         | inl first ↦ let here = first.0 in (omega arith, omega arith, subst (λ x. test x ≡ true) (sym here) first.1)
         | inr more ↦ let is = later.0 more in let low = is.0 in let high = is.1 in (omega arith, omega arith, is.2)
       ],
       λ h. let low = h.0 in let high = h.1 in
-      either.1 (elim (cases_eq q (above + 1)) [
-        | inl here ↦ inl (here, subst (λ x. test x ≡ true) here h.2)
-        | inr other ↦ inr (later.1 (omega arith, omega arith, h.2))
-      ]),
+          either.1 (elim (cases_eq q (above + 1)) [
+            | inl here ↦ inl (here, subst (λ x. test x ≡ true) here h.2)
+            | inr other ↦ inr (later.1 (omega arith, omega arith, h.2))
+          ]),
     )
 
 -- they rise
@@ -317,8 +320,7 @@ succeeds_within tree p byte q h =
 pub Contains-successors : (tree : Tree) (p byte q : ℕ) → IsTrim tree → Contains (successors_above tree p byte 0) q ↔ (Follows tree p q × Takes tree q byte)
 Contains-successors tree p byte q trim =
     let passes = Contains-passing (succeeds tree p byte) 0 (slots_of tree - 0) q in
-    let exact = follows_and_takes tree p byte q (Follows tree p q) (follows_exact tree trim p q) in
-    (
+    let exact = follows_and_takes tree p byte q (Follows tree p q) (follows_exact tree trim p q) in (
       λ h. exact.0 (passes.0 h).2,
       λ h. let within = succeeds_within tree p byte q (exact.1 h) in passes.1 (within.0, omega arith, exact.1 h),
     )

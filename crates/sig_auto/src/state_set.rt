@@ -1,7 +1,8 @@
 //! Sets of states on a byte, without memory of their own.
 //!
 //! One walk over the tree from left to right carries one bit: whether what stands next is entered,
-//! since a state of the set ends what stands before it. So each slot is looked at once.
+//! since a state of the set ends what stands before it. So the work is that of the slots, however
+//! many states the set has.
 
 ghost use Rattle.std.specs.Prelude.{◌≡◌, ◌+◌, ◌*◌, ◌<◌, ◌≤◌, ◌↔◌, ◌⊎◌, ℕ, IsTrue, length};
 ghost use Rattle.sig_auto.specs.Seen.{seen};

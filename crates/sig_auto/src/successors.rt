@@ -1,7 +1,7 @@
 //! The states that follow one state on a byte, in order, without memory of their own.
 //!
-//! The next one is found from the tree's root. A gap has one slot that begins it, and one behind
-//! each slot, so none is walked slot by slot.
+//! The next one is found from the tree's root. At most one slot begins a gap, and at most one of its
+//! slots goes behind another, so no gap is walked slot by slot.
 
 ghost use Rattle.std.specs.Prelude.{◌≡◌, ◌↔◌, ℕ, ◌+◌, ◌≤◌, [], ◌∷◌, Contains, IfSome, MatchOption};
 ghost use Rattle.sig_auto.specs.Seen.{seen};
