@@ -8,6 +8,8 @@ mod class;
 mod laws;
 mod node;
 mod row;
+mod state_set;
+mod successors;
 #[cfg(test)]
 mod tests;
 mod unroll;
@@ -15,3 +17,4 @@ mod unroll;
 pub use auto::Auto;
 use class::Class;
 pub use laws::{runs_accept_what_stands, slots_are_counted};
+pub use successors::Successors;
