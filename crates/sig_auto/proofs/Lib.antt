@@ -6,6 +6,8 @@ pub mod RowLemmas
 pub mod RowPushLemmas
 pub mod RunLemmas
 pub mod SoundLemmas
+pub mod StepLemmas
+pub mod SuccessorLemmas
 pub mod TakenLemmas
 pub mod TrimLemmas
 pub mod WholeLemmas

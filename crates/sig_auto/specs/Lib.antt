@@ -4,6 +4,9 @@ pub mod Local
 pub mod Rows
 pub mod Runs
 pub mod Seen
+pub mod Stepping
+pub mod Successions
+pub mod SuccessorsLeft
 pub mod Tracks
 pub mod TreeSlots
 pub mod Trees

@@ -8,10 +8,13 @@ mod class;
 mod laws;
 mod node;
 mod row;
+mod state_set;
+mod successors;
 #[cfg(test)]
 mod tests;
 mod unroll;
 
 pub use auto::Auto;
 use class::Class;
-pub use laws::runs_accept_what_stands;
+pub use laws::{runs_accept_what_stands, slots_are_counted};
+pub use successors::Successors;

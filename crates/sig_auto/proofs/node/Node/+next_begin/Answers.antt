@@ -1,0 +1,31 @@
+use Rattle.std.proofs.Common.{◌≡◌, true, sym, ap, ◌∙◌}
+use Rattle.sig_auto.specs.Seen.{seen}
+use Rattle.sig_auto.specs.TreeSlots.{slots_of}
+use Rattle.sig_auto.specs.Local.{skips}
+use Rattle.sig_auto.proofs.SuccessorLemmas.{begin_or_first, begin_or_second, begin_then_first, begin_then_second}
+use Rattle.sig_auto.proofs.node.Node.+next_begin.Goals as goal
+
+pub returns-in-Some-clause-least : goal.returns-in-Some-clause-least
+returns-in-Some-clause-least t c =
+    let one : seen c.deref.result.now ≡ seen c.in-Then.a.value = ap seen c.deref.ensures in
+    begin_then_first (seen c.args.self.now) (seen c.in-Then.a.value) (seen c.in-Then.b.value) (seen c.deref.result.now) c.args.before c.args.byte c.args.above c.in-Some.q (ap seen c.in-Then.is) one c.in-Some.ensures.least
+
+pub returns-then-skips-clause-least : goal.returns-then-skips-clause-least
+returns-then-skips-clause-least t c =
+    let one : seen c.deref.result.now ≡ seen c.in-Then.a.value = ap seen c.deref.ensures in
+    let two : seen c.deref-then-skips.result.now ≡ seen c.in-Then.b.value = ap seen c.deref-then-skips.ensures in
+    let many : c.slots-then-skips.result ≡ slots_of (seen c.in-Then.a.value) = c.slots-then-skips.ensures ∙ ap (λ node. slots_of (seen node)) c.deref-then-skips-2.ensures in
+    let skipped : skips (seen c.in-Then.a.value) ≡ true = sym (c.skips.ensures ∙ ap (λ node. skips (seen node)) c.deref-in-None.ensures) ∙ c.if-skips.true in
+    begin_then_second (seen c.args.self.now) (seen c.in-Then.a.value) (seen c.in-Then.b.value) (seen c.deref.result.now) (seen c.deref-then-skips.result.now) c.slots-then-skips.result c.args.before c.args.byte c.args.above c.next_begin-then-skips.result (ap seen c.in-Then.is) one two many skipped c.in-None.ensures.least c.next_begin-then-skips.ensures.least
+
+pub returns-in-Some-next_begin-clause-least : goal.returns-in-Some-next_begin-clause-least
+returns-in-Some-next_begin-clause-least t c =
+    let one : seen c.deref-in-Or.result.now ≡ seen c.in-Or.a.value = ap seen c.deref-in-Or.ensures in
+    begin_or_first (seen c.args.self.now) (seen c.in-Or.a.value) (seen c.in-Or.b.value) (seen c.deref-in-Or.result.now) c.args.before c.args.byte c.args.above c.in-Some-next_begin.q (ap seen c.in-Or.is) one c.in-Some-next_begin.ensures.least
+
+pub returns-in-None-next_begin-clause-least : goal.returns-in-None-next_begin-clause-least
+returns-in-None-next_begin-clause-least t c =
+    let one : seen c.deref-in-Or.result.now ≡ seen c.in-Or.a.value = ap seen c.deref-in-Or.ensures in
+    let two : seen c.deref-in-None-next_begin.result.now ≡ seen c.in-Or.b.value = ap seen c.deref-in-None-next_begin.ensures in
+    let many : c.slots-in-None-next_begin.result ≡ slots_of (seen c.in-Or.a.value) = c.slots-in-None-next_begin.ensures ∙ ap (λ node. slots_of (seen node)) c.deref-in-None-next_begin-2.ensures in
+    begin_or_second (seen c.args.self.now) (seen c.in-Or.a.value) (seen c.in-Or.b.value) (seen c.deref-in-Or.result.now) (seen c.deref-in-None-next_begin.result.now) c.slots-in-None-next_begin.result c.args.before c.args.byte c.args.above c.next_begin-in-None-next_begin.result (ap seen c.in-Or.is) one two many c.in-None-next_begin.ensures.least c.next_begin-in-None-next_begin.ensures.least

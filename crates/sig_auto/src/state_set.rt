@@ -1,0 +1,126 @@
+//! Sets of states on a byte, without memory of their own.
+//!
+//! One walk over the tree from left to right carries one bit: whether what stands next is entered,
+//! since a state of the set ends what stands before it. So the work is that of the slots, however
+//! many states the set has.
+
+ghost use Rattle.std.specs.Prelude.{◌≡◌, ◌+◌, ◌*◌, ◌<◌, ◌≤◌, ◌↔◌, ◌⊎◌, ℕ, IsTrue, length};
+ghost use Rattle.sig_auto.specs.Seen.{seen};
+ghost use Rattle.sig_auto.specs.Stepping.{IsNextInGap, IsStepped, Leads};
+ghost use Rattle.sig_auto.specs.Tracks.{Follows};
+ghost use Rattle.sig_auto.specs.TreeSlots.{Takes, set_len, slots_of};
+ghost use Rattle.sig_auto.specs.Trim.{IsTrim};
+ghost use Rattle.sig_bits.specs.BitSets.{HasBit};
+
+use crate::node::Node;
+use sig_bits::{clear, get_bit, set_bit};
+
+impl Node {
+    // Makes `to` the set of all states that follow a state of `from` and take the byte.
+    pub(crate) fn step_set(&self, from: &[u8], byte: u8, to: &mut [u8])
+        requires trim { IsTrim (seen self.now) }
+        requires few { slots_of (seen self.now) ≤ 65535 }
+        requires from_len { length from.now ≡ set_len (seen self.now) }
+        requires to_len { length to.old ≡ set_len (seen self.now) }
+        ensures { (q : ℕ) → HasBit to.new q ↔ ((p : ℕ) × HasBit from.now p × Follows (seen self.now) p q × Takes (seen self.now) q byte) }
+    {
+        clear(to);
+        self.step(0, get_bit(from, 0), byte, from, to);
+    }
+
+    // Adds the slots that follow a state of `from` and take the byte, and those that begin the tree
+    // where it is entered. Says whether what stands behind the tree is entered.
+    pub(crate) fn step(
+        &self,
+        before: usize,
+        enter: bool,
+        byte: u8,
+        from: &[u8],
+        to: &mut [u8],
+    ) -> bool
+        requires slots { before + slots_of (seen self.now) ≤ 65535 }
+        requires from_len { before + slots_of (seen self.now) < 8 * length from.now }
+        requires to_len { before + slots_of (seen self.now) < 8 * length to.old }
+        ensures leads { IsTrue result ↔ Leads (seen self.now) before enter from.now }
+        ensures states { (q : ℕ) → HasBit to.new q ↔ (HasBit to.old q ⊎ IsStepped (seen self.now) before enter from.now byte q) }
+    {
+        match self {
+            Node::Never => false,
+            Node::Empty => enter,
+            Node::Slot(class) => {
+                if enter && class.contains(byte) {
+                    set_bit(to, before + 1);
+                }
+                get_bit(from, before + 1)
+            }
+            Node::Gap { max, .. } => {
+                step_gap(before, self.slots(), *max, enter, from, to);
+                self.leads(before, enter, from)
+            }
+            Node::Then(a, b) => {
+                let led = a.step(before, enter, byte, from, to);
+                b.step(before + a.slots(), led, byte, from, to)
+            }
+            Node::Or(a, b) => {
+                let first = a.step(before, enter, byte, from, to);
+                let second = b.step(before + a.slots(), enter, byte, from, to);
+                first || second
+            }
+        }
+    }
+
+    // Whether what stands behind the tree is entered, slot by slot.
+    fn leads(&self, before: usize, enter: bool, from: &[u8]) -> bool
+        requires slots { before + slots_of (seen self.now) ≤ 65535 }
+        requires from_len { before + slots_of (seen self.now) < 8 * length from.now }
+        ensures { IsTrue result ↔ Leads (seen self.now) before enter from.now }
+    {
+        if enter && self.skips() {
+            return true;
+        }
+        for p in before + 1..before + self.slots() + 1 {
+            if self.ends(before, p) && get_bit(from, p) {
+                return true;
+            }
+        }
+        false
+    }
+}
+
+// Adds the slots of a gap in the same way. They take any byte.
+fn step_gap(before: usize, slots: usize, max: Option<u32>, enter: bool, from: &[u8], to: &mut [u8])
+    requires slots { before + slots ≤ 65535 }
+    requires from_len { before + slots < 8 * length from.now }
+    requires to_len { before + slots < 8 * length to.old }
+    ensures { (q : ℕ) → HasBit to.new q ↔ (HasBit to.old q ⊎ IsNextInGap before slots max enter from.now q) }
+{
+    for q in before + 1..before + slots + 1 {
+        if next_in_gap(before, slots, max, enter, from, q) {
+            set_bit(to, q);
+        }
+    }
+}
+
+// Whether one of its slots comes next: the first where the gap is entered, each other behind the
+// one before, and the last behind itself where the gap has no greatest length.
+fn next_in_gap(
+    before: usize,
+    slots: usize,
+    max: Option<u32>,
+    enter: bool,
+    from: &[u8],
+    q: usize,
+) -> bool
+    requires slots { before + slots ≤ 65535 }
+    requires above { before < q }
+    requires within { q ≤ before + slots }
+    requires from_len { before + slots < 8 * length from.now }
+    ensures { IsTrue result ↔ IsNextInGap before slots max enter from.now q }
+{
+    let led = if q == before + 1 {
+        enter
+    } else {
+        get_bit(from, q - 1)
+    };
+    led || (q == before + slots && max.is_none() && get_bit(from, q))
+}

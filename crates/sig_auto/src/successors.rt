@@ -1,0 +1,149 @@
+//! The states that follow one state on a byte, in order, without memory of their own.
+//!
+//! The next one is found from the tree's root. At most one slot begins a gap, and at most one of its
+//! slots goes behind another, so no gap is walked slot by slot.
+
+ghost use Rattle.std.specs.Prelude.{◌≡◌, ◌↔◌, ℕ, ◌+◌, ◌≤◌, [], ◌∷◌, Contains, IfSome, MatchOption};
+ghost use Rattle.sig_auto.specs.Seen.{seen};
+ghost use Rattle.sig_auto.specs.Successions.{BeginsOn, GoesOn, IsLeastAbove, successors_above};
+ghost use Rattle.sig_auto.specs.Tracks.{Follows};
+ghost use Rattle.sig_auto.specs.TreeSlots.{Takes, slots_of};
+ghost use Rattle.sig_auto.specs.Trim.{IsTrim};
+
+use crate::node::Node;
+
+/// An iterator over the states that follow a state and take a byte, rising.
+#[derive(Debug, Drop)]
+pub struct Successors<'a> {
+    root: &'a Node,
+    state: usize,
+    byte: u8,
+    above: usize,
+    ghost few: { slots_of (seen root.now) ≤ 65535 },
+}
+
+impl<'a> Successors<'a> {
+    ghost use Rattle.std.specs.List.Sorted.{IsStrictlyIncreasing};
+    ghost use Rattle.sig_auto.specs.SuccessorsLeft.{left_of};
+
+    pub(crate) fn new(root: &'a Node, state: usize, byte: u8) -> Successors<'a>
+        requires trim { IsTrim (seen root.now) }
+        requires few { slots_of (seen root.now) ≤ 65535 }
+        ensures members { (q : ℕ) → Contains (left_of result) q ↔ (Follows (seen root.now) state q × Takes (seen root.now) q byte) }
+        ensures rising { IsStrictlyIncreasing (left_of result) }
+    {
+        Successors {
+            root,
+            state,
+            byte,
+            above: 0,
+        }
+    }
+}
+
+impl Iterator for Successors<'_> {
+    ghost use Rattle.std.specs.Iterator.{YieldsFirst, item_count};
+    ghost use Rattle.sig_auto.specs.SuccessorsLeft.{left_of};
+
+    type Item = u32;
+
+    ghost next_gives = { YieldsFirst left_of };
+
+    ghost remaining = { item_count left_of };
+
+    fn next(&mut self) -> Option<u32> {
+        let q = self.root.next_state(self.state, self.byte, self.above)?;
+        self.above = q;
+        Some(q as u32)
+    }
+}
+
+impl Node {
+    // The least slot above this one that follows the state and takes the byte.
+    fn next_state(&self, state: usize, byte: u8, above: usize) -> Option<usize>
+        requires { slots_of (seen self.now) ≤ 65535 }
+        ensures next { MatchOption result (successors_above (seen self.now) state byte above ≡ []) (λ q. successors_above (seen self.now) state byte above ≡ q ∷ successors_above (seen self.now) state byte q) }
+        ensures within { IfSome result (λ q. q ≤ slots_of (seen self.now)) }
+    {
+        if state == 0 {
+            self.next_begin(0, byte, above)
+        } else {
+            self.next_gone(0, state, byte, above)
+        }
+    }
+
+    // The least slot above this one that begins the tree and takes the byte.
+    fn next_begin(&self, before: usize, byte: u8, above: usize) -> Option<usize>
+        requires { before + slots_of (seen self.now) ≤ 65535 }
+        ensures least { IsLeastAbove above (BeginsOn (seen self.now) before byte) result }
+        ensures within { IfSome result (λ q. q ≤ before + slots_of (seen self.now)) }
+    {
+        match self {
+            Node::Never | Node::Empty => None,
+            Node::Slot(class) => {
+                if above <= before && class.contains(byte) {
+                    Some(before + 1)
+                } else {
+                    None
+                }
+            }
+            Node::Gap { .. } => {
+                if above <= before && self.slots() > 0 {
+                    Some(before + 1)
+                } else {
+                    None
+                }
+            }
+            Node::Then(a, b) => match a.next_begin(before, byte, above) {
+                Some(q) => Some(q),
+                None => {
+                    if a.skips() {
+                        b.next_begin(before + a.slots(), byte, above)
+                    } else {
+                        None
+                    }
+                }
+            },
+            Node::Or(a, b) => match a.next_begin(before, byte, above) {
+                Some(q) => Some(q),
+                None => b.next_begin(before + a.slots(), byte, above),
+            },
+        }
+    }
+
+    // The least slot above this one that goes behind p and takes the byte.
+    fn next_gone(&self, before: usize, p: usize, byte: u8, above: usize) -> Option<usize>
+        requires { before + slots_of (seen self.now) ≤ 65535 }
+        ensures least { IsLeastAbove above (GoesOn (seen self.now) before p byte) result }
+        ensures within { IfSome result (λ q. q ≤ before + slots_of (seen self.now)) }
+    {
+        match self {
+            Node::Never | Node::Empty | Node::Slot(_) => None,
+            Node::Gap { max, .. } => {
+                let last = before + self.slots();
+                if before < p && p < last && above <= p {
+                    Some(p + 1)
+                } else if max.is_none() && p == last && above < p {
+                    Some(p)
+                } else {
+                    None
+                }
+            }
+            Node::Then(a, b) => match a.next_gone(before, p, byte, above) {
+                Some(q) => Some(q),
+                None => {
+                    let between = before + a.slots();
+                    if a.ends(before, p) {
+                        b.next_begin(between, byte, above)
+                    } else {
+                        b.next_gone(between, p, byte, above)
+                    }
+                }
+            },
+            Node::Or(a, b) => match a.next_gone(before, p, byte, above) {
+                Some(q) => Some(q),
+                None => b.next_gone(before + a.slots(), p, byte, above),
+            },
+        }
+    }
+}
