@@ -320,7 +320,10 @@ fn takes_as_many_slots_as_the_limit(rt: HostRuntime) -> Result<(), Fail> {
         assert_eq!(rt; shown.status, 0, "{most}");
         let row = format!(in rt.alloc(); "fmt/1,1,Variable,,,{over}\n")?;
         let shown = matched_rows(&rt, folder.as_str(), row.as_str(), "", b"A")?;
-        assert_eq!(rt; shown.err.as_str(), "signatures row 1: L11 too many slots\n");
+        assert_eq!(rt;
+            shown.err.as_str(),
+            "signatures row 1: L11 too many slots\n"
+        );
         assert_eq!(rt; shown.status, 2, "{over}");
     }
     fs::remove_dir_all(&rt, folder.as_str())?;
@@ -803,7 +806,10 @@ fn keeps_the_status_of_a_fault_that_is_not_told(rt: HostRuntime) -> Result<(), F
     let priorities = put(&rt, folder, "priorities.csv", PRIORITIES.as_bytes())?;
     let priorities = priorities.as_str();
     assert_eq!(rt; run_untold(&rt, &["look"])?, 2);
-    assert_eq!(rt; run_untold(&rt, &["show", refused.as_str(), priorities])?, 2);
+    assert_eq!(rt;
+        run_untold(&rt, &["show", refused.as_str(), priorities])?,
+        2
+    );
     assert_eq!(rt; run_untold(&rt, &["show", "none.csv", priorities])?, 3);
     fs::remove_dir_all(&rt, folder)?;
     Ok(())

@@ -90,8 +90,8 @@ same_hits table file (a ∷ later) (b ∷ others) rise_a rise_b each_a each_b to
     let format : m ≡ n = same_first m n ms ns rise_a rise_b (to m (first_is_there m ms)) (back n (first_is_there n ns)) in
     let first : a ≡ b = one_first table file a b format (each_a 0 a (omega arith)) (each_b 0 b (omega arith)) in
     ap₂ (λ (h : Hit) (hs : List Hit). h ∷ hs) first
-        (same_hits table file later others (rise_later m ms rise_a) (rise_later n ns rise_b) (each_later table file a later each_a) (each_later table file b others each_b)
-        (later_members m n ms ns format rise_a to) (later_members n m ns ms (sym format) rise_b back))
+    (same_hits table file later others (rise_later m ms rise_a) (rise_later n ns rise_b) (each_later table file a later each_a) (each_later table file b others each_b)
+    (later_members m n ms ns format rise_a to) (later_members n m ns ms (sym format) rise_b back))
 
 -- each format of a list of hits has a hit
 format_hits : (table : TableLists) (file : List ℕ) (hits : List Hit) (x : ℕ) → All (IsFirstHit table file) hits → Contains (formats_of hits) x → (place : ℕ) × HitsAt table file x place
@@ -105,5 +105,5 @@ format_hits table file (h ∷ hs) x each c = elim (first_or_later h.format.0 (fo
 pub one_list : (table : TableLists) (file : List ℕ) (a b : List Hit) → HitFormats table file a → HitFormats table file b → a ≡ b
 one_list table file a b is_a is_b =
     same_hits table file a b (AllPairs-from_increasing (formats_of a) is_a.in_order) (AllPairs-from_increasing (formats_of b) is_b.in_order) is_a.each is_b.each
-        (λ x c. let hit = format_hits table file a x is_a.each c in is_b.none_missing x hit.0 hit.1)
-        (λ x c. let hit = format_hits table file b x is_b.each c in is_a.none_missing x hit.0 hit.1)
+    (λ x c. let hit = format_hits table file a x is_a.each c in is_b.none_missing x hit.0 hit.1)
+    (λ x c. let hit = format_hits table file b x is_b.each c in is_a.none_missing x hit.0 hit.1)

@@ -24,4 +24,4 @@ pub returns-in_err-get_str-clause-none : goal.returns-in_err-get_str-clause-none
 returns-in_err-get_str-clause-none c = λ is asked asks.
     let named : subcommand_name_of c.args.matches.now ≡ Some (codes "match") = search rules in
     no_file (subcommand_rows_of c.args.matches.now) (rows_of (found_of c.in_ok-matching.matching.now)) (pair_of_parts _ _ _ _ _ named c.in_ok-matching.ensures.rows)
-        (c.in_err-get_str.ensures ∙ sym (first_of-rows (found_of c.in_ok-matching.matching.now) (codes "FILE"))) asked asks
+    (c.in_err-get_str.ensures ∙ sym (first_of-rows (found_of c.in_ok-matching.matching.now) (codes "FILE"))) asked asks
