@@ -1,7 +1,7 @@
 -- What is told of a fault.
-use Rattle.std.proofs.Common.{◌≡◌, ℕ, ◌⊎◌, inl, inr, List, Option, refl, sym, ◌∙◌}
+use Rattle.std.proofs.Common.{◌≡◌, ℕ, inl, inr, List, Option, refl, sym, ◌∙◌}
 use Rattle.pronom_sig.specs.Asking.{IsFaultOf, TellsFaultOf}
-use Rattle.pronom_sig.specs.Faults.{Tells, TellsFault, TellsOf}
+use Rattle.pronom_sig.specs.Faults.{TellsFault, TellsOf}
 use Rattle.pronom_sig.specs.declared.error.RunError.TheVariants.{OutOfMemory}
 use Rattle.pronom_sig.specs.declared.lines.Fault.{Fault}
 use Rattle.pronom_sig.specs.declared.lines.Fault.TheVariants.{Run}

@@ -1,5 +1,4 @@
 use Rattle.std.proofs.Common.{◌≡◌, codes, rules, sym, ◌∙◌, Some}
-use Rattle.std.specs.Prelude.{option_map}
 use Rattle.clap.specs.Matches.{found_of, subcommand_name_of}
 use Rattle.clap.specs.Words.{rows_of, subcommand_rows_of}
 use Rattle.pronom_sig.proofs.AskLemmas.{no_file}
