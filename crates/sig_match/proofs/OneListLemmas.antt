@@ -1,6 +1,6 @@
 -- Two lists of hit formats of one file are the same.
-use Rattle.std.proofs.Common.{◌≡◌, ℕ, zero, suc, ◌<◌, ◌⊎◌, List, [], ◌∷◌, length, refl, subst, sym, ◌∙◌, ap₂, inl, inr, arith}
-use Rattle.std.specs.Prelude.{All, Contains, slice_index_or}
+use Rattle.std.proofs.Common.{◌≡◌, ℕ, zero, suc, ◌<◌, ◌⊎◌, List, [], ◌∷◌, refl, subst, sym, ap₂, inl, inr, arith}
+use Rattle.std.specs.Prelude.{All, Contains}
 use Rattle.std.specs.List.{AllPairs}
 use Rattle.std.proofs.lemmas.Bool.{cases_lt}
 use Rattle.std.proofs.lemmas.List.Kept.{AllPairs-from_increasing}
