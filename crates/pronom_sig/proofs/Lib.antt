@@ -1,3 +1,4 @@
 -- Lemmas of this crate.
+pub mod AskLemmas
 pub mod RowLemmas
 pub mod FaultLemmas

@@ -1,12 +1,21 @@
--- What the words ask for, and the faults that can come of it.
-use Rattle.std.specs.Prelude.{◌≡◌, ◌⊎◌, ⊤}
+-- What comes of what the words ask for: its answers, and its faults.
+use Rattle.std.specs.Prelude.{◌≡◌, ℕ, ◌⊎◌, List, Option, ⊤}
+use Rattle.clap.specs.Words.{Text, subcommand_of}
+use Rattle.sig_bits.specs.Device.{Adds}
+use Rattle.sig_match.specs.declared.results.Hit.{Hit}
+use Rattle.sig_table.specs.Lists.{TableLists}
+use Rattle.pronom_sig.specs.CommandLine.{Asks, program}
+use Rattle.pronom_sig.specs.Faults.{Tells}
+use Rattle.pronom_sig.specs.Lines.{lines_of}
+use Rattle.pronom_sig.specs.Shown.{show_text}
+use Rattle.pronom_sig.specs.declared.error.RunError.TheVariants.{OutOfMemory, Write}
 use Rattle.pronom_sig.specs.declared.lines.Fault.{Fault}
 use Rattle.pronom_sig.specs.declared.lines.Fault.TheVariants.{CannotOpen, NotText, Run, Table}
 use Rattle.pronom_sig.specs.declared.words.Asked.{Asked}
 use Rattle.pronom_sig.specs.declared.words.Asked.TheVariants.{Match, Show}
 use Rattle.pronom_sig.specs.declared.words.TableWords.{TableWords}
 
--- no name of the table's files opens, or the table is refused
+-- a file of the table can't be opened, or there is no table
 abbrev pub IsLoadFault : TableWords → Fault → Type 0
 IsLoadFault words NotText = ⊥
 IsLoadFault words (CannotOpen name) = (name ≡ words.signatures) ⊎ (name ≡ words.priorities)
@@ -20,7 +29,28 @@ IsRunFault (CannotOpen name) = ⊥
 IsRunFault (Table error) = ⊥
 IsRunFault (Run error) = ⊤
 
+-- the table is not shown: nothing is read for that
+abbrev pub IsShowFault : Fault → Type 0
+IsShowFault fault = (fault ≡ Run Write) ⊎ (fault ≡ Run OutOfMemory)
+
 -- the faults of the table, of the file that is matched, and of the engine
 abbrev pub IsFaultOf : Asked → Fault → Type 0
-IsFaultOf (Show table) fault = IsLoadFault table fault ⊎ IsRunFault fault
+IsFaultOf (Show table) fault = IsLoadFault table fault ⊎ IsShowFault fault
 IsFaultOf (Match all table file) fault = IsLoadFault table fault ⊎ ((fault ≡ CannotOpen file) ⊎ IsRunFault fault)
+
+-- what is written grows by the canonical files of a table, or by the lines of hits
+abbrev pub Answers : Asked → Option (List ℕ) → Option (List ℕ) → Type 0
+Answers (Show table) before after = (t : TableLists) × Adds before (show_text t) after
+Answers (Match all table file) before after = (t : TableLists) × (hits : List Hit) × Adds before (lines_of t hits) after
+
+-- what is written grows by an answer to what the words ask for
+abbrev pub AnswersWords : List Text → Option (List ℕ) → Option (List ℕ) → Type 0
+AnswersWords words before after = (asked : Asked) × Asks (subcommand_of program words) asked × Answers asked before after
+
+-- the line of a fault of what is asked is told
+abbrev pub TellsFaultOf : Asked → ℕ → Option (List ℕ) → Option (List ℕ) → Type 0
+TellsFaultOf asked status before after = (told : Fault) × IsFaultOf asked told × Tells told status before after
+
+-- the line of a fault of what the words ask for is told
+abbrev pub TellsFaultOfWords : List Text → ℕ → Option (List ℕ) → Option (List ℕ) → Type 0
+TellsFaultOfWords words status before after = (asked : Asked) × Asks (subcommand_of program words) asked × TellsFaultOf asked status before after

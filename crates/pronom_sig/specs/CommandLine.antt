@@ -1,8 +1,9 @@
 -- The command line in clap's words, and what its words ask for.
-use Rattle.std.specs.Prelude.{◌≡◌, ℕ, Bool, true, false, List, [], ◌∷◌, Option, Some, codes}
+use Rattle.std.specs.Prelude.{◌≡◌, ◌⊎◌, Bool, true, false, List, Option, None, Some, codes}
 use Rattle.clap.specs.Simple.{on_top}
-use Rattle.clap.specs.Words.{App, Row, Rule, Text, first_of, one_of, new_app, new_rule, with_rule, with_subcommand}
+use Rattle.clap.specs.Words.{App, IsAmong, Row, Rule, Text, fault_of, first_of, one_of, new_app, new_rule, subcommand_of, takes, with_rule, with_subcommand}
 use Rattle.clap.specs.declared.builder.action.ArgAction.TheVariants.{SetTrue}
+use Rattle.clap.specs.declared.error.kind.ErrorKind.TheVariants.{DisplayHelp, DisplayVersion}
 use Rattle.pronom_sig.specs.declared.words.Asked.{Asked}
 use Rattle.pronom_sig.specs.declared.words.Asked.TheVariants.{Match, Show}
 use Rattle.pronom_sig.specs.declared.words.TableWords.{TableWords}
@@ -42,8 +43,17 @@ pub record NamesTable (words : TableWords) (rows : List Row) : Type 0 where
 pub record TellsFlag (name : Text) (is_given : Bool) (rows : List Row) : Type 0 where
   pub given : one_of name rows ≡ Some (codes "true") → is_given ≡ true
   pub left_out : one_of name rows ≡ Some (codes "false") → is_given ≡ false
+  pub absent : one_of name rows ≡ None → is_given ≡ false
 
 -- the subcommand and its arguments ask for this
 abbrev pub Asks : Option (Text × List Row) → Asked → Type 0
 Asks found (Show table) = (rows : List Row) × (found ≡ Some (codes "show", rows)) × NamesTable table rows
 Asks found (Match all table file) = (rows : List Row) × (found ≡ Some (codes "match", rows)) × NamesTable table rows × (first_of (codes "FILE") rows ≡ Some file.now) × TellsFlag (codes "all") all rows
+
+-- the words are taken, and they ask for something
+abbrev pub AreTaken : List Text → Type 0
+AreTaken words = (takes program words ≡ true) × ((asked : Asked) × Asks (subcommand_of program words) asked)
+
+-- the words ask for help, or for the version
+abbrev pub IsHelpAsked : List Text → Type 0
+IsHelpAsked words = IsAmong DisplayHelp (fault_of program words) ⊎ IsAmong DisplayVersion (fault_of program words)

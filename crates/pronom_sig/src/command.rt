@@ -1,9 +1,10 @@
 //! All that the program does: it reads the words, opens the files, answers, and gives the status.
 
-ghost use Rattle.std.specs.Prelude.{◌≡◌, ◌≢◌, ◌⊎◌, false, true, IfErr, IsErrOf, OnOk};
+ghost use Rattle.std.specs.Prelude.{◌≡◌, ◌≢◌, ◌⊎◌, false, map, string_bytes, true, IfErr, IsErrOf, OnOk};
 ghost use Rattle.clap.specs.Values.{kind_of};
-ghost use Rattle.pronom_sig.specs.Asking.{IsFaultOf, IsLoadFault};
-ghost use Rattle.pronom_sig.specs.Faults.{TellsOf, TellsFault};
+ghost use Rattle.pronom_sig.specs.Asking.{Answers, AnswersWords, IsFaultOf, IsLoadFault, TellsFaultOfWords};
+ghost use Rattle.pronom_sig.specs.CommandLine.{AreTaken, IsHelpAsked};
+ghost use Rattle.pronom_sig.specs.Faults.{Tells, TellsFault, TellsOf};
 ghost use Rattle.pronom_sig.specs.Statuses.{status_of};
 
 use crate::engine::{run_match, run_show};
@@ -32,8 +33,16 @@ pub fn command<R: Files + AllocGlobal, W: Output, E: Output>(
     ensures known { (result ≡ 0) ⊎ ((result ≡ 2) ⊎ (result ≡ 3)) }
     ensures shown { result ≡ 0 → W.failed out.new ≡ false }
     ensures quiet { result ≡ 0 → err.new ≡ err.old }
+    ensures answered { result ≡ 0 → IsHelpAsked (map string_bytes words.now) ⊎ AnswersWords (map string_bytes words.now) (W.written out.old) (W.written out.new) }
+
+    // Each refusal, and what stays.
     ensures refused { result ≡ 2 → out.new ≡ out.old }
+    ensures whole { result ≡ 3 → W.failed out.new ≡ false → out.new ≡ out.old }
     ensures told { result ≡ 3 → E.failed err.new ≡ false → TellsFault 3 (E.written err.old) (E.written err.new) }
+
+    // Words that ask for something get it, or one of its faults.
+    ensures taken { AreTaken (map string_bytes words.now) → result ≡ 0 → AnswersWords (map string_bytes words.now) (W.written out.old) (W.written out.new) }
+    ensures faults { AreTaken (map string_bytes words.now) → result ≢ 0 → E.failed err.new ≡ false → TellsFaultOfWords (map string_bytes words.now) result (E.written err.old) (E.written err.new) }
 {
     match read_words(rt.alloc(), words) {
         Ok(asked) => match answer(rt, asked, out) {
@@ -51,6 +60,7 @@ fn answer<'a, R: Files + AllocGlobal, W: Output>(
     out: &mut W,
 ) -> Result<(), Fault<'a>>
     ensures shown { OnOk result (W.failed out.new ≡ false) }
+    ensures answers { OnOk result (Answers asked.entry (W.written out.old) (W.written out.new)) }
     ensures faults { IfErr result (λ fault. IsFaultOf asked.entry fault) }
     ensures write { IsErrOf result (Fault.Run RunError.Write) → W.failed out.new ≡ true }
     ensures untouched { IfErr result (λ fault. fault ≢ Fault.Run RunError.Write → out.new ≡ out.old) }
@@ -90,7 +100,8 @@ fn open<'a, R: Files>(rt: &R, name: &'a str) -> Result<FromRead<R::File>, Fault<
     }
 }
 
-/// Writes the line of a fault to `err`, and answers its status.
+/// Writes the line of a fault to `err` and answers its status, or, where its line finds no memory,
+/// that of want of memory, with 3.
 pub fn tell<E: Output>(alloc: Global, fault: Fault<'_>, err: &mut E) -> u8
     ensures status { (result ≡ status_of fault.entry) ⊎ (result ≡ 3) }
     ensures told { E.failed err.new ≡ false → TellsOf fault.entry result (E.written err.old) (E.written err.new) }
@@ -109,7 +120,10 @@ fn show_usage<W: Output, E: Output>(alloc: Global, error: &Error, out: &mut W, e
     ensures shown { result ≡ 0 → W.failed out.new ≡ false }
     ensures quiet { result ≡ 0 → err.new ≡ err.old }
     ensures refused { result ≡ 2 → out.new ≡ out.old }
+    ensures whole { result ≡ 3 → W.failed out.new ≡ false → out.new ≡ out.old }
     ensures told { result ≡ 3 → E.failed err.new ≡ false → TellsFault 3 (E.written err.old) (E.written err.new) }
+    ensures memory { kind_of error.now ≡ ErrorKind.OutOfMemory → result ≡ 3 }
+    ensures memory_told { kind_of error.now ≡ ErrorKind.OutOfMemory → E.failed err.new ≡ false → Tells (Fault.Run RunError.OutOfMemory) 3 (E.written err.old) (E.written err.new) }
     ensures help { result ≡ 0 → (kind_of error.now ≡ ErrorKind.DisplayHelp) ⊎ (kind_of error.now ≡ ErrorKind.DisplayVersion) }
     ensures usage { result ≡ 2 → (kind_of error.now ≢ ErrorKind.DisplayHelp) × (kind_of error.now ≢ ErrorKind.DisplayVersion) }
 {

@@ -2,7 +2,7 @@
 //!
 //! Each one reads to the end, makes its whole answer, and writes it at once.
 
-ghost use Rattle.std.specs.Prelude.{◌≡◌, ◌++◌, ◌≢◌, false, true, IfOk, IfSome, IsErrOf, OnOk, string_bytes};
+ghost use Rattle.std.specs.Prelude.{◌≡◌, ◌++◌, ◌≢◌, false, true, IfOk, IfSome, IsErrOf, List, OnOk, string_bytes};
 ghost use Rattle.sig_bits.specs.Device.{Adds, IsAtEnd};
 ghost use Rattle.pronom_sig.specs.Lines.{AddsLinesOfHits, AddsLinesOfLeft, line_of, lines_of};
 ghost use Rattle.pronom_sig.specs.Shown.{show_text};
@@ -41,13 +41,16 @@ pub fn run_match<K: DroidCore, R: Input, W: Output>(
     // Before the answer is known nothing is written.
     ensures read_stays { IsErrOf result RunError.Read → out.new ≡ out.old }
     ensures memory_stays { IsErrOf result RunError.OutOfMemory → out.new ≡ out.old }
+
+    // Whatever the input tells, what is written are lines of hits.
+    ensures lines { OnOk result ((hits : List Hit) × Adds (W.written out.old) (lines_of (K.lists core.now) hits) (W.written out.new)) }
 {
     let mut results = core.match_binary_signatures(file).map_err(of_core)?;
     if !all {
         core.remove_lower_priority_hits(&mut results);
     }
-    let lines = lines(alloc, core.table(), results.hits()).map_err(|_| RunError::OutOfMemory)?;
-    out.write_all(lines.as_bytes()).map_err(|_| RunError::Write)
+    let text = lines(alloc, core.table(), results.hits()).map_err(|_| RunError::OutOfMemory)?;
+    out.write_all(text.as_bytes()).map_err(|_| RunError::Write)
 }
 
 // The engine's word for the matcher's refusal.

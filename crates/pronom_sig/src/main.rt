@@ -6,6 +6,7 @@ ghost use Rattle.std.specs.Prelude.{◌≡◌, ◌⊎◌, IfErr};
 mod command;
 mod engine;
 mod error;
+mod laws;
 mod lines;
 #[cfg(test)]
 mod tests;

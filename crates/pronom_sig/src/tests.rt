@@ -6,8 +6,8 @@ use crate::command::command;
 use crate::engine::{run_match, run_show};
 use crate::error::RunError;
 use sig_bits::{DeviceFault, FromRead, FromWrite, Input, Output};
-use sig_match::{DroidCore, WholeCore};
-use sig_table::{Puid, Table};
+use sig_match::{CoreError, DroidCore, Hit, WholeCore};
+use sig_table::{FormatId, Puid, SigId, Table};
 use std::test::Fail;
 use std::{env, fs, process};
 
@@ -23,12 +23,17 @@ struct Shown {
     err: String,
 }
 
-// Runs the program on words.
-fn run_program(rt: &HostRuntime, words: &[&str]) -> Result<Shown, Fail> {
+fn owned_words(rt: &HostRuntime, words: &[&str]) -> Result<Vec<String>, Fail> {
     let mut owned = Vec::new(rt.alloc());
     for word in words {
         owned.push(word.to_string(rt.alloc())?)?;
     }
+    Ok(owned)
+}
+
+// Runs the program on words.
+fn run_program(rt: &HostRuntime, words: &[&str]) -> Result<Shown, Fail> {
+    let owned = owned_words(rt, words)?;
     let mut out = FromWrite::new(Vec::new(rt.alloc()));
     let mut err = FromWrite::new(Vec::new(rt.alloc()));
     let status = command(rt, owned.as_slice(), &mut out, &mut err);
@@ -285,12 +290,41 @@ fn names_the_first_fault_of_the_signatures(rt: HostRuntime) -> Result<(), Fail> 
             "fmt/1,1,Variable,,,{65534}\n",
             "signatures row 1: L11 too many slots\n",
         ),
+        (
+            "fmt/1,1,BOF,0,,{65535}\n",
+            "signatures row 1: L11 too many slots\n",
+        ),
     ];
     for (rows, line) in cases {
         let shown = matched_rows(&rt, folder.as_str(), rows, "", b"A")?;
         assert_eq!(rt; shown.err.as_str(), line);
         assert_eq!(rt; shown.out.as_str(), "", "{shown:?}");
         assert_eq!(rt; shown.status, 2, "{shown:?}");
+    }
+    fs::remove_dir_all(&rt, folder.as_str())?;
+    Ok(())
+}
+
+#[test]
+fn takes_as_many_slots_as_the_limit(rt: HostRuntime) -> Result<(), Fail> {
+    let folder = folder(&rt, "slots")?;
+    let cases = [
+        ("{65525}[4142:4241]", "{65526}[4142:4241]"),
+        ("{65525}[!4142]", "{65526}[!4142]"),
+        ("{65531}[!0000:FFFE]", "{65532}[!0000:FFFE]"),
+    ];
+    for (most, over) in cases {
+        let row = format!(in rt.alloc(); "fmt/1,1,Variable,,,{most}\n")?;
+        let shown = matched_rows(&rt, folder.as_str(), row.as_str(), "", b"A")?;
+        assert_eq!(rt; shown.err.as_str(), "", "{most}");
+        assert_eq!(rt; shown.status, 0, "{most}");
+        let row = format!(in rt.alloc(); "fmt/1,1,Variable,,,{over}\n")?;
+        let shown = matched_rows(&rt, folder.as_str(), row.as_str(), "", b"A")?;
+        assert_eq!(rt;
+            shown.err.as_str(),
+            "signatures row 1: L11 too many slots\n"
+        );
+        assert_eq!(rt; shown.status, 2, "{over}");
     }
     fs::remove_dir_all(&rt, folder.as_str())?;
     Ok(())
@@ -721,9 +755,90 @@ fn tells_a_failed_write(rt: HostRuntime) -> Result<(), Fail> {
     let mut out = Broken { failed: false };
     let answer = run_show(rt.alloc(), &table, &mut out);
     assert_eq!(rt; answer, Err(RunError::Write));
-    let table = table_of_one(&rt)?;
+    Ok(())
+}
+
+// Runs the program with a broken output, and gives the status and what is told.
+fn run_unwritten(rt: &HostRuntime, words: &[&str]) -> Result<(u8, String), Fail> {
+    let words = owned_words(rt, words)?;
     let mut out = Broken { failed: false };
-    let answer = run_show(rt.alloc(), &table, &mut out);
-    assert_eq!(rt; answer, Err(RunError::Write));
+    let mut err = FromWrite::new(Vec::new(rt.alloc()));
+    let status = command(rt, words.as_slice(), &mut out, &mut err);
+    Ok((status, String::from_utf8(err.into_inner())?))
+}
+
+// Runs the program where nothing can be told, and gives the status.
+fn run_untold(rt: &HostRuntime, words: &[&str]) -> Result<u8, Fail> {
+    let words = owned_words(rt, words)?;
+    let mut out = FromWrite::new(Vec::new(rt.alloc()));
+    let mut err = Broken { failed: false };
+    Ok(command(rt, words.as_slice(), &mut out, &mut err))
+}
+
+#[test]
+fn tells_an_answer_that_is_not_written(rt: HostRuntime) -> Result<(), Fail> {
+    let folder = folder(&rt, "unwritten")?;
+    let folder = folder.as_str();
+    let table = format!(in rt.alloc(); "{SIGNATURES}fmt/1,1,BOF,0,,4142\n")?;
+    let signatures = put(&rt, folder, "signatures.csv", table.as_bytes())?;
+    let signatures = signatures.as_str();
+    let priorities = put(&rt, folder, "priorities.csv", PRIORITIES.as_bytes())?;
+    let priorities = priorities.as_str();
+    let file = put(&rt, folder, "file.bin", b"AB")?;
+    let answers = [
+        run_unwritten(&rt, &["match", signatures, priorities, file.as_str()])?,
+        run_unwritten(&rt, &["show", signatures, priorities])?,
+        run_unwritten(&rt, &["--help"])?,
+    ];
+    for (status, told) in answers {
+        assert_eq!(rt; told.as_str(), "write failed\n");
+        assert_eq!(rt; status, 3);
+    }
+    fs::remove_dir_all(&rt, folder)?;
+    Ok(())
+}
+
+#[test]
+fn keeps_the_status_of_a_fault_that_is_not_told(rt: HostRuntime) -> Result<(), Fail> {
+    let folder = folder(&rt, "untold")?;
+    let folder = folder.as_str();
+    let refused = put(&rt, folder, "refused.csv", b"puid\n")?;
+    let priorities = put(&rt, folder, "priorities.csv", PRIORITIES.as_bytes())?;
+    let priorities = priorities.as_str();
+    assert_eq!(rt; run_untold(&rt, &["look"])?, 2);
+    assert_eq!(rt;
+        run_untold(&rt, &["show", refused.as_str(), priorities])?,
+        2
+    );
+    assert_eq!(rt; run_untold(&rt, &["show", "none.csv", priorities])?, 3);
+    fs::remove_dir_all(&rt, folder)?;
+    Ok(())
+}
+
+#[test]
+fn a_core_matches_on_after_a_failed_read(rt: HostRuntime) -> Result<(), Fail> {
+    let core = core_of_one(&rt)?;
+    let mut broken = Pieces {
+        bytes: b"AB",
+        at: 0,
+        fails: true,
+        failed: false,
+    };
+    match core.match_binary_signatures(&mut broken) {
+        Ok(_) => assert!(rt; false, "a failed read is no end"),
+        Err(error) => assert_eq!(rt; error, CoreError::Read),
+    }
+    let mut whole = Pieces {
+        bytes: b"AB",
+        at: 0,
+        fails: false,
+        failed: false,
+    };
+    let results = core.match_binary_signatures(&mut whole)?;
+    let hit = Hit {
+        format: FormatId(0),
+        signature: SigId(0),
+    };
+    assert_eq!(rt; results.hits(), [hit].as_slice());
     Ok(())
 }

@@ -1,10 +1,11 @@
 //! The words of the command line, read by `clap`.
 
-ghost use Rattle.std.specs.Prelude.{◌≡◌, false, map, string_bytes, IfOk, IfSome};
+ghost use Rattle.std.specs.Prelude.{◌≡◌, ◌⊎◌, false, map, string_bytes, IfErr, IfOk, IfSome};
+ghost use Rattle.clap.specs.Values.{kind_of};
 ghost use Rattle.clap.specs.Matches.{found_of};
 ghost use Rattle.clap.specs.declared.Command.TheViews.{out-Command as fields_of};
 ghost use Rattle.clap.specs.Words.{app_of, rows_of, rule_of, subcommand_of, subcommand_rows_of};
-ghost use Rattle.pronom_sig.specs.CommandLine.{Asks, NamesTable, given, of_table, program, wanted};
+ghost use Rattle.pronom_sig.specs.CommandLine.{AreTaken, Asks, IsHelpAsked, NamesTable, given, of_table, program, wanted};
 
 use clap::error::ErrorKind;
 use clap::{Arg, ArgAction, ArgMatches, Command, Error};
@@ -36,7 +37,9 @@ pub struct TableWords<'a> {
 ///
 /// The error is also a request for help.
 pub fn read_words<'a>(alloc: Global, words: &'a [String]) -> Result<Asked<'a>, Error>
-    ensures { IfOk result (λ asked. Asks (subcommand_of program (map string_bytes words.now)) asked) }
+    ensures asked { IfOk result (λ asked. Asks (subcommand_of program (map string_bytes words.now)) asked) }
+    ensures taken { IfErr result (λ e. AreTaken (map string_bytes words.now) → kind_of e ≡ ErrorKind.OutOfMemory) }
+    ensures help { IfErr result (λ e. (kind_of e ≡ ErrorKind.DisplayHelp) ⊎ (kind_of e ≡ ErrorKind.DisplayVersion) → IsHelpAsked (map string_bytes words.now)) }
 {
     let mut command = command_line(alloc)?;
     let matches = command.try_get_matches_from_mut(words)?;
@@ -48,12 +51,13 @@ pub fn read_words<'a>(alloc: Global, words: &'a [String]) -> Result<Asked<'a>, E
 
 // All subcommands and their words.
 fn command_line<'a>(alloc: Global) -> Result<Command<'a>, Error>
-    ensures { IfOk result (λ command. app_of command ≡ program) }
+    ensures app { IfOk result (λ command. app_of command ≡ program) }
+    ensures memory { IfErr result (λ e. kind_of e ≡ ErrorKind.OutOfMemory) }
 {
     let show = with_table(alloc, Command::new(alloc, "show"))?.about(
         "Print the canonical files of a table",
     );
-    let left = with_table(alloc, Command::new(alloc, "match"))?
+    let matching = with_table(alloc, Command::new(alloc, "match"))?
         .about("Print the formats left for a file")
         .arg(word(alloc, "FILE").help("The file"))?
         .arg(flag(alloc, "all").help("Print all formats that the file hits"))?;
@@ -63,7 +67,7 @@ fn command_line<'a>(alloc: Global) -> Result<Command<'a>, Error>
         .no_binary_name(true)
         .subcommand_required(true)
         .subcommand(show)?
-        .subcommand(left)?;
+        .subcommand(matching)?;
     Ok(command)
 }
 
@@ -71,6 +75,7 @@ fn command_line<'a>(alloc: Global) -> Result<Command<'a>, Error>
 fn with_table<'a>(alloc: Global, command: Command<'a>) -> Result<Command<'a>, Error>
     ensures app { IfOk result (λ r. app_of r ≡ of_table (app_of command.entry)) }
     ensures local { IfOk result (λ r. (fields_of r).has_globals ≡ (fields_of command.entry).has_globals) }
+    ensures memory { IfErr result (λ e. kind_of e ≡ ErrorKind.OutOfMemory) }
 {
     let command = command
         .arg(word(alloc, "SIGS").help("The signatures, as CSV"))?
@@ -93,23 +98,25 @@ fn flag<'a>(alloc: Global, name: &'a str) -> Arg<'a>
 }
 
 fn asked_by<'a>(matches: &ArgMatches<'a>) -> Option<Asked<'a>>
-    ensures { IfSome result (λ asked. Asks (subcommand_rows_of matches.now) asked) }
+    ensures asked { IfSome result (λ asked. Asks (subcommand_rows_of matches.now) asked) }
+    ensures none { result ≡ None → (asked : Asked) → ¬ Asks (subcommand_rows_of matches.now) asked }
 {
     if let Some(shown) = matches.subcommand_matches("show") {
         return Some(Asked::Show {
             table: table_words(shown)?,
         });
     }
-    let left = matches.subcommand_matches("match")?;
+    let matching = matches.subcommand_matches("match")?;
     Some(Asked::Match {
-        all: left.get_flag("all"),
-        table: table_words(left)?,
-        file: left.get_str("FILE")?,
+        all: matching.get_flag("all"),
+        table: table_words(matching)?,
+        file: matching.get_str("FILE")?,
     })
 }
 
 fn table_words<'a>(matches: &ArgMatches<'a>) -> Option<TableWords<'a>>
-    ensures { IfSome result (λ words. NamesTable words (rows_of (found_of matches.now))) }
+    ensures named { IfSome result (λ words. NamesTable words (rows_of (found_of matches.now))) }
+    ensures none { result ≡ None → (words : TableWords) → ¬ NamesTable words (rows_of (found_of matches.now)) }
 {
     Some(TableWords {
         signatures: matches.get_str("SIGS")?,

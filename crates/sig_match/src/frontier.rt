@@ -16,8 +16,10 @@ pub struct Interval {
     pub to: usize,
 }
 
-/// Adds an interval that begins behind the others. Where it overlaps or touches the last one, the
-/// two become one, so the intervals stay disjoint.
+/// Adds an interval. Where it overlaps or touches the last one, the two become one.
+///
+/// The intervals stay disjoint only where the caller adds them in order of their begins. The offsets
+/// are right in either case.
 pub fn add(frontier: &mut Vec<Interval>, next: Interval) -> Result<(), AllocError>
     ensures { OnOk result (Gains (IsWithin next) frontier.old.items frontier.new.items) }
 {

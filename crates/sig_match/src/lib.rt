@@ -7,6 +7,7 @@ mod droid_core;
 mod error;
 mod frontier;
 mod hitting;
+mod laws;
 mod outranking;
 mod part;
 mod reach;
@@ -18,5 +19,6 @@ mod whole_core;
 
 pub use droid_core::DroidCore;
 pub use error::CoreError;
+pub use laws::hit_formats_are_one_list;
 pub use results::{Hit, Results};
 pub use whole_core::WholeCore;

@@ -2,7 +2,8 @@
 //!
 //! Each sequence is searched by itself, from a frontier of offsets to the next (`frontier.rt`). An
 //! item, or a part of an alternative, costs at most the file's length, whatever the table and the
-//! file, and a frontier has about half as many intervals as the file has bytes at most.
+//! file. A frontier has at most about half as many intervals as the file has bytes, of sixteen bytes
+//! each, and two or three frontiers stand at a time.
 
 ghost use Rattle.std.specs.Prelude.{◌≡◌, IfOk, IfErr};
 ghost use Rattle.sig_table.specs.Lists.{TableLists};

@@ -9,8 +9,8 @@ use Rattle.pronom_sig.proofs.words.command_line.Goals as goal
 abbrev top : App
 top = on_top (λ s. record s { no_binary_name = true; subcommand_required = true }) (new_app (codes "pronom_sig"))
 
-pub returns : goal.returns
-returns c =
+pub returns-clause-app : goal.returns-clause-app
+returns-clause-app c =
     let show_is : app_of c.about-show.result ≡ show_command = ap app_of_fields c.about-show.ensures ∙ c.in_ok-with_table.ensures.app ∙ ap of_table c.new.ensures.app in
     let show_local : (fields_of c.about-show.result).has_globals ≡ false = rw c.about-show.ensures (c.in_ok-with_table.ensures.local ∙ c.new.ensures.local) in
     let about_is : app_of c.about.result ≡ of_table (new_app (codes "match")) = ap app_of_fields c.about.ensures ∙ c.in_ok-with_table-2.ensures.app ∙ ap of_table c.new-2.ensures.app in
@@ -21,10 +21,10 @@ returns c =
     let flag_local : c.help-2.result.global ≡ false = search rules in
     let words_are : app_of c.in_ok-arg.field-0 ≡ with_rule (of_table (new_app (codes "match"))) (wanted (codes "FILE")) = c.in_ok-arg.ensures.shape file_local ∙ ap₂ with_rule about_is file_is in
     let words_local : (fields_of c.in_ok-arg.field-0).has_globals ≡ false = c.in_ok-arg.ensures.globals ∙ or_false _ _ file_local ∙ about_local in
-    let left_is : app_of c.in_ok-left.left ≡ match_command = c.in_ok-left.ensures.shape flag_local ∙ ap₂ with_rule words_are flag_is in
-    let left_local : (fields_of c.in_ok-left.left).has_globals ≡ false = c.in_ok-left.ensures.globals ∙ or_false _ _ flag_local ∙ words_local in
+    let matching_is : app_of c.in_ok-matching.matching ≡ match_command = c.in_ok-matching.ensures.shape flag_local ∙ ap₂ with_rule words_are flag_is in
+    let matching_local : (fields_of c.in_ok-matching.matching).has_globals ≡ false = c.in_ok-matching.ensures.globals ∙ or_false _ _ flag_local ∙ words_local in
     let named_is : app_of c.in_ok-bin_name.field-0 ≡ new_app (codes "pronom_sig") = ap app_of_fields c.in_ok-bin_name.ensures.0 ∙ ap app_of_fields c.about-2.ensures ∙ c.new-3.ensures.app in
     let bare_is : app_of c.no_binary_name.result ≡ on_top (λ s. record s { no_binary_name = true }) (new_app (codes "pronom_sig")) = ap app_of_fields c.no_binary_name.ensures ∙ ap (on_top (λ (s : Shape). record s { no_binary_name = true })) named_is in
     let top_is : app_of c.subcommand_required.result ≡ top = ap app_of_fields c.subcommand_required.ensures ∙ ap (on_top (λ (s : Shape). record s { subcommand_required = true })) bare_is in
     let first_is : app_of c.in_ok-subcommand.field-0 ≡ with_subcommand top show_command.top = c.in_ok-subcommand.ensures.shape show_local ∙ ap₂ with_subcommand top_is (ap (λ (a : App). a.top) show_is) in
-    c.in_ok-command.ensures.shape left_local ∙ ap₂ with_subcommand first_is (ap (λ (a : App). a.top) left_is)
+    c.in_ok-command.ensures.shape matching_local ∙ ap₂ with_subcommand first_is (ap (λ (a : App). a.top) matching_is)

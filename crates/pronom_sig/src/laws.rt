@@ -1,0 +1,17 @@
+//! Laws of the command line.
+
+ghost use Rattle.std.specs.Prelude.{◌≡◌, true, [], ◌∷◌, codes};
+ghost use Rattle.clap.specs.Words.{fault_of, takes};
+ghost use Rattle.pronom_sig.specs.CommandLine.{program};
+
+use clap::error::ErrorKind;
+
+/// Words with all names are taken, and they ask for no help. One word alone asks for it.
+pub fn words_are_taken()
+    ensures shown { takes program (codes "show" ∷ codes "a" ∷ codes "b" ∷ []) ≡ true }
+    ensures shown_no_help { fault_of program (codes "show" ∷ codes "a" ∷ codes "b" ∷ []) ≡ [] }
+    ensures matched { takes program (codes "match" ∷ codes "a" ∷ codes "b" ∷ codes "c" ∷ []) ≡ true }
+    ensures matched_no_help { fault_of program (codes "match" ∷ codes "a" ∷ codes "b" ∷ codes "c" ∷ []) ≡ [] }
+    ensures all { takes program (codes "match" ∷ codes "--all" ∷ codes "a" ∷ codes "b" ∷ codes "c" ∷ []) ≡ true }
+    ensures help { fault_of program (codes "--help" ∷ []) ≡ ErrorKind.DisplayHelp ∷ [] }
+{}
