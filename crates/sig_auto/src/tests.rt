@@ -188,3 +188,57 @@ fn the_rows_of_brackets_of_two_bytes(rt: HostRuntime) -> Result<(), Fail> {
     assert!(rt; takes(&auto, 2, 0xFF, 0xFF));
     Ok(())
 }
+
+// The set that one byte makes of a set of the states of `(41|4142)43`.
+fn stepped(auto: &Auto, from: u8, byte: u8) -> Option<u8> {
+    if auto.slots() != 5 {
+        return None;
+    }
+    let mut to = [0xFF];
+    auto.step_set(&[from], byte, &mut to);
+    Some(to[0])
+}
+
+#[test]
+fn a_set_of_states_steps_to_all_successors(rt: HostRuntime) -> Result<(), Fail> {
+    let auto = automaton(rt.alloc(), "BOF,0,,(41|4142)43").expect(&rt, "loads");
+    let rows: [(u8, u8, u8); 8] = [
+        (0x01, 0x41, 0x06),
+        (0x06, 0x42, 0x08),
+        (0x06, 0x43, 0x10),
+        (0x08, 0x43, 0x10),
+        (0x10, 0x00, 0x20),
+        (0x10, 0xFF, 0x20),
+        (0x01, 0x42, 0x00),
+        (0x00, 0x41, 0x00),
+    ];
+    for (from, byte, to) in rows {
+        assert_eq!(rt; stepped(&auto, from, byte), Some(to), "{from} on {byte}");
+    }
+    Ok(())
+}
+
+// Whether these are the successors, in this order.
+fn has_successors(auto: &Auto, p: u32, byte: u8, wanted: &[u32]) -> bool {
+    let mut count = 0;
+    for q in auto.successors(p, byte) {
+        if wanted.get(count) != Some(&q) {
+            return false;
+        }
+        count += 1;
+    }
+    count == wanted.len()
+}
+
+#[test]
+fn successors_rise(rt: HostRuntime) -> Result<(), Fail> {
+    let auto = automaton(rt.alloc(), "BOF,0,,(41|4142)43").expect(&rt, "loads");
+    assert!(rt; has_successors(&auto, 0, 0x41, &[1, 2]));
+    assert!(rt; has_successors(&auto, 0, 0x42, &[]));
+    assert!(rt; has_successors(&auto, 1, 0x43, &[4]));
+    assert!(rt; has_successors(&auto, 5, 0x00, &[5]));
+    let auto = automaton(rt.alloc(), "BOF,0,,41{1-2}42").expect(&rt, "loads");
+    assert!(rt; has_successors(&auto, 2, 0x42, &[3, 4]));
+    assert!(rt; has_successors(&auto, 2, 0x41, &[3]));
+    Ok(())
+}
