@@ -1,11 +1,11 @@
 -- The rows of a bracket as they are pushed: those that agree with its bytes on more and more places.
-use Rattle.std.proofs.Common.{◌≡◌, ℕ, ◌+◌, ◌-◌, ◌<◌, ◌≤◌, Bool, true, false, nat_eq, nat_le, nat_lt, min, inl, inr, List, [], ◌∷◌, ◌++◌, drop, length, map, take, slice_index, cond, sym, ap, ◌∙◌, refl, add-one, arith, append_assoc, rules, tests}
+use Rattle.std.proofs.Common.{◌≡◌, ℕ, ◌+◌, ◌-◌, ◌<◌, ◌≤◌, true, false, nat_eq, nat_le, nat_lt, min, inl, inr, List, [], ◌∷◌, ◌++◌, drop, length, map, take, slice_index, sym, ap, ◌∙◌, refl, add-one, append_assoc, rules, tests}
 use Rattle.std.proofs.lemmas.Bool.{cases_Bool, leb-true, lt-ltb}
 use Rattle.std.proofs.lemmas.List.{append-nil, drop_all, map-append, take-append-drop}
 use Rattle.std.proofs.Math.Seq.{drop-cons, take-suc}
 use Rattle.sig_auto.specs.declared.class.Class.{Class}
 use Rattle.sig_auto.specs.declared.class.Class.TheVariants.{Within}
-use Rattle.sig_auto.specs.Classes.{any, only}
+use Rattle.sig_auto.specs.Classes.{only}
 use Rattle.sig_auto.specs.Rows.{above, behind, behind_these, below, between, inner_at, lower_at, only_these, rest, upper_at}
 
 drop_place : (l : List ℕ) (j : ℕ) → j < length l → drop j l ≡ slice_index l j ∷ drop (j + 1) l

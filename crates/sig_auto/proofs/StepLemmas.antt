@@ -1,38 +1,30 @@
 -- What a set of states does on a byte, from the branches of a tree to the tree.
-use Rattle.std.proofs.Common.{◌≡◌, ◌↔◌, ◌⊎◌, ℕ, ◌+◌, ◌-◌, ◌<◌, ◌≤◌, ◌==◌, ◌&&◌, ◌||◌, Bool, true, nat_lt, List, ◌++◌, length, get_or, replicate, Option, Some, None, IsTrue, subst, sym, ap, ◌∙◌, refl, inl, inr, arith}
+use Rattle.std.proofs.Common.{◌≡◌, ◌↔◌, ◌⊎◌, ℕ, ◌+◌, ◌-◌, ◌<◌, ◌≤◌, ◌==◌, ◌&&◌, ◌||◌, Bool, true, nat_lt, List, ◌++◌, get_or, replicate, Option, Some, None, IsTrue, subst, sym, ap, ◌∙◌, refl, inl, inr, arith}
 use Rattle.std.proofs.lemmas.Bool.{and_from, and_parts, cases_eq, cases_lt, eq-eqb, ne_eqb, eqb-true, false≢true, or_cases, or_left, or_right}
-use Rattle.std.proofs.lemmas.List.{get_or_past, get_or-append_right, get_or-replicate, get_or_append_left, length-append, length-replicate}
+use Rattle.std.proofs.lemmas.List.{get_or_past, get_or-append_right, get_or-replicate, get_or_append_left, length-replicate}
 use Rattle.sig_auto.specs.Classes.{InClass, any}
 use Rattle.sig_auto.specs.Local.{begins, ends, goes, loops, skips}
 use Rattle.sig_auto.specs.Stepping.{IsNext, IsNextInGap, IsStepped, Leads}
 use Rattle.sig_auto.specs.Tracks.{Follows}
-use Rattle.sig_auto.specs.Trees.{Tree, Never, Empty, Slot, Gap, Then, Or}
+use Rattle.sig_auto.specs.Trees.{Tree, Gap, Then, Or}
 use Rattle.sig_auto.specs.TreeSlots.{Takes, classes_of, class_of, slots_of}
 use Rattle.sig_auto.specs.Trim.{IsTrim}
 use Rattle.sig_bits.specs.BitSets.{HasBit}
 use Rattle.sig_bits.proofs.BitLemmas.{no_bit_in_zeros}
 use Rattle.sig_table.specs.Slots.{gap_slots}
+use Rattle.sig_auto.proofs.TakenLemmas.{length_classes}
 use Rattle.sig_auto.proofs.LocalLemmas.{IsSlot, begins-slot, gap_begins, gap_goes_none, gap_goes_some, gap_next, gap_stays, goes-slots}
 use Rattle.sig_auto.proofs.RunLemmas.{follows_shown}
 use Rattle.sig_auto.proofs.TrimLemmas.{follows_exact}
 
--- each slot has a class
-pub length-classes : (tree : Tree) → length (classes_of tree) ≡ slots_of tree
-length-classes Never = refl
-length-classes Empty = refl
-length-classes (Slot c) = refl
-length-classes (Gap min max) = length-replicate (gap_slots min max) any
-length-classes (Then a b) = let first = length-classes a in let second = length-classes b in omega (arith, length-append (classes_of a) (classes_of b))
-length-classes (Or a b) = let first = length-classes a in let second = length-classes b in omega (arith, length-append (classes_of a) (classes_of b))
-
 -- a slot has its class from its branch
 class_left : (a b : Tree) (before q : ℕ) → IsSlot a before q → get_or (classes_of a ++ classes_of b) (q - before - 1) any ≡ class_of a (q - before)
-class_left a b before q h = get_or_append_left (classes_of a) (classes_of b) any (q - before - 1) (omega (arith, length-classes a))
+class_left a b before q h = get_or_append_left (classes_of a) (classes_of b) any (q - before - 1) (omega (arith, length_classes a))
 
 class_right : (a b : Tree) (before q : ℕ) → IsSlot b (before + slots_of a) q → get_or (classes_of a ++ classes_of b) (q - before - 1) any ≡ class_of b (q - (before + slots_of a))
 class_right a b before q h =
     let same : q - before - 1 - slots_of a ≡ q - (before + slots_of a) - 1 = omega arith in
-    get_or-append_right (classes_of a) (classes_of b) (slots_of a) (q - before - 1) any (length-classes a) (omega arith) ∙ ap (λ i. get_or (classes_of b) i any) same
+    get_or-append_right (classes_of a) (classes_of b) (slots_of a) (q - before - 1) any (length_classes a) (omega arith) ∙ ap (λ i. get_or (classes_of b) i any) same
 
 -- what comes next in a tree is one of its slots
 next_slot : (tree : Tree) (before : ℕ) (enter : Bool) (from : List ℕ) (q : ℕ) → IsNext tree before enter from q → IsSlot tree before q

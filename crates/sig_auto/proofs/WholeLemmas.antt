@@ -9,7 +9,7 @@ use Rattle.sig_auto.proofs.SoundLemmas.{expression_sound, word_bytes}
 use Rattle.sig_auto.specs.declared.class.Class.{Class}
 use Rattle.sig_auto.specs.declared.class.Class.TheVariants.{Within}
 use Rattle.sig_auto.specs.Rows.{above, behind, below, between, inner_at, lower_at, only_these, rest, upper_at}
-use Rattle.sig_auto.specs.Trees.{Tree, Gap, Slot, alternatives_tree, atom_tree, atoms_tree, back_tree, bracket_tree, front_tree, item_tree, items_tree, row_tree, rows_tree, whole_tree}
+use Rattle.sig_auto.specs.Trees.{Tree, Slot, alternatives_tree, atom_tree, atoms_tree, back_tree, bracket_tree, front_tree, item_tree, items_tree, row_tree, rows_tree, whole_tree}
 use Rattle.sig_auto.specs.TreeSlots.{slots_of}
 use Rattle.sig_auto.specs.Trim.{HasTrack, IsTrim}
 use Rattle.sig_bits.specs.Bytes.{IsBytes}

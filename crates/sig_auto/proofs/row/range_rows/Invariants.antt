@@ -1,4 +1,4 @@
-use Rattle.std.proofs.Common.{◌≡◌, [], drop, map, take}
+use Rattle.std.proofs.Common.{◌≡◌, [], drop, take}
 use Rattle.sig_auto.specs.Rows.{behind_these, between}
 use Rattle.sig_auto.proofs.row.range_rows.Given as goal
 

@@ -1,8 +1,6 @@
-use Rattle.std.proofs.Common.{◌≡◌, ◌==◌, ap, false, rules, subst, sym, tests, ◌∙◌}
+use Rattle.std.proofs.Common.{◌≡◌, ◌==◌, false, rules, sym, tests}
 use Rattle.sig_auto.proofs.TrimLemmas.{follows_slot, follows_start}
-use Rattle.sig_auto.specs.Local.{begins, goes}
 use Rattle.sig_auto.specs.Seen.{seen}
-use Rattle.sig_auto.specs.Tracks.{Follows}
 use Rattle.sig_auto.proofs.auto.Auto.follows.Goals as goal
 
 pub returns-then-p-eq0 : goal.returns-then-p-eq0
