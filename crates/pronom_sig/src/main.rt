@@ -9,6 +9,8 @@ mod error;
 mod laws;
 mod lines;
 #[cfg(test)]
+mod stream_tests;
+#[cfg(test)]
 mod tests;
 mod words;
 
