@@ -3,7 +3,7 @@ use Rattle.std.specs.Prelude.{◌≡◌, ℕ, ◌⊎◌, List, Option, ⊤}
 use Rattle.clap.specs.Words.{Text, subcommand_of}
 use Rattle.sig_bits.specs.Device.{Adds}
 use Rattle.sig_match.specs.declared.results.Hit.{Hit}
-use Rattle.sig_table.specs.Lists.{TableLists}
+use Rattle.sig_table.specs.Views.{TableView}
 use Rattle.pronom_sig.specs.CommandLine.{Asks, program}
 use Rattle.pronom_sig.specs.Faults.{Tells}
 use Rattle.pronom_sig.specs.Lines.{lines_of}
@@ -40,8 +40,8 @@ IsFaultOf (Match all table file) fault = IsLoadFault table fault ⊎ ((fault ≡
 
 -- what is written grows by the canonical files of a table, or by the lines of hits
 abbrev pub Answers : Asked → Option (List ℕ) → Option (List ℕ) → Type 0
-Answers (Show table) before after = (t : TableLists) × Adds before (show_text t) after
-Answers (Match all table file) before after = (t : TableLists) × (hits : List Hit) × Adds before (lines_of t hits) after
+Answers (Show table) before after = (t : TableView) × Adds before (show_text t) after
+Answers (Match all table file) before after = (t : TableView) × (hits : List Hit) × Adds before (lines_of t hits) after
 
 -- what is written grows by an answer to what the words ask for
 abbrev pub AnswersWords : List Text → Option (List ℕ) → Option (List ℕ) → Type 0

@@ -8,5 +8,5 @@ pub mod Statuses
 pub use Rattle.sig_bits.specs.Device
 pub use Rattle.sig_match.specs.Hitting
 pub use Rattle.sig_table.specs.Canonical
-pub use Rattle.sig_table.specs.Lists
+pub use Rattle.sig_table.specs.Views
 pub use Rattle.sig_table.specs.Puids

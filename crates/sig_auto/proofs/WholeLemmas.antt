@@ -24,7 +24,7 @@ use Rattle.sig_expr.specs.Spelling.{AlternativesText, AlternativeText, AtomText,
 use Rattle.sig_expr.specs.Words.{IsAtMost, IsBefore}
 use Rattle.sig_table.specs.declared.position.Position.{Position}
 use Rattle.sig_table.specs.declared.position.Position.TheVariants as position
-use Rattle.sig_table.specs.Lists.{PlacedExpr}
+use Rattle.sig_table.specs.Views.{SequenceView}
 use Rattle.sig_table.specs.Slots.{above_rows, atom_slots, below_rows, between_rows, bracket_slots, inner_row, item_slots, place_slots, slot_count}
 use Rattle.sig_table.specs.Tables.{InOrder, IsSequence}
 
@@ -369,22 +369,22 @@ place_count (position.Bof min max) = refl
 place_count (position.Eof min max) = omega arith
 place_count position.Variable = refl
 
-whole_sound : (s : PlacedExpr) → IsSequence s → IsSound (items_tree s.items (back_tree s.position)) (sum_by item_slots s.items + slots_of (back_tree s.position))
+whole_sound : (s : SequenceView) → IsSequence s → IsSound (items_tree s.items (back_tree s.position)) (sum_by item_slots s.items + slots_of (back_tree s.position))
 whole_sound s h = items_sound s.items (back_tree s.position) _ (canon s.items) h.expression.spells (expression_sound s.items h.expression) (back_sound s.position h.offsets)
 
 -- in the tree of a sequence no slot is in vain
-pub whole_is_trim : (s : PlacedExpr) → IsSequence s → IsTrim (whole_tree s)
+pub whole_is_trim : (s : SequenceView) → IsSequence s → IsTrim (whole_tree s)
 whole_is_trim s h =
     let front = front_sound s.position h.offsets in
     let others = whole_sound s h in
     (front.trim, others.trim, front.track, others.track)
 
 -- it has a track
-pub whole_has_track : (s : PlacedExpr) → IsSequence s → HasTrack (whole_tree s)
+pub whole_has_track : (s : SequenceView) → IsSequence s → HasTrack (whole_tree s)
 whole_has_track s h = ((front_sound s.position h.offsets).track, (whole_sound s h).track)
 
 -- it has as many slots as are counted
-pub whole_slots : (s : PlacedExpr) → IsSequence s → slots_of (whole_tree s) ≡ slot_count s
+pub whole_slots : (s : SequenceView) → IsSequence s → slots_of (whole_tree s) ≡ slot_count s
 unfolding slot_count
 whole_slots s h =
     let others = (whole_sound s h).slots in

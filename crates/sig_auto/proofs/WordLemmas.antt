@@ -21,7 +21,7 @@ use Rattle.sig_expr.specs.Spelling.{AlternativesText, AlternativeText, AtomText,
 use Rattle.sig_expr.specs.Words.{AlternativeWord, IsBefore, IsBytesOf, IsUpTo, Lang, PartWord, Word}
 use Rattle.sig_table.specs.declared.position.Position.{Position}
 use Rattle.sig_table.specs.declared.position.Position.TheVariants as position
-use Rattle.sig_table.specs.Lists.{PlacedExpr}
+use Rattle.sig_table.specs.Views.{SequenceView}
 use Rattle.sig_table.specs.Standing.{Cut, Stands, StandsAt}
 use Rattle.sig_table.specs.Tables.{IsSequence}
 
@@ -294,5 +294,5 @@ by_place position.Variable items file e bytes = (
 )
 
 -- a file of bytes is a word of the whole tree exactly where the sequence stands in it
-pub word_is_unfolded : (s : PlacedExpr) (file : List ℕ) → IsSequence s → IsBytes file → TreeWord (whole_tree s) file ↔ Stands s file
+pub word_is_unfolded : (s : SequenceView) (file : List ℕ) → IsSequence s → IsBytes file → TreeWord (whole_tree s) file ↔ Stands s file
 word_is_unfolded s file h bytes = by_place s.position s.items file h.expression bytes

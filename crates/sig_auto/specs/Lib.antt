@@ -16,7 +16,7 @@ pub use Rattle.sig_bits.specs.BitSets
 pub use Rattle.sig_bits.specs.ByteClasses
 pub use Rattle.sig_bits.specs.Bytes
 pub use Rattle.sig_expr.specs.Words
-pub use Rattle.sig_table.specs.Lists
+pub use Rattle.sig_table.specs.Views
 pub use Rattle.sig_table.specs.Slots
 pub use Rattle.sig_table.specs.Standing
 pub use Rattle.sig_table.specs.Tables

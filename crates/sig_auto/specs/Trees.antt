@@ -10,7 +10,7 @@ use Rattle.sig_expr.specs.declared.item.Item.{Item}
 use Rattle.sig_expr.specs.declared.item.Item.TheVariants as item
 use Rattle.sig_table.specs.declared.position.Position.{Position}
 use Rattle.sig_table.specs.declared.position.Position.TheVariants as position
-use Rattle.sig_table.specs.Lists.{PlacedExpr}
+use Rattle.sig_table.specs.Views.{SequenceView}
 
 -- no word, the empty word, one byte of a class, bytes by their number, a word of one and then of the other, a word of one or of the other
 pub data Tree : Type 0 where
@@ -80,5 +80,5 @@ back_tree (position.Eof min max) = Gap min (Some max)
 back_tree position.Variable = Gap 0 None
 
 -- the whole file: what is before the expression, the expression, and what is behind it
-abbrev pub whole_tree : PlacedExpr → Tree
+abbrev pub whole_tree : SequenceView → Tree
 whole_tree s = Then (front_tree s.position) (items_tree s.items (back_tree s.position))

@@ -7,20 +7,20 @@ use Rattle.std.proofs.lemmas.List.{get_or_append_left, get_or_push, get_or_past,
 use Rattle.std.proofs.lemmas.List.Elements.{All-push, Contains-push, Contains-append_left}
 use Rattle.std.proofs.lemmas.Option.{slice_get_within}
 use Rattle.sig_table.specs.declared.ids.SigId.{SigId}
-use Rattle.sig_table.specs.Lists.{TableLists}
+use Rattle.sig_table.specs.Views.{TableView}
 use Rattle.sig_match.specs.declared.results.Hit.{Hit}
 use Rattle.sig_match.specs.FirstHits.{FirstHits, IsFirstBelow, IsFirstOf}
 use Rattle.sig_match.specs.Hitting.{HitFormats, HitsAt, IsFirstHit, formats_of}
 
 -- the hits of the formats below the limit, with the signatures below theirs
-pub record Listed (table : TableLists) (file : List ℕ) (limit n : ℕ) (hits : List Hit) : Type 0 where
+pub record Listed (table : TableView) (file : List ℕ) (limit n : ℕ) (hits : List Hit) : Type 0 where
   pub in_order : IsStrictlyIncreasing (formats_of hits)
   pub below : (k : ℕ) → k < length (formats_of hits) → get_or (formats_of hits) k 0 < n
   pub each : All (IsFirstHit table file) hits
   pub none_missing : (format place : ℕ) → format < n → place < limit → HitsAt table file format place → Contains (formats_of hits) format
 
 -- no format is listed yet
-pub Listed-none : (table : TableLists) (file : List ℕ) (limit : ℕ) → Listed table file limit 0 []
+pub Listed-none : (table : TableView) (file : List ℕ) (limit : ℕ) → Listed table file limit 0 []
 Listed-none table file limit = record {
   in_order = λ k at. absurd (omega arith);
   below = λ k at. absurd (omega arith);
@@ -29,7 +29,7 @@ Listed-none table file limit = record {
 }
 
 -- a format without a hit
-pub Listed-keep : (table : TableLists) (file : List ℕ) (limit n : ℕ) (hits : List Hit) (first : Option SigId) → first ≡ None → IsFirstBelow table file limit n first → Listed table file limit n hits → Listed table file limit (n + 1) hits
+pub Listed-keep : (table : TableView) (file : List ℕ) (limit n : ℕ) (hits : List Hit) (first : Option SigId) → first ≡ None → IsFirstBelow table file limit n first → Listed table file limit n hits → Listed table file limit (n + 1) hits
 Listed-keep table file limit n hits first none is listed =
     let P : Option SigId → Type 0 = λ o. IsFirstBelow table file limit n o in
     let never : IsFirstBelow table file limit n None = subst P none is in
@@ -67,7 +67,7 @@ increasing_push xs n below order = λ k at.
     ]
 
 -- a format with a hit
-pub Listed-push : (table : TableLists) (file : List ℕ) (limit n : ℕ) (hits : List Hit) (hit : Hit) (first : Option SigId) → hit.format.0 ≡ n → first ≡ Some hit.signature → IsFirstBelow table file limit n first → Listed table file limit n hits → Listed table file limit (n + 1) (hits ++ hit ∷ [])
+pub Listed-push : (table : TableView) (file : List ℕ) (limit n : ℕ) (hits : List Hit) (hit : Hit) (first : Option SigId) → hit.format.0 ≡ n → first ≡ Some hit.signature → IsFirstBelow table file limit n first → Listed table file limit n hits → Listed table file limit (n + 1) (hits ++ hit ∷ [])
 Listed-push table file limit n hits hit first is_format is_first is listed =
     let P : Option SigId → Type 0 = λ o. IsFirstBelow table file limit n o in
     let known : IsFirstOf table file n hit.signature.0 = subst P is_first is in
@@ -109,7 +109,7 @@ Listed-push table file limit n hits hit first is_format is_first is listed =
     }
 
 -- all formats are listed
-pub HitFormats-from_Listed : (table : TableLists) (file : List ℕ) (n : ℕ) (hits : List Hit) (firsts : List (Option SigId)) → length firsts ≤ n → FirstHits table file (length table.signatures) firsts → Listed table file (length table.signatures) n hits → HitFormats table file hits
+pub HitFormats-from_Listed : (table : TableView) (file : List ℕ) (n : ℕ) (hits : List Hit) (firsts : List (Option SigId)) → length firsts ≤ n → FirstHits table file (length table.signatures) firsts → Listed table file (length table.signatures) n hits → HitFormats table file hits
 HitFormats-from_Listed table file n hits firsts all first listed = record {
   in_order = listed.in_order;
   each = listed.each;

@@ -6,7 +6,7 @@ use Rattle.std.proofs.lemmas.Bool.{cases_lt}
 use Rattle.std.proofs.lemmas.List.Kept.{AllPairs-from_increasing}
 use Rattle.sig_match.specs.declared.results.Hit.{Hit}
 use Rattle.sig_match.specs.Hitting.{HitFormats, HitsAt, IsFirstHit, formats_of}
-use Rattle.sig_table.specs.Lists.{TableLists}
+use Rattle.sig_table.specs.Views.{TableView}
 
 -- a member is the first element, or one behind it
 first_or_later : (y : ℕ) (ys : List ℕ) (x : ℕ) → Contains (y ∷ ys) x → (y ≡ x) ⊎ Contains ys x
@@ -63,7 +63,7 @@ same_hit : (a b : Hit) → a.format.0 ≡ b.format.0 → a.signature.0 ≡ b.sig
 same_hit a b format signature = ap₂ hit_of format signature
 
 -- a format has one first hit
-one_first : (table : TableLists) (file : List ℕ) (a b : Hit) → a.format.0 ≡ b.format.0 → IsFirstHit table file a → IsFirstHit table file b → a ≡ b
+one_first : (table : TableView) (file : List ℕ) (a b : Hit) → a.format.0 ≡ b.format.0 → IsFirstHit table file a → IsFirstHit table file b → a ≡ b
 one_first table file a b same is_a is_b = elim (cases_lt a.signature.0 b.signature.0) [
   | inl below ↦ absurd (is_b.first a.signature.0 below (subst (λ (f : ℕ). HitsAt table file f a.signature.0) same is_a.hits))
   | inr not_below ↦ elim (cases_lt b.signature.0 a.signature.0) [
@@ -72,11 +72,11 @@ one_first table file a b same is_a is_b = elim (cases_lt a.signature.0 b.signatu
   ]
 ]
 
-each_later : (table : TableLists) (file : List ℕ) (a : Hit) (later : List Hit) → All (IsFirstHit table file) (a ∷ later) → All (IsFirstHit table file) later
+each_later : (table : TableView) (file : List ℕ) (a : Hit) (later : List Hit) → All (IsFirstHit table file) (a ∷ later) → All (IsFirstHit table file) later
 each_later table file a later each = λ k d at. each (suc k) d (omega arith)
 
 -- hits of the same formats in order, each its format's first one
-same_hits : (table : TableLists) (file : List ℕ) (a b : List Hit) → Rise (formats_of a) → Rise (formats_of b) → All (IsFirstHit table file) a → All (IsFirstHit table file) b → ((x : ℕ) → Contains (formats_of a) x → Contains (formats_of b) x) → ((x : ℕ) → Contains (formats_of b) x → Contains (formats_of a) x) → a ≡ b
+same_hits : (table : TableView) (file : List ℕ) (a b : List Hit) → Rise (formats_of a) → Rise (formats_of b) → All (IsFirstHit table file) a → All (IsFirstHit table file) b → ((x : ℕ) → Contains (formats_of a) x → Contains (formats_of b) x) → ((x : ℕ) → Contains (formats_of b) x → Contains (formats_of a) x) → a ≡ b
 same_hits table file [] [] rise_a rise_b each_a each_b to back = refl
 same_hits table file [] (b ∷ others) rise_a rise_b each_a each_b to back =
     absurd (let c = back b.format.0 (first_is_there b.format.0 (formats_of others)) in let at = c.1 in omega arith)
@@ -94,7 +94,7 @@ same_hits table file (a ∷ later) (b ∷ others) rise_a rise_b each_a each_b to
     (later_members m n ms ns format rise_a to) (later_members n m ns ms (sym format) rise_b back))
 
 -- each format of a list of hits has a hit
-format_hits : (table : TableLists) (file : List ℕ) (hits : List Hit) (x : ℕ) → All (IsFirstHit table file) hits → Contains (formats_of hits) x → (place : ℕ) × HitsAt table file x place
+format_hits : (table : TableView) (file : List ℕ) (hits : List Hit) (x : ℕ) → All (IsFirstHit table file) hits → Contains (formats_of hits) x → (place : ℕ) × HitsAt table file x place
 format_hits table file [] x each c = absurd (let at = c.1 in omega arith)
 format_hits table file (h ∷ hs) x each c = elim (first_or_later h.format.0 (formats_of hs) x c) [
   | inl same ↦ (h.signature.0, subst (λ (f : ℕ). HitsAt table file f h.signature.0) same (each 0 h (omega arith)).hits)
@@ -102,7 +102,7 @@ format_hits table file (h ∷ hs) x each c = elim (first_or_later h.format.0 (fo
 ]
 
 -- the list of hit formats is one
-pub one_list : (table : TableLists) (file : List ℕ) (a b : List Hit) → HitFormats table file a → HitFormats table file b → a ≡ b
+pub one_list : (table : TableView) (file : List ℕ) (a b : List Hit) → HitFormats table file a → HitFormats table file b → a ≡ b
 one_list table file a b is_a is_b =
     same_hits table file a b (AllPairs-from_increasing (formats_of a) is_a.in_order) (AllPairs-from_increasing (formats_of b) is_b.in_order) is_a.each is_b.each
     (λ x c. let hit = format_hits table file a x is_a.each c in is_b.none_missing x hit.0 hit.1)

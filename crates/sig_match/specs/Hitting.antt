@@ -3,18 +3,18 @@ use Rattle.std.specs.Prelude.{◌≡◌, ℕ, ◌<◌, Bool, not, List, All, Con
 use Rattle.std.specs.List.{list_any}
 use Rattle.std.specs.List.Sorted.{IsStrictlyIncreasing}
 use Rattle.sig_match.specs.declared.results.Hit.{Hit}
-use Rattle.sig_table.specs.Lists.{SignatureLists, TableLists}
+use Rattle.sig_table.specs.Views.{SignatureView, TableView}
 use Rattle.sig_table.specs.Standing.{Hits}
 
 -- the signature at this place of the table is of this format, and hits the file
-pub record HitsAt (table : TableLists) (file : List ℕ) (format place : ℕ) : Type 0 where
-  pub signature : SignatureLists
+pub record HitsAt (table : TableView) (file : List ℕ) (format place : ℕ) : Type 0 where
+  pub signature : SignatureView
   pub at : slice_get table.signatures place ≡ Some signature
   pub of_format : signature.format ≡ format
   pub hits : Hits signature file
 
 -- the hit is of its format's first signature that hits the file
-pub record IsFirstHit (table : TableLists) (file : List ℕ) (hit : Hit) : Type 0 where
+pub record IsFirstHit (table : TableView) (file : List ℕ) (hit : Hit) : Type 0 where
   pub hits : HitsAt table file hit.format.0 hit.signature.0
   pub first : (earlier : ℕ) → earlier < hit.signature.0 → ¬ HitsAt table file hit.format.0 earlier
 
@@ -23,21 +23,21 @@ abbrev pub formats_of : List Hit → List ℕ
 formats_of hits = map (λ hit. hit.format.0) hits
 
 -- the hits are of the formats that have a signature that hits the file, in table order, each with its first one
-pub record HitFormats (table : TableLists) (file : List ℕ) (hits : List Hit) : Type 0 where
+pub record HitFormats (table : TableView) (file : List ℕ) (hits : List Hit) : Type 0 where
   pub in_order : IsStrictlyIncreasing (formats_of hits)
   pub each : All (IsFirstHit table file) hits
   pub none_missing : (format place : ℕ) → HitsAt table file format place → Contains (formats_of hits) format
 
 -- whether the first format outranks the second by a listed pair
-abbrev pub ranks : TableLists → ℕ → ℕ → Bool
+abbrev pub ranks : TableView → ℕ → ℕ → Bool
 ranks table higher lower = list_any (λ pair. nat_eq pair.0 higher && nat_eq pair.1 lower) table.priorities
 
 -- the hits whose format no format of the hits outranks: a hit that is itself outranked still outranks
-abbrev pub kept_hits : TableLists → List Hit → List Hit
+abbrev pub kept_hits : TableView → List Hit → List Hit
 kept_hits table hits = filter (λ hit. not (list_any (λ other. ranks table other.format.0 hit.format.0) hits)) hits
 
 -- what is left of the hit formats after priorities
-pub record Left (table : TableLists) (file : List ℕ) (left : List Hit) : Type 0 where
+pub record Left (table : TableView) (file : List ℕ) (left : List Hit) : Type 0 where
   pub hits : List Hit
   pub all_hits : HitFormats table file hits
   pub kept : left ≡ kept_hits table hits

@@ -7,6 +7,6 @@ pub mod Parts
 pub use Rattle.sig_bits.specs.Bytes
 pub use Rattle.sig_bits.specs.Device
 pub use Rattle.sig_expr.specs.Words
-pub use Rattle.sig_table.specs.Lists
+pub use Rattle.sig_table.specs.Views
 pub use Rattle.sig_table.specs.Removal
 pub use Rattle.sig_table.specs.Standing

@@ -3,7 +3,7 @@
 ghost use Rattle.std.specs.Prelude.{◌≡◌, ◌↔◌, true, false, Contains, IfOk, IfSome, IsTrue, OnOk, IsErrOf};
 ghost use Rattle.sig_bits.specs.Device.{IsAtEnd};
 ghost use Rattle.sig_match.specs.Hitting.{HitFormats, kept_hits};
-ghost use Rattle.sig_table.specs.Lists.{TableLists};
+ghost use Rattle.sig_table.specs.Views.{TableView};
 ghost use Rattle.sig_table.specs.Removal.{place_of, without};
 
 use super::{CoreError, Results};
@@ -13,7 +13,7 @@ use sig_table::{Puid, Table};
 /// A matcher of files against one table, named after the interface of DROID.
 pub trait DroidCore {
     /// The table.
-    ghost lists: { Self → TableLists };
+    ghost lists: { Self → TableView };
 
     /// Lends the table.
     fn table(&self) -> &Table

@@ -6,7 +6,7 @@
 //! each, and two or three frontiers stand at a time.
 
 ghost use Rattle.std.specs.Prelude.{◌≡◌, IfOk, IfErr};
-ghost use Rattle.sig_table.specs.Lists.{TableLists};
+ghost use Rattle.sig_table.specs.Views.{TableView};
 
 use super::hitting::hit_formats;
 use super::{CoreError, DroidCore, Results};
@@ -23,7 +23,7 @@ pub struct WholeCore {
 }
 
 impl Model for WholeCore {
-    ghost Value = { TableLists };
+    ghost Value = { TableView };
 
     ghost view = { λ c. c.table };
 }

@@ -11,7 +11,7 @@ use Rattle.indexmap.specs.IndexSet.{insert_key}
 use Rattle.sig_table.specs.declared.puid.Puid.{Puid}
 use Rattle.sig_table.specs.declared.puid.Registry.TheVariants.{Fmt, XFmt}
 use Rattle.sig_table.specs.contracts.puid.PuidPartialEq.TheImpl.{eq-value}
-use Rattle.sig_table.specs.Lists.{PlacedExpr, SignatureLists, TableLists}
+use Rattle.sig_table.specs.Views.{SequenceView, SignatureView, TableView}
 use Rattle.sig_table.specs.declared.row.Row.{Row}
 use Rattle.sig_table.specs.Loading.{fault_at, fault_in, grown, with_number, with_row}
 use Rattle.sig_table.specs.Puids.{puid_eq}
@@ -27,11 +27,11 @@ pub puid_eq-is : eq-value.it ≡ puid_eq
 puid_eq-is = λ i. λ a b. puid_eq-same a b i
 
 -- the place of a number among the signatures is its place among their numbers
-pub position-numbers : (n : ℕ) (ss : List SignatureLists) → position_or_len (nat_eq n) (map (λ s. s.number) ss) ≡ position_or_len (λ s. nat_eq n s.number) ss
+pub position-numbers : (n : ℕ) (ss : List SignatureView) → position_or_len (nat_eq n) (map (λ s. s.number) ss) ≡ position_or_len (λ s. nat_eq n s.number) ss
 position-numbers n [] = refl
 position-numbers n (s ∷ ss) = ap (λ k. cond (not (nat_eq n s.number)) (1 + k) 0) (position-numbers n ss)
 
-pub any-numbers : (n : ℕ) (ss : List SignatureLists) → list_any (nat_eq n) (map (λ s. s.number) ss) ≡ list_any (λ s. nat_eq n s.number) ss
+pub any-numbers : (n : ℕ) (ss : List SignatureView) → list_any (nat_eq n) (map (λ s. s.number) ss) ≡ list_any (λ s. nat_eq n s.number) ss
 any-numbers n [] = refl
 any-numbers n (s ∷ ss) = ap (λ b. nat_eq n s.number || b) (any-numbers n ss)
 
@@ -75,7 +75,7 @@ module _ {X : Type 0} (p : X → Bool) where
   ]
 
 -- one sequence more, by the place
-pub grown-at : (n : ℕ) (sequence : PlacedExpr) (ss : List SignatureLists) (s : SignatureLists) → position_or_len (λ s. nat_eq n s.number) ss < length ss → s ≡ get_or ss (position_or_len (λ s. nat_eq n s.number) ss) s
+pub grown-at : (n : ℕ) (sequence : SequenceView) (ss : List SignatureView) (s : SignatureView) → position_or_len (λ s. nat_eq n s.number) ss < length ss → s ≡ get_or ss (position_or_len (λ s. nat_eq n s.number) ss) s
     → slice_set ss (position_or_len (λ s. nat_eq n s.number) ss) (record s { sequences = s.sequences ++ sequence ∷ [] }) ≡ grown n sequence ss
 grown-at n sequence [] s lt is = absurd (omega arith)
 grown-at n sequence (x ∷ xs) s lt is = elim (cases_Bool (nat_eq n x.number)) [
@@ -88,14 +88,14 @@ OnOk-map (Ok x) f h = f h
 OnOk-map (Err e) f h = tt
 
 -- a signature more has its number last
-pub numbers-grown : (n : ℕ) (sequence : PlacedExpr) (ss : List SignatureLists) → map (λ s. s.number) (grown n sequence ss) ≡ map (λ s. s.number) ss
+pub numbers-grown : (n : ℕ) (sequence : SequenceView) (ss : List SignatureView) → map (λ s. s.number) (grown n sequence ss) ≡ map (λ s. s.number) ss
 numbers-grown n sequence [] = refl
 numbers-grown n sequence (x ∷ xs) = elim (cases_Bool (nat_eq n x.number)) [
   | inl t ↦ rw t refl
   | inr f ↦ rw f (ap (λ l. x.number ∷ l) (numbers-grown n sequence xs))
 ]
 
-pub length-grown : (n : ℕ) (sequence : PlacedExpr) (ss : List SignatureLists) → length (grown n sequence ss) ≡ length ss
+pub length-grown : (n : ℕ) (sequence : SequenceView) (ss : List SignatureView) → length (grown n sequence ss) ≡ length ss
 length-grown n sequence [] = refl
 length-grown n sequence (x ∷ xs) = elim (cases_Bool (nat_eq n x.number)) [
   | inl t ↦ rw t refl
@@ -103,7 +103,7 @@ length-grown n sequence (x ∷ xs) = elim (cases_Bool (nat_eq n x.number)) [
 ]
 
 -- the place of a number once it is among the signatures
-pub position-with_number : (n f : ℕ) (ss : List SignatureLists) → position_or_len (λ s. nat_eq n s.number) (with_number ss n f) ≡ position_or_len (λ s. nat_eq n s.number) ss
+pub position-with_number : (n f : ℕ) (ss : List SignatureView) → position_or_len (λ s. nat_eq n s.number) (with_number ss n f) ≡ position_or_len (λ s. nat_eq n s.number) ss
 position-with_number n f ss = elim (cases_Bool (list_any (λ s. nat_eq n s.number) ss)) [
   | inl t ↦ rw t refl
   | inr none ↦ rw none (let last = position-not_any (λ s. nat_eq n s.number) ss none in
@@ -111,19 +111,19 @@ position-with_number n f ss = elim (cases_Bool (list_any (λ s. nat_eq n s.numbe
       ∙ rw (eq-eqb (position_or_len (λ s. nat_eq n s.number) ss) (length ss) last, eq-eqb n n refl) (omega arith))
 ]
 
-pub within-with_number : (n f : ℕ) (ss : List SignatureLists) → position_or_len (λ s. nat_eq n s.number) ss < length (with_number ss n f)
+pub within-with_number : (n f : ℕ) (ss : List SignatureView) → position_or_len (λ s. nat_eq n s.number) ss < length (with_number ss n f)
 within-with_number n f ss = elim (cases_Bool (list_any (λ s. nat_eq n s.number) ss)) [
   | inl t ↦ rw t (position-any (λ s. nat_eq n s.number) ss t)
-  | inr none ↦ rw none (let last = position-not_any (λ s. nat_eq n s.number) ss none in omega (arith, length-append {A = SignatureLists}))
+  | inr none ↦ rw none (let last = position-not_any (λ s. nat_eq n s.number) ss none in omega (arith, length-append {A = SignatureView}))
 ]
 
-pub numbers-with_number : (n f : ℕ) (ss : List SignatureLists) → map (λ s. s.number) (with_number ss n f) ≡ insert_key nat_eq (map (λ s. s.number) ss) n
+pub numbers-with_number : (n f : ℕ) (ss : List SignatureView) → map (λ s. s.number) (with_number ss n f) ≡ insert_key nat_eq (map (λ s. s.number) ss) n
 numbers-with_number n f ss = elim (cases_Bool (list_any (λ s. nat_eq n s.number) ss)) [
   | inl t ↦ rw (any-numbers, t) refl
   | inr none ↦ rw (any-numbers, none) (map-append _ ss _)
 ]
 
-pub grown-by : (n : ℕ) (sequence : PlacedExpr) (ss : List SignatureLists) (i : ℕ) (s v : SignatureLists) → position_or_len (λ s. nat_eq n s.number) ss ≡ i → i < length ss → s ≡ get_or ss i s
+pub grown-by : (n : ℕ) (sequence : SequenceView) (ss : List SignatureView) (i : ℕ) (s v : SignatureView) → position_or_len (λ s. nat_eq n s.number) ss ≡ i → i < length ss → s ≡ get_or ss i s
     → v ≡ record s { sequences = s.sequences ++ sequence ∷ [] } → slice_set ss i v ≡ grown n sequence ss
 grown-by n sequence ss i s v at lt is e = rw (e, ← at) (grown-at n sequence ss s (rw at lt) (rw at is))
 
@@ -167,24 +167,24 @@ any-within p xs lt = elim (cases_Bool (list_any p xs)) [
   | inr f ↦ absurd (let last = position-not_any p xs f in omega arith)
 ]
 
-pub with_row-is : (t : TableLists) (row : Row) (fs : List Puid) (ss : List SignatureLists)
+pub with_row-is : (t : TableView) (row : Row) (fs : List Puid) (ss : List SignatureView)
     → fs ≡ insert_key puid_eq t.formats row.puid
     → ss ≡ grown row.number row.sequence (with_number t.signatures row.number (position_or_len (puid_eq row.puid) t.formats))
-    → (let new : TableLists = record { formats = fs; signatures = ss; priorities = t.priorities } in new ≡ with_row t row)
+    → (let new : TableView = record { formats = fs; signatures = ss; priorities = t.priorities } in new ≡ with_row t row)
 unfolding with_row
 with_row-is t row fs ss formats signatures = rw (formats, signatures) refl
 
 -- the numbers with the row
-pub numbers-with_row : (n f : ℕ) (sequence : PlacedExpr) (ks js : List ℕ) (ss vs : List SignatureLists) → ks ≡ map (λ s. s.number) ss → js ≡ insert_key nat_eq ks n → vs ≡ grown n sequence (with_number ss n f) → js ≡ map (λ s. s.number) vs
+pub numbers-with_row : (n f : ℕ) (sequence : SequenceView) (ks js : List ℕ) (ss vs : List SignatureView) → ks ≡ map (λ s. s.number) ss → js ≡ insert_key nat_eq ks n → vs ≡ grown n sequence (with_number ss n f) → js ≡ map (λ s. s.number) vs
 numbers-with_row n f sequence ks js ss vs numbers added grew =
     added ∙ ap (λ l. insert_key nat_eq l n) numbers ∙ sym (ap (λ l. map (λ s. s.number) l) grew ∙ numbers-grown n sequence (with_number ss n f) ∙ numbers-with_number n f ss)
 
 -- where the number is among the signatures
-pub place-of : (n f place : ℕ) (ks : List ℕ) (ss vs : List SignatureLists) → ks ≡ map (λ s. s.number) ss → place ≡ position_or_len (nat_eq n) ks → vs ≡ with_number ss n f → position_or_len (λ s. nat_eq n s.number) vs ≡ place
+pub place-of : (n f place : ℕ) (ks : List ℕ) (ss vs : List SignatureView) → ks ≡ map (λ s. s.number) ss → place ≡ position_or_len (nat_eq n) ks → vs ≡ with_number ss n f → position_or_len (λ s. nat_eq n s.number) vs ≡ place
 place-of n f place ks ss vs numbers at enrolled =
     rw enrolled (position-with_number n f ss ∙ sym (position-numbers n ss) ∙ ap (λ l. position_or_len (nat_eq n) l) (sym numbers) ∙ sym at)
 
-pub place-within : (n f place : ℕ) (ks : List ℕ) (ss vs : List SignatureLists) → ks ≡ map (λ s. s.number) ss → place ≡ position_or_len (nat_eq n) ks → vs ≡ with_number ss n f → place < length vs
+pub place-within : (n f place : ℕ) (ks : List ℕ) (ss vs : List SignatureView) → ks ≡ map (λ s. s.number) ss → place ≡ position_or_len (nat_eq n) ks → vs ≡ with_number ss n f → place < length vs
 place-within n f place ks ss vs numbers at enrolled =
     rw (enrolled, at, numbers, position-numbers n ss) (within-with_number n f ss)
 
@@ -212,19 +212,19 @@ not_found p xs h = elim (cases_Bool (nat_lt (position_or_len p xs) (length xs)))
   | inr f ↦ search (rules, tests)
 ]
 
-length-numbers : (ss : List SignatureLists) → length (map (λ s. s.number) ss) ≡ length ss
+length-numbers : (ss : List SignatureView) → length (map (λ s. s.number) ss) ≡ length ss
 length-numbers [] = refl
 length-numbers (s ∷ ss) = ap (λ k. suc k) (length-numbers ss)
 
 -- the fault of a row, where its number is among the signatures or not
-pub fault_in-new : (t : TableLists) (n : ℕ) (row : Row) (ks : List ℕ) → ks ≡ map (λ s. s.number) t.signatures → position (nat_eq row.number) ks ≡ None → fault_in t n row ≡ fault_at None t n row
+pub fault_in-new : (t : TableView) (n : ℕ) (row : Row) (ks : List ℕ) → ks ≡ map (λ s. s.number) t.signatures → position (nat_eq row.number) ks ≡ None → fault_in t n row ≡ fault_at None t n row
 unfolding fault_in
 fault_in-new t n row ks numbers h =
     let past = not_found (nat_eq row.number) (map (λ s. s.number) t.signatures) (rw numbers at h) in
     let beyond : length t.signatures ≤ position_or_len (λ s. nat_eq row.number s.number) t.signatures = rw (length-numbers, position-numbers row.number t.signatures) at past in
     ap (λ o. fault_at o t n row) (find-none (λ s. nat_eq row.number s.number) t.signatures beyond)
 
-pub fault_in-found : (t : TableLists) (n : ℕ) (row : Row) (ks : List ℕ) (i : ℕ) (s : SignatureLists) → ks ≡ map (λ s. s.number) t.signatures → position (nat_eq row.number) ks ≡ Some i → s ≡ get_or t.signatures i s → fault_in t n row ≡ fault_at (Some s) t n row
+pub fault_in-found : (t : TableView) (n : ℕ) (row : Row) (ks : List ℕ) (i : ℕ) (s : SignatureView) → ks ≡ map (λ s. s.number) t.signatures → position (nat_eq row.number) ks ≡ Some i → s ≡ get_or t.signatures i s → fault_in t n row ≡ fault_at (Some s) t n row
 unfolding fault_in
 fault_in-found t n row ks i s numbers h is =
     let at = found-at (nat_eq row.number) (map (λ s. s.number) t.signatures) i (rw numbers at h) in

@@ -12,7 +12,7 @@ use Rattle.sig_table.specs.declared.puid.Registry.{Registry}
 use Rattle.sig_table.specs.declared.puid.Registry.TheVariants.{Fmt, XFmt}
 use Rattle.sig_table.specs.declared.row.Row.{Row}
 use Rattle.sig_table.specs.Gathered.{first_format, firsts, formats_of, gathered, numbers_of, rows_of, signature_of}
-use Rattle.sig_table.specs.Lists.{PlacedExpr, SignatureLists}
+use Rattle.sig_table.specs.Views.{SequenceView, SignatureView}
 use Rattle.sig_table.specs.Loading.{grown, with_number, with_row}
 use Rattle.sig_table.specs.Puids.{puid_eq}
 use Rattle.sig_table.proofs.DraftLemmas.{any-numbers, position-not_any}
@@ -240,7 +240,7 @@ signatures-grow rows row (m ∷ ms) once there h = elim (cases_Bool (nat_eq row.
 ]
 
 -- a signature that is last grows where no other has its number
-grown-last : (n : ℕ) (sequence : PlacedExpr) (ss : List SignatureLists) (s : SignatureLists) → list_any (λ x. nat_eq n x.number) ss ≡ false → nat_eq n s.number ≡ true
+grown-last : (n : ℕ) (sequence : SequenceView) (ss : List SignatureView) (s : SignatureView) → list_any (λ x. nat_eq n x.number) ss ≡ false → nat_eq n s.number ≡ true
     → grown n sequence (ss ++ s ∷ []) ≡ ss ++ record s { sequences = s.sequences ++ sequence ∷ [] } ∷ []
 grown-last n sequence [] s none at = rw at refl
 grown-last n sequence (x ∷ xs) s none at = elim (cases_Bool (nat_eq n x.number)) [

@@ -9,7 +9,7 @@ use Rattle.indexmap.specs.IndexSet.{insert_key}
 use Rattle.sig_table.specs.declared.puid.Puid.{Puid}
 use Rattle.sig_table.specs.declared.puid.Registry.TheVariants.{Fmt, XFmt}
 use Rattle.sig_table.specs.declared.row.Row.{Row}
-use Rattle.sig_table.specs.Lists.{SignatureLists, TableLists}
+use Rattle.sig_table.specs.Views.{SignatureView, TableView}
 use Rattle.sig_table.specs.Loading.{fault_at, fault_in, grown, with_number}
 use Rattle.sig_table.specs.Puids.{puid_eq}
 use Rattle.sig_table.specs.Rows.{IsRow}
@@ -20,12 +20,12 @@ use Rattle.sig_table.proofs.PriorityLemmas.{no_priorities}
 use Rattle.sig_table.proofs.TableLemmas.{All-grown, AllDifferent-insert_key, AllDifferent-push, FormatsRise-push, IsSignature-first, IsSignature-more, IsSignature-wider, formats-grown, grown-new, not_contained}
 
 -- a row without fault, whose signature is there
-pub record FitsIn (t : TableLists) (row : Row) (s : SignatureLists) : Type 0 where
+pub record FitsIn (t : TableView) (row : Row) (s : SignatureView) : Type 0 where
   pub same : position_or_len (puid_eq row.puid) t.formats ≡ s.format
   pub room : length s.sequences < 8
   pub slots : slot_count row.sequence ≤ 65535
 
-pub fits_in : (t : TableLists) (row : Row) (n : ℕ) (s : SignatureLists) → fault_at (Some s) t n row ≡ None → FitsIn t row s
+pub fits_in : (t : TableView) (row : Row) (n : ℕ) (s : SignatureView) → fault_at (Some s) t n row ≡ None → FitsIn t row s
 fits_in t row n s fine = elim (cases_Bool (nat_eq (position_or_len (puid_eq row.puid) t.formats) s.format)) [
   | inl same ↦ elim (cases_Bool (nat_le 8 (length s.sequences))) [
     | inl full ↦ absurd (cc (rw (same, full) at fine))
@@ -38,7 +38,7 @@ fits_in t row n s fine = elim (cases_Bool (nat_eq (position_or_len (puid_eq row.
 ]
 
 -- and one whose signature is not there
-pub record FitsBeside (t : TableLists) (row : Row) : Type 0 where
+pub record FitsBeside (t : TableView) (row : Row) : Type 0 where
   pub slots : slot_count row.sequence ≤ 65535
   pub formats : (nat_le 1000 (length t.formats) && not (list_any (puid_eq row.puid) t.formats)) ≡ false
   pub signatures : length t.signatures < 4000
@@ -52,7 +52,7 @@ room_for fs puid within room = elim (cases_Bool (list_any (puid_eq puid) fs)) [
   ]
 ]
 
-pub fits_beside : (t : TableLists) (row : Row) (n : ℕ) → fault_at None t n row ≡ None → FitsBeside t row
+pub fits_beside : (t : TableView) (row : Row) (n : ℕ) → fault_at None t n row ≡ None → FitsBeside t row
 fits_beside t row n fine = elim (cases_Bool (nat_lt 65535 (slot_count row.sequence))) [
   | inl many ↦ absurd (cc (rw many at fine))
   | inr few ↦ elim (cases_Bool (nat_le 1000 (length t.formats) && not (list_any (puid_eq row.puid) t.formats))) [
@@ -68,16 +68,16 @@ fits_beside t row n fine = elim (cases_Bool (nat_lt 65535 (slot_count row.sequen
 judged : (row : Row) → IsRow row → slot_count row.sequence ≤ 65535 → IsSequence row.sequence
 judged row read slots = record { offsets = read.offsets; expression = read.expression; slots = slots }
 
-judged_at : (t : TableLists) (row : Row) (n : ℕ) → IsRow row → (o : Option SignatureLists) → fault_at o t n row ≡ None → IsSequence row.sequence
+judged_at : (t : TableView) (row : Row) (n : ℕ) → IsRow row → (o : Option SignatureView) → fault_at o t n row ≡ None → IsSequence row.sequence
 judged_at t row n read None fine = judged row read (fits_beside t row n fine).slots
 judged_at t row n read (Some s) fine = judged row read (fits_in t row n s fine).slots
 
-pub IsSequence-judged : (t : TableLists) (row : Row) (n : ℕ) → IsRow row → fault_in t n row ≡ None → IsSequence row.sequence
+pub IsSequence-judged : (t : TableView) (row : Row) (n : ℕ) → IsRow row → fault_in t n row ≡ None → IsSequence row.sequence
 unfolding fault_in
 IsSequence-judged t row n read fine = judged_at t row n read (find (λ s. nat_eq row.number s.number) t.signatures) fine
 
 -- the limits of a table in which each format has a signature
-pub record IsWhole (t : TableLists) : Type 0 where
+pub record IsWhole (t : TableView) : Type 0 where
   pub limits : IsTable t
   pub has_all : HasAllSignatures t
 
@@ -85,14 +85,14 @@ pub puid_eq-itself : (p : Puid) → puid_eq p p ≡ true
 puid_eq-itself p = elim p.registry as (λ r. puid_eq (record p { registry = r }) (record p { registry = r }) ≡ true) [ Fmt ↦ eq-eqb p.number p.number refl | XFmt ↦ eq-eqb p.number p.number refl ]
 
 -- the lists with a row more
-abbrev formats_with : TableLists → Row → List Puid
+abbrev formats_with : TableView → Row → List Puid
 formats_with t row = insert_key puid_eq t.formats row.puid
 
-abbrev signatures_with : TableLists → Row → List SignatureLists
+abbrev signatures_with : TableView → Row → List SignatureView
 signatures_with t row = grown row.number row.sequence (with_number t.signatures row.number (position_or_len (puid_eq row.puid) t.formats))
 
 -- a sequence more of a signature that is there
-whole_in : (t : TableLists) (row : Row) (s : SignatureLists) → IsWhole t → IsRow row → find (λ s. nat_eq row.number s.number) t.signatures ≡ Some s → FitsIn t row s
+whole_in : (t : TableView) (row : Row) (s : SignatureView) → IsWhole t → IsRow row → find (λ s. nat_eq row.number s.number) t.signatures ≡ Some s → FitsIn t row s
     → IsWhole (record { formats = formats_with t row; signatures = signatures_with t row; priorities = [] })
 whole_in t row s whole read found fits =
     let table = whole.limits in
@@ -115,7 +115,7 @@ whole_in t row s whole read found fits =
     })
 
 -- the format of a new signature was met or is above all
-next_format : (t : TableLists) (row : Row) → IsWhole t → Contains (map (λ s. s.format) t.signatures) (position_or_len (puid_eq row.puid) t.formats) ⊎ All (λ g. g < position_or_len (puid_eq row.puid) t.formats) (map (λ s. s.format) t.signatures)
+next_format : (t : TableView) (row : Row) → IsWhole t → Contains (map (λ s. s.format) t.signatures) (position_or_len (puid_eq row.puid) t.formats) ⊎ All (λ g. g < position_or_len (puid_eq row.puid) t.formats) (map (λ s. s.format) t.signatures)
 next_format t row whole = elim (cases_Bool (list_any (puid_eq row.puid) t.formats)) [
   | inl there ↦ inl (whole.has_all _ (position-any (puid_eq row.puid) t.formats there))
   | inr new ↦
@@ -124,7 +124,7 @@ next_format t row whole = elim (cases_Bool (list_any (puid_eq row.puid) t.format
 ]
 
 -- a format of the lists is one of those before, or that of the row
-format_before : (t : TableLists) (row : Row) (g : ℕ) → g < length (formats_with t row) → (g < length t.formats) ⊎ (position_or_len (puid_eq row.puid) t.formats ≡ g)
+format_before : (t : TableView) (row : Row) (g : ℕ) → g < length (formats_with t row) → (g < length t.formats) ⊎ (position_or_len (puid_eq row.puid) t.formats ≡ g)
 format_before t row g lt = elim (cases_Bool (list_any (puid_eq row.puid) t.formats)) [
   | inl there ↦ inl (rw there at lt)
   | inr new ↦
@@ -134,21 +134,21 @@ format_before t row g lt = elim (cases_Bool (list_any (puid_eq row.puid) t.forma
       elim (cases_lt g (length t.formats)) [ inl before ↦ inl before | inr past ↦ inr (omega arith) ]
 ]
 
-puids_with : (t : TableLists) (row : Row) → IsTable t → IsRow row → All (λ p. IsNumber p.number) (formats_with t row)
+puids_with : (t : TableView) (row : Row) → IsTable t → IsRow row → All (λ p. IsNumber p.number) (formats_with t row)
 puids_with t row table read = elim (cases_Bool (list_any (puid_eq row.puid) t.formats)) [
   | inl there ↦ rw there table.puids
   | inr new ↦ rw new (All-push (λ p. IsNumber p.number) t.formats row.puid table.puids read.puid)
 ]
 
 -- a new signature
-whole_beside : (t : TableLists) (row : Row) → IsWhole t → IsRow row → find (λ s. nat_eq row.number s.number) t.signatures ≡ None → FitsBeside t row
+whole_beside : (t : TableView) (row : Row) → IsWhole t → IsRow row → find (λ s. nat_eq row.number s.number) t.signatures ≡ None → FitsBeside t row
     → IsWhole (record { formats = formats_with t row; signatures = signatures_with t row; priorities = [] })
 whole_beside t row whole read found fits =
     let table = whole.limits in
-    let ss : List SignatureLists = t.signatures in
+    let ss : List SignatureView = t.signatures in
     let f : ℕ = position_or_len (puid_eq row.puid) t.formats in
     let k : ℕ = length (formats_with t row) in
-    let first : SignatureLists = record { format = f; number = row.number; sequences = row.sequence ∷ [] } in
+    let first : SignatureView = record { format = f; number = row.number; sequences = row.sequence ∷ [] } in
     let none : list_any (λ s. nat_eq row.number s.number) ss ≡ false = any-none (λ s. nat_eq row.number s.number) ss found in
     let grew : signatures_with t row ≡ ss ++ first ∷ [] = rw none (grown-new row.number row.sequence ss (record { format = f; number = row.number; sequences = [] }) none (eq-eqb row.number row.number refl)) in
     let numbers : map (λ s. s.number) (ss ++ first ∷ []) ≡ map (λ s. s.number) ss ++ row.number ∷ [] = map_push (λ s. s.number) ss first in
@@ -173,19 +173,19 @@ whole_beside t row whole read found fits =
       ]);
     })
 
-whole_at : (t : TableLists) (row : Row) (n : ℕ) → IsWhole t → IsRow row → (o : Option SignatureLists) → find (λ s. nat_eq row.number s.number) t.signatures ≡ o → fault_at o t n row ≡ None
+whole_at : (t : TableView) (row : Row) (n : ℕ) → IsWhole t → IsRow row → (o : Option SignatureView) → find (λ s. nat_eq row.number s.number) t.signatures ≡ o → fault_at o t n row ≡ None
     → IsWhole (record { formats = formats_with t row; signatures = signatures_with t row; priorities = [] })
 whole_at t row n whole read None found fine = whole_beside t row whole read found (fits_beside t row n fine)
 whole_at t row n whole read (Some s) found fine = whole_in t row s whole read found (fits_in t row n s fine)
 
 -- a row without fault keeps the limits
-pub IsWhole-with_row : (t : TableLists) (row : Row) (n : ℕ) (fs : List Puid) (ss : List SignatureLists) → IsWhole t → IsRow row → fault_in t n row ≡ None
+pub IsWhole-with_row : (t : TableView) (row : Row) (n : ℕ) (fs : List Puid) (ss : List SignatureView) → IsWhole t → IsRow row → fault_in t n row ≡ None
     → fs ≡ formats_with t row → ss ≡ signatures_with t row → IsWhole (record { formats = fs; signatures = ss; priorities = [] })
 unfolding fault_in
 IsWhole-with_row t row n fs ss whole read fine formats signatures = rw (formats, signatures) (whole_at t row n whole read _ refl fine)
 
 -- and no row keeps them
-pub IsWhole-none : (fs : List Puid) (ss : List SignatureLists) → fs ≡ [] → ss ≡ [] → IsWhole (record { formats = fs; signatures = ss; priorities = [] })
+pub IsWhole-none : (fs : List Puid) (ss : List SignatureView) → fs ≡ [] → ss ≡ [] → IsWhole (record { formats = fs; signatures = ss; priorities = [] })
 IsWhole-none fs ss formats signatures = rw (formats, signatures) (record {
   limits = record {
     formats = omega arith;

@@ -12,7 +12,7 @@ use Rattle.sig_expr.specs.declared.item.Atom.TheVariants as atom
 use Rattle.sig_expr.specs.declared.item.Item.{Item}
 use Rattle.sig_expr.specs.declared.item.Item.TheVariants as item
 use Rattle.sig_table.specs.Canonical.{joined, line_text, name_of, named, pair_record, priority_csv, priority_records, records_of_signature, sequence_record, signature_csv, signature_records}
-use Rattle.sig_table.specs.Lists.{PlacedExpr, SignatureLists, TableLists}
+use Rattle.sig_table.specs.Views.{SequenceView, SignatureView, TableView}
 use Rattle.sig_table.specs.Puids.{puid_text, registry_text}
 use Rattle.sig_table.specs.declared.position.Position.{Position}
 use Rattle.sig_table.specs.declared.position.Position.TheVariants as position
@@ -225,7 +225,7 @@ stand-flat_map : {X : Type 0} (f : X → List (List (List ℕ))) (xs : List X) �
 stand-flat_map f [] h = tt
 stand-flat_map f (x ∷ xs) h = stand-append (f x) (flat_map f xs) (h x) (stand-flat_map f xs h)
 
-sequence_stands : (name : List ℕ) (number : ℕ) (s : PlacedExpr) → Plain name → line_text (sequence_record name number s) ≡ row_text default_writer (sequence_record name number s)
+sequence_stands : (name : List ℕ) (number : ℕ) (s : SequenceView) → Plain name → line_text (sequence_record name number s) ≡ row_text default_writer (sequence_record name number s)
 sequence_stands name number s plain = go s.position
   where
     rest : (word offset max : List ℕ) → Plain word → Plain offset → Plain max → line_text (name ∷ decimal number ∷ word ∷ offset ∷ max ∷ canon s.items ∷ []) ≡ row_text default_writer (name ∷ decimal number ∷ word ∷ offset ∷ max ∷ canon s.items ∷ [])
@@ -236,21 +236,21 @@ sequence_stands name number s plain = go s.position
     go (position.Eof min max) = rest (codes "EOF") (decimal min) (decimal max) refl (plain-decimal min) (plain-decimal max)
     go position.Variable = rest (codes "Variable") [] [] refl refl refl
 
-signature_stands : (formats : List Puid) (s : SignatureLists) → Stand (records_of_signature formats s)
+signature_stands : (formats : List Puid) (s : SignatureView) → Stand (records_of_signature formats s)
 signature_stands formats s = stand-map (sequence_record (name_of formats s.format) s.number) s.sequences (λ sequence. sequence_stands (name_of formats s.format) s.number sequence (plain-name_of formats s.format))
 
 pair_stands : (formats : List Puid) (pair : ℕ × ℕ) → line_text (pair_record formats pair) ≡ row_text default_writer (pair_record formats pair)
 pair_stands formats pair = sym (plain_row (name_of formats pair.0) (name_of formats pair.1) [] (plain-name_of formats pair.0, (plain-name_of formats pair.1, tt)))
 
 -- the canonical files as `csv` writes their records
-pub signature_csv-rows : (t : TableLists) → signature_csv t ≡ flat_map (row_text default_writer) (signature_records t)
+pub signature_csv-rows : (t : TableView) → signature_csv t ≡ flat_map (row_text default_writer) (signature_records t)
 unfolding signature_csv
 signature_csv-rows t = stand_text (signature_records t) (header, stand-flat_map (records_of_signature t.formats) t.signatures (signature_stands t.formats))
   where
     header : line_text (codes "puid" ∷ codes "signature" ∷ codes "position" ∷ codes "offset" ∷ codes "max_offset" ∷ codes "expression" ∷ []) ≡ row_text default_writer (codes "puid" ∷ codes "signature" ∷ codes "position" ∷ codes "offset" ∷ codes "max_offset" ∷ codes "expression" ∷ [])
     header = sym (plain_row (codes "puid") (codes "signature") (codes "position" ∷ codes "offset" ∷ codes "max_offset" ∷ codes "expression" ∷ []) (refl, (refl, (refl, (refl, (refl, (refl, tt)))))))
 
-pub priority_csv-rows : (t : TableLists) → priority_csv t ≡ flat_map (row_text default_writer) (priority_records t)
+pub priority_csv-rows : (t : TableView) → priority_csv t ≡ flat_map (row_text default_writer) (priority_records t)
 unfolding priority_csv
 priority_csv-rows t = stand_text (priority_records t) (header, stand-map (pair_record t.formats) t.priorities (pair_stands t.formats))
   where

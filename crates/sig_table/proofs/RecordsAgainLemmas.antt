@@ -9,7 +9,7 @@ use Rattle.csv.specs.declared.parser.State.TheVariants as st
 use Rattle.sig_table.proofs.PlainLemmas.{priority_csv-rows, signature_csv-rows}
 use Rattle.sig_table.proofs.RecordLemmas.{none_left, records_of-from}
 use Rattle.sig_table.specs.Canonical.{pair_record, priority_csv, priority_header, priority_records, records_of_signature, sequence_record, signature_csv, signature_header, signature_records}
-use Rattle.sig_table.specs.Lists.{PlacedExpr, SignatureLists, TableLists}
+use Rattle.sig_table.specs.Views.{SequenceView, SignatureView, TableView}
 use Rattle.sig_table.specs.Loading.{records_of}
 use Rattle.sig_table.specs.declared.puid.Puid.{Puid}
 
@@ -37,11 +37,11 @@ AreSome-append : (xs ys : List (List (List ℕ))) → AreSome xs → AreSome ys 
 AreSome-append [] ys all more = more
 AreSome-append (x ∷ xs) ys all more = (all.0, AreSome-append xs ys all.1 more)
 
-some_of_signature : (name : List ℕ) (number : ℕ) (sequences : List PlacedExpr) → AreSome (map (sequence_record name number) sequences)
+some_of_signature : (name : List ℕ) (number : ℕ) (sequences : List SequenceView) → AreSome (map (sequence_record name number) sequences)
 some_of_signature name number [] = tt
 some_of_signature name number (s ∷ later) = (refl, some_of_signature name number later)
 
-some_of_signatures : (formats : List Puid) (signatures : List SignatureLists) → AreSome (flat_map (records_of_signature formats) signatures)
+some_of_signatures : (formats : List Puid) (signatures : List SignatureView) → AreSome (flat_map (records_of_signature formats) signatures)
 some_of_signatures formats [] = tt
 some_of_signatures formats (s ∷ later) = AreSome-append (records_of_signature formats s) (flat_map (records_of_signature formats) later) (some_of_signature _ s.number s.sequences) (some_of_signatures formats later)
 
@@ -59,10 +59,10 @@ unfolding strip_bom fields_text is_blank
 plain-priorities rows = refl
 
 -- what is read of the canonical files
-pub records_of-signature_csv : (t : TableLists) → records_of (signature_csv t) ≡ signature_records t
+pub records_of-signature_csv : (t : TableView) → records_of (signature_csv t) ≡ signature_records t
 records_of-signature_csv t =
     ap records_of (signature_csv-rows t) ∙ records_of-written (signature_records t) (refl, some_of_signatures t.formats t.signatures) (plain-signatures (flat_map (records_of_signature t.formats) t.signatures))
 
-pub records_of-priority_csv : (t : TableLists) → records_of (priority_csv t) ≡ priority_records t
+pub records_of-priority_csv : (t : TableView) → records_of (priority_csv t) ≡ priority_records t
 records_of-priority_csv t =
     ap records_of (priority_csv-rows t) ∙ records_of-written (priority_records t) (refl, some_of_pairs t.formats t.priorities) (plain-priorities (map (pair_record t.formats) t.priorities))

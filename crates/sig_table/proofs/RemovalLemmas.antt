@@ -11,7 +11,7 @@ use Rattle.std.proofs.lemmas.List.Sums.{count_by-le-length, fails_before_first, 
 use Rattle.sig_table.specs.declared.puid.Puid.{Puid}
 use Rattle.sig_table.specs.declared.puid.Registry.TheVariants.{Fmt, XFmt}
 use Rattle.sig_table.proofs.LimitLemmas.{puid_eq-itself}
-use Rattle.sig_table.specs.Lists.{SignatureLists, TableLists}
+use Rattle.sig_table.specs.Views.{SignatureView, TableView}
 use Rattle.sig_table.specs.Puids.{puid_eq}
 use Rattle.sig_table.specs.Removal.{place_of, without}
 use Rattle.sig_table.specs.Tables.{AllDifferent, FormatsRise, IsSignature, IsTable}
@@ -88,9 +88,9 @@ map-filter f q (x ∷ xs) = elim (cases_Bool (q (f x))) [
 ]
 
 -- a table stays a table
-pub IsTable-without : (t : TableLists) (format : ℕ) → IsTable t → IsTable (without t format)
+pub IsTable-without : (t : TableView) (format : ℕ) → IsTable t → IsTable (without t format)
 IsTable-without t format table =
-    let test : SignatureLists → Bool = λ s. not (nat_eq s.format format) in
+    let test : SignatureView → Bool = λ s. not (nat_eq s.format format) in
     let signatures = table.signatures in
     record {
       formats = table.formats;
@@ -98,8 +98,8 @@ IsTable-without t format table =
       puids = table.puids;
       different_puids = table.different_puids;
       each = All-filter test (IsSignature (length t.formats)) t.signatures table.each;
-      different_numbers = AllDifferent-filter (λ (s : SignatureLists). s.number) test t.signatures table.different_numbers;
-      in_order = rw (map-filter (λ (s : SignatureLists). s.format) (λ n. not (nat_eq n format)) t.signatures) (FormatsRise-filter (λ n. not (nat_eq n format)) [] (map (λ s. s.format) t.signatures) table.in_order);
+      different_numbers = AllDifferent-filter (λ (s : SignatureView). s.number) test t.signatures table.different_numbers;
+      in_order = rw (map-filter (λ (s : SignatureView). s.format) (λ n. not (nat_eq n format)) t.signatures) (FormatsRise-filter (λ n. not (nat_eq n format)) [] (map (λ s. s.format) t.signatures) table.in_order);
       priorities = table.priorities;
     }
 
@@ -111,9 +111,9 @@ position-place p xs i found = elim (cases_Bool (nat_lt (position_or_len p xs) (l
 ]
 
 -- the table with the signatures that are kept, where the format stands at the place
-pub without-is : (t : TableLists) (kept : List SignatureLists) (puid : Puid) (place : ℕ) → position (λ p. puid_eq p puid) t.formats ≡ Some place → kept ≡ filter (λ s. not (nat_eq s.format place)) t.signatures
+pub without-is : (t : TableView) (kept : List SignatureView) (puid : Puid) (place : ℕ) → position (λ p. puid_eq p puid) t.formats ≡ Some place → kept ≡ filter (λ s. not (nat_eq s.format place)) t.signatures
     → record t { signatures = kept } ≡ without t (place_of t.formats puid)
-without-is t kept puid place found is = rw (position-place (λ p. puid_eq p puid) t.formats place found) (ap (λ (l : List SignatureLists). record t { signatures = l }) is)
+without-is t kept puid place found is = rw (position-place (λ p. puid_eq p puid) t.formats place found) (ap (λ (l : List SignatureView). record t { signatures = l }) is)
 
 -- names that the test takes for one are one
 puid_eq-same : (a b : Puid) → puid_eq a b ≡ true → a ≡ b

@@ -14,7 +14,7 @@ use Rattle.sig_expr.specs.declared.item.Item.{Item}
 use Rattle.sig_table.proofs.NumberLemmas.{by_test}
 use Rattle.sig_table.proofs.PuidLemmas.{positive_of-decimal, puid_of-puid_text}
 use Rattle.sig_table.specs.Canonical.{place_fields, sequence_record}
-use Rattle.sig_table.specs.Lists.{PlacedExpr}
+use Rattle.sig_table.specs.Views.{SequenceView}
 use Rattle.sig_table.specs.Numbers.{number_of}
 use Rattle.sig_table.specs.Puids.{puid_text}
 use Rattle.sig_table.specs.Rows.{offset_of, offsets_of, position_of, row_of}
@@ -67,7 +67,7 @@ pub expr_of-canon : (items : List Item) → IsExpression items → expr_of (cano
 expr_of-canon items h = read_text items (canon items) h.in_profile h.spells
 
 -- the row of a sequence
-abbrev pub row_for : Puid → ℕ → PlacedExpr → Row
+abbrev pub row_for : Puid → ℕ → SequenceView → Row
 row_for puid number sequence = record { puid = puid; number = number; sequence = sequence }
 
 again : (row : ℕ) (puid : Puid) (number : ℕ) (p : Position) (items : List Item) → IsNumber puid.number → IsNumber number → InOrder p → IsExpression items
@@ -81,6 +81,6 @@ again row puid number position.Variable items is_puid is_number order h =
     rw (puid_of-puid_text puid.registry puid.number is_puid.0 is_puid.1, positive_of-decimal number is_number.0 is_number.1, expr_of-canon items h) refl
 
 -- the record of a sequence is read as its row
-pub row_of-sequence_record : (row : ℕ) (puid : Puid) (number : ℕ) (s : PlacedExpr) → IsNumber puid.number → IsNumber number → IsSequence s
+pub row_of-sequence_record : (row : ℕ) (puid : Puid) (number : ℕ) (s : SequenceView) → IsNumber puid.number → IsNumber number → IsSequence s
     → row_of row (sequence_record (puid_text puid) number s) ≡ Ok (row_for puid number s)
 row_of-sequence_record row puid number s is_puid is_number h = again row puid number s.position s.items is_puid is_number h.offsets h.expression

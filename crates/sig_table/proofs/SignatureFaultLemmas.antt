@@ -13,7 +13,7 @@ use Rattle.sig_table.specs.declared.error.TableError.TheVariants as error
 use Rattle.sig_table.specs.declared.error.TableFile.TheVariants.{Signatures}
 use Rattle.sig_table.specs.declared.position.Position.TheVariants as position
 use Rattle.sig_table.specs.declared.row.Row.{Row}
-use Rattle.sig_table.specs.Lists.{SignatureLists, TableLists}
+use Rattle.sig_table.specs.Views.{SignatureView, TableView}
 use Rattle.sig_table.specs.Loading.{empty_table, fault_at, fault_in, is_full, is_of_signatures, is_signature_header, signature_in, signatures_of, table_from, unless, with_row}
 use Rattle.sig_table.specs.Numbers.{positive_of}
 use Rattle.sig_table.specs.Puids.{puid_eq, puid_of}
@@ -71,7 +71,7 @@ row_of-of n fields = elim (cases_Bool (length fields == 6)) [
 ]
 
 -- a fault of a row is one of the signature file
-fault_at-of : (o : Option SignatureLists) (t : TableLists) (n : ℕ) (row : Row) → IfSome (fault_at o t n row) (λ e. is_of_signatures e ≡ true)
+fault_at-of : (o : Option SignatureView) (t : TableView) (n : ℕ) (row : Row) → IfSome (fault_at o t n row) (λ e. is_of_signatures e ≡ true)
 fault_at-of None t n row = elim (cases_Bool (nat_lt 65535 (slot_count row.sequence))) [
   | inl many ↦ rw many refl
   | inr few ↦ elim (cases_Bool (is_full t row.puid)) [
@@ -90,7 +90,7 @@ fault_at-of (Some s) t n row = elim (cases_Bool (position_or_len (puid_eq row.pu
   | inr other ↦ rw other refl
 ]
 
-fault_in-of : (t : TableLists) (n : ℕ) (row : Row) → IfSome (fault_in t n row) (λ e. is_of_signatures e ≡ true)
+fault_in-of : (t : TableView) (n : ℕ) (row : Row) → IfSome (fault_in t n row) (λ e. is_of_signatures e ≡ true)
 unfolding fault_in
 fault_in-of t n row = fault_at-of (signature_in t.signatures row.number) t n row
 
@@ -98,7 +98,7 @@ unless-of : {A : Type 0} (o : Option TableError) (rest : Result A TableError) �
 unless-of None rest fault later = later
 unless-of (Some e) rest fault later = fault
 
-table_from-of : (n : ℕ) (t : TableLists) (records : List (List (List ℕ))) → IsOfSignatures (table_from n t records)
+table_from-of : (n : ℕ) (t : TableView) (records : List (List (List ℕ))) → IsOfSignatures (table_from n t records)
 unfolding table_from
 table_from-of n t [] = tt
 table_from-of n t (fields ∷ later) =

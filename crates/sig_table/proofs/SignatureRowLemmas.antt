@@ -14,7 +14,7 @@ use Rattle.sig_table.specs.declared.error.TableError.TheVariants as error
 use Rattle.sig_table.specs.declared.puid.Puid.{Puid}
 use Rattle.sig_table.specs.declared.row.Row.{Row}
 use Rattle.sig_table.specs.Gathered.{AreRows, BeginsWithHeader, HasEight, HasTooManySlots, IsFaultAfter, IsFaultOf, IsFaultOfRow, IsOfTwo, IsTableOf, Write, first_format, formats_of, gathered, numbers_of, rows_of, signature_of}
-use Rattle.sig_table.specs.Lists.{SignatureLists, TableLists}
+use Rattle.sig_table.specs.Views.{SignatureView, TableView}
 use Rattle.sig_table.specs.Loading.{fault_at, fault_in, is_signature_header, signature_in, signatures_of, table_from}
 use Rattle.sig_table.specs.Puids.{puid_eq}
 use Rattle.sig_table.specs.Rows.{row_of}
@@ -60,7 +60,7 @@ first_of n (r ∷ rows) h = elim (cases_Bool (nat_eq n r.number)) [
 ]
 
 -- the signature that is found by its number
-signature_of-found : (rows : List Row) (n : ℕ) (ms : List ℕ) (s : SignatureLists) → find (λ z. nat_eq n z.number) (map (signature_of rows) ms) ≡ Some s → signature_of rows n ≡ s
+signature_of-found : (rows : List Row) (n : ℕ) (ms : List ℕ) (s : SignatureView) → find (λ z. nat_eq n z.number) (map (signature_of rows) ms) ≡ Some s → signature_of rows n ≡ s
 signature_of-found rows n [] s h = absurd (cc h)
 signature_of-found rows n (m ∷ ms) s h = elim (cases_Bool (nat_eq n m)) [
   | inl t ↦
@@ -70,13 +70,13 @@ signature_of-found rows n (m ∷ ms) s h = elim (cases_Bool (nat_eq n m)) [
 ]
 
 -- earlier rows have the row's number: the first of them names the format, and all of them give sequences
-record IsMore (done : List Row) (row : Row) (s : SignatureLists) : Type 0 where
+record IsMore (done : List Row) (row : Row) (s : SignatureView) : Type 0 where
   pub there : list_any (nat_eq row.number) (map (λ r. r.number) done) ≡ true
   pub first : FirstOf row.number done
   pub format : s.format ≡ position_or_len (puid_eq first.row.puid) (formats_of done)
   pub count : length s.sequences ≡ length (rows_of row.number done)
 
-is_more : (done : List Row) (row : Row) (s : SignatureLists) → signature_in (gathered done).signatures row.number ≡ Some s → IsMore done row s
+is_more : (done : List Row) (row : Row) (s : SignatureView) → signature_in (gathered done).signatures row.number ≡ Some s → IsMore done row s
 is_more done row s found =
     let there : list_any (nat_eq row.number) (map (λ r. r.number) done) ≡ true = sym (any-signature done row.number) ∙ any-some (λ z. nat_eq row.number z.number) (map (signature_of done) (numbers_of done)) s found in
     let first = first_of row.number done there in
@@ -92,7 +92,7 @@ is_new : (done : List Row) (row : Row) → signature_in (gathered done).signatur
 is_new done row none = sym (any-signature done row.number) ∙ any-none (λ z. nat_eq row.number z.number) (map (signature_of done) (numbers_of done)) none
 
 -- the row is of the first one's PUID where it is in its place
-same_puid : (done : List Row) (row : Row) (s : SignatureLists) (more : IsMore done row s) → position_or_len (puid_eq row.puid) (formats_of done) ≡ s.format → row.puid ≡ more.first.row.puid
+same_puid : (done : List Row) (row : Row) (s : SignatureView) (more : IsMore done row s) → position_or_len (puid_eq row.puid) (formats_of done) ≡ s.format → row.puid ≡ more.first.row.puid
 same_puid done row s more same =
     same_place row.puid more.first.row.puid (formats_of done) (any-puid_of more.first.row done more.first.among) (same ∙ more.format)
 
@@ -123,7 +123,7 @@ few_sequences-with done row are room k = elim (cases_Bool (nat_eq k row.number))
 ]
 
 -- a row without fault, of a number that is there
-more-rows : (done : List Row) (row : Row) (s : SignatureLists) → AreRows done → IsMore done row s → FitsIn (gathered done) row s → AreRows (done ++ row ∷ [])
+more-rows : (done : List Row) (row : Row) (s : SignatureView) → AreRows done → IsMore done row s → FitsIn (gathered done) row s → AreRows (done ++ row ∷ [])
 more-rows done row s are more fits =
     let one = same_puid done row s more fits.same in
     let there : list_any (puid_eq row.puid) (formats_of done) ≡ true = rw one (any-puid_of more.first.row done more.first.among) in
@@ -166,7 +166,7 @@ no_rows = record {
 }
 
 -- the fault of a row of a number that is there, in plain words
-fault-more : (done : List Row) (n : ℕ) (row : Row) (s : SignatureLists) (e : TableError) → AreRows done → IsMore done row s → fault_at (Some s) (gathered done) n row ≡ Some e → IsFaultOfRow done n row e
+fault-more : (done : List Row) (n : ℕ) (row : Row) (s : SignatureView) (e : TableError) → AreRows done → IsMore done row s → fault_at (Some s) (gathered done) n row ≡ Some e → IsFaultOfRow done n row e
 fault-more done n row s e are more h =
     let first = more.first in
     let count = more.count in
@@ -247,13 +247,13 @@ fault_of_row done n row e are h = elim (told (signature_in (gathered done).signa
 ]
 
 -- behind these rows, the records write more, and the table is that of all
-record Continues (done : List Row) (n : ℕ) (records : List (List (List ℕ))) (table : TableLists) : Type 0 where
+record Continues (done : List Row) (n : ℕ) (records : List (List (List ℕ))) (table : TableView) : Type 0 where
   pub rows : List Row
   pub write : Write n records rows
   pub are : AreRows (done ++ rows)
   pub gathers : table ≡ gathered (done ++ rows)
 
-continues : (done : List Row) (n : ℕ) (records : List (List (List ℕ))) (table : TableLists) → AreRows done → table_from n (gathered done) records ≡ Ok table → Continues done n records table
+continues : (done : List Row) (n : ℕ) (records : List (List (List ℕ))) (table : TableView) → AreRows done → table_from n (gathered done) records ≡ Ok table → Continues done n records table
 unfolding table_from
 continues done n [] table are h = record { rows = []; write = refl; are = rw (append-nil done) are; gathers = rw (append-nil done) (cc h) }
 continues done n (fields ∷ later) table are h = elim (answered (row_of n fields)) [
@@ -327,7 +327,7 @@ nothing_begins b = cc b.2
 other_begins : (header : List (List ℕ)) (records : List (List (List ℕ))) → is_signature_header header ≡ false → BeginsWithHeader (header ∷ records) → ⊥
 other_begins header records other b = let same : header ≡ b.0 = cc b.2 in cc (sym (subst (λ h. is_signature_header h ≡ true) (sym same) b.3) ∙ other)
 
-pub is_table_of : (file : List (List (List ℕ))) (table : TableLists) → signatures_of file ≡ Ok table → IsTableOf file table
+pub is_table_of : (file : List (List (List ℕ))) (table : TableView) → signatures_of file ≡ Ok table → IsTableOf file table
 unfolding signatures_of
 is_table_of [] table h = absurd (cc h)
 is_table_of (header ∷ records) table h = elim (cases_Bool (is_signature_header header)) [

@@ -13,7 +13,7 @@ use Rattle.sig_table.proofs.RowAgainLemmas.{row_for, row_of-sequence_record}
 use Rattle.sig_table.specs.Canonical.{name_of, named, priority_csv, records_of_signature, sequence_record, signature_csv, signature_header}
 use Rattle.sig_table.specs.declared.puid.Puid.{Puid}
 use Rattle.sig_table.specs.declared.row.Row.{Row}
-use Rattle.sig_table.specs.Lists.{PlacedExpr, SignatureLists, TableLists}
+use Rattle.sig_table.specs.Views.{SequenceView, SignatureView, TableView}
 use Rattle.sig_table.specs.Loading.{fault_in, grown, is_signature_header, records_of, signatures_of, table_from, table_of, with_row}
 use Rattle.sig_table.specs.Puids.{puid_text}
 use Rattle.sig_table.specs.Rows.{row_of}
@@ -21,24 +21,24 @@ use Rattle.sig_table.specs.Slots.{slot_count}
 use Rattle.sig_table.specs.Tables.{AllDifferent, HasAllSignatures, IsNumber, IsSequence, IsSignature, IsTable}
 
 -- whether a signature has the number
-abbrev is_of : ℕ → SignatureLists → Bool
+abbrev is_of : ℕ → SignatureView → Bool
 is_of number s = nat_eq number s.number
 
 -- a table of these formats and signatures, with no priority
-abbrev table_with : List Puid → List SignatureLists → TableLists
+abbrev table_with : List Puid → List SignatureView → TableView
 table_with formats signatures = record { formats = formats; signatures = signatures; priorities = [] }
 
 -- a signature
-abbrev signature : ℕ → ℕ → List PlacedExpr → SignatureLists
+abbrev signature : ℕ → ℕ → List SequenceView → SignatureView
 signature format number sequences = record { format = format; number = number; sequences = sequences }
 
 -- the number of a signature in the midst is among the numbers
-Contains-middle : (done later : List SignatureLists) (s : SignatureLists) → Contains (map (λ x. x.number) (done ++ s ∷ later)) s.number
+Contains-middle : (done later : List SignatureView) (s : SignatureView) → Contains (map (λ x. x.number) (done ++ s ∷ later)) s.number
 Contains-middle [] later s = (0, omega arith, refl)
 Contains-middle (x ∷ done) later s = Contains-there x.number (map (λ y. y.number) (done ++ s ∷ later)) s.number (Contains-middle done later s)
 
 -- where all numbers differ, no earlier signature has the number
-is_new : (done later : List SignatureLists) (s : SignatureLists) → AllDifferent (map (λ x. x.number) (done ++ s ∷ later)) → list_any (is_of s.number) done ≡ false
+is_new : (done later : List SignatureView) (s : SignatureView) → AllDifferent (map (λ x. x.number) (done ++ s ∷ later)) → list_any (is_of s.number) done ≡ false
 is_new [] later s d = refl
 is_new (x ∷ done) later s d = elim (cases_Bool (nat_eq s.number x.number)) [
   | inl t ↦ absurd (d.0 (subst (Contains (map (λ y. y.number) (done ++ s ∷ later))) (eqb-true s.number x.number t) (Contains-middle done later s)))
@@ -46,28 +46,28 @@ is_new (x ∷ done) later s d = elim (cases_Bool (nat_eq s.number x.number)) [
 ]
 
 -- a number that no signature has is not found
-found_none : (number : ℕ) (done : List SignatureLists) → list_any (is_of number) done ≡ false → find (is_of number) done ≡ None
+found_none : (number : ℕ) (done : List SignatureView) → list_any (is_of number) done ≡ false → find (is_of number) done ≡ None
 found_none number [] new = refl
 found_none number (x ∷ done) new = elim (cases_Bool (nat_eq number x.number)) [
   | inl t ↦ absurd (cc (rw t at new))
   | inr e ↦ rw e (found_none number done (rw e at new))
 ]
 
-module _ (format number : ℕ) (sequences : List PlacedExpr) where
+module _ (format number : ℕ) (sequences : List SequenceView) where
   -- the last signature is found by its number
-  found_last : (done : List SignatureLists) → list_any (is_of number) done ≡ false → find (is_of number) (done ++ signature format number sequences ∷ []) ≡ Some (signature format number sequences)
+  found_last : (done : List SignatureView) → list_any (is_of number) done ≡ false → find (is_of number) (done ++ signature format number sequences ∷ []) ≡ Some (signature format number sequences)
   found_last [] new = rw (eq-eqb number number refl) refl
   found_last (x ∷ done) new = elim (cases_Bool (nat_eq number x.number)) [
     | inl t ↦ absurd (cc (rw t at new))
     | inr e ↦ rw e (found_last done (rw e at new))
   ]
 
-  any_last : (done : List SignatureLists) → list_any (is_of number) (done ++ signature format number sequences ∷ []) ≡ true
+  any_last : (done : List SignatureView) → list_any (is_of number) (done ++ signature format number sequences ∷ []) ≡ true
   any_last [] = rw (eq-eqb number number refl) refl
   any_last (x ∷ done) = elim (cases_Bool (nat_eq number x.number)) [ inl t ↦ rw t refl | inr e ↦ rw e (any_last done) ]
 
   -- and takes one sequence more
-  grown_last : (sequence : PlacedExpr) (done : List SignatureLists) → list_any (is_of number) done ≡ false
+  grown_last : (sequence : SequenceView) (done : List SignatureView) → list_any (is_of number) done ≡ false
       → grown number sequence (done ++ signature format number sequences ∷ []) ≡ done ++ signature format number (sequences ++ sequence ∷ []) ∷ []
   grown_last sequence [] new = rw (eq-eqb number number refl) refl
   grown_last sequence (x ∷ done) new = elim (cases_Bool (nat_eq number x.number)) [
@@ -82,35 +82,35 @@ not_below : (a b : ℕ) → b ≤ a → nat_lt a b ≡ false
 not_below a b h = search (rules, tests)
 
 -- one row
-step : (n : ℕ) (t t' told : TableLists) (fields : List (List ℕ)) (later : List (List (List ℕ))) (row : Row) → row_of n fields ≡ Ok row → fault_in t n row ≡ None → with_row t row ≡ t'
+step : (n : ℕ) (t t' told : TableView) (fields : List (List ℕ)) (later : List (List (List ℕ))) (row : Row) → row_of n fields ≡ Ok row → fault_in t n row ≡ None → with_row t row ≡ t'
     → table_from (n + 1) t' later ≡ Ok told → table_from n t (fields ∷ later) ≡ Ok told
 unfolding table_from
 step n t t' told fields later row is fine more rest = rw (is, fine, more) rest
 
-module _ (formats : List Puid) (k k' format number : ℕ) (puid : Puid) (done : List SignatureLists) (turn' : Turn formats k k' format puid) (new : list_any (is_of number) done ≡ false) where
+module _ (formats : List Puid) (k k' format number : ℕ) (puid : Puid) (done : List SignatureView) (turn' : Turn formats k k' format puid) (new : list_any (is_of number) done ≡ false) where
   -- the first row of a signature has no fault
-  first_fine : (n : ℕ) (sequence : PlacedExpr) → length done < 4000 → slot_count sequence ≤ 65535 → fault_in (table_with (take k formats) done) n (row_for puid number sequence) ≡ None
+  first_fine : (n : ℕ) (sequence : SequenceView) → length done < 4000 → slot_count sequence ≤ 65535 → fault_in (table_with (take k formats) done) n (row_for puid number sequence) ≡ None
   unfolding fault_in
   first_fine n sequence few slots = rw (found_none number done new, not_below 65535 (slot_count sequence) slots, turn'.room, above 4000 (length done) few) refl
 
-  first_row : (sequence : PlacedExpr) → with_row (table_with (take k formats) done) (row_for puid number sequence) ≡ table_with (take k' formats) (done ++ signature format number (sequence ∷ []) ∷ [])
+  first_row : (sequence : SequenceView) → with_row (table_with (take k formats) done) (row_for puid number sequence) ≡ table_with (take k' formats) (done ++ signature format number (sequence ∷ []) ∷ [])
   unfolding with_row
   first_row sequence = rw (turn'.taken, turn'.place, new, grown_last format number [] sequence done new) refl
 
   -- nor has a later one
-  later_fine : (n : ℕ) (sequences : List PlacedExpr) (sequence : PlacedExpr) → length sequences < 8 → slot_count sequence ≤ 65535
+  later_fine : (n : ℕ) (sequences : List SequenceView) (sequence : SequenceView) → length sequences < 8 → slot_count sequence ≤ 65535
       → fault_in (table_with (take k' formats) (done ++ signature format number sequences ∷ [])) n (row_for puid number sequence) ≡ None
   unfolding fault_in
   later_fine n sequences sequence few slots =
       rw (found_last format number sequences done new, turn'.stays, eq-eqb format format refl, above 8 (length sequences) few, not_below 65535 (slot_count sequence) slots) refl
 
-  later_row : (sequences : List PlacedExpr) (sequence : PlacedExpr)
+  later_row : (sequences : List SequenceView) (sequence : SequenceView)
       → with_row (table_with (take k' formats) (done ++ signature format number sequences ∷ [])) (row_for puid number sequence) ≡ table_with (take k' formats) (done ++ signature format number (sequences ++ sequence ∷ []) ∷ [])
   unfolding with_row
   later_row sequences sequence = rw (turn'.kept, any_last format number sequences done, grown_last format number sequences sequence done new) refl
 
   -- the rows of a signature behind its first ones
-  later_rows : (later : List PlacedExpr) (sequences : List PlacedExpr) (n : ℕ) (rest : List (List (List ℕ))) (told : TableLists)
+  later_rows : (later : List SequenceView) (sequences : List SequenceView) (n : ℕ) (rest : List (List (List ℕ))) (told : TableView)
       → IsNumber puid.number → IsNumber number → All IsSequence later → length sequences + length later ≤ 8
       → ((m : ℕ) → table_from m (table_with (take k' formats) (done ++ signature format number (sequences ++ later) ∷ [])) rest ≡ Ok told)
       → table_from n (table_with (take k' formats) (done ++ signature format number sequences ∷ [])) (map (sequence_record (puid_text puid) number) later ++ rest) ≡ Ok told
@@ -119,11 +119,11 @@ module _ (formats : List Puid) (k k' format number : ℕ) (puid : Puid) (done : 
       let is : IsSequence s = All-head IsSequence s later all in
       step n _ _ told (sequence_record (puid_text puid) number s) (map (sequence_record (puid_text puid) number) later ++ rest) (row_for puid number s)
       (row_of-sequence_record n puid number s is_puid is_number is) (later_fine n sequences s (omega arith) is.slots) (later_row sequences s)
-      (later_rows later (sequences ++ s ∷ []) (n + 1) rest told is_puid is_number (All-tail IsSequence s later all) (omega (arith, length-append {A = PlacedExpr}))
+      (later_rows later (sequences ++ s ∷ []) (n + 1) rest told is_puid is_number (All-tail IsSequence s later all) (omega (arith, length-append {A = SequenceView}))
       (λ m. rw (append_assoc sequences (s ∷ []) later) (more m)))
 
   -- all rows of a signature
-  rows : (sequences : List PlacedExpr) (n : ℕ) (rest : List (List (List ℕ))) (told : TableLists)
+  rows : (sequences : List SequenceView) (n : ℕ) (rest : List (List (List ℕ))) (told : TableView)
       → IsNumber puid.number → IsNumber number → All IsSequence sequences → 0 < length sequences → length sequences ≤ 8 → length done < 4000
       → ((m : ℕ) → table_from m (table_with (take k' formats) (done ++ signature format number sequences ∷ [])) rest ≡ Ok told)
       → table_from n (table_with (take k formats) done) (map (sequence_record (puid_text puid) number) sequences ++ rest) ≡ Ok told
@@ -134,9 +134,9 @@ module _ (formats : List Puid) (k k' format number : ℕ) (puid : Puid) (done : 
       (row_of-sequence_record n puid number s is_puid is_number is) (first_fine n s room is.slots) (first_row s)
       (later_rows later (s ∷ []) (n + 1) rest told is_puid is_number (All-tail IsSequence s later all) (omega arith) more)
 
-module _ (formats : List Puid) (all : List SignatureLists) (few_formats : length formats ≤ 1000) (few : length all ≤ 4000) (puids : All (λ p. IsNumber p.number) formats) (different : AllDifferent formats) (numbers : AllDifferent (map (λ s. s.number) all)) where
+module _ (formats : List Puid) (all : List SignatureView) (few_formats : length formats ≤ 1000) (few : length all ≤ 4000) (puids : All (λ p. IsNumber p.number) formats) (different : AllDifferent formats) (numbers : AllDifferent (map (λ s. s.number) all)) where
   -- the signatures behind the first ones
-  signatures : (later done : List SignatureLists) (k : ℕ) (met : List ℕ) (n : ℕ) → done ++ later ≡ all → All (IsSignature (length formats)) later → Met (length formats) k met (map (λ s. s.format) later)
+  signatures : (later done : List SignatureView) (k : ℕ) (met : List ℕ) (n : ℕ) → done ++ later ≡ all → All (IsSignature (length formats)) later → Met (length formats) k met (map (λ s. s.format) later)
       → table_from n (table_with (take k formats) done) (flat_map (records_of_signature formats) later) ≡ Ok (table_with formats all)
   unfolding table_from
   signatures [] done k met n whole each m =
@@ -152,7 +152,7 @@ module _ (formats : List Puid) (all : List SignatureLists) (few_formats : length
       let size : length (done ++ s ∷ later) ≤ 4000 = rw whole few in
       let name : name_of formats s.format ≡ puid_text found.0 = ap named found.1 in
       rw name (rows formats k next.0 s.format s.number found.0 done next.1 new s.sequences n (flat_map (records_of_signature formats) later) (table_with formats all)
-      is_puid is.number is.sequences is.some is.few (omega (arith, length-append {A = SignatureLists}))
+      is_puid is.number is.sequences is.some is.few (omega (arith, length-append {A = SignatureView}))
       (λ o. signatures later (done ++ s ∷ []) next.0 (met ++ s.format ∷ []) o (append_assoc done (s ∷ []) later ∙ whole) (All-tail (IsSignature (length formats)) s later each) next.2))
 
 is_header : is_signature_header signature_header ≡ true
@@ -160,7 +160,7 @@ unfolding field_at
 is_header = refl
 
 -- the signature file of a table is read as its formats and its signatures
-pub signatures_again : (t : TableLists) → IsTable t → HasAllSignatures t → signatures_of (records_of (signature_csv t)) ≡ Ok (record t { priorities = [] })
+pub signatures_again : (t : TableView) → IsTable t → HasAllSignatures t → signatures_of (records_of (signature_csv t)) ≡ Ok (record t { priorities = [] })
 unfolding signatures_of
 signatures_again t is has_all =
     let begun : Met (length t.formats) 0 [] (map (λ s. s.format) t.signatures) = record {
@@ -174,6 +174,6 @@ signatures_again t is has_all =
     (signatures t.formats t.signatures is.formats is.signatures is.puids is.different_puids is.different_numbers t.signatures [] 0 [] 1 refl is.each begun)
 
 -- and both files as the table
-pub table_again : (t : TableLists) → IsTable t → HasAllSignatures t → table_of (records_of (signature_csv t)) (records_of (priority_csv t)) ≡ Ok t
+pub table_again : (t : TableView) → IsTable t → HasAllSignatures t → table_of (records_of (signature_csv t)) (records_of (priority_csv t)) ≡ Ok t
 unfolding table_of
 table_again t is has_all = rw (signatures_again t is has_all, records_of-priority_csv t, pairs_again t.formats is.puids is.different_puids t.priorities is.priorities) refl

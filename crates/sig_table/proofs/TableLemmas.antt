@@ -7,7 +7,7 @@ use Rattle.std.proofs.lemmas.List.{append-nil}
 use Rattle.std.proofs.lemmas.List.Elements.{All-cons, All-head, All-nil, All-push, All-tail, Contains-append_right, Contains-push_cases}
 use Rattle.std.proofs.lemmas.List.Folds.{list_any_at}
 use Rattle.indexmap.specs.IndexSet.{insert_key}
-use Rattle.sig_table.specs.Lists.{PlacedExpr, SignatureLists}
+use Rattle.sig_table.specs.Views.{SequenceView, SignatureView}
 use Rattle.sig_table.specs.Loading.{grown}
 use Rattle.sig_table.specs.Tables.{AllDifferent, FormatsRise, IsNumber, IsSequence, IsSignature}
 
@@ -38,7 +38,7 @@ FormatsRise-push met [] f rise next = (rw append-nil at next, tt)
 FormatsRise-push met (g ∷ fs) f rise next = (rise.0, FormatsRise-push (met ++ g ∷ []) fs f rise.1 (rw append_assoc next))
 
 -- a sequence more in the signature of the number
-pub All-grown : (P : SignatureLists → Type 0) (n : ℕ) (sequence : PlacedExpr) (ss : List SignatureLists) (s : SignatureLists) → All P ss → find (λ s. nat_eq n s.number) ss ≡ Some s
+pub All-grown : (P : SignatureView → Type 0) (n : ℕ) (sequence : SequenceView) (ss : List SignatureView) (s : SignatureView) → All P ss → find (λ s. nat_eq n s.number) ss ≡ Some s
     → P (record s { sequences = s.sequences ++ sequence ∷ [] }) → All P (grown n sequence ss)
 All-grown P n sequence [] s all found more = absurd (cc found)
 All-grown P n sequence (x ∷ xs) s all found more = elim (cases_Bool (nat_eq n x.number)) [
@@ -49,7 +49,7 @@ All-grown P n sequence (x ∷ xs) s all found more = elim (cases_Bool (nat_eq n 
 ]
 
 -- and where the number is new, in the last
-pub grown-new : (n : ℕ) (sequence : PlacedExpr) (ss : List SignatureLists) (new : SignatureLists) → list_any (λ s. nat_eq n s.number) ss ≡ false → nat_eq n new.number ≡ true
+pub grown-new : (n : ℕ) (sequence : SequenceView) (ss : List SignatureView) (new : SignatureView) → list_any (λ s. nat_eq n s.number) ss ≡ false → nat_eq n new.number ≡ true
     → grown n sequence (ss ++ new ∷ []) ≡ ss ++ record new { sequences = new.sequences ++ sequence ∷ [] } ∷ []
 grown-new n sequence [] new none is = rw is refl
 grown-new n sequence (x ∷ xs) new none is = elim (cases_Bool (nat_eq n x.number)) [
@@ -58,7 +58,7 @@ grown-new n sequence (x ∷ xs) new none is = elim (cases_Bool (nat_eq n x.numbe
 ]
 
 -- the formats stay
-pub formats-grown : (n : ℕ) (sequence : PlacedExpr) (ss : List SignatureLists) → map (λ s. s.format) (grown n sequence ss) ≡ map (λ s. s.format) ss
+pub formats-grown : (n : ℕ) (sequence : SequenceView) (ss : List SignatureView) → map (λ s. s.format) (grown n sequence ss) ≡ map (λ s. s.format) ss
 formats-grown n sequence [] = refl
 formats-grown n sequence (x ∷ xs) = elim (cases_Bool (nat_eq n x.number)) [
   | inl t ↦ rw t refl
@@ -66,17 +66,17 @@ formats-grown n sequence (x ∷ xs) = elim (cases_Bool (nat_eq n x.number)) [
 ]
 
 -- a signature with a sequence more
-pub IsSignature-more : (k : ℕ) (s : SignatureLists) (sequence : PlacedExpr) → IsSignature k s → length s.sequences < 8 → IsSequence sequence → IsSignature k (record s { sequences = s.sequences ++ sequence ∷ [] })
+pub IsSignature-more : (k : ℕ) (s : SignatureView) (sequence : SequenceView) → IsSignature k s → length s.sequences < 8 → IsSequence sequence → IsSignature k (record s { sequences = s.sequences ++ sequence ∷ [] })
 IsSignature-more k s sequence h few judged = record {
   known = h.known;
   number = h.number;
-  some = omega (arith, length-append {A = PlacedExpr});
-  few = omega (arith, length-append {A = PlacedExpr});
+  some = omega (arith, length-append {A = SequenceView});
+  few = omega (arith, length-append {A = SequenceView});
   sequences = All-push IsSequence s.sequences sequence h.sequences judged;
 }
 
 -- and with its first
-pub IsSignature-first : (k f n : ℕ) (sequence : PlacedExpr) → f < k → IsNumber n → IsSequence sequence → IsSignature k (record { format = f; number = n; sequences = sequence ∷ [] })
+pub IsSignature-first : (k f n : ℕ) (sequence : SequenceView) → f < k → IsNumber n → IsSequence sequence → IsSignature k (record { format = f; number = n; sequences = sequence ∷ [] })
 IsSignature-first k f n sequence known number judged = record {
   known = known;
   number = number;
@@ -86,5 +86,5 @@ IsSignature-first k f n sequence known number judged = record {
 }
 
 -- among more formats
-pub IsSignature-wider : (j k : ℕ) (s : SignatureLists) → j ≤ k → IsSignature j s → IsSignature k s
+pub IsSignature-wider : (j k : ℕ) (s : SignatureView) → j ≤ k → IsSignature j s → IsSignature k s
 IsSignature-wider j k s le h = let known = h.known in record { known = omega arith; number = h.number; some = h.some; few = h.few; sequences = h.sequences }

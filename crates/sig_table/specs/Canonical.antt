@@ -6,7 +6,7 @@ use Rattle.sig_expr.specs.Canon.{canon}
 use Rattle.sig_table.specs.declared.position.Position.{Position}
 use Rattle.sig_table.specs.declared.position.Position.TheVariants as position
 use Rattle.sig_table.specs.declared.puid.Puid.{Puid}
-use Rattle.sig_table.specs.Lists.{PlacedExpr, SignatureLists, TableLists}
+use Rattle.sig_table.specs.Views.{SequenceView, SignatureView, TableView}
 use Rattle.sig_table.specs.Puids.{puid_text}
 
 -- the fields of a place: its word, the offset and the greatest offset, which is always written
@@ -25,11 +25,11 @@ abbrev pub name_of : List Puid → ℕ → List ℕ
 name_of formats format = named (slice_get formats format)
 
 -- the record of a sequence, of the signature of this number and of the format of this name
-abbrev pub sequence_record : List ℕ → ℕ → PlacedExpr → List (List ℕ)
+abbrev pub sequence_record : List ℕ → ℕ → SequenceView → List (List ℕ)
 sequence_record name number sequence = name ∷ decimal number ∷ (place_fields sequence.position ++ canon sequence.items ∷ [])
 
 -- the records of a signature: one for each sequence
-abbrev pub records_of_signature : List Puid → SignatureLists → List (List (List ℕ))
+abbrev pub records_of_signature : List Puid → SignatureView → List (List (List ℕ))
 records_of_signature formats s = map (sequence_record (name_of formats s.format) s.number) s.sequences
 
 -- the first record of a signature file
@@ -41,7 +41,7 @@ abbrev pub priority_header : List (List ℕ)
 priority_header = codes "higher" ∷ codes "lower" ∷ []
 
 -- the records of the signature file: signatures in table order, the sequences of each together
-abbrev pub signature_records : TableLists → List (List (List ℕ))
+abbrev pub signature_records : TableView → List (List (List ℕ))
 signature_records t = signature_header ∷ flat_map (records_of_signature t.formats) t.signatures
 
 -- the record of a pair
@@ -49,7 +49,7 @@ abbrev pub pair_record : List Puid → ℕ × ℕ → List (List ℕ)
 pair_record formats pair = name_of formats pair.0 ∷ name_of formats pair.1 ∷ []
 
 -- the records of the priority file: the pairs in their order
-abbrev pub priority_records : TableLists → List (List (List ℕ))
+abbrev pub priority_records : TableView → List (List (List ℕ))
 priority_records t = priority_header ∷ map (pair_record t.formats) t.priorities
 
 -- fields with commas between them
@@ -63,9 +63,9 @@ abbrev pub line_text : List (List ℕ) → List ℕ
 line_text fields = joined fields ++ 10 ∷ []
 
 -- the canonical signature file
-unfoldable pub signature_csv : TableLists → List ℕ
+unfoldable pub signature_csv : TableView → List ℕ
 signature_csv t = flat_map line_text (signature_records t)
 
 -- the canonical priority file
-unfoldable pub priority_csv : TableLists → List ℕ
+unfoldable pub priority_csv : TableView → List ℕ
 priority_csv t = flat_map line_text (priority_records t)

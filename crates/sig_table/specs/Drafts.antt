@@ -1,11 +1,11 @@
 -- What a draft keeps.
 use Rattle.std.specs.Prelude.{◌≡◌, [], map}
 use Rattle.sig_table.specs.declared.draft.Draft.TheInside.{Inside}
-use Rattle.sig_table.specs.Lists.{TableLists}
+use Rattle.sig_table.specs.Views.{TableView}
 use Rattle.sig_table.specs.Tables.{HasAllSignatures, IsTable}
 
 -- the rows so far as a table
-abbrev pub rows_so_far : Inside → TableLists
+abbrev pub rows_so_far : Inside → TableView
 rows_so_far d = record { formats = d.puids.keys; signatures = d.signatures.items; priorities = [] }
 
 -- the limits of a table in which each format has a signature, and the numbers are those of the signatures

@@ -6,7 +6,7 @@ use Rattle.sig_table.specs.declared.error.TableError.TheVariants as error
 use Rattle.sig_table.specs.declared.error.TableFile.TheVariants.{Signatures}
 use Rattle.sig_table.specs.declared.puid.Puid.{Puid}
 use Rattle.sig_table.specs.declared.row.Row.{Row}
-use Rattle.sig_table.specs.Lists.{SignatureLists, TableLists}
+use Rattle.sig_table.specs.Views.{SignatureView, TableView}
 use Rattle.sig_table.specs.Loading.{is_signature_header}
 use Rattle.sig_table.specs.Puids.{puid_eq}
 use Rattle.sig_table.specs.Rows.{row_of}
@@ -35,7 +35,7 @@ first_format formats [] = 0
 first_format formats (row ∷ later) = position_or_len (puid_eq row.puid) formats
 
 -- the signature of a number: its first row's format, and the sequences of its rows in row order
-abbrev pub signature_of : List Row → ℕ → SignatureLists
+abbrev pub signature_of : List Row → ℕ → SignatureView
 signature_of rows number = record {
   format = first_format (formats_of rows) (rows_of number rows);
   number = number;
@@ -43,7 +43,7 @@ signature_of rows number = record {
 }
 
 -- the table of the rows, with no priority
-abbrev pub gathered : List Row → TableLists
+abbrev pub gathered : List Row → TableView
 gathered rows = record { formats = formats_of rows; signatures = map (signature_of rows) (numbers_of rows); priorities = [] }
 
 -- each record writes the row in its place, the first one being the n-th
@@ -61,7 +61,7 @@ pub record AreRows (rows : List Row) : Type 0 where
   pub few_signatures : length (numbers_of rows) ≤ 4000
 
 -- behind a header, each record writes a row of one table, and the table is that of the rows
-pub record IsTableOf (file : List (List (List ℕ))) (table : TableLists) : Type 0 where
+pub record IsTableOf (file : List (List (List ℕ))) (table : TableView) : Type 0 where
   pub header : List (List ℕ)
   pub records : List (List (List ℕ))
   pub cut : file ≡ header ∷ records

@@ -4,9 +4,7 @@ pub mod Canonical
 pub mod Drafts
 pub mod FormatSets
 pub mod Gathered
-pub mod Left
 pub mod Lines
-pub mod Lists
 pub mod Loading
 pub mod Numbers
 pub mod Places
@@ -14,11 +12,13 @@ pub mod PriorityRows
 pub mod Puids
 pub mod Ranking
 pub mod Rankings
+pub mod Remaining
 pub mod Removal
 pub mod Rows
 pub mod Slots
 pub mod Standing
 pub mod Tables
+pub mod Views
 pub use Rattle.sig_bits.specs.BitSets
 pub use Rattle.sig_bits.specs.Bytes
 pub use Rattle.sig_expr.specs.Words

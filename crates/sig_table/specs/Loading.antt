@@ -9,7 +9,7 @@ use Rattle.sig_table.specs.declared.error.TableError.TheVariants as error
 use Rattle.sig_table.specs.declared.error.TableFile.TheVariants.{Signatures, Priorities}
 use Rattle.sig_table.specs.declared.puid.Puid.{Puid}
 use Rattle.sig_table.specs.declared.row.Row.{Row}
-use Rattle.sig_table.specs.Lists.{PlacedExpr, SignatureLists, TableLists}
+use Rattle.sig_table.specs.Views.{SequenceView, SignatureView, TableView}
 use Rattle.sig_table.specs.Puids.{puid_eq, puid_of}
 use Rattle.sig_table.specs.Ranking.{is_above}
 use Rattle.sig_table.specs.Slots.{slot_count}
@@ -37,19 +37,19 @@ is_of_signatures error.OutOfMemory = false
 is_of_signatures _ = true
 
 -- the signature of a number, if it is there
-abbrev pub signature_in : List SignatureLists → ℕ → Option SignatureLists
+abbrev pub signature_in : List SignatureView → ℕ → Option SignatureView
 signature_in signatures number = find (λ s. nat_eq number s.number) signatures
 
 -- the fault of the slots of a sequence
-abbrev pub fault_of_slots : ℕ → PlacedExpr → Option TableError → Option TableError
+abbrev pub fault_of_slots : ℕ → SequenceView → Option TableError → Option TableError
 fault_of_slots n sequence later = if nat_lt 65535 (slot_count sequence) then Some (error.TooManySlots n) else later
 
 -- whether the table has no room for another format, or for another signature
-abbrev pub is_full : TableLists → Puid → Bool
+abbrev pub is_full : TableView → Puid → Bool
 is_full table puid = (nat_le 1000 (length table.formats) && not (list_any (puid_eq puid) table.formats)) || nat_le 4000 (length table.signatures)
 
 -- the fault of a row, where its signature is there or is not
-abbrev pub fault_at : Option SignatureLists → TableLists → ℕ → Row → Option TableError
+abbrev pub fault_at : Option SignatureView → TableView → ℕ → Row → Option TableError
 fault_at (Some s) table n row =
     if not (position_or_len (puid_eq row.puid) table.formats == s.format) then Some (error.SignatureOfTwo n)
     else (if nat_le 8 (length s.sequences) then Some (error.TooManySequences n)
@@ -57,22 +57,22 @@ fault_at (Some s) table n row =
 fault_at None table n row = fault_of_slots n row.sequence (if is_full table row.puid then Some (error.TooManyFormats n) else None)
 
 -- the fault of a row that this table is to take, if it has one
-unfoldable pub fault_in : TableLists → ℕ → Row → Option TableError
+unfoldable pub fault_in : TableView → ℕ → Row → Option TableError
 fault_in table n row = fault_at (signature_in table.signatures row.number) table n row
 
 -- the signatures with one of this number, which has no sequence yet where it is new
-abbrev pub with_number : List SignatureLists → ℕ → ℕ → List SignatureLists
+abbrev pub with_number : List SignatureView → ℕ → ℕ → List SignatureView
 with_number signatures number format =
     if list_any (λ s. nat_eq number s.number) signatures then signatures
     else signatures ++ record { format = format; number = number; sequences = [] } ∷ []
 
 -- the signatures, where the one of the number has one sequence more
-abbrev pub grown : ℕ → PlacedExpr → List SignatureLists → List SignatureLists
+abbrev pub grown : ℕ → SequenceView → List SignatureView → List SignatureView
 grown number sequence [] = []
 grown number sequence (s ∷ later) = if nat_eq number s.number then record s { sequences = s.sequences ++ sequence ∷ [] } ∷ later else s ∷ grown number sequence later
 
 -- the table with the row
-unfoldable pub with_row : TableLists → Row → TableLists
+unfoldable pub with_row : TableView → Row → TableView
 with_row table row = record {
   formats = insert_key puid_eq table.formats row.puid;
   signatures = grown row.number row.sequence (with_number table.signatures row.number (position_or_len (puid_eq row.puid) table.formats));
@@ -85,13 +85,13 @@ unless None rest = rest
 unless (Some fault) rest = Err fault
 
 -- the table with these records, which are counted on
-unfoldable pub table_from : ℕ → TableLists → List (List (List ℕ)) → Result TableLists TableError
+unfoldable pub table_from : ℕ → TableView → List (List (List ℕ)) → Result TableView TableError
 table_from n table [] = Ok table
 table_from n table (fields ∷ later) =
     row_of n fields >>= (λ row. unless (fault_in table n row) (table_from (n + 1) (with_row table row) later))
 
 -- no row
-abbrev pub empty_table : TableLists
+abbrev pub empty_table : TableView
 empty_table = record { formats = []; signatures = []; priorities = [] }
 
 -- the first record of a signature file
@@ -106,7 +106,7 @@ abbrev pub is_priority_header : List (List ℕ) → Bool
 is_priority_header fields = (length fields == 2) && is_word (text_at fields 0) (codes "higher") && is_word (text_at fields 1) (codes "lower")
 
 -- the table of a signature file, with no priority, or its first fault
-unfoldable pub signatures_of : List (List (List ℕ)) → Result TableLists TableError
+unfoldable pub signatures_of : List (List (List ℕ)) → Result TableView TableError
 signatures_of [] = Err (error.Header Signatures)
 signatures_of (header ∷ rows) = if is_signature_header header then table_from 1 empty_table rows else Err (error.Header Signatures)
 
@@ -153,5 +153,5 @@ pairs_of formats [] = Err (error.Header Priorities)
 pairs_of formats (header ∷ rows) = if is_priority_header header then pairs_from formats 1 [] rows else Err (error.Header Priorities)
 
 -- the table of the records of both files, or their first fault: the signature file is judged first
-unfoldable pub table_of : List (List (List ℕ)) → List (List (List ℕ)) → Result TableLists TableError
+unfoldable pub table_of : List (List (List ℕ)) → List (List (List ℕ)) → Result TableView TableError
 table_of signatures priorities = signatures_of signatures >>= (λ table. pairs_of table.formats priorities >>= (λ pairs. Ok (record table { priorities = pairs })))

@@ -7,7 +7,7 @@ use Rattle.sig_table.specs.Ranking.{IsAbove}
 use Rattle.sig_table.specs.Tables.{ArePriorities}
 
 -- how many formats there are, and the pairs so far
-pub record RankingLists : Type 0 where
+pub record RankingView : Type 0 where
   pub format_count : ℕ
   pub pairs : List (ℕ × ℕ)
 

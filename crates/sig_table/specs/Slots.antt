@@ -6,7 +6,7 @@ use Rattle.sig_expr.specs.declared.item.Item.{Item}
 use Rattle.sig_expr.specs.declared.item.Item.TheVariants as item
 use Rattle.sig_table.specs.declared.position.Position.{Position}
 use Rattle.sig_table.specs.declared.position.Position.TheVariants as position
-use Rattle.sig_table.specs.Lists.{PlacedExpr}
+use Rattle.sig_table.specs.Views.{SequenceView}
 
 -- the words before these bytes, in rows of one byte a place: a row for each place whose byte can be lowered
 abbrev pub below_rows : List ℕ → ℕ
@@ -59,5 +59,5 @@ place_slots (position.Eof min max) = max + 1
 place_slots position.Variable = 2
 
 -- the slots of a sequence
-unfoldable pub slot_count : PlacedExpr → ℕ
+unfoldable pub slot_count : SequenceView → ℕ
 slot_count sequence = place_slots sequence.position + sum_by item_slots sequence.items

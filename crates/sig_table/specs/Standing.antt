@@ -4,7 +4,7 @@ use Rattle.sig_expr.specs.declared.item.Item.{Item}
 use Rattle.sig_expr.specs.Words.{Lang}
 use Rattle.sig_table.specs.declared.position.Position.{Position}
 use Rattle.sig_table.specs.declared.position.Position.TheVariants as position
-use Rattle.sig_table.specs.Lists.{PlacedExpr, SignatureLists}
+use Rattle.sig_table.specs.Views.{SequenceView, SignatureView}
 
 -- the file is a front, a word of the items, and a back
 pub record Cut (items : List Item) (file : List ℕ) : Type 0 where
@@ -21,9 +21,9 @@ StandsAt (position.Eof min max) items file = (c : Cut items file) × (min ≤ le
 StandsAt position.Variable items file = Cut items file
 
 -- the sequence stands in the file
-abbrev pub Stands : PlacedExpr → List ℕ → Type 0
+abbrev pub Stands : SequenceView → List ℕ → Type 0
 Stands sequence file = StandsAt sequence.position sequence.items file
 
 -- each sequence of the signature stands in the file
-abbrev pub Hits : SignatureLists → List ℕ → Type 0
+abbrev pub Hits : SignatureView → List ℕ → Type 0
 Hits signature file = All (λ s. Stands s file) signature.sequences

@@ -3,7 +3,7 @@ use Rattle.std.specs.Prelude.{◌⊎◌, ℕ, ◌<◌, ◌≤◌, ◌^◌, ⊤, 
 use Rattle.sig_expr.specs.Profile.{IsExpression}
 use Rattle.sig_table.specs.declared.position.Position.{Position}
 use Rattle.sig_table.specs.declared.position.Position.TheVariants as position
-use Rattle.sig_table.specs.Lists.{PlacedExpr, SignatureLists, TableLists}
+use Rattle.sig_table.specs.Views.{SequenceView, SignatureView, TableView}
 use Rattle.sig_table.specs.Ranking.{NoCycle}
 use Rattle.sig_table.specs.Slots.{slot_count}
 
@@ -14,7 +14,7 @@ InOrder (position.Eof min max) = (min ≤ max) × (max ≤ 65535)
 InOrder position.Variable = ⊤
 
 -- offsets in order, an expression of the profile, and at most 65,535 slots
-pub record IsSequence (s : PlacedExpr) : Type 0 where
+pub record IsSequence (s : SequenceView) : Type 0 where
   pub offsets : InOrder s.position
   pub expression : IsExpression s.items
   pub slots : slot_count s ≤ 65535
@@ -24,7 +24,7 @@ abbrev pub IsNumber : ℕ → Type 0
 IsNumber n = (0 < n) × (n < 10 ^ 9)
 
 -- a signature of one of so many formats: its number, and one to eight sequences
-pub record IsSignature (formats : ℕ) (s : SignatureLists) : Type 0 where
+pub record IsSignature (formats : ℕ) (s : SignatureView) : Type 0 where
   pub known : s.format < formats
   pub number : IsNumber s.number
   pub some : 0 < length s.sequences
@@ -48,7 +48,7 @@ pub record ArePriorities (formats : ℕ) (pairs : List (ℕ × ℕ)) : Type 0 wh
   pub no_cycle : NoCycle pairs
 
 -- at most 1,000 formats and 4,000 signatures, no PUID and no number twice, the formats in the order of their first signatures, and priorities among them
-pub record IsTable (t : TableLists) : Type 0 where
+pub record IsTable (t : TableView) : Type 0 where
   pub formats : length t.formats ≤ 1000
   pub signatures : length t.signatures ≤ 4000
   pub puids : All (λ p. IsNumber p.number) t.formats
@@ -59,5 +59,5 @@ pub record IsTable (t : TableLists) : Type 0 where
   pub priorities : ArePriorities (length t.formats) t.priorities
 
 -- each format has a signature
-abbrev pub HasAllSignatures : TableLists → Type 0
+abbrev pub HasAllSignatures : TableView → Type 0
 HasAllSignatures t = (f : ℕ) → f < length t.formats → Contains (map (λ s. s.format) t.signatures) f

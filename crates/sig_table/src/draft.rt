@@ -35,9 +35,9 @@ pub(crate) struct Draft {
 
 impl Model for Draft {
     ghost use Rattle.std.specs.Prelude.{[]};
-    ghost use Rattle.sig_table.specs.Lists.{TableLists};
+    ghost use Rattle.sig_table.specs.Views.{TableView};
 
-    ghost Value = { TableLists };
+    ghost Value = { TableView };
 
     ghost use Rattle.sig_table.specs.Drafts.{IsDraft};
 

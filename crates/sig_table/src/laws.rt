@@ -5,7 +5,7 @@ ghost use Rattle.sig_table.specs.declared.error.TableError.{TableError};
 ghost use Rattle.sig_table.specs.declared.puid.Puid.{Puid};
 ghost use Rattle.sig_table.specs.Canonical.{priority_csv, signature_csv};
 ghost use Rattle.sig_table.specs.Gathered.{IsFaultOf, IsTableOf};
-ghost use Rattle.sig_table.specs.Lists.{TableLists};
+ghost use Rattle.sig_table.specs.Views.{TableView};
 ghost use Rattle.sig_table.specs.Loading.{pairs_of, records_of, signatures_of, table_of};
 ghost use Rattle.sig_table.specs.PriorityRows.{ArePairsOf, IsPriorityFaultOf};
 ghost use Rattle.sig_table.specs.Tables.{HasAllSignatures, IsTable};
@@ -13,7 +13,7 @@ ghost use Rattle.sig_table.specs.Tables.{HasAllSignatures, IsTable};
 /// The table of a signature file is that of its rows: the different PUIDs and numbers in order of
 /// first row, and for each number its rows' sequences in row order. No row has a fault.
 pub fn rows_are_gathered()
-    ensures { (file : List (List (List ℕ))) (table : TableLists) → signatures_of file ≡ Ok table → IsTableOf file table }
+    ensures { (file : List (List (List ℕ))) (table : TableView) → signatures_of file ≡ Ok table → IsTableOf file table }
 {}
 
 /// A refused signature file has no header, or a first faulty row: those before it make a table, and
@@ -39,8 +39,8 @@ pub fn first_priority_fault_is_told()
 /// A format without one has no row, so the signature file does not name it.
 pub fn written_is_loaded()
     // The signature file gives the formats and the signatures.
-    ensures signatures { (t : TableLists) → IsTable t → HasAllSignatures t → signatures_of (records_of (signature_csv t)) ≡ Ok (record t { priorities = [] }) }
+    ensures signatures { (t : TableView) → IsTable t → HasAllSignatures t → signatures_of (records_of (signature_csv t)) ≡ Ok (record t { priorities = [] }) }
 
     // Both files give the table.
-    ensures table { (t : TableLists) → IsTable t → HasAllSignatures t → table_of (records_of (signature_csv t)) (records_of (priority_csv t)) ≡ Ok t }
+    ensures table { (t : TableView) → IsTable t → HasAllSignatures t → table_of (records_of (signature_csv t)) (records_of (priority_csv t)) ≡ Ok t }
 {}

@@ -1,6 +1,6 @@
 //! A table of signatures: formats, their signatures and the priorities among them.
 //!
-//! What a table is to its callers is in `specs/Lists.antt`, its limits in `specs/Tables.antt`, when a
+//! What a table is to its callers is in `specs/Views.antt`, its limits in `specs/Tables.antt`, when a
 //! sequence stands in a file and a signature hits it in `specs/Standing.antt`.
 #![tactic(auto)]
 

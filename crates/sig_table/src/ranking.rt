@@ -26,9 +26,9 @@ pub(crate) struct Ranking {
 
 impl Model for Ranking {
     ghost use Rattle.std.specs.Prelude.{length};
-    ghost use Rattle.sig_table.specs.Rankings.{IsRanking, RankingLists};
+    ghost use Rattle.sig_table.specs.Rankings.{IsRanking, RankingView};
 
-    ghost Value = { RankingLists };
+    ghost Value = { RankingView };
 
     ghost view = { λ r. record { format_count = length r.below.items; pairs = r.pairs.keys } };
 

@@ -15,9 +15,9 @@ pub(crate) struct Placed {
 }
 
 impl Model for Placed {
-    ghost use Rattle.sig_table.specs.Lists.{PlacedExpr};
+    ghost use Rattle.sig_table.specs.Views.{SequenceView};
 
-    ghost Value = { PlacedExpr };
+    ghost Value = { SequenceView };
 
     ghost view = { λ s. record { position = s.position; items = s.expr } };
 }
@@ -30,10 +30,10 @@ pub struct Sequence {
 }
 
 impl Model for Sequence {
-    ghost use Rattle.sig_table.specs.Lists.{PlacedExpr};
+    ghost use Rattle.sig_table.specs.Views.{SequenceView};
     ghost use Rattle.sig_table.specs.Tables.{IsSequence};
 
-    ghost Value = { PlacedExpr };
+    ghost Value = { SequenceView };
 
     ghost view = { λ s. record { position = s.position; items = s.expr } };
 

@@ -33,13 +33,13 @@ impl<'a> SignaturesOf<'a> {
 
 impl Iterator for SignaturesOf<'_> {
     ghost use Rattle.std.specs.Iterator.{YieldsFirst, item_count};
-    ghost use Rattle.sig_table.specs.Left.{left_of};
+    ghost use Rattle.sig_table.specs.Remaining.{remaining_of};
 
     type Item = SigId;
 
-    ghost next_gives = { YieldsFirst left_of };
+    ghost next_gives = { YieldsFirst remaining_of };
 
-    ghost remaining = { item_count left_of };
+    ghost remaining = { item_count remaining_of };
 
     fn next(&mut self) -> Option<SigId> {
         while let Some((first, later)) = self.later.split_first() {

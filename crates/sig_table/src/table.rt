@@ -17,9 +17,9 @@ pub(crate) struct Signature {
 }
 
 impl Model for Signature {
-    ghost use Rattle.sig_table.specs.Lists.{SignatureLists};
+    ghost use Rattle.sig_table.specs.Views.{SignatureView};
 
-    ghost Value = { SignatureLists };
+    ghost Value = { SignatureView };
 
     ghost view = { λ s. record { format = s.format.0; number = s.number; sequences = s.sequences.items } };
 }
@@ -33,10 +33,10 @@ pub struct Table {
 }
 
 impl Model for Table {
-    ghost use Rattle.sig_table.specs.Lists.{TableLists};
+    ghost use Rattle.sig_table.specs.Views.{TableView};
     ghost use Rattle.sig_table.specs.Tables.{IsTable};
 
-    ghost Value = { TableLists };
+    ghost Value = { TableView };
 
     ghost view = { λ t. record { formats = t.formats.items; signatures = t.signatures.items; priorities = t.priorities.keys } };
 
@@ -78,7 +78,7 @@ impl Signature {
 }
 
 impl Table {
-    ghost use Rattle.sig_table.specs.Left.{left_of};
+    ghost use Rattle.sig_table.specs.Remaining.{remaining_of};
     ghost use Rattle.sig_table.specs.Places.{places_of};
     ghost use Rattle.sig_table.specs.Removal.{place_of, without};
     ghost use Rattle.sig_table.specs.Tables.{IsNumber, IsTable};
@@ -146,7 +146,7 @@ impl Table {
 
     /// The format's signatures, rising.
     pub fn signatures_of(&self, format: FormatId) -> SignaturesOf<'_>
-        ensures { left_of result ≡ places_of format.0 0 self.now.signatures }
+        ensures { remaining_of result ≡ places_of format.0 0 self.now.signatures }
     {
         SignaturesOf::new(self.signatures.as_slice(), format)
     }

@@ -4,7 +4,7 @@ use Rattle.std.proofs.lemmas.List.{map-append, take_all, take_more}
 use Rattle.std.specs.List.{flat_map}
 use Rattle.csv.specs.Writing.{default_writer, row_text}
 use Rattle.sig_table.specs.Canonical.{pair_record, priority_csv, priority_header}
-use Rattle.sig_table.specs.Lists.{TableLists}
+use Rattle.sig_table.specs.Views.{TableView}
 use Rattle.sig_table.specs.declared.puid.Puid.{Puid}
 use Rattle.sig_table.proofs.PlainLemmas.{priority_csv-rows}
 use Rattle.sig_table.proofs.writer.priority_text.Goals as goal
@@ -25,7 +25,7 @@ grows : (formats own : List Puid) (pairs items : List (ℕ × ℕ)) (i : ℕ) (d
 grows formats own pairs items i d row first lines more same mine within is adds goes =
     adds ∙ rw (is, mine, goes, same) (sym (one_more formats pairs i d first (rw same at within)))
 
-whole : (t : TableLists) (i : ℕ) (header : List (List ℕ)) (start first lines : List ℕ) → length t.priorities ≤ i → start ≡ [] → header ≡ priority_header → first ≡ start ++ row_text default_writer header
+whole : (t : TableView) (i : ℕ) (header : List (List ℕ)) (start first lines : List ℕ) → length t.priorities ≤ i → start ≡ [] → header ≡ priority_header → first ≡ start ++ row_text default_writer header
     → lines ≡ first ++ flat_map (row_text default_writer) (map (pair_record t.formats) (take i t.priorities)) → lines ≡ priority_csv t
 whole t i header start first lines end empty is begins goes =
     goes ∙ rw (begins, empty, is, take_all i t.priorities end) (sym (priority_csv-rows t))

@@ -1,7 +1,7 @@
 use Rattle.std.proofs.Common.{◌≡◌, ◌∙◌, sym, ap, not, []}
 use Rattle.std.specs.List.{position_or_len}
 use Rattle.sig_table.specs.Puids.{puid_eq}
-use Rattle.sig_table.specs.Lists.{TableLists}
+use Rattle.sig_table.specs.Views.{TableView}
 use Rattle.sig_table.proofs.LimitLemmas.{IsSequence-judged, IsWhole-with_row}
 use Rattle.sig_table.proofs.DraftLemmas.{OnOk-holds, any-numbers, numbers-with_row, place-of, place-within, position-puid, puid_eq-is, with_row-is}
 use Rattle.sig_table.proofs.draft.Draft.insert.Goals as goal
@@ -24,7 +24,7 @@ grow-requires-clause-within c =
 
 pub invariant_of-result : goal.invariant_of-result
 invariant_of-result c =
-    let t : TableLists = record { formats = c.self.inside.puids.keys; signatures = c.self.inside.signatures.items; priorities = [] } in
+    let t : TableView = record { formats = c.self.inside.puids.keys; signatures = c.self.inside.signatures.items; priorities = [] } in
     let enrolled = OnOk-holds c.enroll.result (sym c.is_err.ensures.value ∙ c.if-is_err.false) c.enroll.ensures in
     let grew = OnOk-holds c.grow.result (sym c.is_err-2.ensures.value ∙ c.if-is_err-2.false) c.grow.ensures in
     let formats = rw puid_eq-is at c.in-Ok.ensures.keys in
@@ -39,7 +39,7 @@ invariant_of-result c =
 
 pub returns-clause-row : goal.returns-clause-row
 returns-clause-row c =
-    let t : TableLists = record { formats = c.self.inside.puids.keys; signatures = c.self.inside.signatures.items; priorities = [] } in
+    let t : TableView = record { formats = c.self.inside.puids.keys; signatures = c.self.inside.signatures.items; priorities = [] } in
     let enrolled = OnOk-holds c.enroll.result (sym c.is_err.ensures.value ∙ c.if-is_err.false) c.enroll.ensures in
     let grew = OnOk-holds c.grow.result (sym c.is_err-2.ensures.value ∙ c.if-is_err-2.false) c.grow.ensures in
     let formats = rw puid_eq-is at c.in-Ok.ensures.keys in

@@ -1,6 +1,6 @@
 use Rattle.std.proofs.Common.{List, map, sym, ap, ◌∙◌}
 use Rattle.sig_table.proofs.LimitLemmas.{IsWhole-none}
-use Rattle.sig_table.specs.Lists.{SignatureLists}
+use Rattle.sig_table.specs.Views.{SignatureView}
 use Rattle.sig_table.proofs.draft.Draft.new.Goals as goal
 
 pub invariant_of-result : goal.invariant_of-result
@@ -9,5 +9,5 @@ invariant_of-result c =
     record {
       table = whole.limits;
       has_all = whole.has_all;
-      numbers = c.new-2.ensures.empty ∙ sym (ap (λ (l : List SignatureLists). map (λ s. s.number) l) c.new-3.ensures.items);
+      numbers = c.new-2.ensures.empty ∙ sym (ap (λ (l : List SignatureView). map (λ s. s.number) l) c.new-3.ensures.items);
     }

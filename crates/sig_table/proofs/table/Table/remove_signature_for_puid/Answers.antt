@@ -3,19 +3,19 @@ use Rattle.std.specs.Prelude.{filter}
 use Rattle.std.proofs.lemmas.Bool.{false≢true}
 use Rattle.std.proofs.lemmas.Fn.{filter_same}
 use Rattle.sig_table.specs.Puids.{puid_eq}
-use Rattle.sig_table.specs.Lists.{SignatureLists, TableLists}
+use Rattle.sig_table.specs.Views.{SignatureView, TableView}
 use Rattle.sig_table.proofs.RemovalLemmas.{IsTable-without, has_no_place, has_place, without-is}
 use Rattle.sig_table.proofs.table.Table.remove_signature_for_puid.Goals as goal
 
 pub invariant_of-self : goal.invariant_of-self
 invariant_of-self c =
-    let kept : c.retain.new.self.items ≡ filter (λ (s : SignatureLists). not (nat_eq s.format c.in-Some.place)) c.self.inside.signatures.items = filter_same _ _ _ (λ x b f' k. search rules) _ _ c.retain.ensures.filtered in
+    let kept : c.retain.new.self.items ≡ filter (λ (s : SignatureView). not (nat_eq s.format c.in-Some.place)) c.self.inside.signatures.items = filter_same _ _ _ (λ x b f' k. search rules) _ _ c.retain.ensures.filtered in
     rw kept (IsTable-without (record { formats = c.self.inside.formats.items; signatures = c.self.inside.signatures.items; priorities = c.self.inside.priorities.keys }) c.in-Some.place c.self.invariant)
 
 pub returns-clause-removes : goal.returns-clause-removes
 returns-clause-removes c =
-    let t : TableLists = record { formats = c.self.inside.formats.items; signatures = c.self.inside.signatures.items; priorities = c.self.inside.priorities.keys } in
-    let kept : c.retain.new.self.items ≡ filter (λ (s : SignatureLists). not (nat_eq s.format c.in-Some.place)) c.self.inside.signatures.items = filter_same _ _ _ (λ x b f' k. search rules) _ _ c.retain.ensures.filtered in
+    let t : TableView = record { formats = c.self.inside.formats.items; signatures = c.self.inside.signatures.items; priorities = c.self.inside.priorities.keys } in
+    let kept : c.retain.new.self.items ≡ filter (λ (s : SignatureView). not (nat_eq s.format c.in-Some.place)) c.self.inside.signatures.items = filter_same _ _ _ (λ x b f' k. search rules) _ _ c.retain.ensures.filtered in
     let h : position (λ p. puid_eq p c.args.puid.now) c.args.self.now.formats ≡ Some c.in-Some.place = sym c.in-Some.ensures in
     let found = rw (← c.self.view_is) at h in
     λ _. rw (← c.self.view_is) (without-is t c.retain.new.self.items c.args.puid.now c.in-Some.place found kept)

@@ -5,5 +5,5 @@ use Rattle.sig_table.specs.declared.signatures_of.SignaturesOf.{SignaturesOf}
 use Rattle.sig_table.specs.Places.{places_of}
 
 -- the signatures still to come, in order
-abbrev pub left_of : SignaturesOf → List SigId
-left_of signatures = places_of signatures.format.0 signatures.place signatures.later.now
+abbrev pub remaining_of : SignaturesOf → List SigId
+remaining_of signatures = places_of signatures.format.0 signatures.place signatures.later.now
