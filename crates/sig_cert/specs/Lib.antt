@@ -1,0 +1,6 @@
+-- What a reader must trust: what a decided table is, and which certificates are closed.
+pub mod Deciding
+pub mod Pairs
+pub mod Layouts
+pub mod Closed
+pub mod Verdicts

@@ -1,0 +1,12 @@
+//! Certificates that a table of signatures never leaves two formats for one file, and their checker.
+//!
+//! A certificate has, for each two signatures of unrelated formats, a closed set of rows of their
+//! product. What an accepted certificate means is `specs/Deciding.antt`; when a certificate is
+//! closed, `specs/Closed.antt`; which fault of any other is told, `specs/Verdicts.antt`.
+#![tactic(auto)]
+
+mod error;
+mod view;
+
+pub use error::CheckError;
+pub use view::CertView;
