@@ -6,6 +6,10 @@
 #![tactic(auto)]
 
 mod error;
+mod fields;
+mod rows;
+mod site;
+mod version;
 mod view;
 
 pub use error::CheckError;
