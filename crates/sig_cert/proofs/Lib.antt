@@ -1,2 +1,6 @@
 -- The lemmas of this crate.
+mod ChainLemmas
+mod CountLemmas
+mod KindLemmas
+mod PairLemmas
 mod RowsLemmas

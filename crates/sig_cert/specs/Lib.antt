@@ -6,3 +6,4 @@ pub mod Closed
 pub mod Verdicts
 -- The vocabulary of proofs.
 pub mod Fields
+pub mod Chains

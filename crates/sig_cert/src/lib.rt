@@ -5,12 +5,15 @@
 //! closed, `specs/Closed.antt`; which fault of any other is told, `specs/Verdicts.antt`.
 #![tactic(auto)]
 
+mod checker;
 mod error;
 mod fields;
 mod rows;
 mod site;
+mod tables;
 mod version;
 mod view;
 
+pub use checker::check;
 pub use error::CheckError;
 pub use view::CertView;

@@ -1,6 +1,6 @@
 //! The bytes of a certificate, field by field.
 
-ghost use Rattle.std.specs.Prelude.{◌≡◌, ◌++◌, ◌<◌, length, MatchOption};
+ghost use Rattle.std.specs.Prelude.{◌≡◌, ◌++◌, ◌<◌, ◌↔◌, [], IsTrue, length, MatchOption};
 
 use std::marker::Model;
 
@@ -34,5 +34,12 @@ impl<'a> CertView<'a> {
         let (field, rest) = self.bytes.split_at_checked(n)?;
         self.bytes = rest;
         Some(field)
+    }
+
+    /// Whether no byte is left.
+    pub(crate) fn is_at_end(&self) -> bool
+        ensures { IsTrue result ↔ (self.now ≡ []) }
+    {
+        self.bytes.is_empty()
     }
 }
