@@ -1,4 +1,5 @@
 -- The lemmas of this crate.
+mod BlockerLemmas
 mod ChainLemmas
 mod CountLemmas
 mod KindLemmas

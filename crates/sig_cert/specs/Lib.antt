@@ -7,3 +7,4 @@ pub mod Verdicts
 -- The vocabulary of proofs.
 pub mod Fields
 pub mod Chains
+pub mod Blockers
