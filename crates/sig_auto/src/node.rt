@@ -1,8 +1,9 @@
 //! The tree of a sequence: its slots, and in which order bytes take them.
 
-ghost use Rattle.std.specs.Prelude.{◌≡◌, ◌+◌, ◌-◌, ◌<◌, ◌≤◌};
+ghost use Rattle.std.specs.Prelude.{◌≡◌, ◌↔◌, ◌+◌, ◌-◌, ◌<◌, ◌≤◌, IsTrue};
 ghost use Rattle.sig_auto.specs.Local.{begins, ends, goes, skips};
 ghost use Rattle.sig_auto.specs.Seen.{seen};
+ghost use Rattle.sig_auto.specs.Sides.{SameSides};
 ghost use Rattle.sig_auto.specs.TreeSlots.{class_of, slots_of};
 
 use super::Class;
@@ -125,6 +126,17 @@ impl Node {
                     b.class(between, q)
                 }
             }
+        }
+    }
+
+    // Whether each of its classes has both bytes or neither.
+    pub(crate) fn same_side(&self, a: u8, b: u8) -> bool
+        ensures { IsTrue result ↔ SameSides (seen self.now) a b }
+    {
+        match self {
+            Node::Never | Node::Empty | Node::Gap { .. } => true,
+            Node::Slot(class) => class.contains(a) == class.contains(b),
+            Node::Then(x, y) | Node::Or(x, y) => x.same_side(a, b) && y.same_side(a, b),
         }
     }
 }

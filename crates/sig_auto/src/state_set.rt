@@ -7,7 +7,7 @@
 ghost use Rattle.std.specs.Prelude.{◌≡◌, ◌+◌, ◌*◌, ◌<◌, ◌≤◌, ◌↔◌, ◌⊎◌, ℕ, IsTrue, length};
 ghost use Rattle.sig_auto.specs.Seen.{seen};
 ghost use Rattle.sig_auto.specs.Stepping.{IsNextInGap, IsStepped, Leads};
-ghost use Rattle.sig_auto.specs.Tracks.{Follows};
+ghost use Rattle.sig_auto.specs.Tracks.{Accepting, Follows};
 ghost use Rattle.sig_auto.specs.TreeSlots.{Takes, set_len, slots_of};
 ghost use Rattle.sig_auto.specs.Trim.{IsTrim};
 ghost use Rattle.sig_bits.specs.BitSets.{HasBit};
@@ -26,6 +26,16 @@ impl Node {
     {
         clear(to);
         self.step(0, get_bit(from, 0), byte, from, to);
+    }
+
+    // Whether some state of the set is accepting.
+    pub(crate) fn any_accepting(&self, set: &[u8]) -> bool
+        requires trim { IsTrim (seen self.now) }
+        requires few { slots_of (seen self.now) ≤ 65535 }
+        requires set_len { length set.now ≡ set_len (seen self.now) }
+        ensures { IsTrue result ↔ ((p : ℕ) × HasBit set.now p × Accepting (seen self.now) p) }
+    {
+        self.goes_on(0, get_bit(set, 0), set)
     }
 
     // Adds the slots that follow a state of `from` and take the byte, and those that begin the tree
@@ -65,6 +75,27 @@ impl Node {
                 let first = a.step(before, enter, byte, from, to);
                 let second = b.step(before + a.slots(), enter, byte, from, to);
                 first || second
+            }
+        }
+    }
+
+    // Whether what stands behind the tree is entered.
+    pub(crate) fn goes_on(&self, before: usize, enter: bool, from: &[u8]) -> bool
+        requires slots { before + slots_of (seen self.now) ≤ 65535 }
+        requires from_len { before + slots_of (seen self.now) < 8 * length from.now }
+        ensures { IsTrue result ↔ Leads (seen self.now) before enter from.now }
+    {
+        match self {
+            Node::Never => false,
+            Node::Empty => enter,
+            Node::Slot(_) => get_bit(from, before + 1),
+            Node::Gap { .. } => self.leads(before, enter, from),
+            Node::Then(a, b) => {
+                let led = a.goes_on(before, enter, from);
+                b.goes_on(before + a.slots(), led, from)
+            }
+            Node::Or(a, b) => {
+                a.goes_on(before, enter, from) || b.goes_on(before + a.slots(), enter, from)
             }
         }
     }

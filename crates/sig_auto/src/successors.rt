@@ -11,6 +11,7 @@ ghost use Rattle.sig_auto.specs.TreeSlots.{Takes, slots_of};
 ghost use Rattle.sig_auto.specs.Trim.{IsTrim};
 
 use crate::node::Node;
+use std::alloc::AllocError;
 
 /// An iterator over the states that follow a state and take a byte, rising.
 #[derive(Debug, Drop)]
@@ -24,13 +25,13 @@ pub struct Successors<'a> {
 
 impl<'a> Successors<'a> {
     ghost use Rattle.std.specs.List.Sorted.{IsStrictlyIncreasing};
-    ghost use Rattle.sig_auto.specs.SuccessorsLeft.{left_of};
+    ghost use Rattle.sig_auto.specs.Remaining.{remaining_of};
 
     pub(crate) fn new(root: &'a Node, state: usize, byte: u8) -> Successors<'a>
         requires trim { IsTrim (seen root.now) }
         requires few { slots_of (seen root.now) ≤ 65535 }
-        ensures members { (q : ℕ) → Contains (left_of result) q ↔ (Follows (seen root.now) state q × Takes (seen root.now) q byte) }
-        ensures rising { IsStrictlyIncreasing (left_of result) }
+        ensures members { (q : ℕ) → Contains (remaining_of result) q ↔ (Follows (seen root.now) state q × Takes (seen root.now) q byte) }
+        ensures rising { IsStrictlyIncreasing (remaining_of result) }
     {
         Successors {
             root,
@@ -41,15 +42,33 @@ impl<'a> Successors<'a> {
     }
 }
 
+impl Clone for Successors<'_> {
+    ghost use Rattle.std.specs.Prelude.{⊤};
+    ghost use Rattle.sig_auto.specs.Remaining.{remaining_of};
+
+    ghost is_clone = { λ one two. remaining_of two ≡ remaining_of one };
+
+    ghost is_infallible = { λ _. ⊤ };
+
+    fn clone(&self) -> Result<Self, AllocError> {
+        Ok(Successors {
+            root: self.root,
+            state: self.state,
+            byte: self.byte,
+            above: self.above,
+        })
+    }
+}
+
 impl Iterator for Successors<'_> {
     ghost use Rattle.std.specs.Iterator.{YieldsFirst, item_count};
-    ghost use Rattle.sig_auto.specs.SuccessorsLeft.{left_of};
+    ghost use Rattle.sig_auto.specs.Remaining.{remaining_of};
 
     type Item = u32;
 
-    ghost next_gives = { YieldsFirst left_of };
+    ghost next_gives = { YieldsFirst remaining_of };
 
-    ghost remaining = { item_count left_of };
+    ghost remaining = { item_count remaining_of };
 
     fn next(&mut self) -> Option<u32> {
         let q = self.root.next_state(self.state, self.byte, self.above)?;
