@@ -1,5 +1,5 @@
 -- What holds at each place of two or three lists.
-use Rattle.std.proofs.Common.{◌≡◌, ℕ, List, [], ◌∷◌, All, refl}
+use Rattle.std.proofs.Common.{List, [], ◌∷◌, All}
 use Rattle.std.specs.List.{AllZip}
 use Rattle.std.proofs.lemmas.List.Elements.{All-cons, All-head, All-nil, All-tail}
 use Rattle.sig_product.specs.Rows.{AllTriples}

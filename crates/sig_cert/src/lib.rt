@@ -6,7 +6,9 @@
 #![tactic(auto)]
 
 mod error;
+mod laws;
 mod view;
 
 pub use error::CheckError;
+pub use laws::closed_decides;
 pub use view::CertView;
