@@ -10,6 +10,8 @@ pub mod NumberLemmas
 pub mod ProductLemmas
 pub mod ReadLemmas
 pub mod SomeBits
+pub mod StepLemmas
+pub mod TableJudgedLemmas
 pub mod TableReadLemmas
 pub mod WidthLemmas
 pub mod ZipLemmas
