@@ -1,7 +1,23 @@
 -- The lemmas of this crate.
+mod AcceptedLemmas
 mod BlockerLemmas
 mod ChainLemmas
+mod ClosedLemmas
 mod CountLemmas
+mod CoverLemmas
+mod DecidedLemmas
+mod FileRows
 mod KindLemmas
+mod LeftLemmas
+mod MemberLemmas
+mod NumberLemmas
 mod PairLemmas
+mod ProductLemmas
+mod ReadLemmas
 mod RowsLemmas
+mod SomeBits
+mod StepLemmas
+mod TableJudgedLemmas
+mod TableReadLemmas
+mod WidthLemmas
+mod ZipLemmas

@@ -8,6 +8,7 @@
 mod checker;
 mod error;
 mod fields;
+mod laws;
 mod rows;
 mod site;
 mod tables;
@@ -16,4 +17,5 @@ mod view;
 
 pub use checker::check;
 pub use error::CheckError;
+pub use laws::closed_decides;
 pub use view::CertView;
