@@ -1,5 +1,6 @@
 -- The lemmas of this crate.
 mod AcceptedLemmas
+mod BadLemmas
 mod BlockerLemmas
 mod ChainLemmas
 mod ClosedLemmas
@@ -14,6 +15,7 @@ mod NumberLemmas
 mod PairLemmas
 mod ProductLemmas
 mod ReadLemmas
+mod RowFaultLemmas
 mod RowsLemmas
 mod SomeBits
 mod StepLemmas

@@ -8,3 +8,4 @@ pub mod Verdicts
 pub mod Fields
 pub mod Chains
 pub mod Blockers
+pub mod RowFaults

@@ -6,10 +6,12 @@
 #![tactic(auto)]
 
 mod checker;
+mod closed;
 mod error;
 mod fields;
 mod laws;
 mod rows;
+mod search;
 mod site;
 mod tables;
 mod version;
