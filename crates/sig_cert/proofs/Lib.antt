@@ -8,6 +8,7 @@ mod CountLemmas
 mod CoverLemmas
 mod DecidedLemmas
 mod FileRows
+mod JudgeLemmas
 mod KindLemmas
 mod LeftLemmas
 mod MemberLemmas
