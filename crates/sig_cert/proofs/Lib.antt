@@ -1,10 +1,12 @@
 -- The lemmas of this crate.
 pub mod AcceptedLemmas
+pub mod ClosedJudgedLemmas
 pub mod ClosedLemmas
 pub mod CoverLemmas
 pub mod DecidedLemmas
 pub mod FileRows
 pub mod LeftLemmas
+pub mod MatchedLemmas
 pub mod MemberLemmas
 pub mod NumberLemmas
 pub mod ProductLemmas

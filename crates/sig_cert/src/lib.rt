@@ -10,5 +10,5 @@ mod laws;
 mod view;
 
 pub use error::CheckError;
-pub use laws::closed_decides;
+pub use laws::{accepted_is_closed, closed_decides, closed_is_accepted, two_lines_never};
 pub use view::CertView;
