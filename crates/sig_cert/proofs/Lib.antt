@@ -4,13 +4,14 @@ pub mod ClosedJudgedLemmas
 pub mod ClosedLemmas
 pub mod CoverLemmas
 pub mod DecidedLemmas
-pub mod FileRows
+pub mod FileRowLemmas
 pub mod LeftLemmas
 pub mod MatchedLemmas
 pub mod MemberLemmas
 pub mod NumberLemmas
 pub mod ProductLemmas
 pub mod ReadLemmas
+pub mod ReachedLemmas
 pub mod SomeBits
 pub mod StepLemmas
 pub mod TableJudgedLemmas

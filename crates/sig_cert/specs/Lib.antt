@@ -4,3 +4,5 @@ pub mod Pairs
 pub mod Layouts
 pub mod Closed
 pub mod Verdicts
+-- The vocabulary of proofs.
+pub mod FileRows

@@ -10,5 +10,8 @@ mod laws;
 mod view;
 
 pub use error::CheckError;
-pub use laws::{accepted_is_closed, closed_decides, closed_is_accepted, two_lines_never};
+pub use laws::{
+    accepted_is_closed, closed_covers_reached, closed_decides, closed_is_accepted,
+    ends_are_reached, reached_rows_are_of_their_file, two_lines_never,
+};
 pub use view::CertView;
