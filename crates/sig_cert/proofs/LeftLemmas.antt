@@ -8,7 +8,7 @@ use Rattle.std.proofs.lemmas.List.Elements.{All-filter, filter_passes}
 use Rattle.std.proofs.lemmas.List.Folds.{list_any-from_Any}
 use Rattle.std.proofs.lemmas.List.Kept.{AllPairs-filter, AllPairs-from_increasing}
 use Rattle.sig_match.specs.declared.results.Hit.{Hit}
-use Rattle.sig_match.specs.Hitting.{HitFormats, HitsAt, IsFirstHit, Left, formats_of, ranks}
+use Rattle.sig_match.specs.Hitting.{HitFormats, HitsAt, IsFirstHit, Left, formats_of}
 use Rattle.sig_table.specs.Views.{TableView}
 use Rattle.sig_cert.proofs.MemberLemmas.{first_or_later, none_is_there}
 
@@ -29,9 +29,13 @@ pub record TwoLeft (table : TableView) (file : List ℕ) : Type 0 where
 
 -- ---- what is kept
 
+-- whether the first format outranks the second by a listed pair
+abbrev is_listed : TableView → ℕ → ℕ → Bool
+is_listed table higher lower = list_any (λ pair. nat_eq pair.0 higher && nat_eq pair.1 lower) table.priorities
+
 -- a listed pair is found
-ranked : (table : TableView) (higher lower : ℕ) → Contains table.priorities (higher, lower) → ranks table higher lower ≡ true
-ranked table higher lower w =
+listed_is_found : (table : TableView) (higher lower : ℕ) → Contains table.priorities (higher, lower) → is_listed table higher lower ≡ true
+listed_is_found table higher lower w =
     let both : ℕ × ℕ = (higher, lower) in
     list_any-from_Any (λ pair. nat_eq pair.0 higher && nat_eq pair.1 lower) table.priorities
     (w.0, both, w.1, w.2, (Decides-and (nat_eq higher higher) (nat_eq lower lower) (Decides-eqb higher higher) (Decides-eqb lower lower)).1 (refl, refl))
@@ -40,24 +44,24 @@ or_right : (a b : Bool) → b ≡ true → (a || b) ≡ true
 or_right true b h = refl
 or_right false b h = h
 
-found_later : (table : TableView) (h : Hit) (hits : List Hit) (lower : ℕ) → list_any (λ other. ranks table other.format.0 lower) hits ≡ true → list_any (λ other. ranks table other.format.0 lower) (h ∷ hits) ≡ true
-found_later table h hits lower is = or_right (ranks table h.format.0 lower) (list_any (λ other. ranks table other.format.0 lower) hits) is
+found_later : (table : TableView) (h : Hit) (hits : List Hit) (lower : ℕ) → list_any (λ other. is_listed table other.format.0 lower) hits ≡ true → list_any (λ other. is_listed table other.format.0 lower) (h ∷ hits) ≡ true
+found_later table h hits lower is = or_right (is_listed table h.format.0 lower) (list_any (λ other. is_listed table other.format.0 lower) hits) is
 
 -- so is a hit that outranks
-found_above : (table : TableView) (hits : List Hit) (higher lower : ℕ) → Contains (formats_of hits) higher → ranks table higher lower ≡ true → list_any (λ other. ranks table other.format.0 lower) hits ≡ true
+found_above : (table : TableView) (hits : List Hit) (higher lower : ℕ) → Contains (formats_of hits) higher → is_listed table higher lower ≡ true → list_any (λ other. is_listed table other.format.0 lower) hits ≡ true
 found_above table [] higher lower c is = absurd (none_is_there higher c)
 found_above table (h ∷ hits) higher lower c is = elim (first_or_later h.format.0 (formats_of hits) higher c) [
-  | inl same ↦ rw (subst (λ format. ranks table format lower ≡ true) (sym same) is) refl
+  | inl same ↦ rw (subst (λ format. is_listed table format lower ≡ true) (sym same) is) refl
   | inr later ↦ found_later table h hits lower (found_above table hits higher lower later is)
 ]
 
 -- whether this hit is kept
 abbrev is_kept : TableView → List Hit → Hit → Bool
-is_kept table hits hit = not (list_any (λ other. ranks table other.format.0 hit.format.0) hits)
+is_kept table hits hit = not (list_any (λ other. is_listed table other.format.0 hit.format.0) hits)
 
 kept_stays : (table : TableView) (file : List ℕ) (hits : List Hit) (hit : Hit) → HitFormats table file hits → is_kept table hits hit ≡ true → NoneOutranks table file hit.format.0
 kept_stays table file hits hit all kept higher place there listed =
-    let above : list_any (λ other. ranks table other.format.0 hit.format.0) hits ≡ true = found_above table hits higher hit.format.0 (all.none_missing higher place there) (ranked table higher hit.format.0 listed) in
+    let above : list_any (λ other. is_listed table other.format.0 hit.format.0) hits ≡ true = found_above table hits higher hit.format.0 (all.none_missing higher place there) (listed_is_found table higher hit.format.0 listed) in
     false≢true (sym (ap not above) ∙ kept)
 
 -- the formats of hits rise

@@ -66,3 +66,19 @@ triples_from R S U to [] (y ∷ ys) zs h k = absurd h
 triples_from R S U to (x ∷ xs) [] zs h k = absurd h
 triples_from R S U to (x ∷ xs) (y ∷ ys) [] h k = absurd k
 triples_from R S U to (x ∷ xs) (y ∷ ys) (z ∷ zs) h k = (to x y z h.0 k.0, triples_from R S U to xs ys zs h.1 k.1)
+
+-- what holds of the members of the second list holds beside the first
+pub zip_with_right : {A B : Type 0} (R S : A → B → Type 0) (P : B → Type 0) → ((x : A) (y : B) → P y → R x y → S x y) → (xs : List A) (ys : List B) → All P ys → AllZip R xs ys → AllZip S xs ys
+zip_with_right R S P to [] [] all h = tt
+zip_with_right R S P to [] (y ∷ ys) all h = absurd h
+zip_with_right R S P to (x ∷ xs) [] all h = absurd h
+zip_with_right R S P to (x ∷ xs) (y ∷ ys) all h = (to x y (All-head P y ys all) h.0, zip_with_right R S P to xs ys (All-tail P y ys all) h.1)
+
+-- what holds of the first list and the third
+pub zip_from_triples : {A B C : Type 0} (R : A → B → Type 0) (U : A → B → C → Type 0) (T S : A → C → Type 0) → ((x : A) (y : B) (z : C) → R x y → U x y z → T x z → S x z) → (xs : List A) (ys : List B) (zs : List C) → AllZip R xs ys → AllTriples U xs ys zs → AllZip T xs zs → AllZip S xs zs
+zip_from_triples R U T S to [] [] [] h u t = tt
+zip_from_triples R U T S to [] [] (z ∷ zs) h u t = absurd u
+zip_from_triples R U T S to [] (y ∷ ys) zs h u t = absurd h
+zip_from_triples R U T S to (x ∷ xs) [] zs h u t = absurd h
+zip_from_triples R U T S to (x ∷ xs) (y ∷ ys) [] h u t = absurd u
+zip_from_triples R U T S to (x ∷ xs) (y ∷ ys) (z ∷ zs) h u t = (to x y z h.0 u.0 t.0, zip_from_triples R U T S to xs ys zs h.1 u.1 t.1)

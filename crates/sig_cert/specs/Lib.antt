@@ -5,7 +5,8 @@ pub mod Layouts
 pub mod Closed
 pub mod Verdicts
 -- The vocabulary of proofs.
-pub mod Fields
-pub mod Chains
 pub mod Blockers
+pub mod Chains
+pub mod Fields
+pub mod FileRows
 pub mod RowFaults

@@ -19,5 +19,8 @@ mod view;
 
 pub use checker::check;
 pub use error::CheckError;
-pub use laws::closed_decides;
+pub use laws::{
+    accepted_is_closed, closed_covers_reached, closed_decides, closed_is_accepted,
+    ends_are_reached, reached_rows_are_of_their_file, two_lines_never,
+};
 pub use view::CertView;
