@@ -9,6 +9,7 @@ mod CountLemmas
 mod CoverLemmas
 mod DecidedLemmas
 mod FileRowLemmas
+mod HasRowLemmas
 mod JudgeLemmas
 mod KindLemmas
 mod LeftLemmas

@@ -1,5 +1,8 @@
 //! Why a certificate is refused.
 
+ghost use Rattle.std.specs.Prelude.{◌≡◌};
+
+use std::alloc::AllocError;
 use thiserror::Error;
 
 /// Why a certificate is refused: the first condition that fails. Pairs, tables of a pair and rows of
@@ -72,4 +75,14 @@ pub enum CheckError {
     /// A growth was refused.
     #[error("out of memory")]
     OutOfMemory,
+}
+
+impl From<AllocError> for CheckError {
+    ghost use Rattle.sig_cert.specs.declared.error.CheckError.{CheckError};
+
+    ghost from_gives = { λ _ e. e ≡ CheckError.OutOfMemory };
+
+    fn from(_: AllocError) -> CheckError {
+        CheckError::OutOfMemory
+    }
 }

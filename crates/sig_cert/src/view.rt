@@ -36,6 +36,13 @@ impl<'a> CertView<'a> {
         Some(field)
     }
 
+    /// How many bytes are left.
+    pub(crate) fn len(&self) -> usize
+        ensures { result ≡ length self.now }
+    {
+        self.bytes.len()
+    }
+
     /// Whether no byte is left.
     pub(crate) fn is_at_end(&self) -> bool
         ensures { IsTrue result ↔ (self.now ≡ []) }
