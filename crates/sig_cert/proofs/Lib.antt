@@ -8,6 +8,7 @@ mod ClosedLemmas
 mod CountLemmas
 mod CoverLemmas
 mod DecidedLemmas
+mod DecidesLemmas
 mod FileRowLemmas
 mod HasRowLemmas
 mod JudgeLemmas
@@ -22,8 +23,10 @@ mod ReachedLemmas
 mod ReadLemmas
 mod RowFaultLemmas
 mod RowsLemmas
+mod RowsWideLemmas
 mod SomeBits
 mod StepLemmas
+mod SuccessorFaultLemmas
 mod TableJudgedLemmas
 mod TableReadLemmas
 mod WidthLemmas

@@ -2,7 +2,8 @@
 //!
 //! Each function judges what one step of `specs/Verdicts.antt` judges, and moves the view behind it.
 
-ghost use Rattle.std.specs.Prelude.{◌≡◌, ◌⊎◌, ◌↔◌, ◌≤◌, if◌then◌else◌, IsErrOf, IsTrue, MatchOption, MatchResult, length, []};
+ghost use Rattle.std.specs.Prelude.{◌≡◌, ◌⊎◌, ◌↔◌, ◌≤◌, if◌then◌else◌, IsErrOf, IsTrue, MatchOption, MatchResult, OnOk, length, []};
+ghost use Rattle.sig_cert.specs.Deciding.{Decided};
 ghost use Rattle.sig_cert.specs.Layouts.{version_byte};
 ghost use Rattle.sig_cert.specs.Pairs.{AreRelated, format_pairs, signature_pairs};
 ghost use Rattle.sig_cert.specs.Verdicts.{CertificateJudged, CountJudged, EntryJudged, Judges, PairJudged, PairsJudged, TablesJudged, Verdict, VersionJudged};
@@ -20,7 +21,10 @@ use std::alloc::Global;
 /// judging (`docs/FORMATS.md`).
 pub fn check(alloc: Global, table: &Table, certificate: &[u8]) -> Result<(), CheckError>
     ensures first_fault { IsErrOf result CheckError.OutOfMemory ⊎ Verdict table.now certificate.now result }
+    ensures decided { OnOk result (Decided table.now) }
 {
+    // Called for its clause: a table is within its limits.
+    let _formats = table.format_count();
     judge_certificate(alloc, table, &mut CertView::over(certificate))
 }
 
