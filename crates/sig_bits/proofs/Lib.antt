@@ -1,3 +1,4 @@
 -- Lemmas of this crate.
 pub mod BitLemmas
 pub mod DeviceLemmas
+pub mod RangeLemmas
