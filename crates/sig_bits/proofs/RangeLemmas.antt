@@ -1,10 +1,10 @@
 -- Ranges of bits, and what moves a place up.
-use Rattle.std.proofs.Common.{◌≡◌, ◌≢◌, ◌↔◌, ◌⊎◌, inl, inr, ⊎_elim, ℕ, zero, suc, ◌+◌, ◌-◌, ◌*◌, ◌/◌, ◌%◌, ◌^◌, ◌<◌, ◌≤◌, List, length, get_or, refl, sym, ap, ◌∙◌, arith, bit_or}
+use Rattle.std.proofs.Common.{◌≡◌, ◌≢◌, ◌↔◌, ◌⊎◌, inl, inr, ⊎_elim, ℕ, zero, suc, ◌+◌, ◌-◌, ◌*◌, ◌/◌, ◌%◌, ◌^◌, ◌<◌, ◌≤◌, List, get_or, refl, sym, ap, ◌∙◌, arith, bit_or}
 use Rattle.std.specs.Int.{bit_at}
 use Rattle.std.proofs.lemmas.Nat.Bits.{bit_at_above, bit_at-zero, bit_at_cat_low, bit_at_lowest, bit_at-suc}
 use Rattle.std.proofs.lemmas.Bool.{cases_eq, cases_lt}
 use Rattle.sig_bits.specs.BitSets.{HasBit, HasBitBetween, IsShiftedBit}
-use Rattle.sig_bits.proofs.BitLemmas.{HasBit-within, HasBit-in_byte, bit_in_byte, some_bit, bit_at_or-iff}
+use Rattle.sig_bits.proofs.BitLemmas.{HasBit-in_byte, bit_in_byte, some_bit, bit_at_or-iff}
 
 -- ---- ranges that follow one another
 

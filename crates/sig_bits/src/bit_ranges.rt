@@ -2,8 +2,10 @@
 
 ghost use Rattle.std.specs.Prelude.{◌≡◌, ℕ, ◌+◌, ◌-◌, ◌*◌, ◌<◌, ◌≤◌, ◌⊎◌, ◌↔◌, IsTrue, length, slice_index};
 ghost use Rattle.sig_bits.specs.BitSets.{HasBit, HasBitBetween, IsShiftedBit};
+ghost use Rattle.sig_bits.specs.Joined.{IsJoined};
 
-use super::{get_bit, set_bit};
+use crate::bit_sets::{get_bit, set_bit};
+use crate::pieces::end_of_piece;
 
 /// Adds the bits of `src` from `from` up to `to`, which is left out, to `dst`, each one place up.
 pub fn shift_into(dst: &mut [u8], src: &[u8], from: usize, to: usize)
@@ -79,13 +81,30 @@ fn any_bit(bits: &[u8], from: usize, to: usize) -> bool
 
 // The same for the bits of the bytes from the first up to the last, which is left out.
 fn any_byte(bits: &[u8], first: usize, last: usize) -> bool
-    requires { last ≤ length bits.now }
+    requires order { first ≤ last }
+    requires within { last ≤ length bits.now }
     ensures { IsTrue result ↔ HasBitBetween bits.now (8 * first) (8 * last) }
 {
-    for k in first..last {
-        if bits[k] != 0 {
+    let mut from = first;
+    while from < last {
+        let to = end_of_piece(from, last);
+        if joined(bits, from, to) != 0 {
             return true;
         }
+        from = to;
     }
     false
+}
+
+// The bytes of a piece joined into one.
+fn joined(bits: &[u8], from: usize, to: usize) -> u8
+    requires order { from ≤ to }
+    requires within { to ≤ length bits.now }
+    ensures { IsJoined (slice_index bits.now) from to result }
+{
+    let mut joined = 0;
+    for k in from..to {
+        joined |= bits[k];
+    }
+    joined
 }

@@ -11,6 +11,7 @@ mod byte_class;
 mod fault;
 mod input;
 mod output;
+mod pieces;
 #[cfg(test)]
 mod tests;
 mod whole;
