@@ -1,4 +1,5 @@
 -- Lemmas of this crate.
+pub mod BitLaws
 pub mod BitLemmas
 pub mod DeviceLemmas
 pub mod JoinLemmas

@@ -1,4 +1,4 @@
--- What a read gives and a write adds, where the device tells its bytes.
+-- What a read gives and a write adds, where its bytes are known.
 use Rattle.std.specs.Prelude.{◌≡◌, ℕ, ◌≤◌, List, [], ◌++◌, length, take, Option, Some, None, ⊤}
 
 -- the bytes to come begin with these, and lose them

@@ -4,8 +4,8 @@
 //! The set of 0 and 9 over two bytes is `01 02`.
 
 ghost use Rattle.std.specs.Prelude.{◌≡◌, ℕ, ◌*◌, ◌<◌, ◌≤◌, ◌⊎◌, ◌↔◌, IsTrue, length, replicate};
-ghost use Rattle.sig_bits.specs.BitSets.{HasBit, common_at, missing_at};
-ghost use Rattle.sig_bits.specs.Joined.{IsJoined};
+ghost use Rattle.sig_bits.specs.BitSets.{HasBit};
+ghost use Rattle.sig_bits.specs.Joined.{IsJoined, common_at, missing_at};
 
 use crate::pieces::end_of_piece;
 

@@ -3,7 +3,7 @@
 ghost use Rattle.std.specs.Prelude.{◌≡◌, ℕ, ◌<◌, ◌≤◌, ◌↔◌, IsTrue};
 ghost use Rattle.sig_bits.specs.ByteClasses.{Holds};
 
-use super::{get_bit, set_bit, subset};
+use crate::bit_sets::{get_bit, set_bit, subset};
 
 /// A set of bytes.
 #[derive(Clone, Copy, Debug, PartialEq, Eq)]

@@ -10,6 +10,7 @@ mod bit_sets;
 mod byte_class;
 mod fault;
 mod input;
+pub mod laws;
 mod output;
 mod pieces;
 #[cfg(test)]

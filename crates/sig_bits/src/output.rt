@@ -1,9 +1,9 @@
 //! Where bytes go.
 
-ghost use Rattle.std.specs.Prelude.{◌≡◌, ℕ, ◌+◌, ◌-◌, ◌^◌, ◌≤◌, Bool, true, false, List, length, Option, OnOk, OnErr, IsErr, IsTrue, is_err};
+ghost use Rattle.std.specs.Prelude.{◌≡◌, ℕ, ◌+◌, ◌-◌, ◌^◌, ◌<◌, ◌≤◌, Bool, true, false, List, length, Option, OnOk, OnErr, IsErr, IsTrue, is_err};
 ghost use Rattle.sig_bits.specs.Device.{Adds, AddsFront};
 
-use super::DeviceFault;
+use crate::fault::DeviceFault;
 use std::io::Write;
 
 /// A sink of bytes, written once from its front.
@@ -17,7 +17,7 @@ pub trait Output {
     /// How many bytes may still be written.
     ghost limit: { Self → ℕ };
 
-    /// The bytes written so far, where the sink tells them.
+    /// The bytes written so far, where they are known.
     ghost written: { Self → Option (List ℕ) };
 
     /// Writes all the bytes, and sees them through to the sink.
@@ -34,7 +34,8 @@ pub trait Output {
 
 /// The output to any writer.
 ///
-/// It takes at most 18,446,744,073,709,551,615 bytes, and a write of more fails.
+/// It takes at most 18,446,744,073,709,551,615 bytes, and a write of more fails. After a failed write
+/// the writer is not touched again.
 #[derive(Drop)]
 pub struct FromWrite<W> {
     writer: W,
@@ -76,11 +77,23 @@ impl<W: Write> Output for FromWrite<W> {
 
     ghost written = { λ s. W.contents s.writer };
 
-    fn write_all(&mut self, bytes: &[u8]) -> Result<(), DeviceFault> {
-        if self.failed
-            || (self.left as usize) < bytes.len()
-            || !write_through(&mut self.writer, bytes)
-        {
+    fn write_all(&mut self, bytes: &[u8]) -> Result<(), DeviceFault>
+        ensures fails { self.new.failed ≡ is_err result }
+        ensures stays_failed { IsTrue self.old.failed → IsErr result }
+        ensures lowers { OnOk result (self.old.left ≡ length bytes.now + self.new.left) }
+        ensures adds { OnOk result (Adds (W.contents self.old.writer) bytes.now (W.contents self.new.writer)) }
+        ensures front { OnErr result (AddsFront (W.contents self.old.writer) bytes.now (W.contents self.new.writer)) }
+        ensures no_room { OnErr result (self.new.left ≤ self.old.left) }
+
+        // A writer that failed is not written again, and one with no room for all the bytes is not
+        // written at all.
+        ensures idle { IsTrue self.old.failed → self.new ≡ self.old }
+        ensures none { self.old.left < length bytes.now → self.new.writer ≡ self.old.writer }
+    {
+        if self.failed {
+            return Err(DeviceFault);
+        }
+        if (self.left as usize) < bytes.len() || !write_through(&mut self.writer, bytes) {
             self.failed = true;
             return Err(DeviceFault);
         }

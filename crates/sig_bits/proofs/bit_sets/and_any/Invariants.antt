@@ -1,5 +1,5 @@
 use Rattle.std.proofs.Common.{◌≡◌, ℕ, ◌-◌, ◌<◌, ◌≤◌, length}
-use Rattle.sig_bits.specs.BitSets.{common_at}
+use Rattle.sig_bits.specs.Joined.{common_at}
 use Rattle.sig_bits.proofs.bit_sets.and_any.Given as goal
 
 -- no byte so far has a bit in both

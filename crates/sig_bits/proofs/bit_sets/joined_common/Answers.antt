@@ -1,5 +1,5 @@
 use Rattle.std.proofs.Common.{arith}
-use Rattle.sig_bits.specs.BitSets.{common_at}
+use Rattle.sig_bits.specs.Joined.{common_at}
 use Rattle.sig_bits.proofs.JoinLemmas.{joined_none, joined_more}
 use Rattle.sig_bits.proofs.bit_sets.joined_common.Goals as goal
 

@@ -1,4 +1,4 @@
-use Rattle.sig_bits.specs.BitSets.{common_at}
+use Rattle.sig_bits.specs.Joined.{common_at}
 use Rattle.sig_bits.specs.Joined.{IsJoined}
 use Rattle.sig_bits.proofs.bit_sets.joined_common.Given as goal
 

@@ -1,4 +1,4 @@
-use Rattle.sig_bits.specs.BitSets.{missing_at}
+use Rattle.sig_bits.specs.Joined.{missing_at}
 use Rattle.sig_bits.specs.Joined.{IsJoined}
 use Rattle.sig_bits.proofs.bit_sets.joined_missing.Given as goal
 

@@ -1,5 +1,5 @@
 use Rattle.std.proofs.Common.{◌≡◌, ℕ, ◌-◌, ◌<◌, ◌≤◌, length}
-use Rattle.sig_bits.specs.BitSets.{missing_at}
+use Rattle.sig_bits.specs.Joined.{missing_at}
 use Rattle.sig_bits.proofs.bit_sets.subset.Given as goal
 
 -- no byte so far has a bit in the first alone
