@@ -12,6 +12,7 @@ import re
 import sys
 import unittest
 
+sys.dont_write_bytecode = True
 sys.path.insert(0, os.path.dirname(os.path.abspath(__file__)))
 
 from plain_check import ALL_BYTES, Automaton, Product, check, items_of, table_of
