@@ -9,7 +9,7 @@ ghost use Rattle.sig_bits.specs.Joined.{IsJoined, common_at, missing_at};
 
 use crate::pieces::end_of_piece;
 
-/// Adds the bits of `src` to those of `dst`.
+/// Adds the numbers of the set `src` to the set `dst`.
 pub fn or_into(dst: &mut [u8], src: &[u8])
     requires { length dst.old ≡ length src.now }
     ensures { (i : ℕ) → HasBit dst.new i ↔ (HasBit dst.old i ⊎ HasBit src.now i) }
@@ -19,7 +19,9 @@ pub fn or_into(dst: &mut [u8], src: &[u8])
     }
 }
 
-/// Whether some bit is in both.
+/// Whether the two sets have a number in common.
+///
+/// The bytes are looked at in pieces of 64, so an early common number ends the search.
 pub fn and_any(a: &[u8], b: &[u8]) -> bool
     requires { length a.now ≡ length b.now }
     ensures { IsTrue result ↔ ((i : ℕ) × (HasBit a.now i × HasBit b.now i)) }
@@ -35,7 +37,7 @@ pub fn and_any(a: &[u8], b: &[u8]) -> bool
     false
 }
 
-/// Whether every bit of `a` is in `b`.
+/// Whether the set `b` has all numbers of the set `a`.
 pub fn subset(a: &[u8], b: &[u8]) -> bool
     requires { length a.now ≡ length b.now }
     ensures { IsTrue result ↔ ((i : ℕ) → HasBit a.now i → HasBit b.now i) }
@@ -79,7 +81,7 @@ fn joined_missing(a: &[u8], b: &[u8], from: usize, to: usize) -> u8
     joined
 }
 
-/// Sets one bit.
+/// Adds `i` to the set.
 pub fn set_bit(bits: &mut [u8], i: usize)
     requires { i < 8 * length bits.old }
     ensures { (j : ℕ) → HasBit bits.new j ↔ ((j ≡ i) ⊎ HasBit bits.old j) }
@@ -87,7 +89,7 @@ pub fn set_bit(bits: &mut [u8], i: usize)
     bits[i / 8] |= 1 << (i % 8);
 }
 
-/// Whether the bit is set.
+/// Whether `i` is in the set.
 pub fn get_bit(bits: &[u8], i: usize) -> bool
     requires { i < 8 * length bits.now }
     ensures { IsTrue result ↔ HasBit bits.now i }
@@ -95,7 +97,7 @@ pub fn get_bit(bits: &[u8], i: usize) -> bool
     (bits[i / 8] >> (i % 8)) & 1 == 1
 }
 
-/// Makes every byte 0.
+/// Empties the set.
 pub fn clear(bits: &mut [u8])
     ensures { bits.new ≡ replicate (length bits.old) 0 }
 {

@@ -2,6 +2,7 @@
 
 use crate::bit_ranges::{any_between, shift_into};
 use crate::bit_sets::{and_any, clear, get_bit, or_into, set_bit, subset};
+use std::test::Fail;
 
 #[test]
 fn the_set_of_0_and_9_is_01_02(rt: HostRuntime) {
@@ -80,6 +81,31 @@ fn a_range_has_a_bit_where_one_of_its_bits_is_set(rt: HostRuntime) {
             assert_eq!(rt; any_between(&BITS, from, to), wanted, "{from} to {to}");
         }
     }
+}
+
+#[test]
+fn one_number_is_found_in_sets_of_every_length(rt: HostRuntime) -> Result<(), Fail> {
+    for len in [1, 15, 16, 17, 31, 32, 33, 63, 64, 65, 8_191, 8_192] {
+        for place in [0, len / 2, len - 1] {
+            let none = vec![in rt.alloc(); 0u8; len]?;
+            let mut some = vec![in rt.alloc(); 0u8; len]?;
+            if let Some(byte) = some.as_mut_slice().get_mut(place) {
+                *byte = 0x10;
+            }
+            assert_eq!(rt; some.len(), none.len());
+            assert!(rt; !and_any(some.as_slice(), none.as_slice()));
+            assert!(rt; and_any(some.as_slice(), some.as_slice()));
+            assert!(rt; subset(none.as_slice(), some.as_slice()));
+            assert!(rt; !subset(some.as_slice(), none.as_slice()));
+            let mut joined = vec![in rt.alloc(); 0u8; len]?;
+            assert_eq!(rt; joined.len(), some.len());
+            or_into(joined.as_mut_slice(), some.as_slice());
+            assert_eq!(rt; joined.as_slice(), some.as_slice());
+        }
+    }
+    assert!(rt; !and_any(&[], &[]));
+    assert!(rt; subset(&[], &[]));
+    Ok(())
 }
 
 #[test]
