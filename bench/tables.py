@@ -3,7 +3,7 @@
 
     python3 bench/tables.py KIND N FOLDER [--seed S]
 
-KIND is one of these, and N the number of formats (of alternatives, for the last):
+KIND is one of these, and N the number of formats (of alternatives, of rows, for the last two):
 
     decided        like a registry: most signatures begin with bytes of their own, some families share
                    a front, a tenth is loose, and each pair that some file can hit is ranked
@@ -14,6 +14,8 @@ KIND is one of these, and N the number of formats (of alternatives, for the last
                    with gaps
     alternatives   two formats, each N equal alternatives, those again, and a byte of its own: its
                    rows have the same N * N successors each. Its certificate is written too
+    junk           three formats, and an accepted certificate of version 2 with N rows that are never
+                   reached and stand before the one row that covers their successors
 
 It writes signatures.csv and priorities.csv to FOLDER. The same seed makes the same table anywhere.
 """
@@ -231,14 +233,39 @@ def certificate_of_alternatives(count):
     return head + len(rows).to_bytes(4, "big") + b"".join(rows)
 
 
-KINDS = {"decided": decided, "ambiguous": ambiguous, "hard": hard, "mixed": mixed, "alternatives": alternatives}
+def junk(_chance, _count):
+    made = Made()
+    first = made.add_format([("EOF", 0, 0, "41")])
+    second = made.add_format([("EOF", 0, 0, "43")])
+    above = made.add_format([("Variable", "", "", "41{40}42")])
+    made.rank(above, first)
+    made.rank(above, second)
+    return made
+
+
+def certificate_of_junk(count):
+    """The sets of the junk hold state 0 and some far ones, so their bytes are below those of {1}."""
+    chance, far = random.Random(count), set()
+    while len(far) < count:
+        far.add(chance.randrange(1, 1 << 37) << 8)
+
+    def row(s, t, states):
+        return s.to_bytes(2, "big") + t.to_bytes(2, "big") + states.to_bytes(6, "little")
+    rows = [row(0, 0, 1)] + sorted(row(1, 1, 1 | states) for states in far)
+    rows += [row(1, 1, 1 << 1), row(1, 2, 1 << 1), row(2, 1, 1 << 1 | 1 << 2)]
+    head = b"PSAC" + bytes([2]) + (3).to_bytes(4, "big") + bytes([1]) + (1).to_bytes(2, "big") + (2).to_bytes(4, "big")
+    return head + len(rows).to_bytes(4, "big") + b"".join(rows) + bytes(2)
+
+
+KINDS = {"decided": decided, "ambiguous": ambiguous, "hard": hard, "mixed": mixed, "alternatives": alternatives, "junk": junk}
+CERTIFICATES = {"alternatives": certificate_of_alternatives, "junk": certificate_of_junk}
 
 
 def make(kind, count, folder, seed=1):
     KINDS[kind](random.Random(f"{kind} {count} {seed}"), count).write(folder)
-    if kind == "alternatives":
+    if kind in CERTIFICATES:
         with open(os.path.join(folder, "certificate"), "wb") as f:
-            f.write(certificate_of_alternatives(count))
+            f.write(CERTIFICATES[kind](count))
 
 
 def main():

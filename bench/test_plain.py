@@ -10,12 +10,14 @@ import os
 import random
 import re
 import sys
+import tempfile
 import unittest
 
 sys.dont_write_bytecode = True
 sys.path.insert(0, os.path.dirname(os.path.abspath(__file__)))
 
-from plain_check import ALL_BYTES, Automaton, Product, check, items_of, table_of
+import tables
+from plain_check import ALL_BYTES, Automaton, Product, check, items_of, read_table, table_of
 from plain_find import find, hits, witness_line
 
 HEAD = "50534143 01 00000001 01 0000 "
@@ -246,6 +248,24 @@ class Finder(unittest.TestCase):
             elif data is not None:
                 self.assertEqual(witness_line(table, data), found.replace("witness", "ambiguous"))
         self.assertLessEqual({"decided", "witness"}, answers)
+
+
+class Benches(unittest.TestCase):
+    def test_made_certificates_are_taken(self):
+        for kind, count in [("alternatives", 5), ("junk", 60)]:
+            with tempfile.TemporaryDirectory() as folder:
+                tables.make(kind, count, folder)
+                table = read_table(os.path.join(folder, "signatures.csv"), os.path.join(folder, "priorities.csv"))
+                with open(os.path.join(folder, "certificate"), "rb") as f:
+                    self.assertEqual(check(table, f.read()), "accepted")
+
+    def test_made_tables_are_decided_or_not(self):
+        for kind, count, answer in [("decided", 20, "decided"), ("mixed", 20, "decided"), ("hard", 3, "decided"),
+                                    ("ambiguous", 20, "witness fmt/19 fmt/20")]:
+            with tempfile.TemporaryDirectory() as folder:
+                tables.make(kind, count, folder)
+                table = read_table(os.path.join(folder, "signatures.csv"), os.path.join(folder, "priorities.csv"))
+                self.assertEqual(find(table, 20_000)[0], answer)
 
 
 class Witnesses(unittest.TestCase):

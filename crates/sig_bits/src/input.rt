@@ -39,7 +39,7 @@ pub trait Input {
 #[derive(Drop)]
 pub struct FromRead<R> {
     reader: R,
-    left: u64,
+    budget: u64,
     failed: bool,
 }
 
@@ -52,7 +52,7 @@ impl<R: Read> FromRead<R> {
     {
         FromRead {
             reader,
-            left: u64::MAX,
+            budget: u64::MAX,
             failed: false,
         }
     }
@@ -61,7 +61,7 @@ impl<R: Read> FromRead<R> {
 impl<R: Read> Input for FromRead<R> {
     ghost failed = { λ s. s.failed };
 
-    ghost limit = { λ s. s.left };
+    ghost limit = { λ s. s.budget };
 
     ghost to_come = { λ s. R.remaining s.reader };
 
@@ -69,9 +69,9 @@ impl<R: Read> Input for FromRead<R> {
         ensures fails { self.new.failed ≡ is_err result }
         ensures stays_failed { IsTrue self.old.failed → IsErr result }
         ensures within { IfOk result (λ n. n ≤ length buf.new) }
-        ensures lowers { IfOk result (λ n. self.old.left ≡ n + self.new.left) }
+        ensures lowers { IfOk result (λ n. self.old.budget ≡ n + self.new.budget) }
         ensures gives { IfOk result (λ n. Gives (R.remaining self.old.reader) (take n buf.new) (R.remaining self.new.reader)) }
-        ensures stays { OnErr result (self.new.left ≡ self.old.left) }
+        ensures stays { OnErr result (self.new.budget ≡ self.old.budget) }
         ensures ends { IfOk result (λ n. n ≡ 0 → 0 < length buf.new → IsAtEnd (R.remaining self.new.reader)) }
 
         // A reader that failed is not read again.
@@ -80,14 +80,14 @@ impl<R: Read> Input for FromRead<R> {
         if self.failed {
             return Err(DeviceFault);
         }
-        if self.left == 0 {
+        if self.budget == 0 {
             self.failed = true;
             return Err(DeviceFault);
         }
-        let room = buf.len().min(self.left as usize);
+        let room = buf.len().min(self.budget as usize);
         match self.reader.read(&mut buf[..room]) {
             Ok(n) => {
-                self.left -= n as u64;
+                self.budget -= n as u64;
                 Ok(n)
             }
             Err(_) => {

@@ -39,7 +39,7 @@ pub trait Output {
 #[derive(Drop)]
 pub struct FromWrite<W> {
     writer: W,
-    left: u64,
+    budget: u64,
     failed: bool,
 }
 
@@ -52,7 +52,7 @@ impl<W: Write> FromWrite<W> {
     {
         FromWrite {
             writer,
-            left: u64::MAX,
+            budget: u64::MAX,
             failed: false,
         }
     }
@@ -63,7 +63,7 @@ impl<W: Write> FromWrite<W> {
     {
         let FromWrite {
             writer,
-            left: _,
+            budget: _,
             failed: _,
         } = self;
         writer
@@ -73,31 +73,31 @@ impl<W: Write> FromWrite<W> {
 impl<W: Write> Output for FromWrite<W> {
     ghost failed = { λ s. s.failed };
 
-    ghost limit = { λ s. s.left };
+    ghost limit = { λ s. s.budget };
 
     ghost written = { λ s. W.contents s.writer };
 
     fn write_all(&mut self, bytes: &[u8]) -> Result<(), DeviceFault>
         ensures fails { self.new.failed ≡ is_err result }
         ensures stays_failed { IsTrue self.old.failed → IsErr result }
-        ensures lowers { OnOk result (self.old.left ≡ length bytes.now + self.new.left) }
+        ensures lowers { OnOk result (self.old.budget ≡ length bytes.now + self.new.budget) }
         ensures adds { OnOk result (Adds (W.contents self.old.writer) bytes.now (W.contents self.new.writer)) }
         ensures front { OnErr result (AddsFront (W.contents self.old.writer) bytes.now (W.contents self.new.writer)) }
-        ensures no_room { OnErr result (self.new.left ≤ self.old.left) }
+        ensures no_room { OnErr result (self.new.budget ≤ self.old.budget) }
 
         // A writer that failed is not written again, and one with no room for all the bytes is not
         // written at all.
         ensures idle { IsTrue self.old.failed → self.new ≡ self.old }
-        ensures none { self.old.left < length bytes.now → self.new.writer ≡ self.old.writer }
+        ensures none { self.old.budget < length bytes.now → self.new.writer ≡ self.old.writer }
     {
         if self.failed {
             return Err(DeviceFault);
         }
-        if (self.left as usize) < bytes.len() || !write_through(&mut self.writer, bytes) {
+        if (self.budget as usize) < bytes.len() || !write_through(&mut self.writer, bytes) {
             self.failed = true;
             return Err(DeviceFault);
         }
-        self.left -= bytes.len() as u64;
+        self.budget -= bytes.len() as u64;
         Ok(())
     }
 }
