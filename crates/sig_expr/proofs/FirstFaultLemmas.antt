@@ -5,6 +5,7 @@ use Rattle.sig_expr.specs.declared.error.ExprError.{ExprError}
 use Rattle.sig_expr.specs.declared.item.Item.{Item}
 use Rattle.sig_expr.specs.declared.item.Item.TheVariants as item
 use Rattle.sig_expr.specs.declared.item.Atom.{Atom}
+use Rattle.sig_expr.specs.declared.item.Atom.TheVariants as atom
 use Rattle.sig_expr.specs.declared.token.Context.{Context}
 use Rattle.sig_expr.specs.declared.token.Context.TheVariants as context
 use Rattle.sig_expr.specs.declared.token.Token.{Token}
@@ -26,7 +27,8 @@ use Rattle.sig_expr.specs.Refusals.{IsFaulty}
 use Rattle.sig_expr.proofs.ScanLemmas.{at, IsOutside, either, scans_nothing, scans_whole, atom_scans, alternative_scans, gap_scans, range_scans, not_scans, not_range_scans, item_scans}
 use Rattle.sig_expr.proofs.FrontLemmas.{TokenText, TokenLegal, Good, feed_good, stops_nowhere}
 use Rattle.sig_expr.proofs.ProfileLemmas.{Quiet, quiet_atom, quiet_atoms, quiet_item, quiet_text, text_goes_on, read_text}
-use Rattle.sig_expr.proofs.RefusedLemmas.{atom_refused, gap_refused, range_text_refused, not_text_refused, judged_atom, judged_gap, judged_range, judged_not}
+use Rattle.sig_expr.proofs.RefusedLemmas.{atom_refused, gap_refused, range_text_refused, not_text_refused, judged_atom, judged_gap}
+use Rattle.sig_expr.proofs.PairLemmas.{pair_small}
 
 -- this fault is told of a text that is read from a state on
 abbrev TellsFault : State → ℕ → List ℕ → ExprError → Type 0
@@ -101,7 +103,7 @@ faulty_atoms [] many some t v n f short h = absurd h
 faulty_atoms (p ∷ ps) many some t v n f short h =
     let shorts = cut_short t h.0 h.1 h.2 short in
     rw (h.2, append_assoc h.0 h.1 v) (either h.5 (λ refused. faulty_atom (context.List many some) p h.0 (h.1 ++ v) n f shorts.0 h.3 refused)
-    (λ later. past _ h.0 (h.1 ++ v) (piece_of p ∷ []) n _ f (atom_scans (context.List many some) p h.0 h.3) (quiet_atom p h.0 h.3 later.0, tt) (faulty_atoms ps many true h.1 v (n + length h.0) f shorts.1 later.1)))
+    (λ later. past _ h.0 (h.1 ++ v) (piece_of p ∷ []) n _ f (atom_scans (context.List many some) p h.0 h.3) (quiet_atom p later.0, tt) (faulty_atoms ps many true h.1 v (n + length h.0) f shorts.1 later.1)))
 
 feeds_bar : (many : Bool) → feed_of (at (context.List many true) token.Between) 124 ≡ step.Whole piece.Bar
 unfolding feed_of begin_of list_start_of
@@ -123,7 +125,7 @@ faulty_bars (a ∷ rest) many t v n f short h =
     let shorts = bar_short t h.0 h.1 124 h.2 short in
     rw (h.2, append_assoc h.0 h.1 v) (past_sign (context.List many true) 124 piece.Bar (h.0 ++ (h.1 ++ v)) n f (feeds_bar many) (λ m. refl)
     (either h.6 (λ first. faulty_atoms a true false h.0 (h.1 ++ v) (n + 1) f shorts.0 first)
-    (λ later. past _ h.0 (h.1 ++ v) (map piece_of a) (n + 1) _ f (alternative_scans true a h.0 h.3 h.4) (quiet_atoms a h.0 h.4 later.0) (faulty_bars rest true h.1 v (n + 1 + length h.0) f shorts.1 later.1))))
+    (λ later. past _ h.0 (h.1 ++ v) (map piece_of a) (n + 1) _ f (alternative_scans true a h.0 h.3 h.4) (quiet_atoms a later.0) (faulty_bars rest true h.1 v (n + 1 + length h.0) f shorts.1 later.1))))
 
 -- alternatives of a list, one of which is faulty
 faulty_list : (as' : List (List Atom)) (c : Context) (t v : List ℕ) (n : ℕ) (f : ExprError) → IsOutside c → length t ≤ 8192 → FirstOfAlternatives 40 as' t n f → TellsFault (at c token.Between) n (t ++ v) f
@@ -132,7 +134,7 @@ faulty_list (a ∷ rest) c t v n f o short h =
     let shorts = bar_short t h.0 h.1 40 h.2 short in
     rw (h.2, append_assoc h.0 h.1 v) (past_sign c 40 piece.Open (h.0 ++ (h.1 ++ v)) n f (feeds_open c o) (λ m. refl)
     (either h.6 (λ first. faulty_atoms a false false h.0 (h.1 ++ v) (n + 1) f shorts.0 first)
-    (λ later. past _ h.0 (h.1 ++ v) (map piece_of a) (n + 1) _ f (alternative_scans false a h.0 h.3 h.4) (quiet_atoms a h.0 h.4 later.0) (faulty_bars rest false h.1 v (n + 1 + length h.0) f shorts.1 later.1))))
+    (λ later. past _ h.0 (h.1 ++ v) (map piece_of a) (n + 1) _ f (alternative_scans false a h.0 h.3 h.4) (quiet_atoms a later.0) (faulty_bars rest false h.1 v (n + 1 + length h.0) f shorts.1 later.1))))
 
 -- a faulty item
 faulty_item : (i : Item) (c : Context) (u v : List ℕ) (n : ℕ) (f : ExprError) → IsOutside c → length u ≤ 8192 → ItemText i u → FirstOfItem i u n f → TellsFault (at c token.Between) n (u ++ v) f
@@ -152,7 +154,7 @@ faulty_items [] c t n f o short h = absurd h
 faulty_items (i ∷ e) c t n f o short h =
     let shorts = cut_short t h.0 h.1 h.2 short in
     rw h.2 (either h.5 (λ first. faulty_item i c h.0 h.1 n f o shorts.0 h.3 first)
-    (λ later. past _ h.0 h.1 _ n _ f (item_scans c o i h.0 h.3) (quiet_item i h.0 h.3 later.0) (faulty_items e context.After h.1 (n + length h.0) f tt shorts.1 later.1)))
+    (λ later. past _ h.0 h.1 _ n _ f (item_scans c o i h.0 h.3) (quiet_item i later.0) (faulty_items e context.After h.1 (n + length h.0) f tt shorts.1 later.1)))
 
 -- items with a first fault are spelled, and there is one
 first_spells : (e : List Item) (t : List ℕ) (n : ℕ) (f : ExprError) → FirstOfItems e t n f → Spells e t × (0 < length e)
@@ -184,7 +186,7 @@ first_faulty f t h =
 judged_atoms : (ps : List Atom) (t : List ℕ) (n : ℕ) → AlternativeText ps t → AtomsSound ps ⊎ ((f : ExprError) × FirstOfAtoms ps t n f)
 judged_atoms [] t n h = inl tt
 judged_atoms (p ∷ ps) t n h =
-    either (judged_atom p n)
+    either (judged_atom p h.0 n h.3)
     (λ sound. either (judged_atoms ps h.1 (n + length h.0) h.4) (λ s. inl (sound, s)) (λ k. inr (k.0, (h.0, h.1, h.2, h.3, h.4, inr (sound, k.1)))))
     (λ k. inr (k.0, (h.0, h.1, h.2, h.3, h.4, inl k.1)))
 
@@ -192,17 +194,17 @@ judged_alternatives : (sign : ℕ) (as' : List (List Atom)) (t : List ℕ) (n : 
 judged_alternatives sign [] t n h = inl tt
 judged_alternatives sign (a ∷ rest) t n h =
     either (judged_atoms a h.0 (n + 1) h.4)
-    (λ sound. either (judged_alternatives 124 rest h.1 (n + 1 + length h.0) h.5) (λ s. inl (sound, s)) (λ k. inr (k.0, (h.0, h.1, h.2, h.3, h.4, h.5, inr (sound, k.1)))))
+    (λ sound. either (judged_alternatives 124 rest h.1 (n + 1 + length h.0) h.5) (λ s. inl (sound, s, h.3)) (λ k. inr (k.0, (h.0, h.1, h.2, h.3, h.4, h.5, inr (sound, k.1)))))
     (λ k. inr (k.0, (h.0, h.1, h.2, h.3, h.4, h.5, inl k.1)))
 
 judged_item : (i : Item) (t : List ℕ) (n : ℕ) → ItemText i t → ItemSound i ⊎ ((f : ExprError) × FirstOfItem i t n f)
-judged_item (item.Byte b) t n h = inl tt
+judged_item (item.Byte b) t n h = inl (pair_small b t h)
 judged_item item.Any t n h = inl tt
 judged_item (item.Gap least max) t n h = judged_gap least max n
-judged_item (item.Alt as') t n h = either (judged_alternatives 40 as' h.inside n h.is_inside) (λ s. inl s) (λ k. inr (k.0, (h.inside, h.text, k.1)))
-judged_item (item.Range a b) t n h = either (judged_range false a b n) (λ k. inl k.0) (λ r. inr r)
-judged_item (item.Not a) t n h = judged_not a n
-judged_item (item.NotRange a b) t n h = judged_range true a b n
+judged_item (item.Alt as') t n h = either (judged_alternatives 40 as' h.inside n h.is_inside) (λ s. inl (s, h.two)) (λ k. inr (k.0, (h.inside, h.text, k.1)))
+judged_item (item.Range a b) t n h = judged_atom (atom.Range a b) t n h
+judged_item (item.Not a) t n h = judged_atom (atom.Not a) t n h
+judged_item (item.NotRange a b) t n h = judged_atom (atom.NotRange a b) t n h
 
 -- items that are spelled have no fault or a first one
 judged_items : (e : List Item) (t : List ℕ) (n : ℕ) → Spells e t → ItemsSound e ⊎ ((f : ExprError) × FirstOfItems e t n f)

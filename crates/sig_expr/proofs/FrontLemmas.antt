@@ -21,7 +21,8 @@ use Rattle.sig_expr.specs.Reading.{decimal_of, pair_of, with_digit, part_of, ite
 use Rattle.sig_expr.specs.Canon.{number_text}
 use Rattle.sig_expr.specs.Passes.{stop_from, stop_at}
 use Rattle.sig_expr.specs.Spelling.{PairText, WordText, NumberText, GapText, RangeText, NotText, AtomText, AlternativeText, AlternativesText, ListText, ItemText, Spells, IsText}
-use Rattle.sig_expr.proofs.ScanLemmas.{leading_1, text_more, small_digit, pair_byte}
+use Rattle.sig_expr.proofs.PairLemmas.{small_digit}
+use Rattle.sig_expr.proofs.ScanLemmas.{leading_1, text_more, pair_byte}
 
 -- what opens a bracket
 abbrev opening : Bool → List ℕ

@@ -4,6 +4,9 @@ pub mod EndLemmas
 pub mod FaultLemmas
 pub mod FirstFaultLemmas
 pub mod FrontLemmas
+pub mod LawLemmas
+pub mod OrderLemmas
+pub mod PairLemmas
 pub mod ProfileLemmas
 pub mod RefusedLemmas
 pub mod RefusalLemmas

@@ -13,13 +13,15 @@ use Rattle.sig_expr.specs.declared.item.Atom.TheVariants as atom
 use Rattle.sig_expr.specs.Ends.{word_of}
 use Rattle.sig_expr.specs.Faults.{are_all, is_less, order_fault, range_fault, not_fault, gap_fault, fault_of}
 use Rattle.sig_expr.specs.Words.{IsBefore}
-use Rattle.sig_expr.specs.Profile.{GapSound, RangeSound, AtomSound}
+use Rattle.sig_expr.specs.Profile.{GapSound, AtomSound}
 use Rattle.sig_expr.specs.Spelling.{WordText, RangeText, NotText, AtomText}
 use Rattle.sig_expr.proofs.Scans.{end_of_word, piece_of}
 use Rattle.sig_expr.specs.FirstFaults.{refusal_number, GapHas, AreEnds, RangeHas, NotHas, AtomHas, IsRefused}
 use Rattle.sig_expr.proofs.EndLemmas.{len_of_word, word_of_end}
 use Rattle.sig_expr.proofs.ScanLemmas.{below, either}
 use Rattle.sig_expr.proofs.FrontLemmas.{is_sign}
+use Rattle.sig_expr.proofs.OrderLemmas.{leaves_word}
+use Rattle.sig_expr.proofs.PairLemmas.{pair_small, range_sound, not_sound}
 
 -- an end has no more bytes than its text
 word_len : (a u : List ℕ) → WordText a u → length a ≤ length u
@@ -243,23 +245,24 @@ class_lowest a b k (error.ClassEmpty m) h = omega arith
 class_lowest a b k f h = absurd h
 
 -- no fault of a bracket with two ends
-abbrev pub RangeQuiet : Bool → List ℕ → List ℕ → Type 0
-RangeQuiet not a b = RangeSound a b × ((not && (are_all 0 a && are_all 255 b)) ≡ false)
+record RangeQuiet (not : Bool) (a b : List ℕ) : Type 0 where
+  ends : AreEnds a b
+  order : IsBefore a b
+  leaves : (not && (are_all 0 a && are_all 255 b)) ≡ false
 
-judged_class : (not : Bool) (a b : List ℕ) (n : ℕ) → RangeSound a b → (x y : Bool) → are_all 0 a ≡ x → are_all 255 b ≡ y → RangeQuiet not a b ⊎ Refused n (RangeHas not a b)
-judged_class false a b n h x y p q = inl (h, refl)
-judged_class true a b n h true true p q =
-    inr (error.ClassEmpty n, record { place = refl; has = ((h.same_length, h.short), p, q); lowest = class_lowest a b h.order })
-judged_class true a b n h false y p q = inl (h, rw p refl)
-judged_class true a b n h true false p q = inl (h, rw (p, q) refl)
+judged_class : (not : Bool) (a b : List ℕ) (n : ℕ) → AreEnds a b → IsBefore a b → (x y : Bool) → are_all 0 a ≡ x → are_all 255 b ≡ y → RangeQuiet not a b ⊎ Refused n (RangeHas not a b)
+judged_class false a b n h k x y p q = inl (record { ends = h; order = k; leaves = refl })
+judged_class true a b n h k true true p q = inr (error.ClassEmpty n, record { place = refl; has = (h, p, q); lowest = class_lowest a b k })
+judged_class true a b n h k false y p q = inl (record { ends = h; order = k; leaves = rw p refl })
+judged_class true a b n h k true false p q = inl (record { ends = h; order = k; leaves = rw (p, q) refl })
 
 judged_order : (not : Bool) (a b : List ℕ) (n : ℕ) → AreEnds a b → (o : Ordering) → slice_cmp nat_cmp a b ≡ o → RangeQuiet not a b ⊎ Refused n (RangeHas not a b)
-judged_order not a b n h Less e = judged_class not a b n (record { same_length = h.0; short = h.1; order = e }) (are_all 0 a) (are_all 255 b) refl refl
+judged_order not a b n h Less e = judged_class not a b n h e (are_all 0 a) (are_all 255 b) refl refl
 judged_order not a b n h Equal e = inr (error.RangeOrder n, record { place = refl; has = (h, λ k. absurd (cc)); lowest = first_lowest not a b })
 judged_order not a b n h Greater e = inr (error.RangeOrder n, record { place = refl; has = (h, λ k. absurd (cc)); lowest = first_lowest not a b })
 
 -- a bracket with two ends has no fault or is refused
-pub judged_range : (not : Bool) (a b : List ℕ) (n : ℕ) → RangeQuiet not a b ⊎ Refused n (RangeHas not a b)
+judged_range : (not : Bool) (a b : List ℕ) (n : ℕ) → RangeQuiet not a b ⊎ Refused n (RangeHas not a b)
 judged_range not a b n =
     either (below (length a) (length b)) (λ l. differ (λ e. omega arith))
     (λ g. either (below (length b) (length a)) (λ l. differ (λ e. omega arith))
@@ -274,13 +277,15 @@ not_lowest : (a : List ℕ) (f : ExprError) → NotHas a f → 10 ≤ refusal_nu
 not_lowest a (error.BracketTooLong m) h = omega arith
 not_lowest a f h = absurd h
 
--- a bracket with one end has no fault or is refused
-pub judged_not : (a : List ℕ) (n : ℕ) → (length a ≤ 8) ⊎ Refused n (NotHas a)
-judged_not a n = either (below 8 (length a)) (λ o. inr (error.BracketTooLong n, record { place = refl; has = o; lowest = not_lowest a })) (λ k. inl k)
-
 -- a part has no fault or is refused
-pub judged_atom : (p : Atom) (n : ℕ) → AtomSound p ⊎ Refused n (AtomHas p)
-judged_atom (atom.Byte b) n = inl tt
-judged_atom (atom.Range a b) n = either (judged_range false a b n) (λ k. inl k.0) (λ r. inr r)
-judged_atom (atom.Not a) n = judged_not a n
-judged_atom (atom.NotRange a b) n = judged_range true a b n
+pub judged_atom : (p : Atom) (t : List ℕ) (n : ℕ) → AtomText p t → AtomSound p ⊎ Refused n (AtomHas p)
+judged_atom (atom.Byte b) t n h = inl (pair_small b t h)
+judged_atom (atom.Range a b) t n h = either (judged_range false a b n) (λ k. inl (range_sound _ a b t h k.ends.0 k.ends.1 k.order)) (λ r. inr r)
+judged_atom (atom.Not a) t n h =
+    either (below 8 (length a)) (λ o. inr (error.BracketTooLong n, record { place = refl; has = o; lowest = not_lowest a })) (λ k. inl (not_sound a t h k))
+judged_atom (atom.NotRange a b) t n h =
+    either (judged_range true a b n)
+    (λ k.
+    let sound = range_sound _ a b t h k.ends.0 k.ends.1 k.order in
+    inl (sound, leaves_word a b k.ends.0 sound.second.bytes k.leaves))
+    (λ r. inr r)

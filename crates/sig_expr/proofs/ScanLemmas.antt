@@ -20,6 +20,7 @@ use Rattle.sig_expr.specs.Ends.{empty_end, push_of}
 use Rattle.sig_expr.specs.Reading.{decimal_of, pair_of, part_of, item_start_of, list_start_of, begin_of, number_of, closed_gap_of, star_of, end_of, closed_bracket_of, go_on_of, feed_of, next_of, is_between, context_of, behind_part}
 use Rattle.sig_expr.specs.Canon.{number_text, leading_zeros}
 use Rattle.sig_expr.specs.Spelling.{PairText, WordText, NumberText, GapText, RangeText, NotText, AtomText, AlternativeText, AlternativesText, ListText, ItemText, Spells}
+use Rattle.sig_expr.proofs.PairLemmas.{small_digit}
 use Rattle.sig_expr.proofs.Scans.{run, run_at, pieces, pieces_in, Scans, end_after, end_of_word, piece_of, barred, listed, pieces_of, all_pieces}
 
 abbrev pub at : Context → Token → State
@@ -71,9 +72,6 @@ not_digit h x k e n = not_eq (nat_eq h k) refl
     not_eq : (b : Bool) → nat_eq h k ≡ b → b ≡ false
     not_eq false q = refl
     not_eq true q = let same : h ≡ k = search rules in cc
-
-pub small_digit : (h x : ℕ) → hex_digit_value h ≡ Some x → x < 16
-small_digit h x e = grind (arith, nat_tests)
 
 begin_digit : (c : Context) (h x : ℕ) → hex_digit_value h ≡ Some x → begin_of c h ≡ step.More (token.Half x)
 unfolding begin_of item_start_of list_start_of part_of

@@ -30,7 +30,17 @@ pub fn text_spells_one()
     ensures { (e e' : List Item) (t : List ℕ) → InProfile t → Spells e t → Spells e' t → e ≡ e' }
 {}
 
-/// What a text of the profile spells is an expression: its canonical text is in the profile.
+/// What is read is an expression, by its structure.
+pub fn read_is_expression()
+    ensures { (e : List Item) (t : List ℕ) → expr_of t ≡ Ok e → IsExpression e }
+{}
+
+/// An expression is read: of its canonical text.
+pub fn expression_is_read()
+    ensures { (e : List Item) → IsExpression e → expr_of (canon e) ≡ Ok e }
+{}
+
+/// What a text of the profile spells is an expression.
 pub fn spelled_is_expression()
     ensures { (e : List Item) (t : List ℕ) → InProfile t → Spells e t → IsExpression e }
 {}
