@@ -1,10 +1,8 @@
 -- What is known of the items of a sequence: they have no fault, and a text spells them.
-use Rattle.std.proofs.Common.{◌≡◌, ℕ, ◌<◌, List, [], ◌∷◌, subst, arith}
+use Rattle.std.proofs.Common.{◌≡◌, ℕ, ◌<◌, List, [], ◌∷◌, arith}
 use Rattle.sig_auto.proofs.ByteLemmas.{IsBytes-nil, IsBytes-cons}
 use Rattle.sig_bits.specs.Bytes.{IsBytes}
-use Rattle.sig_expr.proofs.ProfileLemmas.{read_text}
-use Rattle.sig_expr.proofs.ScanLemmas.{small_digit}
-use Rattle.sig_expr.specs.Canon.{canon}
+use Rattle.sig_expr.proofs.PairLemmas.{small_digit}
 use Rattle.sig_expr.specs.declared.item.Item.{Item}
 use Rattle.sig_expr.specs.Profile.{IsExpression, ItemsSound}
 use Rattle.sig_expr.specs.Spelling.{PairText, WordText}
@@ -23,8 +21,4 @@ word_bytes (b ∷ a) t h = IsBytes-cons b a (pair_byte b h.0 h.3) (word_bytes a 
 
 -- the items of an expression have no fault
 pub expression_sound : (e : List Item) → IsExpression e → ItemsSound e
-expression_sound e h =
-    let one = read_text e (canon e) h.in_profile h.spells in
-    let two = read_text h.in_profile.items (canon e) h.in_profile h.in_profile.spells in
-    let same : h.in_profile.items ≡ e = cc in
-    subst ItemsSound same h.in_profile.sound
+expression_sound e h = h.sound
