@@ -306,19 +306,19 @@ atoms_sound (p ∷ ps) t text sound =
     }
 
 -- one of the alternatives
-alternatives_trim : (sign : ℕ) (alternatives : List (List Atom)) (t : List ℕ) → AlternativesText sign alternatives t → AlternativesSound alternatives → IsTrim (alternatives_tree alternatives)
+alternatives_trim : (sign : List ℕ) (alternatives : List (List Atom)) (t : List ℕ) → AlternativesText sign alternatives t → AlternativesSound alternatives → IsTrim (alternatives_tree alternatives)
 alternatives_trim sign [] t text sound = tt
-alternatives_trim sign (a ∷ rest) t text sound = ((atoms_sound a text.0 text.4 sound.0).trim, alternatives_trim 124 rest text.1 text.5 sound.1)
+alternatives_trim sign (a ∷ rest) t text sound = ((atoms_sound a text.0 text.4 sound.0).trim, alternatives_trim (124 ∷ []) rest text.1 text.5 sound.1)
 
-alternatives_slots : (sign : ℕ) (alternatives : List (List Atom)) (t : List ℕ) → AlternativesText sign alternatives t → AlternativesSound alternatives → slots_of (alternatives_tree alternatives) ≡ sum_by (λ a. sum_by atom_slots a) alternatives
+alternatives_slots : (sign : List ℕ) (alternatives : List (List Atom)) (t : List ℕ) → AlternativesText sign alternatives t → AlternativesSound alternatives → slots_of (alternatives_tree alternatives) ≡ sum_by (λ a. sum_by atom_slots a) alternatives
 alternatives_slots sign [] t text sound = refl
 alternatives_slots sign (a ∷ rest) t text sound =
     let one = (atoms_sound a text.0 text.4 sound.0).slots in
-    let more = alternatives_slots 124 rest text.1 text.5 sound.1 in
+    let more = alternatives_slots (124 ∷ []) rest text.1 text.5 sound.1 in
     let count = sum_by-cons (λ (ps : List Atom). sum_by atom_slots ps) a rest in
     cc
 
-alternatives_track : (sign : ℕ) (alternatives : List (List Atom)) (t : List ℕ) → 0 < length alternatives → AlternativesText sign alternatives t → AlternativesSound alternatives → HasTrack (alternatives_tree alternatives)
+alternatives_track : (sign : List ℕ) (alternatives : List (List Atom)) (t : List ℕ) → 0 < length alternatives → AlternativesText sign alternatives t → AlternativesSound alternatives → HasTrack (alternatives_tree alternatives)
 alternatives_track sign [] t some text sound = absurd (omega arith)
 alternatives_track sign (a ∷ rest) t some text sound = inl (atoms_sound a text.0 text.4 sound.0).track
 
@@ -334,9 +334,9 @@ item_sound (item.Gap min max) t text sound = record { slots = refl; trim = gap_i
 item_sound (item.Alt alternatives) t text sound =
     let two = text.two in
     record {
-      slots = alternatives_slots 40 alternatives text.inside text.is_inside sound.0;
-      trim = alternatives_trim 40 alternatives text.inside text.is_inside sound.0;
-      track = alternatives_track 40 alternatives text.inside (omega arith) text.is_inside sound.0;
+      slots = alternatives_slots (40 ∷ []) alternatives text.inside text.is_inside sound.0;
+      trim = alternatives_trim (40 ∷ []) alternatives text.inside text.is_inside sound.0;
+      track = alternatives_track (40 ∷ []) alternatives text.inside (omega arith) text.is_inside sound.0;
     }
 item_sound (item.Range a b) t text sound = atom_sound (atom.Range a b) t text sound
 item_sound (item.Not a) t text sound = atom_sound (atom.Not a) t text sound

@@ -211,16 +211,16 @@ of_SomeWord a rest w h = elim (contains_cases a rest h.0 h.1) [
 ]
 
 -- one of the alternatives
-pub alternatives_is : (sign : ℕ) (alternatives : List (List Atom)) (t w : List ℕ) → AlternativesText sign alternatives t → AlternativesSound alternatives → TreeWord (alternatives_tree alternatives) w ↔ SomeWord alternatives w
+pub alternatives_is : (sign : List ℕ) (alternatives : List (List Atom)) (t w : List ℕ) → AlternativesText sign alternatives t → AlternativesSound alternatives → TreeWord (alternatives_tree alternatives) w ↔ SomeWord alternatives w
 alternatives_is sign [] t w text sound = (λ h. absurd h, λ h. (let below = h.1.1 in absurd (omega arith)))
 alternatives_is sign (a ∷ rest) t w text sound = (
   λ h. elim h [
     | inl one ↦ SomeWord-first a rest w ((atoms_is a text.0 w text.4 sound.0).0 one)
-    | inr other ↦ SomeWord-later a rest w ((alternatives_is 124 rest text.1 w text.5 sound.1).0 other)
+    | inr other ↦ SomeWord-later a rest w ((alternatives_is (124 ∷ []) rest text.1 w text.5 sound.1).0 other)
   ],
   λ h. elim (of_SomeWord a rest w h) [
     | inl one ↦ inl ((atoms_is a text.0 w text.4 sound.0).1 one)
-    | inr other ↦ inr ((alternatives_is 124 rest text.1 w text.5 sound.1).1 other)
+    | inr other ↦ inr ((alternatives_is (124 ∷ []) rest text.1 w text.5 sound.1).1 other)
   ],
 )
 
@@ -235,7 +235,7 @@ pub item_is : (i : Item) (t w : List ℕ) → ItemText i t → ItemSound i → T
 item_is (item.Byte b) t w text sound = byte_word b w
 item_is item.Any t w text sound = any_word w
 item_is (item.Gap min max) t w text sound = (λ h. h, λ h. h)
-item_is (item.Alt alternatives) t w text sound = alternatives_is 40 alternatives text.inside w text.is_inside sound.0
+item_is (item.Alt alternatives) t w text sound = alternatives_is (40 ∷ []) alternatives text.inside w text.is_inside sound.0
 item_is (item.Range a b) t w text sound = atom_is (atom.Range a b) t w text sound
 item_is (item.Not a) t w text sound = atom_is (atom.Not a) t w text sound
 item_is (item.NotRange a b) t w text sound = atom_is (atom.NotRange a b) t w text sound

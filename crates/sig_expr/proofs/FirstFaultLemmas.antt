@@ -119,7 +119,7 @@ bar_short : (t u v : List ℕ) (b : ℕ) → t ≡ b ∷ u ++ v → length t ≤
 bar_short t u v b e short = (omega (arith, ap length e, length-append u v), omega (arith, ap length e, length-append u v))
 
 -- alternatives behind bars, one of which is faulty
-faulty_bars : (as' : List (List Atom)) (many : Bool) (t v : List ℕ) (n : ℕ) (f : ExprError) → length t ≤ 8192 → FirstOfAlternatives 124 as' t n f → TellsFault (at (context.List many true) token.Between) n (t ++ v) f
+faulty_bars : (as' : List (List Atom)) (many : Bool) (t v : List ℕ) (n : ℕ) (f : ExprError) → length t ≤ 8192 → FirstOfAlternatives (124 ∷ []) as' t n f → TellsFault (at (context.List many true) token.Between) n (t ++ v) f
 faulty_bars [] many t v n f short h = absurd h
 faulty_bars (a ∷ rest) many t v n f short h =
     let shorts = bar_short t h.0 h.1 124 h.2 short in
@@ -128,7 +128,7 @@ faulty_bars (a ∷ rest) many t v n f short h =
     (λ later. past _ h.0 (h.1 ++ v) (map piece_of a) (n + 1) _ f (alternative_scans true a h.0 h.3 h.4) (quiet_atoms a later.0) (faulty_bars rest true h.1 v (n + 1 + length h.0) f shorts.1 later.1))))
 
 -- alternatives of a list, one of which is faulty
-faulty_list : (as' : List (List Atom)) (c : Context) (t v : List ℕ) (n : ℕ) (f : ExprError) → IsOutside c → length t ≤ 8192 → FirstOfAlternatives 40 as' t n f → TellsFault (at c token.Between) n (t ++ v) f
+faulty_list : (as' : List (List Atom)) (c : Context) (t v : List ℕ) (n : ℕ) (f : ExprError) → IsOutside c → length t ≤ 8192 → FirstOfAlternatives (40 ∷ []) as' t n f → TellsFault (at c token.Between) n (t ++ v) f
 faulty_list [] c t v n f o short h = absurd h
 faulty_list (a ∷ rest) c t v n f o short h =
     let shorts = bar_short t h.0 h.1 40 h.2 short in
@@ -190,18 +190,18 @@ judged_atoms (p ∷ ps) t n h =
     (λ sound. either (judged_atoms ps h.1 (n + length h.0) h.4) (λ s. inl (sound, s)) (λ k. inr (k.0, (h.0, h.1, h.2, h.3, h.4, inr (sound, k.1)))))
     (λ k. inr (k.0, (h.0, h.1, h.2, h.3, h.4, inl k.1)))
 
-judged_alternatives : (sign : ℕ) (as' : List (List Atom)) (t : List ℕ) (n : ℕ) → AlternativesText sign as' t → AlternativesSound as' ⊎ ((f : ExprError) × FirstOfAlternatives sign as' t n f)
+judged_alternatives : (sign : List ℕ) (as' : List (List Atom)) (t : List ℕ) (n : ℕ) → AlternativesText sign as' t → AlternativesSound as' ⊎ ((f : ExprError) × FirstOfAlternatives sign as' t n f)
 judged_alternatives sign [] t n h = inl tt
 judged_alternatives sign (a ∷ rest) t n h =
     either (judged_atoms a h.0 (n + 1) h.4)
-    (λ sound. either (judged_alternatives 124 rest h.1 (n + 1 + length h.0) h.5) (λ s. inl (sound, s, h.3)) (λ k. inr (k.0, (h.0, h.1, h.2, h.3, h.4, h.5, inr (sound, k.1)))))
+    (λ sound. either (judged_alternatives (124 ∷ []) rest h.1 (n + 1 + length h.0) h.5) (λ s. inl (sound, s, h.3)) (λ k. inr (k.0, (h.0, h.1, h.2, h.3, h.4, h.5, inr (sound, k.1)))))
     (λ k. inr (k.0, (h.0, h.1, h.2, h.3, h.4, h.5, inl k.1)))
 
 judged_item : (i : Item) (t : List ℕ) (n : ℕ) → ItemText i t → ItemSound i ⊎ ((f : ExprError) × FirstOfItem i t n f)
 judged_item (item.Byte b) t n h = inl (pair_small b t h)
 judged_item item.Any t n h = inl tt
 judged_item (item.Gap least max) t n h = judged_gap least max n
-judged_item (item.Alt as') t n h = either (judged_alternatives 40 as' h.inside n h.is_inside) (λ s. inl (s, h.two)) (λ k. inr (k.0, (h.inside, h.text, k.1)))
+judged_item (item.Alt as') t n h = either (judged_alternatives (40 ∷ []) as' h.inside n h.is_inside) (λ s. inl (s, h.two)) (λ k. inr (k.0, (h.inside, h.text, k.1)))
 judged_item (item.Range a b) t n h = judged_atom (atom.Range a b) t n h
 judged_item (item.Not a) t n h = judged_atom (atom.Not a) t n h
 judged_item (item.NotRange a b) t n h = judged_atom (atom.NotRange a b) t n h

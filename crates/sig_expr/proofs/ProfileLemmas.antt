@@ -210,7 +210,7 @@ pub quiet_atoms : (ps : List Atom) → AtomsSound ps → Quiet (map piece_of ps)
 quiet_atoms [] k = tt
 quiet_atoms (p ∷ ps) k = (quiet_atom p k.0, quiet_atoms ps k.1)
 
-sound_barred : (as' : List (List Atom)) (t : List ℕ) → AlternativesText 124 as' t → Clean (barred as') → AlternativesSound as'
+sound_barred : (as' : List (List Atom)) (t : List ℕ) → AlternativesText (124 ∷ []) as' t → Clean (barred as') → AlternativesSound as'
 sound_barred [] t h k = tt
 sound_barred (a ∷ rest) t h k = let both = clean_append (map piece_of a) (barred rest) k.1 in (sound_atoms a h.0 h.4 both.0, sound_barred rest h.1 h.5 both.1, h.3)
 
@@ -218,7 +218,7 @@ quiet_barred : (as' : List (List Atom)) → AlternativesSound as' → Quiet (bar
 quiet_barred [] k = tt
 quiet_barred (a ∷ rest) k = ((λ n. refl), quiet_append (map piece_of a) (barred rest) (quiet_atoms a k.0) (quiet_barred rest k.1))
 
-sound_list : (as' : List (List Atom)) (t : List ℕ) → AlternativesText 40 as' t → Clean (listed as') → AlternativesSound as'
+sound_list : (as' : List (List Atom)) (t : List ℕ) → AlternativesText (40 ∷ []) as' t → Clean (listed as') → AlternativesSound as'
 sound_list [] t h k = tt
 sound_list (a ∷ rest) t h k =
     let both = clean_append (map piece_of a) (barred rest ++ (piece.Close ∷ [])) k.1 in

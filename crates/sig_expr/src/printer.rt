@@ -1,11 +1,12 @@
 //! The canonical text of an expression, written piece by piece from fixed arrays.
 
-ghost use Rattle.std.specs.Prelude.{◌≡◌, ◌+◌, ◌%◌, ◌<◌, [], ◌∷◌, ◌++◌, List, length, map, IsErr, IsTrue, OnOk, OnErr, is_err, true};
+ghost use Rattle.std.specs.Prelude.{◌≡◌, ◌+◌, ◌<◌, ◌++◌, length, map, codes, decimal, IsErr, IsTrue, OnOk, OnErr, is_err, true};
 ghost use Rattle.sig_bits.specs.Device.{Adds};
-ghost use Rattle.sig_expr.specs.Canon.{hex_digit, pair_text, word_text, leading_zeros, number_text, count_text, from_text, between_text, gap_text, range_text, not_text, atom_text, alternative_text, alternatives_text, item_text, canon};
+ghost use Rattle.sig_expr.specs.Canon.{hex_digit, pair_text, word_text, count_text, from_text, between_text, gap_text, range_text, not_text, atom_text, alternative_text, alternatives_text, item_text, canon};
 ghost use Rattle.sig_expr.specs.Writing.{sink, Wrote};
 
 use super::{Alternatives, Atom, Expr, Item, Short};
+use itoa::Buffer;
 use sig_bits::{DeviceFault, Output};
 
 // One piece.
@@ -48,39 +49,13 @@ fn put_word<W: Output>(out: &mut W, word: Short) -> Result<(), DeviceFault>
     Ok(())
 }
 
-// How many of five decimal digits are leading zeros.
-fn zeros(number: u32) -> usize
-    ensures { result ≡ leading_zeros number }
-{
-    match number {
-        0..=9 => 4,
-        10..=99 => 3,
-        100..=999 => 2,
-        1000..=9999 => 1,
-        _ => 0,
-    }
-}
-
-// The last decimal digit.
-fn last_digit(number: u32) -> u8
-    ensures { result ≡ 48 + number % 10 }
-{
-    b'0' + (number % 10) as u8
-}
-
-// A number below 100,000.
+// A number.
+#[tactic(auto, using(std::proofs::lemmas::Fmt::decimal_nonempty))]
 fn put_number<W: Output>(out: &mut W, number: u32) -> Result<(), DeviceFault>
     ensures fails { OnErr result (W.failed out.new ≡ true) }
-    ensures wrote { OnOk result (Wrote (sink (W.failed out.old) (W.limit out.old) (W.written out.old)) (number_text number) (sink (W.failed out.new) (W.limit out.new) (W.written out.new))) }
+    ensures wrote { OnOk result (Wrote (sink (W.failed out.old) (W.limit out.old) (W.written out.old)) (decimal number) (sink (W.failed out.new) (W.limit out.new) (W.written out.new))) }
 {
-    let digits = [
-        last_digit(number / 10_000),
-        last_digit(number / 1000),
-        last_digit(number / 100),
-        last_digit(number / 10),
-        last_digit(number),
-    ];
-    put(out, &digits[zeros(number)..])
+    put(out, Buffer::new().format(number).as_bytes())
 }
 
 // A gap of this length or more.
@@ -183,7 +158,7 @@ fn put_alternative<W: Output>(out: &mut W, alternative: &[Atom]) -> Result<(), D
 // The alternatives of a list, each behind its sign.
 fn put_alternatives<W: Output>(out: &mut W, alternatives: &[Vec<Atom>]) -> Result<(), DeviceFault>
     ensures fails { OnErr result (W.failed out.new ≡ true) }
-    ensures wrote { OnOk result (Wrote (sink (W.failed out.old) (W.limit out.old) (W.written out.old)) (alternatives_text 40 (map (λ v. v.items) alternatives.now)) (sink (W.failed out.new) (W.limit out.new) (W.written out.new))) }
+    ensures wrote { OnOk result (Wrote (sink (W.failed out.old) (W.limit out.old) (W.written out.old)) (alternatives_text (codes "(") (map (λ v. v.items) alternatives.now)) (sink (W.failed out.new) (W.limit out.new) (W.written out.new))) }
 {
     let mut sign = b'(';
     for alternative in alternatives {
@@ -197,7 +172,7 @@ fn put_alternatives<W: Output>(out: &mut W, alternatives: &[Vec<Atom>]) -> Resul
 // A list.
 fn put_list<W: Output>(out: &mut W, alternatives: &Alternatives) -> Result<(), DeviceFault>
     ensures fails { OnErr result (W.failed out.new ≡ true) }
-    ensures wrote { OnOk result (Wrote (sink (W.failed out.old) (W.limit out.old) (W.written out.old)) (alternatives_text 40 alternatives.now ++ 41 ∷ []) (sink (W.failed out.new) (W.limit out.new) (W.written out.new))) }
+    ensures wrote { OnOk result (Wrote (sink (W.failed out.old) (W.limit out.old) (W.written out.old)) (alternatives_text (codes "(") alternatives.now ++ codes ")") (sink (W.failed out.new) (W.limit out.new) (W.written out.new))) }
 {
     put_alternatives(out, alternatives.as_slice())?;
     put(out, b")")
