@@ -13,5 +13,6 @@ pub mod RefusalLemmas
 pub mod ScanLemmas
 pub mod Scans
 pub mod ShortestLemmas
+pub mod UniqueLemmas
 pub mod WritingLemmas
 pub mod DigitLemmas

@@ -347,7 +347,7 @@ items_text e t some h k =
     let all : built_from fresh start t ≡ outside e = built_pieces fresh start t ∙ ap (λ (ps : List Piece). built_all fresh ps) scans.found ∙ builds_items [] e k in
     ap (λ (u : Built). u.items) all
 
-some_items : (e e' : List Item) (t : List ℕ) → 0 < length e → Spells e t → Spells e' t → 0 < length e'
+pub some_items : (e e' : List Item) (t : List ℕ) → 0 < length e → Spells e t → Spells e' t → 0 < length e'
 unfolding stop_from
 some_items e [] t some h h' = let never = rw h' at (text_goes_on e t some h) in absurd (cc)
 some_items e (i ∷ is) t some h h' = omega arith

@@ -11,6 +11,7 @@ use Rattle.sig_expr.specs.Profile.{GapSound, IsEnd, RangeSound, AtomSound, Atoms
 use Rattle.sig_expr.specs.Texts.{expr_of}
 use Rattle.sig_expr.proofs.PairLemmas.{pair_small, pair_spells, word_spells}
 use Rattle.sig_expr.proofs.ProfileLemmas.{read_text}
+use Rattle.sig_expr.proofs.UniqueLemmas.{spells_one}
 
 pair_shortest : (b : ℕ) (t : List ℕ) → PairText b t → PairText b (pair_text b) × (length (pair_text b) ≤ length t)
 pair_shortest b t h = (pair_spells b (pair_small b t h), rw h.text (omega arith))
@@ -101,13 +102,6 @@ canon_shortest (i ∷ e) t h =
     let rest = canon_shortest e h.1 h.4 in
     ((item_text i, canon e, refl, first.0, rest.0), rw h.2 (simp length-append (omega (arith, first.1, rest.1))))
 
--- a text of the profile spells one list of items alone
-pub spells_one : (e e' : List Item) (t : List ℕ) → InProfile t → Spells e t → Spells e' t → e ≡ e'
-spells_one e e' t p h h' =
-    let one = read_text e t p h in
-    let two = read_text e' t p h' in
-    cc
-
 -- an expression's canonical text spells it
 
 gap_by : (least : ℕ) (max : Option ℕ) (b : Bool) (x y : List ℕ) → (b ≡ true → GapText least max x) → (b ≡ false → GapText least max y) → GapText least max (cond b x y)
@@ -181,13 +175,10 @@ expression_read e h = read_text e (canon e) (canon_in_profile e h) (canon_spells
 -- what a text of the profile spells is an expression
 pub is_expression : (e : List Item) (t : List ℕ) → InProfile t → Spells e t → IsExpression e
 is_expression e t p h =
-    let same = spells_one e p.items t p h p.spells in
+    let same = spells_one e p.items t h p.spells in
     let short = canon_shortest e t h in
     record { some = rw same p.some; sound = rw same p.sound; short = omega (arith, short.1, p.short) }
 
 -- canonical texts of different expressions differ
 pub canon_differs : (e e' : List Item) → IsExpression e → IsExpression e' → canon e ≡ canon e' → e ≡ e'
-canon_differs e e' h h' same =
-    let one = expression_read e h in
-    let two = expression_read e' h' in
-    cc
+canon_differs e e' h h' same = spells_one e e' (canon e) (canon_spells e h.sound) (rw same (canon_spells e' h'.sound))

@@ -25,9 +25,9 @@ pub fn refusals_mean_so()
     ensures { (fault : ExprError) (t : List ℕ) → expr_of t ≡ Err fault → Means fault t }
 {}
 
-/// A text of the profile spells one list of items alone.
+/// A text spells one list of items alone, in the profile or not.
 pub fn text_spells_one()
-    ensures { (e e' : List Item) (t : List ℕ) → InProfile t → Spells e t → Spells e' t → e ≡ e' }
+    ensures { (e e' : List Item) (t : List ℕ) → Spells e t → Spells e' t → e ≡ e' }
 {}
 
 /// What is read is an expression, by its structure.
