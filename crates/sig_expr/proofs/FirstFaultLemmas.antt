@@ -6,15 +6,15 @@ use Rattle.sig_expr.specs.declared.item.Item.{Item}
 use Rattle.sig_expr.specs.declared.item.Item.TheVariants as item
 use Rattle.sig_expr.specs.declared.item.Atom.{Atom}
 use Rattle.sig_expr.specs.declared.item.Atom.TheVariants as atom
-use Rattle.sig_expr.specs.declared.token.Context.{Context}
-use Rattle.sig_expr.specs.declared.token.Context.TheVariants as context
-use Rattle.sig_expr.specs.declared.token.Token.{Token}
-use Rattle.sig_expr.specs.declared.token.Token.TheVariants as token
-use Rattle.sig_expr.specs.declared.token.State.{State}
-use Rattle.sig_expr.specs.declared.token.Piece.{Piece}
-use Rattle.sig_expr.specs.declared.token.Piece.TheVariants as piece
-use Rattle.sig_expr.specs.declared.token.Step.{Step}
-use Rattle.sig_expr.specs.declared.token.Step.TheVariants as step
+use Rattle.sig_expr.specs.declared.lexer.Context.{Context}
+use Rattle.sig_expr.specs.declared.lexer.Context.TheVariants as context
+use Rattle.sig_expr.specs.declared.lexer.Token.{Token}
+use Rattle.sig_expr.specs.declared.lexer.Token.TheVariants as token
+use Rattle.sig_expr.specs.declared.lexer.State.{State}
+use Rattle.sig_expr.specs.declared.lexer.Piece.{Piece}
+use Rattle.sig_expr.specs.declared.lexer.Piece.TheVariants as piece
+use Rattle.sig_expr.specs.declared.lexer.Step.{Step}
+use Rattle.sig_expr.specs.declared.lexer.Step.TheVariants as step
 use Rattle.sig_expr.specs.Faults.{fault_of}
 use Rattle.sig_expr.specs.Reading.{feed_of, next_of, is_between, context_of, begin_of, item_start_of, list_start_of}
 use Rattle.sig_expr.specs.Passes.{stop_of, fault_from, fault_at, fault_in, opened_of}

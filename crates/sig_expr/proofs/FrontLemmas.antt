@@ -9,14 +9,14 @@ use Rattle.sig_expr.specs.declared.item.Item.{Item}
 use Rattle.sig_expr.specs.declared.item.Item.TheVariants as item
 use Rattle.sig_expr.specs.declared.item.Atom.{Atom}
 use Rattle.sig_expr.specs.declared.item.Atom.TheVariants as atom
-use Rattle.sig_expr.specs.declared.token.Context.{Context}
-use Rattle.sig_expr.specs.declared.token.Context.TheVariants as context
-use Rattle.sig_expr.specs.declared.token.Token.{Token}
-use Rattle.sig_expr.specs.declared.token.Token.TheVariants as token
-use Rattle.sig_expr.specs.declared.token.Piece.{Piece}
-use Rattle.sig_expr.specs.declared.token.Piece.TheVariants as piece
-use Rattle.sig_expr.specs.declared.token.Step.{Step}
-use Rattle.sig_expr.specs.declared.token.Step.TheVariants as step
+use Rattle.sig_expr.specs.declared.lexer.Context.{Context}
+use Rattle.sig_expr.specs.declared.lexer.Context.TheVariants as context
+use Rattle.sig_expr.specs.declared.lexer.Token.{Token}
+use Rattle.sig_expr.specs.declared.lexer.Token.TheVariants as token
+use Rattle.sig_expr.specs.declared.lexer.Piece.{Piece}
+use Rattle.sig_expr.specs.declared.lexer.Piece.TheVariants as piece
+use Rattle.sig_expr.specs.declared.lexer.Step.{Step}
+use Rattle.sig_expr.specs.declared.lexer.Step.TheVariants as step
 use Rattle.sig_expr.specs.Ends.{empty_end}
 use Rattle.sig_expr.specs.Reading.{decimal_of, pair_of, with_digit, part_of, item_start_of, list_start_of, begin_of, number_of, closed_gap_of, star_of, end_of, closed_bracket_of, go_on_of, feed_of, next_of, is_between, is_after, context_of, behind_part}
 use Rattle.sig_expr.specs.Passes.{stop_from, stop_at}

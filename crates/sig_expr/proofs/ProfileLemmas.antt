@@ -11,11 +11,11 @@ use Rattle.sig_expr.specs.declared.item.Item.{Item}
 use Rattle.sig_expr.specs.declared.item.Item.TheVariants as item
 use Rattle.sig_expr.specs.declared.item.Atom.{Atom}
 use Rattle.sig_expr.specs.declared.item.Atom.TheVariants as atom
-use Rattle.sig_expr.specs.declared.token.State.{State}
-use Rattle.sig_expr.specs.declared.token.Piece.{Piece}
-use Rattle.sig_expr.specs.declared.token.Piece.TheVariants as piece
-use Rattle.sig_expr.specs.declared.token.Step.{Step}
-use Rattle.sig_expr.specs.declared.token.Step.TheVariants as step
+use Rattle.sig_expr.specs.declared.lexer.State.{State}
+use Rattle.sig_expr.specs.declared.lexer.Piece.{Piece}
+use Rattle.sig_expr.specs.declared.lexer.Piece.TheVariants as piece
+use Rattle.sig_expr.specs.declared.lexer.Step.{Step}
+use Rattle.sig_expr.specs.declared.lexer.Step.TheVariants as step
 use Rattle.sig_expr.specs.Ends.{word_of}
 use Rattle.sig_expr.specs.Faults.{are_all, is_less, order_fault, range_fault, not_fault, gap_fault, fault_of}
 use Rattle.sig_expr.specs.Reading.{feed_of, next_of, start}

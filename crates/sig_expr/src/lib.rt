@@ -9,15 +9,15 @@ mod builder;
 mod end;
 mod error;
 mod expr;
+mod faults;
 mod item;
 mod laws;
+mod lexer;
 mod parser;
-mod piece;
 mod printer;
 mod short;
 #[cfg(test)]
 mod tests;
-mod token;
 
 pub use error::ExprError;
 pub use expr::Expr;

@@ -11,10 +11,12 @@ ghost use Rattle.sig_expr.specs.Refusals.{Means};
 ghost use Rattle.sig_expr.specs.Spelling.{Spells};
 ghost use Rattle.sig_expr.specs.Texts.{Tells, expr_of};
 
-use super::builder::Builder;
-use super::piece::judge;
-use super::token::{State, Step, Token};
-use super::{Expr, ExprError, Item};
+use crate::builder::Builder;
+use crate::error::ExprError;
+use crate::expr::Expr;
+use crate::faults::judge;
+use crate::item::Item;
+use crate::lexer::{State, Step, Token};
 use std::alloc::{AllocError, Global};
 
 /// The greatest length of a text.

@@ -5,7 +5,9 @@ ghost use Rattle.sig_bits.specs.Device.{Adds};
 ghost use Rattle.sig_expr.specs.Canon.{hex_digit, pair_text, word_text, count_text, from_text, between_text, gap_text, range_text, not_text, atom_text, alternative_text, alternatives_text, item_text, canon};
 ghost use Rattle.sig_expr.specs.Writing.{sink, Wrote};
 
-use super::{Alternatives, Atom, Expr, Item, Short};
+use crate::expr::Expr;
+use crate::item::{Alternatives, Atom, Item};
+use crate::short::Short;
 use itoa::Buffer;
 use sig_bits::{DeviceFault, Output};
 

@@ -1,5 +1,5 @@
 use Rattle.sig_expr.proofs.DigitLemmas.{decoded_digit}
-use Rattle.sig_expr.proofs.token.digit.Goals as goal
+use Rattle.sig_expr.proofs.lexer.digit.Goals as goal
 
 pub returns-in-Ok : goal.returns-in-Ok
 returns-in-Ok c =

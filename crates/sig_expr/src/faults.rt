@@ -3,9 +3,10 @@
 ghost use Rattle.std.specs.Prelude.{◌≡◌};
 ghost use Rattle.sig_expr.specs.Faults.{are_all, order_fault, range_fault, not_fault, gap_fault, fault_of};
 
-use super::end::End;
-use super::token::Piece;
-use super::{ExprError, Short};
+use crate::end::End;
+use crate::error::ExprError;
+use crate::lexer::Piece;
+use crate::short::Short;
 use std::cmp::Ordering;
 
 /// The greatest gap number.
@@ -75,7 +76,7 @@ fn judge_gap(min: u32, max: Option<u32>, place: usize) -> Option<ExprError>
     }
 }
 
-/// What the piece that begins at a place is refused for.
+/// What the piece that begins at this place of the text is refused for.
 pub(crate) fn judge(piece: Piece, place: usize) -> Option<ExprError>
     ensures { result ≡ fault_of piece place }
 {
