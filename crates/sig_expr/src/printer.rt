@@ -1,9 +1,9 @@
 //! The canonical text of an expression, written piece by piece from fixed arrays.
 
-ghost use Rattle.std.specs.Prelude.{◌≡◌, ◌+◌, ◌<◌, ◌++◌, length, map, codes, decimal, IsErr, IsTrue, OnOk, OnErr, is_err, true};
+ghost use Rattle.std.specs.Prelude.{◌≡◌, ◌+◌, ◌<◌, ◌++◌, length, map, codes, decimal, IsErr, IsTrue, OnOk, is_err};
 ghost use Rattle.sig_bits.specs.Device.{Adds};
 ghost use Rattle.sig_expr.specs.Canon.{hex_digit, pair_text, word_text, count_text, from_text, between_text, gap_text, range_text, not_text, atom_text, alternative_text, alternatives_text, item_text, canon};
-ghost use Rattle.sig_expr.specs.Writing.{sink, Wrote};
+ghost use Rattle.sig_expr.specs.Writing.{Prints};
 
 use crate::expr::Expr;
 use crate::item::{Alternatives, Atom, Item};
@@ -14,8 +14,7 @@ use sig_bits::{DeviceFault, Output};
 // One piece.
 fn put<W: Output>(out: &mut W, bytes: &[u8]) -> Result<(), DeviceFault>
     requires { 0 < length bytes.now }
-    ensures fails { OnErr result (W.failed out.new ≡ true) }
-    ensures wrote { OnOk result (Wrote (sink (W.failed out.old) (W.limit out.old) (W.written out.old)) bytes.now (sink (W.failed out.new) (W.limit out.new) (W.written out.new))) }
+    ensures { Prints W.failed W.limit W.written out.old bytes.now result out.new }
 {
     out.write_all(bytes)
 }
@@ -34,16 +33,14 @@ fn digit(value: u8) -> u8
 
 // The two digits of a byte.
 fn put_pair<W: Output>(out: &mut W, byte: u8) -> Result<(), DeviceFault>
-    ensures fails { OnErr result (W.failed out.new ≡ true) }
-    ensures wrote { OnOk result (Wrote (sink (W.failed out.old) (W.limit out.old) (W.written out.old)) (pair_text byte) (sink (W.failed out.new) (W.limit out.new) (W.written out.new))) }
+    ensures { Prints W.failed W.limit W.written out.old (pair_text byte) result out.new }
 {
     put(out, &[digit(byte / 16), digit(byte % 16)])
 }
 
 // The pairs of a word.
 fn put_word<W: Output>(out: &mut W, word: Short) -> Result<(), DeviceFault>
-    ensures fails { OnErr result (W.failed out.new ≡ true) }
-    ensures wrote { OnOk result (Wrote (sink (W.failed out.old) (W.limit out.old) (W.written out.old)) (word_text word) (sink (W.failed out.new) (W.limit out.new) (W.written out.new))) }
+    ensures { Prints W.failed W.limit W.written out.old (word_text word) result out.new }
 {
     for byte in word.as_bytes() {
         put_pair(out, *byte)?;
@@ -54,16 +51,14 @@ fn put_word<W: Output>(out: &mut W, word: Short) -> Result<(), DeviceFault>
 // A number.
 #[tactic(auto, using(std::proofs::lemmas::Fmt::decimal_nonempty))]
 fn put_number<W: Output>(out: &mut W, number: u32) -> Result<(), DeviceFault>
-    ensures fails { OnErr result (W.failed out.new ≡ true) }
-    ensures wrote { OnOk result (Wrote (sink (W.failed out.old) (W.limit out.old) (W.written out.old)) (decimal number) (sink (W.failed out.new) (W.limit out.new) (W.written out.new))) }
+    ensures { Prints W.failed W.limit W.written out.old (decimal number) result out.new }
 {
     put(out, Buffer::new().format(number).as_bytes())
 }
 
 // A gap of this length or more.
 fn put_from<W: Output>(out: &mut W, min: u32) -> Result<(), DeviceFault>
-    ensures fails { OnErr result (W.failed out.new ≡ true) }
-    ensures wrote { OnOk result (Wrote (sink (W.failed out.old) (W.limit out.old) (W.written out.old)) (from_text min) (sink (W.failed out.new) (W.limit out.new) (W.written out.new))) }
+    ensures { Prints W.failed W.limit W.written out.old (from_text min) result out.new }
 {
     put(out, b"{")?;
     put_number(out, min)?;
@@ -72,8 +67,7 @@ fn put_from<W: Output>(out: &mut W, min: u32) -> Result<(), DeviceFault>
 
 // A gap of one length.
 fn put_count<W: Output>(out: &mut W, number: u32) -> Result<(), DeviceFault>
-    ensures fails { OnErr result (W.failed out.new ≡ true) }
-    ensures wrote { OnOk result (Wrote (sink (W.failed out.old) (W.limit out.old) (W.written out.old)) (count_text number) (sink (W.failed out.new) (W.limit out.new) (W.written out.new))) }
+    ensures { Prints W.failed W.limit W.written out.old (count_text number) result out.new }
 {
     put(out, b"{")?;
     put_number(out, number)?;
@@ -82,8 +76,7 @@ fn put_count<W: Output>(out: &mut W, number: u32) -> Result<(), DeviceFault>
 
 // A gap between two lengths.
 fn put_between<W: Output>(out: &mut W, min: u32, max: u32) -> Result<(), DeviceFault>
-    ensures fails { OnErr result (W.failed out.new ≡ true) }
-    ensures wrote { OnOk result (Wrote (sink (W.failed out.old) (W.limit out.old) (W.written out.old)) (between_text min max) (sink (W.failed out.new) (W.limit out.new) (W.written out.new))) }
+    ensures { Prints W.failed W.limit W.written out.old (between_text min max) result out.new }
 {
     put(out, b"{")?;
     put_number(out, min)?;
@@ -94,8 +87,7 @@ fn put_between<W: Output>(out: &mut W, min: u32, max: u32) -> Result<(), DeviceF
 
 // A gap.
 fn put_gap<W: Output>(out: &mut W, min: u32, max: Option<u32>) -> Result<(), DeviceFault>
-    ensures fails { OnErr result (W.failed out.new ≡ true) }
-    ensures wrote { OnOk result (Wrote (sink (W.failed out.old) (W.limit out.old) (W.written out.old)) (gap_text min max) (sink (W.failed out.new) (W.limit out.new) (W.written out.new))) }
+    ensures { Prints W.failed W.limit W.written out.old (gap_text min max) result out.new }
 {
     match max {
         None if min == 0 => put(out, b"*"),
@@ -113,8 +105,7 @@ fn put_range<W: Output>(
     second: Short,
 ) -> Result<(), DeviceFault>
     requires { 0 < length opening.now }
-    ensures fails { OnErr result (W.failed out.new ≡ true) }
-    ensures wrote { OnOk result (Wrote (sink (W.failed out.old) (W.limit out.old) (W.written out.old)) (range_text opening.now first second) (sink (W.failed out.new) (W.limit out.new) (W.written out.new))) }
+    ensures { Prints W.failed W.limit W.written out.old (range_text opening.now first second) result out.new }
 {
     put(out, opening)?;
     put_word(out, first)?;
@@ -125,8 +116,7 @@ fn put_range<W: Output>(
 
 // A bracket with one end.
 fn put_not<W: Output>(out: &mut W, end: Short) -> Result<(), DeviceFault>
-    ensures fails { OnErr result (W.failed out.new ≡ true) }
-    ensures wrote { OnOk result (Wrote (sink (W.failed out.old) (W.limit out.old) (W.written out.old)) (not_text end) (sink (W.failed out.new) (W.limit out.new) (W.written out.new))) }
+    ensures { Prints W.failed W.limit W.written out.old (not_text end) result out.new }
 {
     put(out, b"[!")?;
     put_word(out, end)?;
@@ -135,8 +125,7 @@ fn put_not<W: Output>(out: &mut W, end: Short) -> Result<(), DeviceFault>
 
 // A part of an alternative.
 fn put_atom<W: Output>(out: &mut W, atom: Atom) -> Result<(), DeviceFault>
-    ensures fails { OnErr result (W.failed out.new ≡ true) }
-    ensures wrote { OnOk result (Wrote (sink (W.failed out.old) (W.limit out.old) (W.written out.old)) (atom_text atom) (sink (W.failed out.new) (W.limit out.new) (W.written out.new))) }
+    ensures { Prints W.failed W.limit W.written out.old (atom_text atom) result out.new }
 {
     match atom {
         Atom::Byte(byte) => put_pair(out, byte),
@@ -148,8 +137,7 @@ fn put_atom<W: Output>(out: &mut W, atom: Atom) -> Result<(), DeviceFault>
 
 // An alternative.
 fn put_alternative<W: Output>(out: &mut W, alternative: &[Atom]) -> Result<(), DeviceFault>
-    ensures fails { OnErr result (W.failed out.new ≡ true) }
-    ensures wrote { OnOk result (Wrote (sink (W.failed out.old) (W.limit out.old) (W.written out.old)) (alternative_text alternative.now) (sink (W.failed out.new) (W.limit out.new) (W.written out.new))) }
+    ensures { Prints W.failed W.limit W.written out.old (alternative_text alternative.now) result out.new }
 {
     for atom in alternative {
         put_atom(out, *atom)?;
@@ -159,8 +147,7 @@ fn put_alternative<W: Output>(out: &mut W, alternative: &[Atom]) -> Result<(), D
 
 // The alternatives of a list, each behind its sign.
 fn put_alternatives<W: Output>(out: &mut W, alternatives: &[Vec<Atom>]) -> Result<(), DeviceFault>
-    ensures fails { OnErr result (W.failed out.new ≡ true) }
-    ensures wrote { OnOk result (Wrote (sink (W.failed out.old) (W.limit out.old) (W.written out.old)) (alternatives_text (codes "(") (map (λ v. v.items) alternatives.now)) (sink (W.failed out.new) (W.limit out.new) (W.written out.new))) }
+    ensures { Prints W.failed W.limit W.written out.old (alternatives_text (codes "(") (map (λ v. v.items) alternatives.now)) result out.new }
 {
     let mut sign = b'(';
     for alternative in alternatives {
@@ -173,8 +160,7 @@ fn put_alternatives<W: Output>(out: &mut W, alternatives: &[Vec<Atom>]) -> Resul
 
 // A list.
 fn put_list<W: Output>(out: &mut W, alternatives: &Alternatives) -> Result<(), DeviceFault>
-    ensures fails { OnErr result (W.failed out.new ≡ true) }
-    ensures wrote { OnOk result (Wrote (sink (W.failed out.old) (W.limit out.old) (W.written out.old)) (alternatives_text (codes "(") alternatives.now ++ codes ")") (sink (W.failed out.new) (W.limit out.new) (W.written out.new))) }
+    ensures { Prints W.failed W.limit W.written out.old (alternatives_text (codes "(") alternatives.now ++ codes ")") result out.new }
 {
     put_alternatives(out, alternatives.as_slice())?;
     put(out, b")")
@@ -182,8 +168,7 @@ fn put_list<W: Output>(out: &mut W, alternatives: &Alternatives) -> Result<(), D
 
 // An item.
 fn put_item<W: Output>(out: &mut W, item: &Item) -> Result<(), DeviceFault>
-    ensures fails { OnErr result (W.failed out.new ≡ true) }
-    ensures wrote { OnOk result (Wrote (sink (W.failed out.old) (W.limit out.old) (W.written out.old)) (item_text item.now) (sink (W.failed out.new) (W.limit out.new) (W.written out.new))) }
+    ensures { Prints W.failed W.limit W.written out.old (item_text item.now) result out.new }
 {
     match item {
         Item::Byte(byte) => put_pair(out, *byte),
@@ -198,8 +183,7 @@ fn put_item<W: Output>(out: &mut W, item: &Item) -> Result<(), DeviceFault>
 
 // The items.
 fn put_items<W: Output>(out: &mut W, items: &[Item]) -> Result<(), DeviceFault>
-    ensures fails { OnErr result (W.failed out.new ≡ true) }
-    ensures wrote { OnOk result (Wrote (sink (W.failed out.old) (W.limit out.old) (W.written out.old)) (canon items.now) (sink (W.failed out.new) (W.limit out.new) (W.written out.new))) }
+    ensures { Prints W.failed W.limit W.written out.old (canon items.now) result out.new }
 {
     for item in items {
         put_item(out, item)?;

@@ -10,7 +10,7 @@ loop-alternative-preserved g c = λ end w.
     c.loop-alternative.invariant end (rw (alternatives_text-rest (c.loop-alternative.sign ∷ []) c.args.alternatives.now c.loop-alternative.alternative-index c.alternative-item.result c.loop-alternative-test.true, ← c.alternative-item.is, ← c.as_slice.ensures.value)
     (wrote_more _ _ _ _ _ c.in_ok-put.ensures.wrote (wrote_more _ _ _ _ _ c.in_ok-put_alternative.ensures.wrote w)))
 
-pub returns-clause-wrote : goal.returns-clause-wrote
+pub returns : goal.returns
 unfolding alternatives_text
-returns-clause-wrote g c =
-    c.loop-alternative.invariant _ (rw (drop_all c.loop-alternative.alternative-index c.args.alternatives.now c.loop-alternative-test.false) (wrote_nothing _))
+returns g c =
+    record { fails = tt; wrote = c.loop-alternative.invariant _ (rw (drop_all c.loop-alternative.alternative-index c.args.alternatives.now c.loop-alternative-test.false) (wrote_nothing _)) }
