@@ -119,3 +119,13 @@ leaves_no_all a b same h = elim (cases_Bool (are_all 0 a)) [
     | inl most ↦ absurd (elim h.1.1 [ inl before ↦ none_before a h.0 h.1.0.0 low before | inr behind ↦ none_behind b h.0 h.1.0.1 (h.1.0.0 ∙ same) most behind ])
   ]
 ]
+
+-- where the ends are all bytes there are, no word is outside the range, and the other way round
+pub no_word : (a b : List ℕ) → length a ≡ length b → are_all 0 a ≡ true → are_all 255 b ≡ true → LeavesWord a b → ⊥
+no_word a b same low high w = let never = rw (low, high) at (leaves_no_all a b same w) in cc
+
+pub no_word_all : (a b : List ℕ) → length a ≡ length b → IsBytes b → (LeavesWord a b → ⊥) → (are_all 0 a && are_all 255 b) ≡ true
+no_word_all a b same bytes none = elim (cases_Bool (are_all 0 a && are_all 255 b)) [
+  | inl all ↦ all
+  | inr some ↦ absurd (none (leaves_word a b same bytes some))
+]

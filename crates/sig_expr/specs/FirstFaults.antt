@@ -7,9 +7,8 @@ use Rattle.sig_expr.specs.declared.item.Item.TheVariants as item
 use Rattle.sig_expr.specs.declared.error.ExprError.{ExprError}
 use Rattle.sig_expr.specs.declared.error.ExprError.TheVariants as error
 use Rattle.sig_expr.specs.Words.{IsBefore}
-use Rattle.sig_expr.specs.Faults.{are_all}
 use Rattle.sig_expr.specs.Spelling.{AtomText, AlternativeText, AlternativesText, ItemText, Spells}
-use Rattle.sig_expr.specs.Profile.{AtomSound, AtomsSound, ItemSound}
+use Rattle.sig_expr.specs.Profile.{LeavesWord, AtomSound, AtomsSound, ItemSound}
 
 -- the number of a refusal: of `E3` it is 3
 abbrev pub refusal_number : ExprError → ℕ
@@ -55,7 +54,7 @@ abbrev pub RangeHas : Bool → List ℕ → List ℕ → ExprError → Type 0
 RangeHas excludes a b (error.RangeLength n) = length a ≢ length b
 RangeHas excludes a b (error.BracketTooLong n) = (8 < length a) ⊎ (8 < length b)
 RangeHas excludes a b (error.RangeOrder n) = AreEnds a b × (IsBefore a b → ⊥)
-RangeHas true a b (error.ClassEmpty n) = AreEnds a b × (are_all 0 a ≡ true) × (are_all 255 b ≡ true)
+RangeHas true a b (error.ClassEmpty n) = AreEnds a b × (LeavesWord a b → ⊥)
 RangeHas excludes a b fault = ⊥
 
 -- the fault of a bracket with one end: over eight bytes

@@ -55,8 +55,8 @@ pub fn canonical_texts_differ()
     ensures { (e e' : List Item) → IsExpression e → IsExpression e' → canon e ≡ canon e' → e ≡ e' }
 {}
 
-/// The first faulty gap or bracket is told, so a text has one first fault alone.
-pub fn first_fault_is_told()
+/// The first faulty gap or bracket is answered, so a text has one first fault alone.
+pub fn first_fault_is_answered()
     ensures { (fault : ExprError) (t : List ℕ) → IsFirstFault fault t → expr_of t ≡ Err fault }
 {}
 
