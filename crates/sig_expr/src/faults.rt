@@ -12,7 +12,6 @@ use std::cmp::Ordering;
 /// The greatest gap number.
 const GREATEST_GAP: u32 = 65_535;
 
-// Whether each byte is this one.
 #[tactic(auto, unfolding(crate::specs::Faults::are_all))]
 fn is_all(bytes: &[u8], value: u8) -> bool
     ensures { result ≡ are_all value bytes.now }
@@ -62,7 +61,6 @@ fn judge_not(end: End, place: usize) -> Option<ExprError>
     (end.len > Short::MAX_LEN).then_some(ExprError::BracketTooLong { place })
 }
 
-// A gap.
 #[tactic(auto, unfolding(crate::specs::Faults::gap_fault))]
 fn judge_gap(min: u32, max: Option<u32>, place: usize) -> Option<ExprError>
     ensures { result ≡ gap_fault min max place }

@@ -24,7 +24,7 @@ pub(crate) enum Context {
 /// What is read of a piece.
 #[derive(Clone, Copy, Debug, PartialEq, Eq)]
 pub(crate) enum Token {
-    /// Nothing.
+    /// No byte of one.
     Between,
     /// The first digit of a pair.
     Half(u8),
@@ -108,7 +108,6 @@ fn digit(byte: u8) -> Option<u8>
     }
 }
 
-// The value of a decimal digit.
 fn decimal(byte: u8) -> Option<u32>
     ensures { result ≡ decimal_of byte }
 {

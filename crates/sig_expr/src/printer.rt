@@ -11,7 +11,6 @@ use crate::short::Short;
 use itoa::Buffer;
 use sig_bits::{DeviceFault, Output};
 
-// One piece.
 fn put<W: Output>(out: &mut W, bytes: &[u8]) -> Result<(), DeviceFault>
     requires { 0 < length bytes.now }
     ensures { Prints W.failed W.limit W.written out.old bytes.now result out.new }
@@ -19,7 +18,7 @@ fn put<W: Output>(out: &mut W, bytes: &[u8]) -> Result<(), DeviceFault>
     out.write_all(bytes)
 }
 
-// The digit of a value below 16.
+// In capitals.
 fn digit(value: u8) -> u8
     requires { value < 16 }
     ensures { result ≡ hex_digit value }
@@ -31,14 +30,12 @@ fn digit(value: u8) -> u8
     }
 }
 
-// The two digits of a byte.
 fn put_pair<W: Output>(out: &mut W, byte: u8) -> Result<(), DeviceFault>
     ensures { Prints W.failed W.limit W.written out.old (pair_text byte) result out.new }
 {
     put(out, &[digit(byte / 16), digit(byte % 16)])
 }
 
-// The pairs of a word.
 fn put_word<W: Output>(out: &mut W, word: Short) -> Result<(), DeviceFault>
     ensures { Prints W.failed W.limit W.written out.old (word_text word) result out.new }
 {
@@ -48,7 +45,6 @@ fn put_word<W: Output>(out: &mut W, word: Short) -> Result<(), DeviceFault>
     Ok(())
 }
 
-// A number.
 #[tactic(auto, using(std::proofs::lemmas::Fmt::decimal_nonempty))]
 fn put_number<W: Output>(out: &mut W, number: u32) -> Result<(), DeviceFault>
     ensures { Prints W.failed W.limit W.written out.old (decimal number) result out.new }
@@ -85,7 +81,6 @@ fn put_between<W: Output>(out: &mut W, min: u32, max: u32) -> Result<(), DeviceF
     put(out, b"}")
 }
 
-// A gap.
 fn put_gap<W: Output>(out: &mut W, min: u32, max: Option<u32>) -> Result<(), DeviceFault>
     ensures { Prints W.failed W.limit W.written out.old (gap_text min max) result out.new }
 {
@@ -123,7 +118,6 @@ fn put_not<W: Output>(out: &mut W, end: Short) -> Result<(), DeviceFault>
     put(out, b"]")
 }
 
-// A part of an alternative.
 fn put_atom<W: Output>(out: &mut W, atom: Atom) -> Result<(), DeviceFault>
     ensures { Prints W.failed W.limit W.written out.old (atom_text atom) result out.new }
 {
@@ -135,7 +129,6 @@ fn put_atom<W: Output>(out: &mut W, atom: Atom) -> Result<(), DeviceFault>
     }
 }
 
-// An alternative.
 fn put_alternative<W: Output>(out: &mut W, alternative: &[Atom]) -> Result<(), DeviceFault>
     ensures { Prints W.failed W.limit W.written out.old (alternative_text alternative.now) result out.new }
 {
@@ -158,7 +151,6 @@ fn put_alternatives<W: Output>(out: &mut W, alternatives: &[Vec<Atom>]) -> Resul
     Ok(())
 }
 
-// A list.
 fn put_list<W: Output>(out: &mut W, alternatives: &Alternatives) -> Result<(), DeviceFault>
     ensures { Prints W.failed W.limit W.written out.old (alternatives_text (codes "(") alternatives.now ++ codes ")") result out.new }
 {
@@ -166,7 +158,6 @@ fn put_list<W: Output>(out: &mut W, alternatives: &Alternatives) -> Result<(), D
     put(out, b")")
 }
 
-// An item.
 fn put_item<W: Output>(out: &mut W, item: &Item) -> Result<(), DeviceFault>
     ensures { Prints W.failed W.limit W.written out.old (item_text item.now) result out.new }
 {
@@ -181,7 +172,6 @@ fn put_item<W: Output>(out: &mut W, item: &Item) -> Result<(), DeviceFault>
     }
 }
 
-// The items.
 fn put_items<W: Output>(out: &mut W, items: &[Item]) -> Result<(), DeviceFault>
     ensures { Prints W.failed W.limit W.written out.old (canon items.now) result out.new }
 {
