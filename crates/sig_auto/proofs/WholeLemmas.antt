@@ -13,6 +13,7 @@ use Rattle.sig_auto.specs.Trees.{Tree, Slot, alternatives_tree, atom_tree, atoms
 use Rattle.sig_auto.specs.TreeSlots.{slots_of}
 use Rattle.sig_auto.specs.Trim.{HasTrack, IsTrim}
 use Rattle.sig_bits.specs.Bytes.{IsBytes}
+use Rattle.sig_expr.proofs.LawLemmas.{canon_spells, leaves_no_all}
 use Rattle.sig_expr.specs.Canon.{canon}
 use Rattle.sig_expr.specs.declared.item.Atom.{Atom}
 use Rattle.sig_expr.specs.declared.item.Atom.TheVariants as atom
@@ -290,7 +291,7 @@ atom_sound (atom.Not a) t text sound =
     bracket_sound a _ (below a ++ above a) (below_rows a + above_rows a) (slots_outside a a refl) (some_other a text.some)
 atom_sound (atom.NotRange a b) t text sound =
     bracket_sound a _ (below a ++ above b) (below_rows a + above_rows b) (slots_outside a b sound.0.same_length)
-    (some_outside a b (word_bytes b text.second text.is_second) (are_all 0 a) (are_all 255 b) refl refl sound.1)
+    (some_outside a b (word_bytes b text.second text.is_second) (are_all 0 a) (are_all 255 b) refl refl (leaves_no_all a b sound.0.same_length sound.1))
 
 -- an alternative
 atoms_sound : (ps : List Atom) (t : List ℕ) → AlternativeText ps t → AtomsSound ps → IsSound (atoms_tree ps) (sum_by atom_slots ps)
@@ -305,19 +306,19 @@ atoms_sound (p ∷ ps) t text sound =
     }
 
 -- one of the alternatives
-alternatives_trim : (sign : ℕ) (alternatives : List (List Atom)) (t : List ℕ) → AlternativesText sign alternatives t → AlternativesSound alternatives → IsTrim (alternatives_tree alternatives)
+alternatives_trim : (sign : List ℕ) (alternatives : List (List Atom)) (t : List ℕ) → AlternativesText sign alternatives t → AlternativesSound alternatives → IsTrim (alternatives_tree alternatives)
 alternatives_trim sign [] t text sound = tt
-alternatives_trim sign (a ∷ rest) t text sound = ((atoms_sound a text.0 text.4 sound.0).trim, alternatives_trim 124 rest text.1 text.5 sound.1)
+alternatives_trim sign (a ∷ rest) t text sound = ((atoms_sound a text.0 text.4 sound.0).trim, alternatives_trim (124 ∷ []) rest text.1 text.5 sound.1)
 
-alternatives_slots : (sign : ℕ) (alternatives : List (List Atom)) (t : List ℕ) → AlternativesText sign alternatives t → AlternativesSound alternatives → slots_of (alternatives_tree alternatives) ≡ sum_by (λ a. sum_by atom_slots a) alternatives
+alternatives_slots : (sign : List ℕ) (alternatives : List (List Atom)) (t : List ℕ) → AlternativesText sign alternatives t → AlternativesSound alternatives → slots_of (alternatives_tree alternatives) ≡ sum_by (λ a. sum_by atom_slots a) alternatives
 alternatives_slots sign [] t text sound = refl
 alternatives_slots sign (a ∷ rest) t text sound =
     let one = (atoms_sound a text.0 text.4 sound.0).slots in
-    let more = alternatives_slots 124 rest text.1 text.5 sound.1 in
+    let more = alternatives_slots (124 ∷ []) rest text.1 text.5 sound.1 in
     let count = sum_by-cons (λ (ps : List Atom). sum_by atom_slots ps) a rest in
     cc
 
-alternatives_track : (sign : ℕ) (alternatives : List (List Atom)) (t : List ℕ) → 0 < length alternatives → AlternativesText sign alternatives t → AlternativesSound alternatives → HasTrack (alternatives_tree alternatives)
+alternatives_track : (sign : List ℕ) (alternatives : List (List Atom)) (t : List ℕ) → 0 < length alternatives → AlternativesText sign alternatives t → AlternativesSound alternatives → HasTrack (alternatives_tree alternatives)
 alternatives_track sign [] t some text sound = absurd (omega arith)
 alternatives_track sign (a ∷ rest) t some text sound = inl (atoms_sound a text.0 text.4 sound.0).track
 
@@ -333,9 +334,9 @@ item_sound (item.Gap min max) t text sound = record { slots = refl; trim = gap_i
 item_sound (item.Alt alternatives) t text sound =
     let two = text.two in
     record {
-      slots = alternatives_slots 40 alternatives text.inside text.is_inside sound;
-      trim = alternatives_trim 40 alternatives text.inside text.is_inside sound;
-      track = alternatives_track 40 alternatives text.inside (omega arith) text.is_inside sound;
+      slots = alternatives_slots (40 ∷ []) alternatives text.inside text.is_inside sound.0;
+      trim = alternatives_trim (40 ∷ []) alternatives text.inside text.is_inside sound.0;
+      track = alternatives_track (40 ∷ []) alternatives text.inside (omega arith) text.is_inside sound.0;
     }
 item_sound (item.Range a b) t text sound = atom_sound (atom.Range a b) t text sound
 item_sound (item.Not a) t text sound = atom_sound (atom.Not a) t text sound
@@ -370,7 +371,7 @@ place_count (position.Eof min max) = omega arith
 place_count position.Variable = refl
 
 whole_sound : (s : SequenceView) → IsSequence s → IsSound (items_tree s.items (back_tree s.position)) (sum_by item_slots s.items + slots_of (back_tree s.position))
-whole_sound s h = items_sound s.items (back_tree s.position) _ (canon s.items) h.expression.spells (expression_sound s.items h.expression) (back_sound s.position h.offsets)
+whole_sound s h = items_sound s.items (back_tree s.position) _ (canon s.items) (canon_spells s.items h.expression.sound) (expression_sound s.items h.expression) (back_sound s.position h.offsets)
 
 -- in the tree of a sequence no slot is in vain
 pub whole_is_trim : (s : SequenceView) → IsSequence s → IsTrim (whole_tree s)

@@ -11,6 +11,7 @@ use Rattle.sig_auto.specs.Rows.{above, below, between}
 use Rattle.sig_auto.specs.Trees.{Tree, Slot, Then, alternatives_tree, atom_tree, atoms_tree, back_tree, bracket_tree, front_tree, item_tree, items_tree, rows_tree, whole_tree}
 use Rattle.sig_auto.specs.Unfolded.{TreeWord}
 use Rattle.sig_bits.specs.Bytes.{IsBytes}
+use Rattle.sig_expr.proofs.LawLemmas.{canon_spells}
 use Rattle.sig_expr.specs.Canon.{canon}
 use Rattle.sig_expr.specs.declared.item.Atom.{Atom}
 use Rattle.sig_expr.specs.declared.item.Atom.TheVariants as atom
@@ -210,16 +211,16 @@ of_SomeWord a rest w h = elim (contains_cases a rest h.0 h.1) [
 ]
 
 -- one of the alternatives
-pub alternatives_is : (sign : ℕ) (alternatives : List (List Atom)) (t w : List ℕ) → AlternativesText sign alternatives t → AlternativesSound alternatives → TreeWord (alternatives_tree alternatives) w ↔ SomeWord alternatives w
+pub alternatives_is : (sign : List ℕ) (alternatives : List (List Atom)) (t w : List ℕ) → AlternativesText sign alternatives t → AlternativesSound alternatives → TreeWord (alternatives_tree alternatives) w ↔ SomeWord alternatives w
 alternatives_is sign [] t w text sound = (λ h. absurd h, λ h. (let below = h.1.1 in absurd (omega arith)))
 alternatives_is sign (a ∷ rest) t w text sound = (
   λ h. elim h [
     | inl one ↦ SomeWord-first a rest w ((atoms_is a text.0 w text.4 sound.0).0 one)
-    | inr other ↦ SomeWord-later a rest w ((alternatives_is 124 rest text.1 w text.5 sound.1).0 other)
+    | inr other ↦ SomeWord-later a rest w ((alternatives_is (124 ∷ []) rest text.1 w text.5 sound.1).0 other)
   ],
   λ h. elim (of_SomeWord a rest w h) [
     | inl one ↦ inl ((atoms_is a text.0 w text.4 sound.0).1 one)
-    | inr other ↦ inr ((alternatives_is 124 rest text.1 w text.5 sound.1).1 other)
+    | inr other ↦ inr ((alternatives_is (124 ∷ []) rest text.1 w text.5 sound.1).1 other)
   ],
 )
 
@@ -234,7 +235,7 @@ pub item_is : (i : Item) (t w : List ℕ) → ItemText i t → ItemSound i → T
 item_is (item.Byte b) t w text sound = byte_word b w
 item_is item.Any t w text sound = any_word w
 item_is (item.Gap min max) t w text sound = (λ h. h, λ h. h)
-item_is (item.Alt alternatives) t w text sound = alternatives_is 40 alternatives text.inside w text.is_inside sound
+item_is (item.Alt alternatives) t w text sound = alternatives_is (40 ∷ []) alternatives text.inside w text.is_inside sound.0
 item_is (item.Range a b) t w text sound = atom_is (atom.Range a b) t w text sound
 item_is (item.Not a) t w text sound = atom_is (atom.Not a) t w text sound
 item_is (item.NotRange a b) t w text sound = atom_is (atom.NotRange a b) t w text sound
@@ -264,13 +265,13 @@ CutBy front items back file = (c : Cut items file) × TreeWord front c.front × 
 
 of_whole : (front : Tree) (items : List Item) (back : Tree) (file : List ℕ) → IsExpression items → TreeWord (Then front (items_tree items back)) file → CutBy front items back file
 of_whole front items back file e h =
-    let r = of_items items back (canon items) h.1 e.spells (expression_sound items e) h.4 in
+    let r = of_items items back (canon items) h.1 (canon_spells items e.sound) (expression_sound items e) h.4 in
     (record { front = h.0; word = r.0; back = r.1; cut = h.2 ∙ ap (λ l. h.0 ++ l) r.2 ∙ sym (append_assoc h.0 r.0 r.1); is_word = r.3 }, h.3, r.4)
 
 whole_word : (front : Tree) (items : List Item) (back : Tree) (file : List ℕ) → IsExpression items → CutBy front items back file → TreeWord (Then front (items_tree items back)) file
 whole_word front items back file e h =
     let c = h.0 in
-    (c.front, c.word ++ c.back, c.cut ∙ append_assoc c.front c.word c.back, h.1, items_word items back (canon items) c.word c.back e.spells (expression_sound items e) c.is_word h.2)
+    (c.front, c.word ++ c.back, c.cut ∙ append_assoc c.front c.word c.back, h.1, items_word items back (canon items) c.word c.back (canon_spells items e.sound) (expression_sound items e) c.is_word h.2)
 
 -- what is before the word and behind it, in a file of bytes
 front_bytes : (items : List Item) (file : List ℕ) (c : Cut items file) → IsBytes file → IsBytes c.front

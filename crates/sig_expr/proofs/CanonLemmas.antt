@@ -21,7 +21,7 @@ pub canon-rest : (xs : List Item) (i : ℕ) (d : Item) → i < length xs → can
 unfolding canon
 canon-rest xs i d h = rw (add-one, drop-cons xs i d) refl
 
-pub alternatives_text-rest : (sign : ℕ) (xs : List (Vec Atom Global)) (i : ℕ) (d : Vec Atom Global) → i < length xs → alternatives_text sign (map (λ v. v.items) (drop i xs)) ≡ (sign ∷ []) ++ (alternative_text (get_or xs i d).items ++ alternatives_text 124 (map (λ v. v.items) (drop (i + 1) xs)))
+pub alternatives_text-rest : (sign : List ℕ) (xs : List (Vec Atom Global)) (i : ℕ) (d : Vec Atom Global) → i < length xs → alternatives_text sign (map (λ v. v.items) (drop i xs)) ≡ sign ++ (alternative_text (get_or xs i d).items ++ alternatives_text (124 ∷ []) (map (λ v. v.items) (drop (i + 1) xs)))
 unfolding alternatives_text
 alternatives_text-rest sign xs i d h = rw (add-one, drop-cons xs i d) refl
 

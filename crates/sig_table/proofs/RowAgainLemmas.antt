@@ -6,7 +6,7 @@ use Rattle.std.specs.Str.Parse.{digits_value}
 use Rattle.std.proofs.lemmas.Bool.{cases_lt, ne_eqb}
 use Rattle.std.proofs.lemmas.Fmt.{decimal_digit, decimal_nonempty, digits_decimal, digits_value-decimal, first_decimal, length-decimal-le}
 use Rattle.csv.specs.Records.{field_at}
-use Rattle.sig_expr.proofs.ProfileLemmas.{read_text}
+use Rattle.sig_expr.proofs.LawLemmas.{expression_read}
 use Rattle.sig_expr.specs.Canon.{canon}
 use Rattle.sig_expr.specs.Profile.{IsExpression}
 use Rattle.sig_expr.specs.Texts.{expr_of}
@@ -64,7 +64,7 @@ offsets_of-decimal row min max order h =
 
 -- the canonical text is read as its items
 pub expr_of-canon : (items : List Item) → IsExpression items → expr_of (canon items) ≡ Ok items
-expr_of-canon items h = read_text items (canon items) h.in_profile h.spells
+expr_of-canon items h = expression_read items h
 
 -- the row of a sequence
 abbrev pub row_for : Puid → ℕ → SequenceView → Row

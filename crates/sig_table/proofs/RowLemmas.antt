@@ -5,11 +5,9 @@ use Rattle.std.specs.List.{starts_with}
 use Rattle.std.specs.Option.{ok_or}
 use Rattle.std.proofs.lemmas.Bool.{cases_Bool}
 use Rattle.sig_expr.specs.declared.item.Item.{Item}
-use Rattle.sig_expr.specs.Profile.{IsExpression}
 use Rattle.sig_expr.specs.Texts.{expr_of}
 use Rattle.sig_expr.specs.declared.error.ExprError.{ExprError}
-use Rattle.sig_expr.proofs.RefusalLemmas.{told_spells}
-use Rattle.sig_expr.proofs.ShortestLemmas.{is_expression}
+use Rattle.sig_expr.proofs.LawLemmas.{read_expression}
 use Rattle.sig_table.specs.declared.error.TableError.{TableError}
 use Rattle.sig_table.specs.declared.error.TableError.TheVariants as error
 use Rattle.sig_table.specs.declared.error.TableFile.TheVariants.{Signatures}
@@ -110,11 +108,6 @@ items_in-ok : (row : ℕ) (r : Result (List Item) ExprError) (items : List Item)
 items_in-ok row (Ok e) items h = cc h
 items_in-ok row (Err e) items h = absurd (cc h)
 
-IsExpression-expr_of : (text : List ℕ) (items : List Item) → expr_of text ≡ Ok items → IsExpression items
-IsExpression-expr_of text items h =
-    let told = told_spells items text h in
-    is_expression items text told.0 told.1
-
 IsRow-row_with : (n : ℕ) (puid number word offset max expression : List ℕ) (row : Row) → row_with n puid number word offset max expression ≡ Ok row → IsRow row
 IsRow-row_with n puid number word offset max expression row h =
     let p = bind-ok (ok_or (puid_of puid) (error.Puid Signatures n)) _ row h in
@@ -126,7 +119,7 @@ IsRow-row_with n puid number word offset max expression row h =
       puid = IsNumber-puid_of puid p.0 (ok_or-ok _ _ _ p.1);
       number = IsNumber-positive_of number k.0 (ok_or-ok _ _ _ k.1);
       offsets = InOrder-position_of n word offset max place.0 place.1;
-      expression = IsExpression-expr_of expression items.0 (items_in-ok n _ _ items.1);
+      expression = read_expression items.0 expression (items_in-ok n _ _ items.1);
     })
 
 -- a row that is read

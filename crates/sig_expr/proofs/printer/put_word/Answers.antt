@@ -8,7 +8,7 @@ pub loop-byte-preserved : goal.loop-byte-preserved
 loop-byte-preserved g c = λ end w.
     c.loop-byte.invariant end (rw (word_text-rest c.as_bytes-byte-items.result.now c.loop-byte.byte-index 0 c.loop-byte-test.true) (wrote_more _ _ _ _ _ c.in_ok-put_pair.ensures.wrote w))
 
-pub returns-clause-wrote : goal.returns-clause-wrote
+pub returns : goal.returns
 unfolding word_text
-returns-clause-wrote g c =
-    rw (← c.as_bytes-byte-items.ensures.bytes) (c.loop-byte.invariant _ (rw (drop_all c.loop-byte.byte-index c.as_bytes-byte-items.result.now c.loop-byte-test.false) (wrote_nothing _)))
+returns g c =
+    record { fails = tt; wrote = rw (← c.as_bytes-byte-items.ensures.bytes) (c.loop-byte.invariant _ (rw (drop_all c.loop-byte.byte-index c.as_bytes-byte-items.result.now c.loop-byte-test.false) (wrote_nothing _))) }

@@ -8,7 +8,7 @@ ghost use Rattle.std.specs.Prelude.{◌≡◌, ◌+◌, ◌*◌, ◌%◌};
 ghost use Rattle.hex.specs.Hex.{hex_digit_value};
 ghost use Rattle.sig_expr.specs.Reading.{pair_of, decimal_of, part_of, item_start_of, list_start_of, begin_of, number_of, star_of, closed_gap_of, closed_bracket_of, end_of, go_on_of, feed_of, context_of, next_of, is_end_of};
 
-use super::end::End;
+use crate::end::End;
 
 /// Where a reading stands between the pieces of a text.
 #[derive(Clone, Copy, Debug, PartialEq, Eq)]
@@ -24,7 +24,7 @@ pub(crate) enum Context {
 /// What is read of a piece.
 #[derive(Clone, Copy, Debug, PartialEq, Eq)]
 pub(crate) enum Token {
-    /// Nothing.
+    /// No byte of one.
     Between,
     /// The first digit of a pair.
     Half(u8),
@@ -82,8 +82,8 @@ pub(crate) enum Piece {
 /// Where a reading stands in a text.
 #[derive(Clone, Copy, Debug, PartialEq, Eq)]
 pub(crate) struct State {
-    pub context: Context,
-    pub token: Token,
+    pub(crate) context: Context,
+    pub(crate) token: Token,
 }
 
 /// What a byte does to a reading.
@@ -108,7 +108,6 @@ fn digit(byte: u8) -> Option<u8>
     }
 }
 
-// The value of a decimal digit.
 fn decimal(byte: u8) -> Option<u32>
     ensures { result ≡ decimal_of byte }
 {

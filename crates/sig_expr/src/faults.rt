@@ -3,15 +3,15 @@
 ghost use Rattle.std.specs.Prelude.{◌≡◌};
 ghost use Rattle.sig_expr.specs.Faults.{are_all, order_fault, range_fault, not_fault, gap_fault, fault_of};
 
-use super::end::End;
-use super::token::Piece;
-use super::{ExprError, Short};
+use crate::end::End;
+use crate::error::ExprError;
+use crate::lexer::Piece;
+use crate::short::Short;
 use std::cmp::Ordering;
 
 /// The greatest gap number.
 const GREATEST_GAP: u32 = 65_535;
 
-// Whether each byte is this one.
 #[tactic(auto, unfolding(crate::specs::Faults::are_all))]
 fn is_all(bytes: &[u8], value: u8) -> bool
     ensures { result ≡ are_all value bytes.now }
@@ -61,7 +61,6 @@ fn judge_not(end: End, place: usize) -> Option<ExprError>
     (end.len > Short::MAX_LEN).then_some(ExprError::BracketTooLong { place })
 }
 
-// A gap.
 #[tactic(auto, unfolding(crate::specs::Faults::gap_fault))]
 fn judge_gap(min: u32, max: Option<u32>, place: usize) -> Option<ExprError>
     ensures { result ≡ gap_fault min max place }
@@ -75,7 +74,7 @@ fn judge_gap(min: u32, max: Option<u32>, place: usize) -> Option<ExprError>
     }
 }
 
-/// What the piece that begins at a place is refused for.
+/// What the piece that begins at this place of the text is refused for.
 pub(crate) fn judge(piece: Piece, place: usize) -> Option<ExprError>
     ensures { result ≡ fault_of piece place }
 {
