@@ -4,6 +4,7 @@ pub mod DraftLemmas
 pub mod FaultLemmas
 pub mod FormatsAgainLemmas
 pub mod GatheredLemmas
+pub mod JudgingLemmas
 pub mod LimitLemmas
 pub mod LoadLemmas
 pub mod NumberLemmas

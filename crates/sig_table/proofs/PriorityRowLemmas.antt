@@ -8,7 +8,8 @@ use Rattle.sig_table.proofs.PriorityLemmas.{no_priorities, one_priority_more}
 use Rattle.sig_table.proofs.RankingLemmas.{is_above-Decides, wider}
 use Rattle.sig_table.specs.declared.error.TableError.{TableError}
 use Rattle.sig_table.specs.declared.puid.Puid.{Puid}
-use Rattle.sig_table.specs.Loading.{is_listed, is_priority_header, pair_fault, pair_of, pair_of_two, pairs_from, pairs_of, place_in}
+use Rattle.sig_table.specs.Judging.{judged}
+use Rattle.sig_table.specs.Loading.{is_listed, is_priority_header, pair_fault, pair_of, pair_of_two, pairs_from, pairs_of, place_in, with_pair}
 use Rattle.sig_table.specs.PriorityRows.{ArePairsOf, BeginsWithPairHeader, HasCycle, IsFaultOfPair, IsPairFault, IsPriorityFaultOf, WritePairs}
 use Rattle.sig_table.specs.Puids.{puid_eq, puid_of}
 use Rattle.sig_table.specs.Ranking.{is_above}
@@ -92,7 +93,7 @@ record Continues (formats : List Puid) (done : List (ℕ × ℕ)) (n : ℕ) (rec
   pub are : ArePriorities (length formats) all
 
 continues : (formats : List Puid) (done : List (ℕ × ℕ)) (n : ℕ) (records : List (List (List ℕ))) (all : List (ℕ × ℕ)) → ArePriorities (length formats) done → pairs_from formats n done records ≡ Ok all → Continues formats done n records all
-unfolding pairs_from
+unfolding judged with_pair
 continues formats done n [] all are h =
     let same : done ≡ all = cc h in
     record { pairs = []; write = refl; whole = sym same ∙ sym (append-nil done); are = subst (ArePriorities (length formats)) same are }
@@ -132,7 +133,7 @@ stops_here formats done n fields later fault are is = record {
 }
 
 stops : (formats : List Puid) (done : List (ℕ × ℕ)) (n : ℕ) (records : List (List (List ℕ))) (fault : TableError) → ArePriorities (length formats) done → pairs_from formats n done records ≡ Err fault → Stops formats done n records fault
-unfolding pairs_from
+unfolding judged with_pair
 stops formats done n [] fault are h = absurd (cc h)
 stops formats done n (fields ∷ later) fault are h = elim (answered (pair_of formats n fields)) [
   | inl a ↦ elim (told (pair_fault done n a.0)) [

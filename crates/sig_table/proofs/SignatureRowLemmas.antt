@@ -15,7 +15,8 @@ use Rattle.sig_table.specs.declared.puid.Puid.{Puid}
 use Rattle.sig_table.specs.declared.row.Row.{Row}
 use Rattle.sig_table.specs.Gathered.{AreRows, BeginsWithHeader, HasEight, HasTooManySlots, IsFaultAfter, IsFaultOf, IsFaultOfRow, IsOfTwo, IsTableOf, Write, first_format, formats_of, gathered, numbers_of, rows_of, signature_of}
 use Rattle.sig_table.specs.Views.{SignatureView, TableView}
-use Rattle.sig_table.specs.Loading.{fault_at, fault_in, is_signature_header, signature_in, signatures_of, table_from}
+use Rattle.sig_table.specs.Judging.{judged}
+use Rattle.sig_table.specs.Loading.{fault_at, fault_in, is_signature_header, signature_in, signatures_of, table_from, with_record}
 use Rattle.sig_table.specs.Puids.{puid_eq}
 use Rattle.sig_table.specs.Rows.{row_of}
 use Rattle.sig_table.specs.Slots.{slot_count}
@@ -254,7 +255,7 @@ record Continues (done : List Row) (n : ℕ) (records : List (List (List ℕ))) 
   pub gathers : table ≡ gathered (done ++ rows)
 
 continues : (done : List Row) (n : ℕ) (records : List (List (List ℕ))) (table : TableView) → AreRows done → table_from n (gathered done) records ≡ Ok table → Continues done n records table
-unfolding table_from
+unfolding judged with_record
 continues done n [] table are h = record { rows = []; write = refl; are = rw (append-nil done) are; gathers = rw (append-nil done) (cc h) }
 continues done n (fields ∷ later) table are h = elim (answered (row_of n fields)) [
   | inl a ↦ elim (told (fault_in (gathered done) n a.0)) [
@@ -292,7 +293,7 @@ stops_here done n fields later fault are is = record {
 }
 
 stops : (done : List Row) (n : ℕ) (records : List (List (List ℕ))) (fault : TableError) → AreRows done → table_from n (gathered done) records ≡ Err fault → Stops done n records fault
-unfolding table_from
+unfolding judged with_record
 stops done n [] fault are h = absurd (cc h)
 stops done n (fields ∷ later) fault are h = elim (answered (row_of n fields)) [
   | inl a ↦ elim (told (fault_in (gathered done) n a.0)) [
