@@ -19,7 +19,7 @@ use Rattle.sig_table.specs.Ranking.{is_above}
 use Rattle.sig_table.specs.Tables.{AllDifferent, ArePriorities, IsNumber}
 
 -- where all differ, none of the later ones is among those before
-not_before : {A : Type 0} (done later : List A) (x : A) → AllDifferent (done ++ x ∷ later) → Contains done x → ⊥
+pub not_before : {A : Type 0} (done later : List A) (x : A) → AllDifferent (done ++ x ∷ later) → Contains done x → ⊥
 not_before [] later x d c = absurd (let none = c.1 in omega arith)
 not_before (y ∷ done) later x d (zero, lt, same) = d.0 (subst (Contains (done ++ x ∷ later)) (sym same) (Contains-append_right done (x ∷ later) x (0, omega arith, refl)))
 not_before (y ∷ done) later x d (suc k, lt, same) = not_before done later x d.1 (k, omega arith, same)

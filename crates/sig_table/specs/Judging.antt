@@ -1,5 +1,5 @@
 -- What is judged in turn: the first fault counts.
-use Rattle.std.specs.Prelude.{◌≡◌, ◌||◌, not, ℕ, ◌+◌, Bool, true, false, List, [], ◌∷◌, Option, Some, None, Result, Ok, Err}
+use Rattle.std.specs.Prelude.{◌≡◌, ◌⊎◌, ◌||◌, not, ℕ, ◌+◌, Bool, true, false, List, [], ◌∷◌, Option, Some, None, Result, Ok, Err}
 use Rattle.std.specs.Bool.{OnFalse}
 use Rattle.sig_table.specs.declared.error.TableError.{TableError}
 use Rattle.sig_table.specs.declared.error.TableError.TheVariants as error
@@ -48,3 +48,13 @@ unless (Some fault) rest = Err fault
 unfoldable pub judged : {S : Type 0} → (ℕ → S → List (List ℕ) → Result S TableError) → ℕ → S → List (List (List ℕ)) → Result S TableError
 judged judge row_number done [] = Ok done
 judged judge row_number done (fields ∷ later) = judge row_number done fields >>= (λ more. judged judge (row_number + 1) more later)
+
+-- each record writes the row in its place, the first one being of this number
+abbrev pub WriteAll : {R : Type 0} → (ℕ → List (List ℕ) → R → Type 0) → ℕ → List (List (List ℕ)) → List R → Type 0
+WriteAll Writes n [] rows = rows ≡ []
+WriteAll Writes n (fields ∷ later) [] = ⊥
+WriteAll Writes n (fields ∷ later) (row ∷ rows) = Writes n fields row × WriteAll Writes (n + 1) later rows
+
+-- this fault, where it is there, or else a later one
+abbrev pub FirstOf : Type 0 → TableError → (TableError → Type 0) → TableError → Type 0
+FirstOf IsThere fault IsLater e = (IsThere × (e ≡ fault)) ⊎ (¬ IsThere × IsLater e)
