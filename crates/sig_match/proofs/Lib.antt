@@ -4,6 +4,7 @@ pub mod GapLemmas
 pub mod HitLemmas
 pub mod ItemLemmas
 pub mod ListingLemmas
+pub mod MarkLemmas
 pub mod OneListLemmas
 pub mod PartLemmas
 pub mod RankLemmas

@@ -1,7 +1,7 @@
 //! Laws of hits.
 
 ghost use Rattle.std.specs.Prelude.{◌≡◌, ℕ, List};
-ghost use Rattle.sig_match.specs.Hitting.{HitFormats};
+ghost use Rattle.sig_match.specs.Hits.{HitFormats};
 ghost use Rattle.sig_match.specs.declared.results.Hit.{Hit};
 ghost use Rattle.sig_table.specs.Views.{TableView};
 
