@@ -1,8 +1,9 @@
 -- Which formats of a table a file hits, and which of them are left after priorities.
-use Rattle.std.specs.Prelude.{◌≡◌, ℕ, ◌<◌, Bool, not, List, All, Contains, Option, Some, IfSome, IsSomeAnd, map, filter, slice_get, nat_eq, ◌&&◌}
+use Rattle.std.specs.Prelude.{◌≡◌, ℕ, ◌<◌, Bool, not, List, All, Contains, Option, Some, IfSome, IsSomeAnd, map, filter, slice_get}
 use Rattle.std.specs.List.{list_any}
 use Rattle.std.specs.List.Sorted.{IsStrictlyIncreasing}
 use Rattle.sig_match.specs.declared.results.Hit.{Hit}
+use Rattle.sig_table.specs.Ranking.{Outranks, ranks}
 use Rattle.sig_table.specs.Views.{SignatureView, TableView}
 use Rattle.sig_table.specs.Standing.{Hits}
 
@@ -38,16 +39,17 @@ pub record HitFormatsOfSome (table : TableView) (to_come : Option (List ℕ)) (h
   pub is_to_come : IfSome to_come (λ bytes. file ≡ bytes)
   pub hit_formats : HitFormats table file hits
 
--- whether the first format outranks the second by a listed pair
-abbrev pub ranks : TableView → ℕ → ℕ → Bool
-ranks table higher lower = list_any (λ pair. nat_eq pair.0 higher && nat_eq pair.1 lower) table.priorities
-
 -- the hits whose format no format of the hits outranks: a hit that is itself outranked still outranks
 abbrev pub kept_hits : TableView → List Hit → List Hit
-kept_hits table hits = filter (λ hit. not (list_any (λ other. ranks table other.format.0 hit.format.0) hits)) hits
+kept_hits table hits = filter (λ hit. not (list_any (λ other. ranks table.priorities other.format.0 hit.format.0) hits)) hits
 
 -- what is left of the hit formats after priorities
 pub record Left (table : TableView) (file : List ℕ) (left : List Hit) : Type 0 where
   pub hits : List Hit
   pub all_hits : HitFormats table file hits
   pub kept : left ≡ kept_hits table hits
+
+-- the hit is one of these, and none of these has a format that outranks its own
+pub record IsNotOutranked (table : TableView) (hits : List Hit) (hit : Hit) : Type 0 where
+  pub is_hit : Contains hits hit
+  pub by_none : (other : Hit) → Contains hits other → ¬ Outranks table.priorities other.format.0 hit.format.0

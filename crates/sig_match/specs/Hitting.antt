@@ -1,2 +1,2 @@
 -- The definitions of `Hits` under their former name.
-pub use Rattle.sig_match.specs.Hits.{HitsAt, IsFirstHit, formats_of, HitFormats, HitFormatsOfSome, ranks, kept_hits, Left}
+pub use Rattle.sig_match.specs.Hits.{HitsAt, IsFirstHit, formats_of, HitFormats, HitFormatsOfSome, kept_hits, Left}

@@ -1,6 +1,6 @@
 //! What a matcher is, whatever it searches with.
 
-ghost use Rattle.std.specs.Prelude.{◌≡◌, ◌↔◌, true, false, Contains, IfOk, IsTrue, OnOk, IsErrOf};
+ghost use Rattle.std.specs.Prelude.{◌≡◌, ◌<◌, ◌↔◌, true, false, Contains, IfOk, IsTrue, OnOk, IsErrOf, length};
 ghost use Rattle.sig_bits.specs.Device.{IsAtEnd};
 ghost use Rattle.sig_match.specs.Hits.{HitFormatsOfSome, kept_hits};
 ghost use Rattle.sig_table.specs.Views.{TableView};
@@ -32,9 +32,10 @@ pub trait DroidCore {
         ensures memory { IsErrOf result CoreError.OutOfMemory → R.failed input.old ≡ false → R.failed input.new ≡ false };
 
     /// Keeps the hits whose format no format of the hits outranks. A hit that is itself outranked
-    /// still outranks.
+    /// still outranks. Where there are hits, some are left.
     fn remove_lower_priority_hits(&self, results: &mut Results)
-        ensures { results.new ≡ kept_hits (lists self.now) results.old };
+        ensures kept { results.new ≡ kept_hits (lists self.now) results.old }
+        ensures some { 0 < length results.old → 0 < length results.new };
 
     /// Takes out of the table all signatures of the format of this name, and answers whether there
     /// is such a format. The format and its priorities stay.

@@ -2,7 +2,7 @@ use Rattle.std.proofs.Common.{◌≡◌, ◌<◌, ◌∙◌, length, Bool, List,
 use Rattle.std.specs.List.{list_any}
 use Rattle.std.proofs.lemmas.List.Filters.{FiltersInPlace-more_no, FiltersInPlace-more_swap}
 use Rattle.std.proofs.lemmas.List.Sorted.{IsPermutation-swap, IsPermutation-trans, list_any-IsPermutation}
-use Rattle.sig_match.specs.Hits.{ranks}
+use Rattle.sig_table.specs.Ranking.{ranks}
 use Rattle.sig_match.specs.declared.results.Hit.{Hit}
 use Rattle.sig_match.proofs.results.Results.remove_outranked.Goals.{else-not-is_outranked, then-not-is_outranked}
 use Rattle.sig_match.proofs.results.Results.remove_outranked.Goals as goal
@@ -10,7 +10,7 @@ use Rattle.sig_match.proofs.results.Results.remove_outranked.Goals as goal
 pub loop-index-preserved : goal.loop-index-preserved
 loop-index-preserved c =
     let hit : Hit = c.index.result.now in
-    let outranks : Hit → Bool = λ other. ranks c.args.table.now other.format.0 hit.format.0 in
+    let outranks : Hit → Bool = λ other. ranks c.args.table.now.priorities other.format.0 hit.format.0 in
     let before : List Hit = c.self.inside.hits.items in
     let moved : List Hit = c.loop-index.hits.items in
     let all : list_any outranks before ≡ list_any outranks moved = list_any-IsPermutation outranks before moved c.loop-index.invariant.same in
