@@ -50,14 +50,14 @@ kept_if p [] x c is = absurd (let at = c.1 in omega arith)
 kept_if p (y ∷ ys) x c is =
     let P : List Hit → Type 0 = λ l. Contains l x in
     let first : (y ≡ x) → Contains (filter p (y ∷ ys)) x = λ same.
-        let taken : p y ≡ true = ap p same ∙ is in
-        subst P (sym (ap (λ b. cond b (y ∷ filter p ys) (filter p ys)) taken)) (subst (Contains (y ∷ filter p ys)) same (cons_first y (filter p ys))) in
+    let taken : p y ≡ true = ap p same ∙ is in
+    subst P (sym (ap (λ b. cond b (y ∷ filter p ys) (filter p ys)) taken)) (subst (Contains (y ∷ filter p ys)) same (cons_first y (filter p ys))) in
     let later : Contains ys x → Contains (filter p (y ∷ ys)) x = λ rest.
-        let kept = kept_if p ys x rest is in
-        elim (cases_Bool (p y)) [
-          | inl taken ↦ subst P (sym (ap (λ b. cond b (y ∷ filter p ys) (filter p ys)) taken)) (cons_later y (filter p ys) x kept)
-          | inr left_out ↦ subst P (sym (ap (λ b. cond b (y ∷ filter p ys) (filter p ys)) left_out)) kept
-        ] in
+    let kept = kept_if p ys x rest is in
+    elim (cases_Bool (p y)) [
+      | inl taken ↦ subst P (sym (ap (λ b. cond b (y ∷ filter p ys) (filter p ys)) taken)) (cons_later y (filter p ys) x kept)
+      | inr left_out ↦ subst P (sym (ap (λ b. cond b (y ∷ filter p ys) (filter p ys)) left_out)) kept
+    ] in
     elim (cons_cases y ys x c) [ inl same ↦ first same | inr rest ↦ later rest ]
 
 -- whether a hit outranks this one

@@ -8,10 +8,11 @@ pub use Rattle.sig_table.specs.Ranking
 pub use Rattle.sig_table.specs.Removal
 pub use Rattle.sig_table.specs.Standing
 pub use Rattle.sig_table.specs.Tables
-
 -- The vocabulary of proofs: frontiers of offsets, and the first hits of the formats.
 pub mod FirstHits
 pub mod Frontiers
 pub mod Gaps
 pub mod Hitting
 pub mod Parts
+pub mod Runs
+pub use Rattle.memchr.specs.Find

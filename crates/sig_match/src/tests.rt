@@ -1,5 +1,5 @@
-use crate::whole::frontier::{Interval, union};
 use crate::whole::advance::after_item;
+use crate::whole::frontier::{Interval, union};
 use sig_expr::{Alternatives, Atom, Item, Short};
 use std::alloc::{AllocError, Global};
 use std::test::Fail;
@@ -13,7 +13,9 @@ fn ends_of(alloc: Global, file: &[u8], items: &[Item]) -> Result<Vec<Interval>, 
     let mut ends = Vec::new(alloc);
     ends.push(offsets(0, 0))?;
     for item in items {
-        ends = after_item(alloc, file, &ends, item)?;
+        let mut next = Vec::new(alloc);
+        after_item(alloc, file, &ends, item, &mut next)?;
+        ends = next;
     }
     Ok(ends)
 }
@@ -46,7 +48,8 @@ fn an_item_ends_at_each_place_that_it_allows(rt: HostRuntime) -> Result<(), Fail
         (Item::Not(ab), &[offsets(2, 2), offsets(4, 4)]),
     ];
     for (item, want) in &rows {
-        let ends = after_item(rt.alloc(), &file, &everywhere, item)?;
+        let mut ends = Vec::new(rt.alloc());
+        after_item(rt.alloc(), &file, &everywhere, item, &mut ends)?;
         assert_eq!(rt; ends.as_slice(), *want, "{item:?}");
     }
     Ok(())

@@ -21,7 +21,9 @@ use std::marker::Model;
 pub(crate) mod advance;
 mod anchored;
 pub(crate) mod frontier;
+mod longest;
 mod part;
+mod run;
 mod search;
 
 use search::{is_hit, which_hit};

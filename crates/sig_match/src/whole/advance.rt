@@ -2,20 +2,45 @@
 //! offset of the frontier.
 //!
 //! Each offset of the file is looked at at most once for each part, and for a gap only the ends of
-//! the intervals are.
+//! the intervals are. A run of fixed bytes is looked for whole.
 
-ghost use Rattle.std.specs.Prelude.{◌≡◌, ◌↔◌, IfOk, IsTrue, OnOk};
-ghost use Rattle.sig_expr.specs.Words.{AlternativeWord, IsAtMost, PartWord, Word};
-ghost use Rattle.sig_expr.specs.declared.item.Atom.TheVariants as atom;
+ghost use Rattle.std.specs.Prelude.{◌≡◌, ◌<◌, ◌≤◌, ◌↔◌, IfOk, IsTrue, OnOk, length, take};
+ghost use Rattle.sig_expr.specs.Words.{AlternativeWord, IsAtMost, Lang, PartWord, Word};
 ghost use Rattle.sig_expr.specs.declared.item.Item.TheVariants as item;
 ghost use Rattle.sig_match.specs.Frontiers.{IsIn, IsWithin, Gains, HasExactly, Reaches};
 ghost use Rattle.sig_match.specs.Gaps.{gap_end};
+ghost use Rattle.sig_match.specs.Runs.{IsRun};
 
 use crate::whole::frontier::{Interval, add, union};
 use crate::whole::part::{is_part_word, part_length};
-use memchr::memchr;
+use crate::whole::run::after_run;
 use sig_expr::{Alternatives, Atom, Item};
 use std::alloc::{AllocError, Global};
+use std::mem::swap;
+
+/// Takes the first item, or all of the run with which the items begin, and answers how many items
+/// that are.
+pub(crate) fn advance(
+    alloc: Global,
+    file: &[u8],
+    frontier: &[Interval],
+    items: &[Item],
+    run: &[u8],
+    ends: &mut Vec<Interval>,
+) -> Result<usize, AllocError>
+    requires some { 0 < length items.now }
+    requires run { IsRun items.now run.now }
+    ensures count { IfOk result (λ n. (0 < n) × (n ≤ length items.now)) }
+    ensures ends { IfOk result
+        (λ n. HasExactly (Reaches (Lang (take n items.now)) file.now (IsIn frontier.now)) ends.new.items) }
+{
+    if run.is_empty() {
+        after_item(alloc, file, frontier, &items[0], ends)?;
+        return Ok(1);
+    }
+    after_run(file, frontier, run, ends)?;
+    Ok(run.len())
+}
 
 /// The ends of the item's words.
 pub(crate) fn after_item(
@@ -23,18 +48,21 @@ pub(crate) fn after_item(
     file: &[u8],
     frontier: &[Interval],
     item: &Item,
-) -> Result<Vec<Interval>, AllocError>
-    ensures { IfOk result
-        (λ ends. HasExactly (Reaches (Word item.now) file.now (IsIn frontier.now)) ends.items) }
+    ends: &mut Vec<Interval>,
+) -> Result<(), AllocError>
+    ensures { OnOk result (HasExactly (Reaches (Word item.now) file.now (IsIn frontier.now)) ends.new.items) }
 {
     match item {
-        Item::Byte(byte) => after_part(alloc, file, frontier, &Atom::Byte(*byte)),
-        Item::Any => after_gap(alloc, file, frontier, 1, Some(1)),
-        Item::Gap { min, max } => after_gap(alloc, file, frontier, *min, *max),
-        Item::Alt(alternatives) => after_alternatives(alloc, file, frontier, alternatives),
-        Item::Range(a, b) => after_part(alloc, file, frontier, &Atom::Range(*a, *b)),
-        Item::Not(a) => after_part(alloc, file, frontier, &Atom::Not(*a)),
-        Item::NotRange(a, b) => after_part(alloc, file, frontier, &Atom::NotRange(*a, *b)),
+        Item::Byte(byte) => after_part(file, frontier, &Atom::Byte(*byte), ends),
+        Item::Any => after_gap(file, frontier, 1, Some(1), ends),
+        Item::Gap { min, max } => after_gap(file, frontier, *min, *max, ends),
+        Item::Alt(alternatives) => {
+            *ends = after_alternatives(alloc, file, frontier, alternatives)?;
+            Ok(())
+        }
+        Item::Range(a, b) => after_part(file, frontier, &Atom::Range(*a, *b), ends),
+        Item::Not(a) => after_part(file, frontier, &Atom::Not(*a), ends),
+        Item::NotRange(a, b) => after_part(file, frontier, &Atom::NotRange(*a, *b), ends),
     }
 }
 
@@ -68,52 +96,43 @@ fn after_parts(
         (λ ends. HasExactly (Reaches (AlternativeWord parts.now) file.now (IsIn frontier.now))
         ends.items) }
 {
-    let mut ends = after_gap(alloc, file, frontier, 0, Some(0))?;
+    let mut ends = Vec::new(alloc);
+    let mut next = Vec::new(alloc);
+    after_gap(file, frontier, 0, Some(0), &mut ends)?;
     for part in parts {
-        ends = after_part(alloc, file, &ends, part)?;
+        after_part(file, &ends, part, &mut next)?;
+        swap(&mut ends, &mut next);
     }
     Ok(ends)
 }
 
 // The ends of the part's words.
 fn after_part(
-    alloc: Global,
     file: &[u8],
     frontier: &[Interval],
     part: &Atom,
-) -> Result<Vec<Interval>, AllocError>
-    ensures { IfOk result
-        (λ ends. HasExactly (Reaches (PartWord part.now) file.now (IsIn frontier.now)) ends.items) }
+    ends: &mut Vec<Interval>,
+) -> Result<(), AllocError>
+    ensures { OnOk result (HasExactly (Reaches (PartWord part.now) file.now (IsIn frontier.now)) ends.new.items) }
 {
-    let mut ends = Vec::new(alloc);
-    for interval in frontier {
-        match part {
-            Atom::Byte(byte) => add_after_byte(&mut ends, file, *interval, *byte)?,
-            _ => add_after_bracket(&mut ends, file, *interval, part)?,
-        }
+    match part {
+        Atom::Byte(byte) => after_run(file, frontier, &[*byte], ends),
+        _ => after_bracket(file, frontier, part, ends),
     }
-    Ok(ends)
 }
 
-// Adds the ends of the byte, where it begins in the interval.
-fn add_after_byte(
-    ends: &mut Vec<Interval>,
+// The ends of the bracket's words.
+fn after_bracket(
     file: &[u8],
-    interval: Interval,
-    byte: u8,
+    frontier: &[Interval],
+    part: &Atom,
+    ends: &mut Vec<Interval>,
 ) -> Result<(), AllocError>
-    ensures { OnOk result
-        (Gains (Reaches (PartWord (atom.Byte byte)) file.now (IsWithin interval))
-        ends.old.items ends.new.items) }
+    ensures { OnOk result (HasExactly (Reaches (PartWord part.now) file.now (IsIn frontier.now)) ends.new.items) }
 {
-    let end = file.len().min(interval.to.saturating_add(1));
-    let mut at = interval.from;
-    'found: while at < end {
-        let Some(n) = memchr(byte, &file[at..end]) else {
-            return Ok(());
-        };
-        at += n + 1;
-        add(ends, Interval { from: at, to: at })?;
+    ends.clear();
+    for interval in frontier {
+        add_after_bracket(ends, file, *interval, part)?;
     }
     Ok(())
 }
@@ -145,24 +164,23 @@ fn add_after_bracket(
 
 // The ends of the gap's words.
 fn after_gap(
-    alloc: Global,
     file: &[u8],
     frontier: &[Interval],
     min: u32,
     max: Option<u32>,
-) -> Result<Vec<Interval>, AllocError>
-    ensures { IfOk result
-        (λ ends. HasExactly (Reaches (Word (item.Gap min max)) file.now (IsIn frontier.now))
-        ends.items) }
+    ends: &mut Vec<Interval>,
+) -> Result<(), AllocError>
+    ensures { OnOk result
+        (HasExactly (Reaches (Word (item.Gap min max)) file.now (IsIn frontier.now)) ends.new.items) }
 {
-    let mut ends = Vec::new(alloc);
+    ends.clear();
     for interval in frontier {
-        add_after_gap(&mut ends, file, *interval, min, max)?;
+        add_after_gap(ends, file, *interval, min, max)?;
     }
-    Ok(ends)
+    Ok(())
 }
 
-// Adds the ends of the gap's words that begin in the interval: all from its begin and the least
+// Adds the ends of the gap's words that begin in the interval: all from its start and the least
 // length to its end and the greatest.
 fn add_after_gap(
     ends: &mut Vec<Interval>,

@@ -44,7 +44,11 @@ pub(crate) fn add(frontier: &mut Vec<Interval>, next: Interval) -> Result<(), Al
 }
 
 /// Merges two frontiers.
-pub(crate) fn union(alloc: Global, a: &[Interval], b: &[Interval]) -> Result<Vec<Interval>, AllocError>
+pub(crate) fn union(
+    alloc: Global,
+    a: &[Interval],
+    b: &[Interval],
+) -> Result<Vec<Interval>, AllocError>
     ensures { IfOk result
         (λ both. HasExactly (λ offset. IsIn a.now offset ⊎ IsIn b.now offset) both.items) }
 {

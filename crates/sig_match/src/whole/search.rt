@@ -10,11 +10,7 @@ use sig_table::{Sequence, SigId, Table};
 use std::alloc::{AllocError, Global};
 
 /// Of each signature whether it hits the file.
-pub(crate) fn which_hit(
-    alloc: Global,
-    table: &Table,
-    file: &[u8],
-) -> Result<Vec<bool>, AllocError>
+pub(crate) fn which_hit(alloc: Global, table: &Table, file: &[u8]) -> Result<Vec<bool>, AllocError>
     ensures len { IfOk result (λ marks. vec_len marks ≡ length table.now.signatures) }
     ensures marks { IfOk result (λ marks. MarksHits table.now file.now marks.items) }
 {

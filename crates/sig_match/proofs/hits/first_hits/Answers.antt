@@ -33,18 +33,18 @@ loop-index-preserved c =
                 (λ other h. HitsAt-format table file index format other read h) (inv.firsts file marked);
           }))
       | else-marks-index w ↦ rw w.firsts-is (record {
-          len = inv.len;
-          firsts = λ file marked.
-              FirstHits-keep table file index firsts (
-              elim w.else-marks-index.branch [
-                | else-marks-index-via-then-marks-index+else-is_none v ↦ (λ other none hit.
-                    not_none_by_test (get_or firsts format None) v.is_none.result v.is_none.ensures v.if-is_none.false
-                    (ap (λ k. get_or firsts k None) (sym (HitsAt-format table file index format other read hit)) ∙ none))
-                | else-marks-index-via-else-marks-index v ↦ (λ other none hit.
-                    false≢true (sym v.if-marks-index.false ∙ marked.complete index (HitsOf-from_HitsAt table file other index hit)))
-              ]
-              ) (inv.firsts file marked);
-        })
+        len = inv.len;
+        firsts = λ file marked.
+            FirstHits-keep table file index firsts (
+            elim w.else-marks-index.branch [
+              | else-marks-index-via-then-marks-index+else-is_none v ↦ (λ other none hit.
+                  not_none_by_test (get_or firsts format None) v.is_none.result v.is_none.ensures v.if-is_none.false
+                  (ap (λ k. get_or firsts k None) (sym (HitsAt-format table file index format other read hit)) ∙ none))
+              | else-marks-index-via-else-marks-index v ↦ (λ other none hit.
+                  false≢true (sym v.if-marks-index.false ∙ marked.complete index (HitsOf-from_HitsAt table file other index hit)))
+            ]
+            ) (inv.firsts file marked);
+      })
     ]
 
 pub returns : goal.returns

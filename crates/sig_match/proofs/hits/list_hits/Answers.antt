@@ -30,10 +30,10 @@ loop-format-preserved c =
             room = omega arith;
           }))
       | in_default w ↦ rw w.hits-is (record {
-          listed = λ file marked. Listed-keep table file (length table.signatures) n hits (get_or firsts n None) w.in_default.is (c.first_hits-firsts.ensures file marked n) (inv.listed file marked);
-          few = omega arith;
-          room = inv.room;
-        })
+        listed = λ file marked. Listed-keep table file (length table.signatures) n hits (get_or firsts n None) w.in_default.is (c.first_hits-firsts.ensures file marked n) (inv.listed file marked);
+        few = omega arith;
+        room = inv.room;
+      })
     ]
 
 pub returns : goal.returns

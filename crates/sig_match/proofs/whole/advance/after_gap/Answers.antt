@@ -13,4 +13,4 @@ loop-interval-preserved c =
 
 pub returns : goal.returns
 returns c =
-    HasExactly-all (Word (item.Gap c.args.min c.args.max)) c.args.file.now c.args.frontier.now c.loop-interval.interval-index _ c.loop-interval.ends.items (omega arith) c.new-ends.ensures.items c.loop-interval.invariant
+    HasExactly-all (Word (item.Gap c.args.min c.args.max)) c.args.file.now c.args.frontier.now c.loop-interval.interval-index _ c.loop-interval.ends.items (omega arith) c.clear.ensures.items c.loop-interval.invariant

@@ -1,9 +1,13 @@
-use Rattle.std.proofs.Common.{drop}
-use Rattle.sig_expr.specs.Words.{Lang}
-use Rattle.sig_match.specs.Frontiers.{MayBegin}
-use Rattle.sig_match.proofs.ReachLemmas.{Carries}
+use Rattle.std.proofs.Common.{◌≤◌, ◌-◌, drop, length}
+use Rattle.sig_match.proofs.StandLemmas.{StillToCome}
 use Rattle.sig_match.proofs.whole.anchored.stands.Given as goal
 
--- the rest of the items, from this frontier on
-abbrev pub invariant-loop-item : goal.invariant-loop-item
-invariant-loop-item l = Carries (Lang l.item-items) (Lang (drop l.item-index l.item-items)) l.file (MayBegin l.position) l.frontier.items
+-- the rest of the items is still to come, from this frontier on
+abbrev pub invariant-items : goal.invariant-items
+invariant-items l = record {
+  within : l.done ≤ length l.items;
+  still : StillToCome l.position l.items (drop l.done l.items) l.file l.frontier.items;
+}
+
+abbrev pub decreases-items : goal.decreases-items
+decreases-items l = length l.items - l.done

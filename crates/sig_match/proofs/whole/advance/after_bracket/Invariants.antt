@@ -1,7 +1,7 @@
 use Rattle.std.proofs.Common.{take}
 use Rattle.sig_expr.specs.Words.{PartWord}
 use Rattle.sig_match.specs.Frontiers.{IsIn, Gains, Reaches}
-use Rattle.sig_match.proofs.whole.advance.after_part.Given as goal
+use Rattle.sig_match.proofs.whole.advance.after_bracket.Given as goal
 
 -- the ends of the words that begin in the intervals so far
 abbrev pub invariant-loop-interval : goal.invariant-loop-interval
