@@ -33,7 +33,7 @@ Reaches-fixed_end W m fixed file S e r =
 abbrev pub IsPassed : Interval → ℕ → ℕ → Type 0
 IsPassed x at a = IsWithin x a × (a < at)
 
--- the interval's starts that are passed are nowhere at its begin
+-- the interval's starts below its first offset are none
 pub Gains-start : (W : List ℕ → Type 0) (m : ℕ) (fixed : Fixed W m) (file : List ℕ) (x : Interval) (old : List Interval) → Gains (Reaches W file (IsPassed x x.from)) old old
 Gains-start W m fixed file x old = record {
   sound = λ o h. inl h;

@@ -1,9 +1,11 @@
 //! The matcher that keeps the file in memory.
 //!
-//! Each sequence is searched by itself, from a frontier of offsets to the next (`frontier`). An
-//! item, or a part of an alternative, costs at most the file's length, whatever the table and the
-//! file. A frontier has at most about half as many intervals as the file has bytes, of sixteen bytes
-//! each, and two or three frontiers stand at a time.
+//! Each sequence is searched by itself, from a frontier of offsets to the next (`frontier`). A run
+//! of fixed bytes is looked for whole, and any other item, or part of an alternative, costs at most
+//! the file's length, whatever the table and the file. An EOF sequence whose words are bounded is
+//! looked for near the end of the file alone. A frontier has at most about half as many intervals as
+//! the file has bytes, of sixteen bytes each; two stand at a time, and three more within a list of
+//! alternatives.
 
 ghost use Rattle.std.specs.Prelude.{◌≡◌, ◌<◌, ◌↔◌, IfOk, IfErr, IsTrue, length};
 ghost use Rattle.sig_match.specs.Hits.{HitFormats, HitsOf, Left};
@@ -18,13 +20,15 @@ use sig_table::{Puid, SigId, Table};
 use std::alloc::{AllocError, Global};
 use std::marker::Model;
 
-pub(crate) mod advance;
+mod advance;
 mod anchored;
-pub(crate) mod frontier;
+mod frontier;
 mod longest;
 mod part;
 mod run;
 mod search;
+#[cfg(test)]
+mod tests;
 
 use search::{is_hit, which_hit};
 

@@ -1,6 +1,6 @@
 //! Frontiers: the offsets of a file at which the words so far may end, as ordered intervals.
 //!
-//! `41{1-2}42` over the bytes 41 42 42 from the begin: the frontier is 0, then 1 behind `41`, then
+//! `41{1-2}42` over the bytes 41 42 42 from their start: the frontier is 0, then 1 behind `41`, then
 //! 2 to 3 behind the gap, then 3 behind `42`. All places that a gap allows stay in the frontier, so
 //! the search never goes back.
 
@@ -18,7 +18,7 @@ pub(crate) struct Interval {
 
 /// Adds an interval. Where it overlaps or touches the last one, the two become one.
 ///
-/// The intervals stay disjoint only where the caller adds them in order of their begins. The offsets
+/// The intervals stay disjoint only where the caller adds them in order of their starts. The offsets
 /// are right in either case.
 pub(crate) fn add(frontier: &mut Vec<Interval>, next: Interval) -> Result<(), AllocError>
     ensures { OnOk result (Gains (IsWithin next) frontier.old.items frontier.new.items) }
