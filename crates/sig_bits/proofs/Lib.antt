@@ -1,3 +1,5 @@
 -- Lemmas of this crate.
 pub mod BitLemmas
 pub mod DeviceLemmas
+pub mod JoinLemmas
+pub mod RangeLemmas

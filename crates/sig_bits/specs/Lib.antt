@@ -3,3 +3,4 @@ pub mod BitSets
 pub mod ByteClasses
 pub mod Bytes
 pub mod Device
+pub mod Joined

@@ -3,8 +3,11 @@
 //!
 //! The set of 0 and 9 over two bytes is `01 02`.
 
-ghost use Rattle.std.specs.Prelude.{◌≡◌, ℕ, ◌*◌, ◌<◌, ◌⊎◌, ◌↔◌, IsTrue, length, replicate};
-ghost use Rattle.sig_bits.specs.BitSets.{HasBit};
+ghost use Rattle.std.specs.Prelude.{◌≡◌, ℕ, ◌*◌, ◌<◌, ◌≤◌, ◌⊎◌, ◌↔◌, IsTrue, length, replicate};
+ghost use Rattle.sig_bits.specs.BitSets.{HasBit, common_at, missing_at};
+ghost use Rattle.sig_bits.specs.Joined.{IsJoined};
+
+use crate::pieces::end_of_piece;
 
 /// Adds the bits of `src` to those of `dst`.
 pub fn or_into(dst: &mut [u8], src: &[u8])
@@ -21,10 +24,13 @@ pub fn and_any(a: &[u8], b: &[u8]) -> bool
     requires { length a.now ≡ length b.now }
     ensures { IsTrue result ↔ ((i : ℕ) × (HasBit a.now i × HasBit b.now i)) }
 {
-    for (i, byte) in a.iter().enumerate() {
-        if *byte & b[i] != 0 {
+    let mut from = 0;
+    while from < a.len() {
+        let to = end_of_piece(from, a.len());
+        if joined_common(a, b, from, to) != 0 {
             return true;
         }
+        from = to;
     }
     false
 }
@@ -34,12 +40,43 @@ pub fn subset(a: &[u8], b: &[u8]) -> bool
     requires { length a.now ≡ length b.now }
     ensures { IsTrue result ↔ ((i : ℕ) → HasBit a.now i → HasBit b.now i) }
 {
-    for (i, byte) in a.iter().enumerate() {
-        if *byte & !b[i] != 0 {
+    let mut from = 0;
+    while from < a.len() {
+        let to = end_of_piece(from, a.len());
+        if joined_missing(a, b, from, to) != 0 {
             return false;
         }
+        from = to;
     }
     true
+}
+
+// What is in both, the bytes of a piece joined into one.
+fn joined_common(a: &[u8], b: &[u8], from: usize, to: usize) -> u8
+    requires order { from ≤ to }
+    requires first { to ≤ length a.now }
+    requires second { to ≤ length b.now }
+    ensures { IsJoined (common_at a.now b.now) from to result }
+{
+    let mut joined = 0;
+    for k in from..to {
+        joined |= a[k] & b[k];
+    }
+    joined
+}
+
+// What is in `a` alone, the bytes of a piece joined into one.
+fn joined_missing(a: &[u8], b: &[u8], from: usize, to: usize) -> u8
+    requires order { from ≤ to }
+    requires first { to ≤ length a.now }
+    requires second { to ≤ length b.now }
+    ensures { IsJoined (missing_at a.now b.now) from to result }
+{
+    let mut joined = 0;
+    for k in from..to {
+        joined |= a[k] & !b[k];
+    }
+    joined
 }
 
 /// Sets one bit.
