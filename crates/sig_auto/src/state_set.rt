@@ -6,14 +6,14 @@
 
 ghost use Rattle.std.specs.Prelude.{◌≡◌, ◌+◌, ◌*◌, ◌<◌, ◌≤◌, ◌↔◌, ◌⊎◌, ℕ, IsTrue, length};
 ghost use Rattle.sig_auto.specs.Seen.{seen};
-ghost use Rattle.sig_auto.specs.Stepping.{IsNextInGap, IsStepped, Leads};
+ghost use Rattle.sig_auto.specs.Stepping.{IsNextInGap, IsStepped, Leads, LeadsInGap};
 ghost use Rattle.sig_auto.specs.Tracks.{Accepting, Follows};
 ghost use Rattle.sig_auto.specs.TreeSlots.{Takes, set_len, slots_of};
 ghost use Rattle.sig_auto.specs.Trim.{IsTrim};
 ghost use Rattle.sig_bits.specs.BitSets.{HasBit};
 
 use crate::node::Node;
-use sig_bits::{clear, get_bit, set_bit};
+use sig_bits::{any_between, clear, get_bit, set_bit, shift_into};
 
 impl Node {
     // Makes `to` the set of all states that follow a state of `from` and take the byte.
@@ -63,9 +63,9 @@ impl Node {
                 }
                 get_bit(from, before + 1)
             }
-            Node::Gap { max, .. } => {
+            Node::Gap { min, max } => {
                 step_gap(before, self.slots(), *max, enter, from, to);
-                self.leads(before, enter, from)
+                gap_leads(before, self.slots(), *min, enter, from)
             }
             Node::Then(a, b) => {
                 let led = a.step(before, enter, byte, from, to);
@@ -89,7 +89,7 @@ impl Node {
             Node::Never => false,
             Node::Empty => enter,
             Node::Slot(_) => get_bit(from, before + 1),
-            Node::Gap { .. } => self.leads(before, enter, from),
+            Node::Gap { min, .. } => gap_leads(before, self.slots(), *min, enter, from),
             Node::Then(a, b) => {
                 let led = a.goes_on(before, enter, from);
                 b.goes_on(before + a.slots(), led, from)
@@ -99,59 +99,41 @@ impl Node {
             }
         }
     }
-
-    // Whether what stands behind the tree is entered, slot by slot.
-    fn leads(&self, before: usize, enter: bool, from: &[u8]) -> bool
-        requires slots { before + slots_of (seen self.now) ≤ 65535 }
-        requires from_len { before + slots_of (seen self.now) < 8 * length from.now }
-        ensures { IsTrue result ↔ Leads (seen self.now) before enter from.now }
-    {
-        if enter && self.skips() {
-            return true;
-        }
-        for p in before + 1..before + self.slots() + 1 {
-            if self.ends(before, p) && get_bit(from, p) {
-                return true;
-            }
-        }
-        false
-    }
 }
 
-// Adds the slots of a gap in the same way. They take any byte.
+// Adds the slots of a gap in the same way: the first where the gap is entered, each other behind the
+// one before, and the last behind itself where the gap has no greatest length. They take any byte.
 fn step_gap(before: usize, slots: usize, max: Option<u32>, enter: bool, from: &[u8], to: &mut [u8])
     requires slots { before + slots ≤ 65535 }
     requires from_len { before + slots < 8 * length from.now }
     requires to_len { before + slots < 8 * length to.old }
     ensures { (q : ℕ) → HasBit to.new q ↔ (HasBit to.old q ⊎ IsNextInGap before slots max enter from.now q) }
 {
-    for q in before + 1..before + slots + 1 {
-        if next_in_gap(before, slots, max, enter, from, q) {
-            set_bit(to, q);
-        }
+    if slots == 0 {
+        return;
+    }
+    let last = before + slots;
+    shift_into(to, from, before + 1, last);
+    add_if(to, before + 1, enter);
+    add_if(to, last, max.is_none() && get_bit(from, last));
+}
+
+// Adds a slot, or nothing.
+fn add_if(to: &mut [u8], q: usize, wanted: bool)
+    requires { q < 8 * length to.old }
+    ensures { (j : ℕ) → HasBit to.new j ↔ (HasBit to.old j ⊎ ((j ≡ q) × IsTrue wanted)) }
+{
+    if wanted {
+        set_bit(to, q);
     }
 }
 
-// Whether one of its slots comes next: the first where the gap is entered, each other behind the
-// one before, and the last behind itself where the gap has no greatest length.
-fn next_in_gap(
-    before: usize,
-    slots: usize,
-    max: Option<u32>,
-    enter: bool,
-    from: &[u8],
-    q: usize,
-) -> bool
+// Whether what stands behind a gap is entered: no byte is needed, or one of its slots may be its last.
+fn gap_leads(before: usize, slots: usize, min: u32, enter: bool, from: &[u8]) -> bool
     requires slots { before + slots ≤ 65535 }
-    requires above { before < q }
-    requires within { q ≤ before + slots }
     requires from_len { before + slots < 8 * length from.now }
-    ensures { IsTrue result ↔ IsNextInGap before slots max enter from.now q }
+    ensures { IsTrue result ↔ LeadsInGap before slots min enter from.now }
 {
-    let led = if q == before + 1 {
-        enter
-    } else {
-        get_bit(from, q - 1)
-    };
-    led || (q == before + slots && max.is_none() && get_bit(from, q))
+    let least = (min as usize).max(1);
+    (enter && min == 0) || any_between(from, before + least, before + slots + 1)
 }
