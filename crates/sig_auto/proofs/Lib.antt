@@ -7,6 +7,7 @@ pub mod RowLemmas
 pub mod RowPushLemmas
 pub mod RunLaws
 pub mod RunLemmas
+pub mod SameLemmas
 pub mod SideLemmas
 pub mod SoundLemmas
 pub mod SpelledLemmas

@@ -5,6 +5,7 @@ pub mod Remaining
 pub mod Rows
 pub mod Runs
 pub mod Seen
+pub mod Same
 pub mod Sides
 pub mod Spelled
 pub mod Stepping

@@ -1,13 +1,16 @@
 //! From a sequence to its tree: the whole-file expression, with each bracket of several bytes
 //! unfolded into rows of classes.
 //!
+//! Branches are grouped by halves, so that no walk over the tree is deep.
+//!
 //! `[4142:4241]` has the rows `41 42`, `41 43-FF`, `42 00-40` and `42 41`.
 
 ghost use Rattle.std.specs.Prelude.{◌≡◌, ◌<◌, ◌++◌, IfOk, None, Some, length, map, slice_index};
 ghost use Rattle.sig_auto.specs.declared.class.Class.{Class};
 ghost use Rattle.sig_auto.specs.Rows.{above, below, between};
+ghost use Rattle.sig_auto.specs.Same.{IsSame, ors, thens};
 ghost use Rattle.sig_auto.specs.Seen.{seen};
-ghost use Rattle.sig_auto.specs.Trees.{alternatives_tree, atom_tree, atoms_tree, back_tree, bracket_tree, front_tree, item_tree, items_tree, row_tree, rows_tree, whole_tree, Gap, Then, Or};
+ghost use Rattle.sig_auto.specs.Trees.{atom_tree, atoms_tree, back_tree, bracket_tree, front_tree, item_tree, row_tree, rows_tree, whole_tree, Gap, Then, Or};
 
 use super::Class;
 use crate::node::Node;
@@ -22,10 +25,11 @@ pub(crate) fn whole_node(
     position: Position,
     items: &[Item],
 ) -> Result<Node, AllocError>
-    ensures { IfOk result (λ node. seen node ≡ whole_tree (record { position = position; items = items.now })) }
+    ensures { IfOk result (λ node. IsSame (seen node) (whole_tree (record { position = position; items = items.now }))) }
 {
-    let items = items_node(alloc, items, back(position))?;
-    then(alloc, front(position), items)
+    let items = items_node(alloc, items)?;
+    let later = then(alloc, items, back(position))?;
+    then(alloc, front(position), later)
 }
 
 // What may stand before the expression.
@@ -65,19 +69,23 @@ fn anything() -> Node
     Node::Gap { min: 0, max: None }
 }
 
-// The items, and then this.
-fn items_node(alloc: Global, items: &[Item], last: Node) -> Result<Node, AllocError>
-    ensures { IfOk result (λ node. seen node ≡ items_tree items.now (seen last)) }
+// The items, one after the other, by halves.
+fn items_node(alloc: Global, items: &[Item]) -> Result<Node, AllocError>
+    ensures { IfOk result (λ node. IsSame (seen node) (thens item_tree items.now)) }
 {
-    let Some((first, later)) = items.split_first() else {
-        return Ok(last);
+    let Some((item, later)) = items.split_first() else {
+        return Ok(Node::Empty);
     };
-    let later = items_node(alloc, later, last)?;
-    then(alloc, item_node(alloc, first)?, later)
+    if later.is_empty() {
+        return item_node(alloc, item);
+    }
+    let half = items.len() / 2;
+    let first = items_node(alloc, &items[..half])?;
+    then(alloc, first, items_node(alloc, &items[half..])?)
 }
 
 fn item_node(alloc: Global, item: &Item) -> Result<Node, AllocError>
-    ensures { IfOk result (λ node. seen node ≡ item_tree item.now) }
+    ensures { IfOk result (λ node. IsSame (seen node) (item_tree item.now)) }
 {
     match item {
         Item::Byte(b) => Ok(Node::Slot(Class::Within(*b, *b))),
@@ -93,30 +101,42 @@ fn item_node(alloc: Global, item: &Item) -> Result<Node, AllocError>
     }
 }
 
-// One of the alternatives.
+// One of the alternatives, by halves.
 fn alternatives_node(alloc: Global, alternatives: &[Vec<Atom>]) -> Result<Node, AllocError>
-    ensures { IfOk result (λ node. seen node ≡ alternatives_tree (map (λ v. v.items) alternatives.now)) }
+    ensures { IfOk result (λ node. IsSame (seen node) (ors (λ v. atoms_tree v.items) alternatives.now)) }
 {
-    let Some((first, later)) = alternatives.split_first() else {
+    let Some((alternative, later)) = alternatives.split_first() else {
         return Ok(Node::Never);
     };
-    let first = atoms_node(alloc, first.as_slice())?;
-    or(alloc, first, alternatives_node(alloc, later)?)
+    if later.is_empty() {
+        return atoms_node(alloc, alternative.as_slice());
+    }
+    let half = alternatives.len() / 2;
+    let first = alternatives_node(alloc, &alternatives[..half])?;
+    or(
+        alloc,
+        first,
+        alternatives_node(alloc, &alternatives[half..])?,
+    )
 }
 
-// The parts, one after the other.
+// The parts, one after the other, by halves.
 fn atoms_node(alloc: Global, atoms: &[Atom]) -> Result<Node, AllocError>
-    ensures { IfOk result (λ node. seen node ≡ atoms_tree atoms.now) }
+    ensures { IfOk result (λ node. IsSame (seen node) (atoms_tree atoms.now)) }
 {
-    let Some((first, later)) = atoms.split_first() else {
+    let Some((atom, later)) = atoms.split_first() else {
         return Ok(Node::Empty);
     };
-    let first = atom_node(alloc, first)?;
-    then(alloc, first, atoms_node(alloc, later)?)
+    if later.is_empty() {
+        return atom_node(alloc, atom);
+    }
+    let half = atoms.len() / 2;
+    let first = atoms_node(alloc, &atoms[..half])?;
+    then(alloc, first, atoms_node(alloc, &atoms[half..])?)
 }
 
 fn atom_node(alloc: Global, atom: &Atom) -> Result<Node, AllocError>
-    ensures { IfOk result (λ node. seen node ≡ atom_tree atom.now) }
+    ensures { IfOk result (λ node. IsSame (seen node) (atom_tree atom.now)) }
 {
     match atom {
         Atom::Byte(b) => Ok(Node::Slot(Class::Within(*b, *b))),
@@ -136,7 +156,7 @@ fn atom_node(alloc: Global, atom: &Atom) -> Result<Node, AllocError>
 fn outside_node(alloc: Global, a: &[u8], b: &[u8]) -> Result<Node, AllocError>
     requires a { 0 < length a.now }
     requires b { 0 < length b.now }
-    ensures { IfOk result (λ node. seen node ≡ bracket_tree a.now (Class.Outside (slice_index a.now 0) (slice_index b.now 0)) (below a.now ++ above b.now)) }
+    ensures { IfOk result (λ node. IsSame (seen node) (bracket_tree a.now (Class.Outside (slice_index a.now 0) (slice_index b.now 0)) (below a.now ++ above b.now))) }
 {
     if a.len() == 1 {
         return Ok(Node::Slot(Class::Outside(a[0], b[0])));
@@ -144,18 +164,22 @@ fn outside_node(alloc: Global, a: &[u8], b: &[u8]) -> Result<Node, AllocError>
     rows_node(alloc, outside_rows(alloc, a, b)?.as_slice())
 }
 
-// One of the rows.
+// One of the rows, by halves.
 fn rows_node(alloc: Global, rows: &[Row]) -> Result<Node, AllocError>
-    ensures { IfOk result (λ node. seen node ≡ rows_tree (map (λ v. v.items) rows.now)) }
+    ensures { IfOk result (λ node. IsSame (seen node) (rows_tree (map (λ v. v.items) rows.now))) }
 {
-    let Some((first, later)) = rows.split_first() else {
+    let Some((row, later)) = rows.split_first() else {
         return Ok(Node::Never);
     };
-    let first = row_node(alloc, first.as_slice())?;
-    or(alloc, first, rows_node(alloc, later)?)
+    if later.is_empty() {
+        return row_node(alloc, row.as_slice());
+    }
+    let half = rows.len() / 2;
+    let first = rows_node(alloc, &rows[..half])?;
+    or(alloc, first, rows_node(alloc, &rows[half..])?)
 }
 
-// The slots of a row, one after the other.
+// The slots of a row, one after the other. There are eight at most.
 fn row_node(alloc: Global, row: &[Class]) -> Result<Node, AllocError>
     ensures { IfOk result (λ node. seen node ≡ row_tree row.now) }
 {
