@@ -3,6 +3,7 @@ pub mod ByteLemmas
 pub mod ClassLemmas
 pub mod EndLemmas
 pub mod LocalLemmas
+pub mod PruneLemmas
 pub mod RowLemmas
 pub mod RowPushLemmas
 pub mod RunLaws

@@ -1,5 +1,6 @@
 -- The definitions of this crate, and those of the crates below that its clauses cite.
 pub mod Classes
+pub mod Counted
 pub mod Local
 pub mod Remaining
 pub mod Rows

@@ -5,6 +5,7 @@
 //! many states the set has.
 
 ghost use Rattle.std.specs.Prelude.{◌≡◌, ◌+◌, ◌*◌, ◌<◌, ◌≤◌, ◌↔◌, ◌⊎◌, ℕ, IsTrue, length};
+ghost use Rattle.sig_auto.specs.Counted.{IsCounted};
 ghost use Rattle.sig_auto.specs.Seen.{seen};
 ghost use Rattle.sig_auto.specs.Stepping.{IsNextInGap, IsStepped, Leads, LeadsInGap};
 ghost use Rattle.sig_auto.specs.Tracks.{Accepting, Follows};
@@ -18,6 +19,7 @@ use sig_bits::{any_between, clear, get_bit, set_bit, shift_into};
 impl Node {
     // Makes `to` the set of all states that follow a state of `from` and take the byte.
     pub(crate) fn step_set(&self, from: &[u8], byte: u8, to: &mut [u8])
+        requires counted { IsCounted self.now }
         requires trim { IsTrim (seen self.now) }
         requires few { slots_of (seen self.now) ≤ 65535 }
         requires from_len { length from.now ≡ set_len (seen self.now) }
@@ -30,6 +32,7 @@ impl Node {
 
     // Whether some state of the set is accepting.
     pub(crate) fn any_accepting(&self, set: &[u8]) -> bool
+        requires counted { IsCounted self.now }
         requires trim { IsTrim (seen self.now) }
         requires few { slots_of (seen self.now) ≤ 65535 }
         requires set_len { length set.now ≡ set_len (seen self.now) }
@@ -48,6 +51,7 @@ impl Node {
         from: &[u8],
         to: &mut [u8],
     ) -> bool
+        requires counted { IsCounted self.now }
         requires slots { before + slots_of (seen self.now) ≤ 65535 }
         requires from_len { before + slots_of (seen self.now) < 8 * length from.now }
         requires to_len { before + slots_of (seen self.now) < 8 * length to.old }
@@ -67,11 +71,11 @@ impl Node {
                 step_gap(before, self.slots(), *max, enter, from, to);
                 gap_leads(before, self.slots(), *min, enter, from)
             }
-            Node::Then(a, b) => {
+            Node::Then(a, b, _) => {
                 let led = a.step(before, enter, byte, from, to);
                 b.step(before + a.slots(), led, byte, from, to)
             }
-            Node::Or(a, b) => {
+            Node::Or(a, b, _) => {
                 let first = a.step(before, enter, byte, from, to);
                 let second = b.step(before + a.slots(), enter, byte, from, to);
                 first || second
@@ -81,6 +85,7 @@ impl Node {
 
     // Whether what stands behind the tree is entered.
     pub(crate) fn goes_on(&self, before: usize, enter: bool, from: &[u8]) -> bool
+        requires counted { IsCounted self.now }
         requires slots { before + slots_of (seen self.now) ≤ 65535 }
         requires from_len { before + slots_of (seen self.now) < 8 * length from.now }
         ensures { IsTrue result ↔ Leads (seen self.now) before enter from.now }
@@ -90,11 +95,11 @@ impl Node {
             Node::Empty => enter,
             Node::Slot(_) => get_bit(from, before + 1),
             Node::Gap { min, .. } => gap_leads(before, self.slots(), *min, enter, from),
-            Node::Then(a, b) => {
+            Node::Then(a, b, _) => {
                 let led = a.goes_on(before, enter, from);
                 b.goes_on(before + a.slots(), led, from)
             }
-            Node::Or(a, b) => {
+            Node::Or(a, b, _) => {
                 a.goes_on(before, enter, from) || b.goes_on(before + a.slots(), enter, from)
             }
         }

@@ -6,8 +6,8 @@ use Rattle.sig_auto.specs.Seen.{seen}
 use Rattle.sig_auto.specs.Trees.{alternatives_tree, item_tree}
 use Rattle.sig_auto.proofs.unroll.item_node.Goals as goal
 
-pub returns-in-Alt : goal.returns-in-Alt
-returns-in-Alt c =
+pub returns-in-Alt-clause-tree : goal.returns-in-Alt-clause-tree
+returns-in-Alt-clause-tree c =
     IfOk-weaker c.alternatives_node.result _ _
     (λ node same. subst (λ tree. IsSame (seen node) tree) (ors_of_alternatives (λ v. v.items) c.as_slice.result.now ∙ ap alternatives_tree c.as_slice.ensures ∙ sym (ap item_tree c.in-Alt.is)) same)
-    c.alternatives_node.ensures
+    c.alternatives_node.ensures.tree

@@ -5,11 +5,11 @@ use Rattle.sig_auto.specs.Seen.{seen}
 use Rattle.sig_auto.specs.Trees.{whole_tree}
 use Rattle.sig_auto.proofs.auto.Auto.follows.Goals as goal
 
-pub begins-requires : goal.begins-requires
-begins-requires c = spelled_within c.self.inside.root _ c.self.invariant
+pub begins-requires-clause-few : goal.begins-requires-clause-few
+begins-requires-clause-few c = spelled_within c.self.inside.root _ c.self.invariant
 
-pub goes-requires : goal.goes-requires
-goes-requires c = spelled_within c.self.inside.root _ c.self.invariant
+pub goes-requires-clause-few : goal.goes-requires-clause-few
+goes-requires-clause-few c = spelled_within c.self.inside.root _ c.self.invariant
 
 pub returns-then-p-eq0 : goal.returns-then-p-eq0
 returns-then-p-eq0 c =
