@@ -1,11 +1,17 @@
 -- Lemmas of this crate.
 pub mod ByteLemmas
 pub mod ClassLemmas
+pub mod EndLemmas
 pub mod LocalLemmas
+pub mod PruneLemmas
 pub mod RowLemmas
 pub mod RowPushLemmas
+pub mod RunLaws
 pub mod RunLemmas
+pub mod SameLemmas
+pub mod SideLemmas
 pub mod SoundLemmas
+pub mod SpelledLemmas
 pub mod StepLemmas
 pub mod SuccessorLemmas
 pub mod TakenLemmas
