@@ -1,4 +1,4 @@
 -- Lemmas of this crate.
-pub mod AskLemmas
+pub mod RequestLemmas
 pub mod RowLemmas
 pub mod FaultLemmas

@@ -1,5 +1,5 @@
 -- The definitions of this crate, and those of the crates below that its clauses cite.
-pub mod Asking
+pub mod Requests
 pub mod CommandLine
 pub mod Faults
 pub mod Lines
