@@ -2,7 +2,7 @@
 use Rattle.std.proofs.Common.{◌≡◌, ◌⊎◌, ℕ, ◌+◌, ◌≤◌, ◌<◌, List, [], ◌∷◌, ◌++◌, length, get_or, take, drop, ap, ◌∙◌, subst, sym, inl, inr, arith}
 use Rattle.std.proofs.lemmas.Bool.{cases_lt}
 use Rattle.std.proofs.lemmas.List.{take_more, take_all, take-append-drop}
-use Rattle.sig_match.specs.declared.frontier.Interval.{Interval}
+use Rattle.sig_match.specs.declared.whole.frontier.Interval.{Interval}
 use Rattle.sig_match.specs.Frontiers.{IsWithin, IsIn, HasExactly, Gains, Meets}
 
 -- an offset of a longer frontier is in its front or in its back

@@ -8,7 +8,7 @@ use Rattle.sig_expr.specs.Words.{Lang}
 use Rattle.sig_table.specs.declared.position.Position.{Position}
 use Rattle.sig_table.specs.declared.position.Position.TheVariants as position
 use Rattle.sig_table.specs.Standing.{Cut, StandsAt}
-use Rattle.sig_match.specs.declared.frontier.Interval.{Interval}
+use Rattle.sig_match.specs.declared.whole.frontier.Interval.{Interval}
 use Rattle.sig_match.specs.Frontiers.{IsIn, MayBegin, MayEnd, Meets, Reaches}
 use Rattle.sig_match.proofs.ReachLemmas.{Carries, Reaches-nil, Reaches-nil_at}
 

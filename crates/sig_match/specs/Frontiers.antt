@@ -2,7 +2,7 @@
 use Rattle.std.specs.Prelude.{◌⊎◌, ℕ, ◌+◌, ◌≤◌, List, [], ◌∷◌, length, slice_range, ⊤}
 use Rattle.sig_table.specs.declared.position.Position.{Position}
 use Rattle.sig_table.specs.declared.position.Position.TheVariants as position
-use Rattle.sig_match.specs.declared.frontier.Interval.{Interval}
+use Rattle.sig_match.specs.declared.whole.frontier.Interval.{Interval}
 
 -- the offset is in the interval
 abbrev pub IsWithin : Interval → ℕ → Type 0

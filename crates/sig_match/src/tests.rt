@@ -1,5 +1,5 @@
-use super::frontier::{Interval, union};
-use super::reach::after_item;
+use crate::whole::frontier::{Interval, union};
+use crate::whole::advance::after_item;
 use sig_expr::{Alternatives, Atom, Item, Short};
 use std::alloc::{AllocError, Global};
 use std::test::Fail;

@@ -12,6 +12,7 @@ pub mod PairsAgainLemmas
 pub mod PlainLemmas
 pub mod PriorityLemmas
 pub mod PriorityRowLemmas
+pub mod PublicLemmas
 pub mod PuidLemmas
 pub mod RankingLemmas
 pub mod RecordLemmas

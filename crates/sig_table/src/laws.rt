@@ -1,6 +1,6 @@
 //! Laws of tables and their texts.
 
-ghost use Rattle.std.specs.Prelude.{◌≡◌, ℕ, List, [], Err, Ok};
+ghost use Rattle.std.specs.Prelude.{◌≡◌, ℕ, ◌<◌, List, [], Contains, length, Err, Ok};
 ghost use Rattle.sig_table.specs.declared.error.TableError.{TableError};
 ghost use Rattle.sig_table.specs.declared.puid.Puid.{Puid};
 ghost use Rattle.sig_table.specs.Canonical.{priority_csv, signature_csv};
@@ -8,6 +8,7 @@ ghost use Rattle.sig_table.specs.Gathered.{IsFaultOf, IsTableOf};
 ghost use Rattle.sig_table.specs.Views.{TableView};
 ghost use Rattle.sig_table.specs.Loading.{pairs_of, records_of, signatures_of, table_of};
 ghost use Rattle.sig_table.specs.PriorityRows.{ArePairsOf, IsPriorityFaultOf};
+ghost use Rattle.sig_table.specs.Ranking.{NoCycle, Outranks};
 ghost use Rattle.sig_table.specs.Tables.{HasAllSignatures, IsTable};
 
 /// The table of a signature file is that of its rows: the different PUIDs and numbers in order of
@@ -43,4 +44,10 @@ pub fn written_is_loaded()
 
     // Both files give the table.
     ensures table { (t : TableView) → IsTable t → HasAllSignatures t → table_of (records_of (signature_csv t)) (records_of (priority_csv t)) ≡ Ok t }
+{}
+
+/// Where pairs make no cycle, every nonempty list of formats has a member that no member outranks.
+pub fn some_is_not_outranked()
+    ensures { (pairs : List (ℕ × ℕ)) (formats : List ℕ) → NoCycle pairs → 0 < length formats
+        → (f : ℕ) × Contains formats f × ((g : ℕ) → Contains formats g → ¬ Outranks pairs g f) }
 {}
