@@ -2,11 +2,11 @@
 use Rattle.std.specs.Prelude.{◌≡◌, ℕ, ◌⊎◌, List, Option, ⊤}
 use Rattle.clap.specs.Words.{Text, subcommand_of}
 use Rattle.sig_bits.specs.Device.{Adds}
-use Rattle.sig_match.specs.declared.results.Hit.{Hit}
+use Rattle.sig_table.specs.Tables.{IsTable}
 use Rattle.sig_table.specs.Views.{TableView}
 use Rattle.pronom_sig.specs.CommandLine.{Asks, program}
 use Rattle.pronom_sig.specs.Faults.{Reports}
-use Rattle.pronom_sig.specs.Lines.{lines_of}
+use Rattle.pronom_sig.specs.Lines.{AddsLines}
 use Rattle.pronom_sig.specs.Shown.{show_text}
 use Rattle.pronom_sig.specs.declared.error.RunError.TheVariants.{OutOfMemory, Write}
 use Rattle.pronom_sig.specs.declared.fault.Fault.{Fault}
@@ -17,10 +17,10 @@ use Rattle.pronom_sig.specs.declared.args.TablePaths.{TablePaths}
 
 -- a file of the table can't be opened, or there is no table
 abbrev pub IsLoadFault : TablePaths → Fault → Type 0
-IsLoadFault words NotText = ⊥
-IsLoadFault words (CannotOpen name) = (name ≡ words.signatures) ⊎ (name ≡ words.priorities)
-IsLoadFault words (Table error) = ⊤
-IsLoadFault words (Run error) = ⊥
+IsLoadFault paths NotText = ⊥
+IsLoadFault paths (CannotOpen name) = (name ≡ paths.signatures) ⊎ (name ≡ paths.priorities)
+IsLoadFault paths (Table error) = ⊤
+IsLoadFault paths (Run error) = ⊥
 
 -- an engine gives no answer
 abbrev pub IsRunFault : Fault → Type 0
@@ -38,10 +38,10 @@ abbrev pub IsFaultOf : Request → Fault → Type 0
 IsFaultOf (Show table) fault = IsLoadFault table fault ⊎ IsShowFault fault
 IsFaultOf (Match all table file) fault = IsLoadFault table fault ⊎ ((fault ≡ CannotOpen file) ⊎ IsRunFault fault)
 
--- what is written grows by the canonical files of a table, or by the lines of hits
+-- what is written grows by the canonical files of a table, or by the lines that are asked for of what a file hits in a table
 abbrev pub Answers : Request → Option (List ℕ) → Option (List ℕ) → Type 0
-Answers (Show table) before after = (t : TableView) × Adds before (show_text t) after
-Answers (Match all table file) before after = (t : TableView) × (hits : List Hit) × Adds before (lines_of t hits) after
+Answers (Show table) before after = (t : TableView) × IsTable t × Adds before (show_text t) after
+Answers (Match all table path) before after = (t : TableView) × IsTable t × (file : List ℕ) × AddsLines all t file before after
 
 -- what is written grows by an answer to what the words ask for
 abbrev pub AnswersWords : List Text → Option (List ℕ) → Option (List ℕ) → Type 0

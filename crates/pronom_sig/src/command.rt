@@ -1,12 +1,12 @@
 //! All that the program does: it reads the words, opens the files, answers, and gives the status.
 
-ghost use Rattle.std.specs.Prelude.{◌≡◌, ◌≢◌, ◌⊎◌, false, List, map, string_bytes, true, IfErr, IsErrOf, OnOk};
+ghost use Rattle.std.specs.Prelude.{◌≡◌, ◌≢◌, ◌⊎◌, false, List, map, string_bytes, true, IfErr, IfOk, IsErrOf, OnOk};
 ghost use Rattle.clap.specs.Values.{kind_of};
 ghost use Rattle.clap.specs.Words.{Text};
 ghost use Rattle.pronom_sig.specs.Requests.{Answers, AnswersWords, IsFaultOf, IsLoadFault, ReportsFaultOfWords};
 ghost use Rattle.pronom_sig.specs.CommandLine.{AreTaken, IsHelpAsked};
 ghost use Rattle.pronom_sig.specs.Faults.{Reports, ReportsFault};
-ghost use Rattle.pronom_sig.specs.Statuses.{status_of};
+ghost use Rattle.sig_table.specs.Tables.{IsTable};
 
 use crate::args::{Request, TablePaths, read_args};
 use crate::error::RunError;
@@ -124,12 +124,17 @@ fn answer<'a, R: Files + AllocGlobal, W: Output>(
 
 // Opens both files of a table before either is read.
 fn load<'a, R: Files + AllocGlobal>(rt: &R, paths: TablePaths<'a>) -> Result<Table, Fault<'a>>
-    ensures { IfErr result (λ fault. IsLoadFault paths.entry fault) }
+    ensures limits { IfOk result (λ table. IsTable table) }
+    ensures faults { IfErr result (λ fault. IsLoadFault paths.entry fault) }
 {
     let mut signatures = open(rt, paths.signatures)?;
     let mut priorities = open(rt, paths.priorities)?;
     match Table::load(rt.alloc(), &mut signatures, &mut priorities) {
-        Ok(table) => Ok(table),
+        Ok(table) => {
+            let is_within = table.format_count() <= 1000;
+            prove!(is_within);
+            Ok(table)
+        }
         Err(error) => Err(Fault::Table(error)),
     }
 }

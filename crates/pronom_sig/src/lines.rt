@@ -1,7 +1,7 @@
 //! The lines that are answers.
 
-ghost use Rattle.std.specs.Prelude.{◌≡◌, ◌++◌, IfOk, OnOk, string_bytes};
-ghost use Rattle.pronom_sig.specs.Lines.{line_of, lines_of};
+ghost use Rattle.std.specs.Prelude.{◌≡◌, ◌++◌, All, IfOk, OnOk, string_bytes};
+ghost use Rattle.pronom_sig.specs.Lines.{IsOf, line_of, lines_of};
 
 use sig_match::Hit;
 use sig_table::Table;
@@ -14,6 +14,7 @@ pub(crate) fn lines_of_hits(
     table: &Table,
     hits: &[Hit],
 ) -> Result<String, AllocError>
+    requires { All (IsOf table.now) hits.now }
     ensures { IfOk result (λ lines. string_bytes lines ≡ lines_of table.now hits.now) }
 {
     let mut lines = String::new(alloc);
@@ -23,16 +24,12 @@ pub(crate) fn lines_of_hits(
     Ok(lines)
 }
 
-// A core whose input tells no bytes promises no hits of the table, so the places are tested.
 fn push_hit(lines: &mut String, table: &Table, hit: Hit) -> Result<(), AllocError>
+    requires { IsOf table.now hit }
     ensures { OnOk result (string_bytes lines.new ≡ string_bytes lines.old ++ line_of table.now hit) }
 {
-    let format = hit.format.0 as usize;
-    let signature = hit.signature.0 as usize;
-    if format < table.format_count() && signature < table.signature_count() {
-        let puid = table.puid(hit.format);
-        let number = table.number_of(hit.signature);
-        writeln!(lines, "{puid} {number}")?;
-    }
+    let puid = table.puid(table.format_of(hit.signature));
+    let number = table.number_of(hit.signature);
+    writeln!(lines, "{puid} {number}")?;
     Ok(())
 }

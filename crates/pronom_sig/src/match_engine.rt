@@ -2,20 +2,21 @@
 //!
 //! Its whole answer is made before a byte of it is written.
 
-ghost use Rattle.std.specs.Prelude.{◌≡◌, ◌≢◌, false, true, IfSome, IsErrOf, List, OnOk};
-ghost use Rattle.sig_bits.specs.Device.{Adds, IsAtEnd};
-ghost use Rattle.pronom_sig.specs.Lines.{AddsLinesOfHits, AddsLinesOfLeft, lines_of};
+ghost use Rattle.std.specs.Prelude.{◌≡◌, ◌≢◌, false, true, IfOk, IsErrOf, OnOk};
+ghost use Rattle.sig_bits.specs.Device.{IsAtEnd};
+ghost use Rattle.pronom_sig.specs.Lines.{AddsLinesOfSome, AreAskedOfSome};
 
 use crate::error::RunError;
 use crate::lines::lines_of_hits;
 use sig_bits::{Input, Output};
-use sig_match::{CoreError, DroidCore, Hit};
+use sig_match::{CoreError, DroidCore, Results};
 use std::alloc::Global;
 
 /// Writes a line for each format left for the file, in table order. With `all`, for each format
 /// that the file hits.
 ///
-/// Nothing is written before the file was read to its end.
+/// Nothing is written before the file was read to its end. Where the input does not tell its bytes,
+/// the answer is that of some file.
 pub fn run_match<K: DroidCore, R: Input, W: Output>(
     alloc: Global,
     core: &K,
@@ -23,10 +24,7 @@ pub fn run_match<K: DroidCore, R: Input, W: Output>(
     file: &mut R,
     out: &mut W,
 ) -> Result<(), RunError>
-    ensures left { all ≡ false → OnOk result (IfSome (R.to_come file.old) (λ bytes.
-        AddsLinesOfLeft (K.lists core.now) bytes (W.written out.old) (W.written out.new))) }
-    ensures hits { all ≡ true → OnOk result (IfSome (R.to_come file.old) (λ bytes.
-        AddsLinesOfHits (K.lists core.now) bytes (W.written out.old) (W.written out.new))) }
+    ensures answers { OnOk result (AddsLinesOfSome all (K.lists core.now) (R.to_come file.old) (W.written out.old) (W.written out.new)) }
     ensures at_end { OnOk result (IsAtEnd (R.to_come file.new)) }
 
     // Each refusal, and when.
@@ -39,18 +37,33 @@ pub fn run_match<K: DroidCore, R: Input, W: Output>(
     // Before the answer is known nothing is written.
     ensures read_stays { IsErrOf result RunError.Read → out.new ≡ out.old }
     ensures memory_stays { IsErrOf result RunError.OutOfMemory → out.new ≡ out.old }
-
-    // Whatever the input tells, what is written are lines of hits.
-    ensures lines { OnOk result ((hits : List Hit) × Adds (W.written out.old) (lines_of (K.lists core.now) hits) (W.written out.new)) }
 {
-    let mut results = core.match_binary_signatures(file).map_err(run_error)?;
-    if !all {
-        core.remove_lower_priority_hits(&mut results);
-    }
+    let results = asked_hits(core, all, file)?;
     let text = lines_of_hits(alloc, core.table(), results.hits()).map_err(
         |_| RunError::OutOfMemory,
     )?;
     out.write_all(text.as_bytes()).map_err(|_| RunError::Write)
+}
+
+// The hits of the file, or what is left of them.
+fn asked_hits<K: DroidCore, R: Input>(
+    core: &K,
+    all: bool,
+    file: &mut R,
+) -> Result<Results, RunError>
+    ensures asked { IfOk result (AreAskedOfSome all (K.lists core.now) (R.to_come file.old)) }
+    ensures at_end { OnOk result (IsAtEnd (R.to_come file.new)) }
+    ensures reads { OnOk result (R.failed file.new ≡ false) }
+    ensures read { IsErrOf result RunError.Read → R.failed file.new ≡ true }
+    ensures memory { IsErrOf result RunError.OutOfMemory → R.failed file.old ≡ false → R.failed file.new ≡ false }
+    ensures never_write { ¬ IsErrOf result RunError.Write }
+{
+    let mut results = core.match_binary_signatures(file).map_err(run_error)?;
+    if all {
+        return Ok(results);
+    }
+    core.remove_lower_priority_hits(&mut results);
+    Ok(results)
 }
 
 fn run_error(error: CoreError) -> RunError
