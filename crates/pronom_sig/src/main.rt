@@ -1,7 +1,19 @@
-//! The program: matches files against a table of signatures.
+//! The program: matches files against a table of signatures, and shows tables.
 //!
-//! `command` is all that it does. It stands on one engine a subcommand, over any input and output
-//! (`run_match`, `run_show`), on `args` (what the words ask for) and on `fault` (what is reported).
+//! - `run_match`, for every core that meets the law of `DroidCore`, every input and every output:
+//!   where it answers Ok, the output has grown by exactly the lines of the formats left for a file,
+//!   or with `all` of those that it hits. The file is the one that was to come, where its bytes are
+//!   known.
+//! - `run_show` adds both canonical files with an empty line between them.
+//! - Neither writes before its answer is known: after a failed read, and where memory runs out, the
+//!   output is as it was. A failed read or write is reported as one, and nothing else is.
+//! - `command` answers a status of 0, 2 or 3. With 0 the error output is as it was, no write failed,
+//!   and what was written answers the words, or they ask for help. With 2 the output is as it was,
+//!   and with 3 too, unless a write there failed. A fault is one line, of which fault it is
+//!   (`fault_line`); it is written in pieces and needs no memory. Words that `clap` takes and that
+//!   ask for something get an answer to it, or the line of a fault of just what they ask for.
+//! - What the words ask for is what the definition of `clap` finds in them by the command line
+//!   `program`; `words_are_taken` has it at words.
 #![tactic(auto)]
 
 mod args;
