@@ -122,7 +122,9 @@ fn answer<'a, R: Files + AllocGlobal, W: Output>(
     }
 }
 
-// Opens both files of a table before either is read.
+// Opens both files of a table before either is read. It stands in a frame of its own, as the engines
+// do: the buffers of all of them in one frame would double the stack that the program needs.
+#[inline(never)]
 fn load<'a, R: Files + AllocGlobal>(rt: &R, paths: TablePaths<'a>) -> Result<Table, Fault<'a>>
     ensures limits { IfOk result (λ table. IsTable table) }
     ensures faults { IfErr result (λ fault. IsLoadFault paths.entry fault) }

@@ -17,6 +17,7 @@ use std::alloc::Global;
 ///
 /// Nothing is written before the file was read to its end. Where the input does not tell its bytes,
 /// the answer is that of some file.
+#[inline(never)]
 pub fn run_match<K: DroidCore, R: Input, W: Output>(
     alloc: Global,
     core: &K,

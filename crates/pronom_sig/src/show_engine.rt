@@ -10,6 +10,7 @@ use sig_table::{OutError, Table};
 use std::alloc::Global;
 
 /// Writes both canonical files of the table, with an empty line between them.
+#[inline(never)]
 pub fn run_show<W: Output>(alloc: Global, table: &Table, out: &mut W) -> Result<(), RunError>
     ensures text { OnOk result (Adds (W.written out.old) (show_text table.now) (W.written out.new)) }
     ensures writes { OnOk result (W.failed out.new ≡ false) }
