@@ -45,7 +45,6 @@ impl CsvText {
         Ok(CsvText { writer })
     }
 
-    // The text.
     pub(crate) fn into_text(self) -> Result<Vec<u8>, AllocError>
         ensures { IfOk result (λ text. text.items ≡ self) }
     {

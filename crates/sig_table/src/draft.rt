@@ -158,7 +158,7 @@ impl Draft {
         })
     }
 
-    // The place of the format of this name.
+    // The index of the format of this name.
     pub(crate) fn place_of(&self, puid: &Puid) -> Option<u16>
         ensures place { result ≡ place_in self.now.formats puid.now }
         ensures within { IfSome result (λ place. place < length self.now.formats) }

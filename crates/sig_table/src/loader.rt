@@ -36,7 +36,7 @@ impl Table {
         // Each format has a signature.
         ensures whole { IfOk result (λ table. HasAllSignatures table) }
 
-        // A fault of the signature file is told by that file alone, and leaves the other as it was.
+        // A fault of the signature file is found in that file alone, and leaves the other as it was.
         ensures first { (s : List ℕ) (fault : TableError) → A.to_come signatures.old ≡ Some s → signatures_of (records_of s) ≡ Err fault
             → Exact result (Err fault) × (IsErrOf result (TableError.Read TableFile.Priorities) → ⊥) × (priorities.new ≡ priorities.old) }
         ensures untouched { IfErr result (λ e. is_of_signatures e ≡ true → priorities.new ≡ priorities.old) }
@@ -46,7 +46,7 @@ impl Table {
         ensures judged_both { IfErr result (λ e. is_judged e ≡ true → is_of_signatures e ≡ false → (B.failed priorities.new ≡ false) × IsAtEnd (B.to_come priorities.new)) }
         ensures at_end { OnOk result (IsAtEnd (A.to_come signatures.new) × IsAtEnd (B.to_come priorities.new)) }
 
-        // A failed read is told, and only a failed read.
+        // A failed read is reported, and only a failed read.
         ensures sound { OnOk result ((A.failed signatures.new ≡ false) × (B.failed priorities.new ≡ false)) }
         ensures read_signatures { IsErrOf result (TableError.Read TableFile.Signatures) → A.failed signatures.new ≡ true }
         ensures read_priorities { IsErrOf result (TableError.Read TableFile.Priorities) → (A.failed signatures.new ≡ false) × (B.failed priorities.new ≡ true) }

@@ -67,7 +67,6 @@ impl Ranking {
         }
     }
 
-    // The fault of the pair.
     #[tactic(auto, unfolding(crate::specs::Loading::pair_fault))]
     fn fault(&self, pair: (u16, u16), row_number: usize) -> Option<TableError>
         requires higher { pair.0 < self.now.format_count }
@@ -85,7 +84,6 @@ impl Ranking {
         None
     }
 
-    // Whether the pair is listed.
     fn contains(&self, pair: (u16, u16)) -> bool
         ensures { result ≡ is_listed self.now.pairs pair }
     {
@@ -120,7 +118,6 @@ impl Ranking {
         Ok(Ranking { pairs, below })
     }
 
-    // The pairs.
     pub(crate) fn into_pairs(self) -> IndexSet<(u16, u16)>
         ensures pairs { result.keys ≡ self.pairs }
         ensures limits { ArePriorities self.format_count result.keys }
