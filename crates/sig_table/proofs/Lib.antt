@@ -21,6 +21,7 @@ pub mod RecordsAgainLemmas
 pub mod RemovalLemmas
 pub mod RowAgainLemmas
 pub mod RowLemmas
+pub mod RowTextLemmas
 pub mod SignatureFaultLemmas
 pub mod SignatureRowLemmas
 pub mod SlotLemmas

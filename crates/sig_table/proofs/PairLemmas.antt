@@ -7,7 +7,7 @@ use Rattle.sig_table.specs.declared.error.TableError.{TableError}
 use Rattle.sig_table.specs.declared.puid.Puid.{Puid}
 use Rattle.sig_table.specs.Judging.{IsFault, unless}
 use Rattle.sig_table.specs.Loading.{is_of_signatures, pair_fault, pair_of, with_pair}
-use Rattle.sig_table.specs.Rankings.{RankingView}
+use Rattle.sig_table.specs.RankingViews.{RankingView}
 
 module _ (formats : List Puid) (n : ℕ) (pairs : List (ℕ × ℕ)) (fields : List (List ℕ)) where
   pub with_pair-more : (pair : ℕ × ℕ) → pair_of formats n fields ≡ Ok pair → pair_fault pairs n pair ≡ None → with_pair formats n pairs fields ≡ Ok (pairs ++ pair ∷ [])

@@ -29,7 +29,7 @@ pub bind-ok : {A B : Type 0} (r : Result A TableError) (f : A → Result B Table
 bind-ok (Ok x) f y h = (x, refl, h)
 bind-ok (Err e) f y h = absurd (cc h)
 
-ok_or-ok : {A : Type 0} (o : Option A) (e : TableError) (x : A) → ok_or o e ≡ Ok x → o ≡ Some x
+pub ok_or-ok : {A : Type 0} (o : Option A) (e : TableError) (x : A) → ok_or o e ≡ Ok x → o ≡ Some x
 ok_or-ok None e x h = absurd (cc h)
 ok_or-ok (Some y) e x h = cc h
 
@@ -105,7 +105,7 @@ InOrder-position_of row word offset max place h = elim (cases_Bool (is_word word
 ]
 
 -- the expression
-items_in-ok : (row : ℕ) (r : Result (List Item) ExprError) (items : List Item) → items_in row r ≡ Ok items → r ≡ Ok items
+pub items_in-ok : (row : ℕ) (r : Result (List Item) ExprError) (items : List Item) → items_in row r ≡ Ok items → r ≡ Ok items
 items_in-ok row (Ok e) items h = cc h
 items_in-ok row (Err e) items h = absurd (cc h)
 

@@ -3,6 +3,9 @@
 ghost use Rattle.std.specs.Prelude.{◌≡◌, ◌↔◌, ℕ, ◌<◌, List, [], Contains, length, Err, Ok};
 ghost use Rattle.sig_table.specs.declared.error.TableError.{TableError};
 ghost use Rattle.sig_table.specs.declared.puid.Puid.{Puid};
+ghost use Rattle.sig_table.specs.declared.row.Row.{Row};
+ghost use Rattle.sig_table.specs.Rows.{row_of};
+ghost use Rattle.sig_table.specs.RowTexts.{RowText};
 ghost use Rattle.sig_table.specs.Canonical.{priority_csv, signature_csv};
 ghost use Rattle.sig_table.specs.Gathered.{IsFaultOf, IsTableOf};
 ghost use Rattle.sig_table.specs.Views.{TableView};
@@ -22,6 +25,11 @@ pub fn rows_are_gathered()
 /// the fault is the first that the row has. And each such fault is given.
 pub fn first_fault_is_told()
     ensures { (file : List (List (List ℕ))) (fault : TableError) → signatures_of file ≡ Err fault ↔ IsFaultOf file fault }
+{}
+
+/// A record gives a row exactly where its fields are the texts of the row's parts.
+pub fn rows_are_spelled()
+    ensures { (row_number : ℕ) (fields : List (List ℕ)) (row : Row) → row_of row_number fields ≡ Ok row ↔ RowText fields row }
 {}
 
 /// The pairs of a priority file are those of its rows, in their order: none stands twice, and they

@@ -1,6 +1,6 @@
 //! From the two files to the table.
 
-ghost use Rattle.std.specs.Prelude.{◌≡◌, ◌<◌, ◌⊎◌, [], List, ℕ, length, Some, true, false, Ok, Err, OnOk, IfOk, IfErr, IfSome, IsErrOf, MatchResult};
+ghost use Rattle.std.specs.Prelude.{◌≡◌, ◌<◌, ◌⊎◌, [], List, ℕ, length, Some, true, false, Ok, Err, OnOk, IfOk, IfErr, IfSome, IsErr, IsErrOf, IsTrue, MatchResult};
 ghost use Rattle.csv.specs.Records.{fields_of};
 ghost use Rattle.sig_bits.specs.Device.{IsAtEnd};
 ghost use Rattle.sig_table.specs.Loading.{is_of_signatures, is_priority_header, is_signature_header, empty_table, pair_of, pairs_from, pairs_of, place_in, records_of, signatures_of, table_from, table_of, with_pair, with_record};
@@ -10,11 +10,11 @@ ghost use Rattle.std.specs.Option.{ok_or};
 ghost use Rattle.sig_table.specs.declared.row.Row.{Row};
 ghost use Rattle.sig_table.specs.declared.error.TableError.{TableError};
 
-use super::draft::Draft;
-use super::ranking::Ranking;
-use super::records::Records;
-use super::row::{field, read_puid, read_row};
-use super::{Puid, Table, TableError, TableFile};
+use crate::draft::Draft;
+use crate::ranking::Ranking;
+use crate::records::Records;
+use crate::row::{field, read_puid, read_row};
+use crate::{Puid, Table, TableError, TableFile};
 use csv::ByteRecord;
 use indexmap::IndexSet;
 use sig_bits::{Input, ReadWholeError, read_whole};
@@ -36,7 +36,7 @@ impl Table {
         // Each format has a signature.
         ensures whole { IfOk result (λ table. HasAllSignatures table) }
 
-        // A fault of the signature file is told by that file alone, and leaves the other as it was.
+        // A fault of the signature file is found in that file alone, and leaves the other as it was.
         ensures first { (s : List ℕ) (fault : TableError) → A.to_come signatures.old ≡ Some s → signatures_of (records_of s) ≡ Err fault
             → Exact result (Err fault) × (IsErrOf result (TableError.Read TableFile.Priorities) → ⊥) × (priorities.new ≡ priorities.old) }
         ensures untouched { IfErr result (λ e. is_of_signatures e ≡ true → priorities.new ≡ priorities.old) }
@@ -46,12 +46,16 @@ impl Table {
         ensures judged_both { IfErr result (λ e. is_judged e ≡ true → is_of_signatures e ≡ false → (B.failed priorities.new ≡ false) × IsAtEnd (B.to_come priorities.new)) }
         ensures at_end { OnOk result (IsAtEnd (A.to_come signatures.new) × IsAtEnd (B.to_come priorities.new)) }
 
-        // A failed read is told, and only a failed read.
+        // A failed read is reported, and only a failed read.
         ensures sound { OnOk result ((A.failed signatures.new ≡ false) × (B.failed priorities.new ≡ false)) }
         ensures read_signatures { IsErrOf result (TableError.Read TableFile.Signatures) → A.failed signatures.new ≡ true }
         ensures read_priorities { IsErrOf result (TableError.Read TableFile.Priorities) → (A.failed signatures.new ≡ false) × (B.failed priorities.new ≡ true) }
-        ensures memory_signatures { IsErrOf result TableError.OutOfMemory → A.failed signatures.old ≡ false → A.failed signatures.new ≡ false }
-        ensures memory_priorities { IsErrOf result TableError.OutOfMemory → B.failed priorities.old ≡ false → B.failed priorities.new ≡ false }
+        ensures memory_signatures { IsErrOf result TableError.OutOfMemory → A.failed signatures.new ≡ A.failed signatures.old }
+        ensures memory_priorities { IsErrOf result TableError.OutOfMemory → B.failed priorities.new ≡ B.failed priorities.old }
+
+        // An input that failed before makes no table.
+        ensures stays_failed_signatures { IsTrue (A.failed signatures.old) → IsErr result }
+        ensures stays_failed_priorities { IsTrue (B.failed priorities.old) → IsErr result }
     {
         let text = read_text(alloc, signatures, TableFile::Signatures)?;
         let draft = read_signatures(alloc, &text)?;
@@ -66,6 +70,7 @@ fn read_text<R: Input>(alloc: Global, input: &mut R, file: TableFile) -> Result<
     ensures text { IfOk result (λ t. IfSome (R.to_come input.old) (λ all. t.items ≡ all)) }
     ensures at_end { OnOk result (IsAtEnd (R.to_come input.new)) }
     ensures sound { OnOk result (R.failed input.new ≡ false) }
+    ensures was_sound { OnOk result (R.failed input.old ≡ false) }
     ensures fault { IfErr result (λ e. ((e ≡ TableError.OutOfMemory) × (R.failed input.new ≡ R.failed input.old)) ⊎ ((e ≡ TableError.Read file) × (R.failed input.new ≡ true))) }
 {
     match read_whole(alloc, input) {

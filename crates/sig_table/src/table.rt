@@ -3,7 +3,7 @@
 ghost use Rattle.std.specs.Prelude.{◌≡◌, ◌<◌, ◌≤◌, ◌↔◌, [], ◌∷◌, ◌++◌, false, IsTrue, OnOk, Some, Contains, length, option_map, position, slice_get};
 ghost use Rattle.sig_table.specs.Puids.{puid_eq};
 
-use super::{FormatId, Puid, Sequence, SigId, SignaturesOf};
+use crate::{FormatId, Puid, Sequence, SigId, SignaturesOf};
 use indexmap::IndexSet;
 use std::alloc::{AllocError, Global};
 use std::marker::Model;

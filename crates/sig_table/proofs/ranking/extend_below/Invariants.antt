@@ -2,8 +2,8 @@ use Rattle.std.proofs.Common.{◌≡◌, ℕ, ◌<◌, ◌≤◌, ◌↔◌, ◌
 use Rattle.sig_table.specs.declared.format_set.FormatSet.{FormatSet}
 use Rattle.sig_table.specs.FormatSets.{HasFormat}
 use Rattle.sig_table.specs.Ranking.{IsAbove}
-use Rattle.sig_table.specs.Rankings.{AreBelow}
-use Rattle.sig_table.proofs.ranking.put_over.Given as goal
+use Rattle.sig_table.specs.RankingViews.{AreBelow}
+use Rattle.sig_table.proofs.ranking.extend_below.Given as goal
 
 -- the sets so far are of one pair more, and those to come are as they were
 abbrev pub invariant-loop-x : goal.invariant-loop-x

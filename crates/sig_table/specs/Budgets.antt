@@ -1,6 +1,6 @@
--- What is left of an allowance.
+-- What remains of a budget.
 use Rattle.std.specs.Prelude.{ℕ, ◌-◌, nat_lt, if◌then◌else◌, Option, Some, None}
 
 -- the rest, if there is enough
 abbrev pub minus : ℕ → ℕ → Option ℕ
-minus left n = if nat_lt left n then None else Some (left - n)
+minus budget n = if nat_lt budget n then None else Some (budget - n)
