@@ -1,5 +1,5 @@
 -- What writes of several pieces add to an output.
-use Rattle.std.proofs.Common.{◌≡◌, ◌++◌, [], ℕ, Bool, List, Option, None, Some, Result, Ok, Err, append_assoc, ◌∙◌, ap}
+use Rattle.std.proofs.Common.{◌++◌, ℕ, Bool, List, Option, None, Some, Result, Ok, Err, append_assoc, ◌∙◌, ap}
 use Rattle.sig_bits.specs.Device.{Adds}
 use Rattle.pronom_sig.specs.Faults.{Prints}
 
