@@ -1,4 +1,9 @@
-use super::*;
+//! Inputs and outputs.
+
+use crate::fault::{DeviceFault, ReadWholeError};
+use crate::input::{FromRead, Input};
+use crate::output::{FromWrite, Output};
+use crate::whole::read_whole;
 use std::io::{Error, ErrorKind, Read, Result as IoResult, Write};
 use std::test::Fail;
 
@@ -24,15 +29,17 @@ impl Read for Interrupted {
     }
 }
 
-// Takes one byte a write, so many in all, and then says that it took none.
+// Takes one byte a write, so many in all, and then says that it took none. It counts its calls.
 #[derive(Drop)]
 struct Narrow {
     room: u8,
     taken: u8,
+    calls: u8,
 }
 
 impl Write for Narrow {
     fn write(&mut self, buf: &[u8]) -> IoResult<usize> {
+        self.calls = self.calls.saturating_add(1);
         if self.room == 0 || buf.is_empty() {
             return Ok(0);
         }
@@ -42,6 +49,7 @@ impl Write for Narrow {
     }
 
     fn flush(&mut self) -> IoResult<()> {
+        self.calls = self.calls.saturating_add(1);
         Ok(())
     }
 }
@@ -78,6 +86,73 @@ impl Write for InterruptedOnce {
     fn flush(&mut self) -> IoResult<()> {
         Ok(())
     }
+}
+
+// Gives 0, 1, 2 and so on up to a byte, one a read.
+#[derive(Drop)]
+struct OneByOne {
+    next: u8,
+    end: u8,
+}
+
+impl Read for OneByOne {
+    fn read(&mut self, buf: &mut [u8]) -> IoResult<usize> {
+        if buf.is_empty() || self.next >= self.end {
+            return Ok(0);
+        }
+        buf[0] = self.next;
+        self.next += 1;
+        Ok(1)
+    }
+}
+
+// Fails each read, and counts them.
+#[derive(Drop)]
+struct Failing<'a> {
+    reads: &'a mut u8,
+}
+
+impl Read for Failing<'_> {
+    fn read(&mut self, _buf: &mut [u8]) -> IoResult<usize> {
+        *self.reads = (*self.reads).saturating_add(1);
+        Err(Error::from(ErrorKind::Other))
+    }
+}
+
+#[test]
+fn a_failed_reader_is_not_read_again(rt: HostRuntime) {
+    let mut reads = 0;
+    {
+        let mut input = FromRead::new(Failing { reads: &mut reads });
+        let mut buf = [0u8; 3];
+        for _ in 0..3u8 {
+            assert_eq!(rt; input.read(&mut buf), Err(DeviceFault));
+        }
+        let refused = read_whole(rt.alloc(), &mut input).err();
+        assert_eq!(rt; refused, Some(ReadWholeError::Read));
+    }
+    assert_eq!(rt; reads, 1);
+}
+
+#[test]
+fn an_empty_buffer_takes_nothing(rt: HostRuntime) {
+    let mut input = FromRead::new(&b"\x41\x42"[..]);
+    let mut buf = [0u8; 2];
+    assert_eq!(rt; input.read(&mut []), Ok(0));
+    assert_eq!(rt; input.read(&mut buf), Ok(2));
+    assert_eq!(rt; buf, [0x41, 0x42]);
+    assert_eq!(rt; input.read(&mut []), Ok(0));
+}
+
+#[test]
+fn a_reader_that_gives_one_byte_a_read_is_read_whole(rt: HostRuntime) -> Result<(), Fail> {
+    let mut input = FromRead::new(OneByOne { next: 0, end: 255 });
+    let whole = read_whole(rt.alloc(), &mut input)?;
+    assert_eq!(rt; whole.len(), 255);
+    for (i, byte) in whole.as_slice().iter().enumerate() {
+        assert_eq!(rt; *byte as usize, i);
+    }
+    Ok(())
 }
 
 #[test]
@@ -137,11 +212,22 @@ fn writes_follow_one_another(rt: HostRuntime) -> Result<(), Fail> {
 
 #[test]
 fn a_short_write_goes_on_and_a_failed_one_is_final(rt: HostRuntime) {
-    let mut output = FromWrite::new(Narrow { room: 3, taken: 0 });
+    let mut output = FromWrite::new(Narrow {
+        room: 3,
+        taken: 0,
+        calls: 0,
+    });
     assert_eq!(rt; output.write_all(b"ab"), Ok(()));
     assert_eq!(rt; output.write_all(b"cd"), Err(DeviceFault));
     assert_eq!(rt; output.write_all(b""), Err(DeviceFault));
-    assert_eq!(rt; output.into_inner().taken, 3);
+    assert_eq!(rt; output.write_all(b"ef"), Err(DeviceFault));
+    let writer = output.into_inner();
+    assert_eq!(rt; writer.taken, 3);
+    assert_eq!(rt;
+        writer.calls,
+        5,
+        "two writes and a flush, and then two writes"
+    );
 }
 
 #[test]
@@ -155,54 +241,4 @@ fn an_interrupted_write_is_final(rt: HostRuntime) {
     let mut output = FromWrite::new(InterruptedOnce { done: false });
     assert_eq!(rt; output.write_all(b"ab"), Err(DeviceFault));
     assert_eq!(rt; output.write_all(b"ab"), Err(DeviceFault));
-}
-
-#[test]
-fn the_set_of_0_and_9_is_01_02(rt: HostRuntime) {
-    let mut set = [0xff; 2];
-    clear(&mut set);
-    assert_eq!(rt; set, [0, 0]);
-    set_bit(&mut set, 0);
-    set_bit(&mut set, 9);
-    assert_eq!(rt; set, [0x01, 0x02]);
-    for (i, wanted) in [(0, true), (1, false), (8, false), (9, true), (15, false)] {
-        assert_eq!(rt; get_bit(&set, i), wanted, "bit {i}");
-    }
-}
-
-#[test]
-fn sets_are_joined_and_compared(rt: HostRuntime) {
-    let mut joined = [0x01, 0x80];
-    or_into(&mut joined, &[0x03, 0x00]);
-    assert_eq!(rt; joined, [0x03, 0x80]);
-    for (a, b, meet, within) in [
-        ([0x00, 0x00], [0x00, 0x00], false, true),
-        ([0x01, 0x00], [0x00, 0x01], false, false),
-        ([0x00, 0x80], [0x01, 0x80], true, true),
-        ([0x01, 0x80], [0x00, 0x80], true, false),
-    ] {
-        assert_eq!(rt; and_any(&a, &b), meet, "{a:?} and {b:?}");
-        assert_eq!(rt; subset(&a, &b), within, "{a:?} in {b:?}");
-    }
-}
-
-#[test]
-fn a_class_holds_its_bytes_alone(rt: HostRuntime) {
-    let letter = ByteClass::of_byte(0x41);
-    let capitals = ByteClass::range(0x41, 0x5a);
-    for b in 0..=255 {
-        assert_eq!(rt; letter.contains(b), b == 0x41, "{b}");
-        assert_eq!(rt; capitals.contains(b), b.is_ascii_uppercase(), "{b}");
-        assert_eq!(rt;
-            capitals.without().contains(b),
-            !b.is_ascii_uppercase(),
-            "{b}"
-        );
-    }
-    assert!(rt; ByteClass::range(0x42, 0x41).is_empty());
-    assert!(rt; ByteClass::range(0, 255).without().is_empty());
-    assert!(rt; !ByteClass::of_byte(0).is_empty());
-    assert!(rt; capitals.same_side(0x41, 0x5a));
-    assert!(rt; capitals.same_side(0x40, 0x5b));
-    assert!(rt; !capitals.same_side(0x40, 0x41));
 }
