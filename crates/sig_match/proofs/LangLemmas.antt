@@ -1,6 +1,5 @@
 -- Words of lists of items, and how long they are.
 use Rattle.std.proofs.Common.{◌≡◌, ℕ, ◌+◌, ◌≤◌, List, [], ◌∷◌, ◌++◌, length, map, take, drop, refl, subst, sym, ap, ap₂, ◌∙◌, inl, inr, arith, append_assoc, length-append}
-use Rattle.std.specs.Prelude.{Contains}
 use Rattle.std.proofs.lemmas.List.{append-nil, drop-drop, take-append-drop}
 use Rattle.std.proofs.lemmas.List.Elements.{Contains-push_cases}
 use Rattle.sig_expr.specs.declared.item.Atom.{Atom}
@@ -29,9 +28,6 @@ Lang-join (x ∷ xs) ys w u v is (a, b, cut, word, later) rest =
 pub Word-from_Lang : (x : Item) (w : List ℕ) → Lang (x ∷ []) w → Word x w
 Word-from_Lang x w (u, v, is, word, none) = subst (Word x) (sym (is ∙ ap (λ (l : List ℕ). u ++ l) none ∙ append-nil u)) word
 
-pub Lang-from_Word : (x : Item) (w : List ℕ) → Word x w → Lang (x ∷ []) w
-Lang-from_Word x w word = (w, [], sym (append-nil w), word, refl)
-
 -- the word of a run
 pub IsThis-from_Lang : (run w : List ℕ) → Lang (map item.Byte run) w → IsThis run w
 IsThis-from_Lang [] w h = h
@@ -46,13 +42,6 @@ pub HasExactly-run : (run file : List ℕ) (S : ℕ → Type 0) (ends : List Int
 HasExactly-run run file S ends exact = record {
   sound = λ o h. Reaches-words (IsThis run) (Lang (map item.Byte run)) file S o (Lang-from_IsThis run) (exact.sound o h);
   complete = λ o r. exact.complete o (Reaches-words (Lang (map item.Byte run)) (IsThis run) file S o (IsThis-from_Lang run) r);
-}
-
--- the ends of an item, as those of a list of one
-pub HasExactly-one : (x : Item) (file : List ℕ) (S : ℕ → Type 0) (ends : List Interval) → HasExactly (Reaches (Word x) file S) ends → HasExactly (Reaches (Lang (x ∷ [])) file S) ends
-HasExactly-one x file S ends exact = record {
-  sound = λ o h. Reaches-words (Word x) (Lang (x ∷ [])) file S o (Lang-from_Word x) (exact.sound o h);
-  complete = λ o r. exact.complete o (Reaches-words (Lang (x ∷ [])) (Word x) file S o (Word-from_Lang x) r);
 }
 
 -- an expression's next items
@@ -111,7 +100,3 @@ Bounds-alternative xs y a b n a_below b_below front last = λ w h.
           omega arith
           )
     ]
-
--- no alternative has no word
-pub Bounds-no_alternative : Bounds (Word (item.Alt [])) 0
-Bounds-no_alternative = λ w h. absurd (let at = h.1.1 in omega arith)

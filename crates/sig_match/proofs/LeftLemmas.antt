@@ -1,6 +1,6 @@
 -- Which hits are left.
-use Rattle.std.proofs.Common.{◌≡◌, ℕ, zero, suc, ◌<◌, ◌⊎◌, List, [], ◌∷◌, length, Bool, true, false, not, ap, sym, subst, refl, inl, inr, ◌∙◌, arith}
-use Rattle.std.specs.Prelude.{◌↔◌, Contains, cond, filter, map}
+use Rattle.std.proofs.Common.{◌≡◌, ℕ, zero, suc, ◌<◌, ◌⊎◌, List, [], ◌∷◌, length, Bool, true, not, ap, sym, subst, refl, inl, inr, ◌∙◌, arith}
+use Rattle.std.specs.Prelude.{◌↔◌, Contains, cond, filter}
 use Rattle.std.specs.List.{list_any}
 use Rattle.std.proofs.lemmas.List.{length-map}
 use Rattle.std.proofs.lemmas.Bool.{cases_Bool, false≢true}

@@ -1,16 +1,16 @@
 -- The hits, listed format after format.
-use Rattle.std.proofs.Common.{◌≡◌, ℕ, ◌+◌, ◌≤◌, ◌<◌, List, [], ◌∷◌, ◌++◌, length, get_or, subst, sym, ap, ◌∙◌, inl, inr, arith, Option, Some, None}
+use Rattle.std.proofs.Common.{◌≡◌, ℕ, ◌+◌, ◌<◌, List, [], ◌∷◌, ◌++◌, length, get_or, subst, sym, ap, ◌∙◌, inl, inr, arith, Option, Some, None}
 use Rattle.std.specs.Prelude.{All, Contains}
 use Rattle.std.specs.List.Sorted.{IsStrictlyIncreasing}
 use Rattle.std.proofs.lemmas.Bool.{cases_lt}
-use Rattle.std.proofs.lemmas.List.{get_or_append_left, get_or_push, get_or_past, length_push, map_push}
+use Rattle.std.proofs.lemmas.List.{get_or_append_left, get_or_push, length_push, map_push}
 use Rattle.std.proofs.lemmas.List.Elements.{All-push, Contains-push, Contains-append_left}
 use Rattle.std.proofs.lemmas.Option.{slice_get_within}
 use Rattle.sig_table.specs.declared.ids.SigId.{SigId}
 use Rattle.sig_table.specs.Tables.{IsTable}
 use Rattle.sig_table.specs.Views.{TableView}
 use Rattle.sig_match.specs.declared.results.Hit.{Hit}
-use Rattle.sig_match.specs.FirstHits.{FirstHits, IsFirstBelow, IsFirstOf}
+use Rattle.sig_match.specs.FirstHits.{IsFirstBelow, IsFirstOf}
 use Rattle.sig_match.specs.Hits.{HitFormats, HitsAt, IsFirstHit, formats_of}
 use Rattle.sig_match.proofs.HitLemmas.{HitsAt-known}
 

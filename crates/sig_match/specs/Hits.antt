@@ -1,5 +1,5 @@
 -- Which formats of a table a file hits, and which of them are left after priorities.
-use Rattle.std.specs.Prelude.{◌≡◌, ℕ, ◌<◌, Bool, not, List, All, Contains, Option, Some, IfSome, IsSomeAnd, map, filter, slice_get}
+use Rattle.std.specs.Prelude.{◌≡◌, ℕ, ◌<◌, not, List, All, Contains, Option, Some, IfSome, IsSomeAnd, map, filter, slice_get}
 use Rattle.std.specs.List.{list_any}
 use Rattle.std.specs.List.Sorted.{IsStrictlyIncreasing}
 use Rattle.sig_match.specs.declared.results.Hit.{Hit}

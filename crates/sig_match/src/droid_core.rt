@@ -29,7 +29,7 @@ pub trait DroidCore {
         // A failed read is reported, and only a failed read.
         ensures sound { OnOk result (R.failed input.new ≡ false) }
         ensures read { IsErrOf result CoreError.Read → R.failed input.new ≡ true }
-        ensures memory { IsErrOf result CoreError.OutOfMemory → R.failed input.old ≡ false → R.failed input.new ≡ false };
+        ensures memory { IsErrOf result CoreError.OutOfMemory → R.failed input.new ≡ R.failed input.old };
 
     /// Keeps the hits whose format no format of the hits outranks. A hit that is itself outranked
     /// still outranks. Where there are hits, some are left.

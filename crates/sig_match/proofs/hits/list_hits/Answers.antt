@@ -1,5 +1,4 @@
-use Rattle.std.proofs.Common.{◌≡◌, ◌≤◌, arith, length, get_or, sym, ◌∙◌, ap, refl, List, Option, None}
-use Rattle.sig_table.specs.declared.ids.SigId.{SigId}
+use Rattle.std.proofs.Common.{◌≡◌, arith, length, get_or, refl, None}
 use Rattle.sig_match.specs.declared.results.Hit.{Hit}
 use Rattle.sig_match.proofs.ListingLemmas.{HitFormats-from_Listed, Listed-keep, Listed-none, Listed-push}
 use Rattle.sig_match.proofs.hits.list_hits.Goals as goal

@@ -1,4 +1,4 @@
-use Rattle.std.proofs.Common.{subst, sym, List, length}
+use Rattle.std.proofs.Common.{subst, sym, List}
 use Rattle.sig_expr.specs.declared.item.Item.{Item}
 use Rattle.sig_expr.specs.Words.{Lang}
 use Rattle.sig_match.specs.Frontiers.{HasExactly, IsIn, Reaches}

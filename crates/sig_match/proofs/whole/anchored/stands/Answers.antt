@@ -1,4 +1,4 @@
-use Rattle.std.proofs.Common.{◌≡◌, ◌≤◌, ◌+◌, ◌-◌, ℕ, List, [], ap, arith, length, map, take, drop, subst, sym, ◌∙◌, length-drop}
+use Rattle.std.proofs.Common.{◌≡◌, ◌≤◌, ◌-◌, ℕ, List, [], ap, arith, length, map, take, drop, subst, sym, ◌∙◌, length-drop}
 use Rattle.std.proofs.lemmas.List.{nil_from_length, take_all}
 use borrow.Author.Tests.{eqb-true}
 use Rattle.sig_expr.specs.declared.item.Item.{Item}

@@ -1,6 +1,5 @@
-use Rattle.std.proofs.Common.{map, take}
-use Rattle.sig_expr.specs.Words.{AlternativeWord, Lang, Word}
-use Rattle.sig_expr.specs.declared.item.Item.TheVariants as item
+use Rattle.std.proofs.Common.{take}
+use Rattle.sig_expr.specs.Words.{Lang}
 use Rattle.sig_match.specs.Runs.{Bounds}
 use Rattle.sig_match.proofs.whole.longest.longest_of.Given as goal
 

@@ -1,5 +1,5 @@
 use Rattle.std.proofs.Common.{map, take}
-use Rattle.sig_expr.specs.Words.{AlternativeWord, Lang, Word}
+use Rattle.sig_expr.specs.Words.{Word}
 use Rattle.sig_expr.specs.declared.item.Item.TheVariants as item
 use Rattle.sig_match.specs.Runs.{Bounds}
 use Rattle.sig_match.proofs.whole.longest.longest_of_any.Given as goal

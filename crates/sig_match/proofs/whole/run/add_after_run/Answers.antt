@@ -1,4 +1,4 @@
-use Rattle.std.proofs.Common.{◌≡◌, ◌+◌, ◌≤◌, ℕ, length, ap, arith, refl}
+use Rattle.std.proofs.Common.{◌≡◌, ◌+◌, ℕ, length, ap, arith, refl}
 use Rattle.std.specs.Prelude.{slice_range}
 use Rattle.sig_match.specs.Frontiers.{IsWithin}
 use Rattle.sig_match.specs.Runs.{IsThis}

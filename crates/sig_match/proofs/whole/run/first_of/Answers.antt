@@ -1,4 +1,4 @@
-use Rattle.std.proofs.Common.{◌≡◌, ◌+◌, ◌≤◌, ℕ, length, ap, arith}
+use Rattle.std.proofs.Common.{◌+◌, ◌≤◌, ℕ, length, ap, arith}
 use Rattle.sig_match.proofs.RunLemmas.{IsFirst-none, IsFirst-some}
 use Rattle.sig_match.proofs.whole.run.first_of.Goals as goal
 

@@ -1,7 +1,6 @@
-use Rattle.std.proofs.Common.{◌≡◌, ◌<◌, ◌+◌, length, get_or, arith, refl, subst, sym, ap, ◌∙◌, List, ℕ, false, true}
-use Rattle.memchr.specs.Find.{IsFirst, OccursAt}
+use Rattle.std.proofs.Common.{◌<◌, length, get_or, arith, refl, sym, ◌∙◌}
+use Rattle.memchr.specs.Find.{OccursAt}
 use Rattle.sig_match.specs.declared.whole.frontier.Interval.{Interval}
-use Rattle.sig_match.specs.Frontiers.{IsWithin}
 use Rattle.sig_match.proofs.FrontierLemmas.{Meets-none_more, nowhere}
 use Rattle.sig_match.proofs.RunLemmas.{Meets-first, none_first}
 use Rattle.sig_match.proofs.whole.run.has_run.Goals as goal

@@ -1,4 +1,4 @@
-use Rattle.std.proofs.Common.{◌≡◌, ℕ, vec_len}
+use Rattle.std.proofs.Common.{◌≡◌, vec_len}
 use Rattle.sig_match.proofs.MarkLemmas.{MarksBelow}
 use Rattle.sig_match.proofs.whole.search.which_hit.Given as goal
 
