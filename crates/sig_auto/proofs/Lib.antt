@@ -5,7 +5,6 @@ pub mod LocalLemmas
 pub mod RowLemmas
 pub mod RowPushLemmas
 pub mod RunLemmas
-pub mod SoundLemmas
 pub mod StepLemmas
 pub mod SuccessorLemmas
 pub mod TakenLemmas
