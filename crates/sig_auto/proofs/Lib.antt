@@ -1,10 +1,16 @@
 -- Lemmas of this crate.
 pub mod ByteLemmas
 pub mod ClassLemmas
+pub mod EndLemmas
 pub mod LocalLemmas
+pub mod PruneLemmas
 pub mod RowLemmas
 pub mod RowPushLemmas
+pub mod RunLaws
 pub mod RunLemmas
+pub mod SameLemmas
+pub mod SideLemmas
+pub mod SpelledLemmas
 pub mod StepLemmas
 pub mod SuccessorLemmas
 pub mod TakenLemmas

@@ -57,7 +57,7 @@ accepting_shown tree p a = elim (cases_eq p 0) [
 ]
 
 -- the last of one state is that state
-only_last : (p last : ℕ) (front : List ℕ) → p ∷ [] ≡ front ++ last ∷ [] → last ≡ p
+pub only_last : (p last : ℕ) (front : List ℕ) → p ∷ [] ≡ front ++ last ∷ [] → last ≡ p
 only_last p last [] e = cc
 only_last p last (x ∷ []) e = absurd (cc)
 only_last p last (x ∷ (y ∷ front)) e = absurd (cc)
@@ -95,7 +95,7 @@ start_local tree last (byte ∷ bytes) (q ∷ states) (x ∷ front) steps e a =
     ((begun, more.0), (steps.1, more.1))
 
 -- a run begins with the start
-run_states : (tree : Tree) (file states : List ℕ) → Run tree file states → (behind : List ℕ) × (0 ∷ behind ≡ states) × Steps tree 0 file behind
+pub run_states : (tree : Tree) (file states : List ℕ) → Run tree file states → (behind : List ℕ) × (0 ∷ behind ≡ states) × Steps tree 0 file behind
 run_states tree file [] run = absurd run
 run_states tree file (p ∷ behind) run = (behind, sym (ap (λ x. x ∷ behind) run.0), subst (λ x. Steps tree x file behind) run.0 run.1)
 

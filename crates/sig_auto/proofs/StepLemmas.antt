@@ -5,7 +5,7 @@ use Rattle.std.proofs.lemmas.List.{get_or_past, get_or-append_right, get_or-repl
 use Rattle.sig_auto.specs.Classes.{InClass, any}
 use Rattle.sig_auto.specs.Local.{begins, ends, goes, loops, skips}
 use Rattle.sig_auto.specs.Stepping.{IsNext, IsNextInGap, IsStepped, Leads}
-use Rattle.sig_auto.specs.Tracks.{Follows}
+use Rattle.sig_auto.specs.Tracks.{Accepting, Follows}
 use Rattle.sig_auto.specs.Trees.{Tree, Gap, Then, Or}
 use Rattle.sig_auto.specs.TreeSlots.{Takes, classes_of, class_of, slots_of}
 use Rattle.sig_auto.specs.Trim.{IsTrim}
@@ -13,9 +13,9 @@ use Rattle.sig_bits.specs.BitSets.{HasBit}
 use Rattle.sig_bits.proofs.BitLemmas.{no_bit_in_zeros}
 use Rattle.sig_table.specs.Slots.{gap_slots}
 use Rattle.sig_auto.proofs.TakenLemmas.{length_classes}
-use Rattle.sig_auto.proofs.LocalLemmas.{IsSlot, begins-slot, gap_begins, gap_goes_none, gap_goes_some, gap_next, gap_stays, goes-slots}
-use Rattle.sig_auto.proofs.RunLemmas.{follows_shown}
-use Rattle.sig_auto.proofs.TrimLemmas.{follows_exact}
+use Rattle.sig_auto.proofs.LocalLemmas.{IsSlot, begins-slot, ends-slot, gap_begins, gap_goes_none, gap_goes_some, gap_next, gap_stays, goes-slots}
+use Rattle.sig_auto.proofs.RunLemmas.{accepting_shown, follows_shown}
+use Rattle.sig_auto.proofs.TrimLemmas.{accepting_exact, follows_exact}
 
 -- a slot has its class from its branch
 class_left : (a b : Tree) (before q : ℕ) → IsSlot a before q → get_or (classes_of a ++ classes_of b) (q - before - 1) any ≡ class_of a (q - before)
@@ -239,3 +239,29 @@ added_to_none zeros n q none is same = (
   λ h. elim (is.0 h) [ inl old ↦ absurd (no_bit_in_zeros n q (subst (λ l. HasBit l q) none old)) | inr new ↦ same.0 new ],
   λ h. is.1 (inr (same.1 h)),
 )
+
+-- one bit that is set in none
+pub alone : {New : Type 0} (zeros : List ℕ) (n q i : ℕ) → zeros ≡ replicate n 0 → (New ↔ ((q ≡ i) ⊎ HasBit zeros q)) → New ↔ (q ≡ i)
+alone zeros n q i none is = (
+  λ h. elim (is.0 h) [ inl same ↦ same | inr old ↦ absurd (no_bit_in_zeros n q (subst (λ l. HasBit l q) none old)) ],
+  λ same. is.1 (inl same),
+)
+
+-- what leads out of the whole tree is an accepting state of the set
+pub led_whole : (tree : Tree) (enter : Bool) (from : List ℕ) → IsTrim tree → (IsTrue enter ↔ HasBit from 0) → Leads tree 0 enter from ↔ ((p : ℕ) × HasBit from p × Accepting tree p)
+led_whole tree enter from trim start = (
+  λ h. elim h [
+    | inl skipped ↦ (0, start.0 skipped.0, (accepting_exact tree trim 0).0 skipped.1)
+    | inr ended ↦
+        let slot = ends-slot tree 0 ended.0 ended.2 in
+        let other : ended.0 ≡ 0 → ⊥ = λ e. omega arith in
+        (ended.0, ended.1, (accepting_exact tree trim ended.0).0 (rw (ne_eqb ended.0 0 other) ended.2))
+  ],
+  λ h. elim (cases_eq h.0 0) [
+    | inl none ↦ inl (start.1 (subst (HasBit from) none h.1), rw (eq-eqb h.0 0 none) at (accepting_shown tree h.0 h.2))
+    | inr other ↦ inr (h.0, h.1, rw (ne_eqb h.0 0 other) at (accepting_shown tree h.0 h.2))
+  ],
+)
+
+pub iff_both : {A B C : Type 0} → (A ↔ B) → (B ↔ C) → A ↔ C
+iff_both one two = (λ a. two.0 (one.0 a), λ c. one.1 (two.1 c))

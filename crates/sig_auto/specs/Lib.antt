@@ -1,12 +1,16 @@
 -- The definitions of this crate, and those of the crates below that its clauses cite.
 pub mod Classes
+pub mod Counted
 pub mod Local
+pub mod Remaining
 pub mod Rows
 pub mod Runs
 pub mod Seen
+pub mod Same
+pub mod Sides
+pub mod Spelled
 pub mod Stepping
 pub mod Successions
-pub mod SuccessorsLeft
 pub mod Tracks
 pub mod TreeSlots
 pub mod Trees

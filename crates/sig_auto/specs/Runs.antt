@@ -1,8 +1,9 @@
 -- Runs of the position automaton over a file.
-use Rattle.std.specs.Prelude.{◌≡◌, ℕ, List, [], ◌∷◌, ◌++◌, ⊤}
+use Rattle.std.specs.Prelude.{◌≡◌, ◌↔◌, ℕ, List, [], ◌∷◌, ◌++◌, ⊤}
 use Rattle.sig_auto.specs.Trees.{Tree}
 use Rattle.sig_auto.specs.TreeSlots.{Takes}
 use Rattle.sig_auto.specs.Tracks.{Accepting, Follows}
+use Rattle.sig_bits.specs.BitSets.{HasBit}
 
 -- from state p these states come on these bytes: each follows the one before, and takes its byte
 abbrev pub Steps : Tree → ℕ → List ℕ → List ℕ → Type 0
@@ -22,3 +23,12 @@ pub record Accepts (tree : Tree) (file : List ℕ) : Type 0 where
   pub last : ℕ
   pub run : Run tree file (front ++ last ∷ [])
   pub accepting : Accepting tree last
+
+-- some run of the file ends in this state
+pub record EndsIn (tree : Tree) (file : List ℕ) (q : ℕ) : Type 0 where
+  pub front : List ℕ
+  pub run : Run tree file (front ++ q ∷ [])
+
+-- the set has the states in which the runs of the file end, and no others
+abbrev pub IsSetOf : Tree → List ℕ → List ℕ → Type 0
+IsSetOf tree set file = (q : ℕ) → HasBit set q ↔ EndsIn tree file q

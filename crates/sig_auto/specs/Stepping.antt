@@ -21,3 +21,7 @@ IsStepped tree before enter from byte q = IsNext tree before enter from q × InC
 -- the same for the slots of a gap: the first where it is entered, each other behind the one before, and the last behind itself where the gap has no greatest length
 abbrev pub IsNextInGap : ℕ → ℕ → Option ℕ → Bool → List ℕ → ℕ → Type 0
 IsNextInGap before slots max enter from q = (before < q) × (q ≤ before + slots) × (((q ≡ before + 1) × (enter ≡ true)) ⊎ (((before + 1 < q) × HasBit from (q - 1)) ⊎ ((q ≡ before + slots) × (loops max ≡ true) × HasBit from q)))
+
+-- what stands behind a gap comes next: the gap is entered and needs no byte, or a state of the set is one of its slots and not before the least
+abbrev pub LeadsInGap : ℕ → ℕ → ℕ → Bool → List ℕ → Type 0
+LeadsInGap before slots min enter from = ((enter ≡ true) × (min ≡ 0)) ⊎ ((p : ℕ) × HasBit from p × (before < p) × (before + min ≤ p) × (p ≤ before + slots))

@@ -1,9 +1,10 @@
 //! Laws of the automaton.
 
-ghost use Rattle.std.specs.Prelude.{◌≡◌, ◌↔◌, ℕ, List};
-ghost use Rattle.sig_auto.specs.Runs.{Accepts};
-ghost use Rattle.sig_auto.specs.Trees.{whole_tree};
-ghost use Rattle.sig_auto.specs.TreeSlots.{slots_of};
+ghost use Rattle.std.specs.Prelude.{◌≡◌, ◌↔◌, ◌<◌, ◌≤◌, ℕ, List, [], ◌∷◌, ◌++◌};
+ghost use Rattle.sig_auto.specs.Runs.{Accepts, EndsIn};
+ghost use Rattle.sig_auto.specs.Tracks.{Accepting, Follows};
+ghost use Rattle.sig_auto.specs.Trees.{Tree, whole_tree};
+ghost use Rattle.sig_auto.specs.TreeSlots.{Takes, slots_of};
 ghost use Rattle.sig_bits.specs.Bytes.{IsBytes};
 ghost use Rattle.sig_table.specs.Views.{SequenceView};
 ghost use Rattle.sig_table.specs.Slots.{slot_count};
@@ -18,4 +19,26 @@ pub fn runs_accept_what_stands()
 /// An automaton has as many slots as the limit of a sequence counts.
 pub fn slots_are_counted()
     ensures { (s : SequenceView) → IsSequence s → slots_of (whole_tree s) ≡ slot_count s }
+{}
+
+/// The runs of the empty file end in the start alone.
+pub fn runs_begin()
+    ensures { (tree : Tree) (q : ℕ) → EndsIn tree [] q ↔ (q ≡ 0) }
+{}
+
+/// The runs of a file and one more byte go on from those of the file.
+pub fn runs_go_on()
+    ensures { (tree : Tree) (file : List ℕ) (b q : ℕ) → EndsIn tree (file ++ b ∷ []) q ↔ ((p : ℕ) × EndsIn tree file p × Follows tree p q × Takes tree q b) }
+{}
+
+/// A file is accepted exactly where some run of it ends in an accepting state.
+pub fn accepts_by_an_end()
+    ensures { (tree : Tree) (file : List ℕ) → Accepts tree file ↔ ((p : ℕ) × EndsIn tree file p × Accepting tree p) }
+{}
+
+/// Each state of a run is the start or a slot, and only slots follow a state.
+pub fn states_are_slots()
+    ensures ends { (tree : Tree) (file : List ℕ) (q : ℕ) → EndsIn tree file q → q ≤ slots_of tree }
+    ensures follows { (tree : Tree) (p q : ℕ) → Follows tree p q → q ≤ slots_of tree }
+    ensures above { (tree : Tree) (p q : ℕ) → Follows tree p q → 0 < q }
 {}

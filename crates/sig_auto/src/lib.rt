@@ -16,5 +16,8 @@ mod unroll;
 
 pub use auto::Auto;
 use class::Class;
-pub use laws::{runs_accept_what_stands, slots_are_counted};
+pub use laws::{
+    accepts_by_an_end, runs_accept_what_stands, runs_begin, runs_go_on, slots_are_counted,
+    states_are_slots,
+};
 pub use successors::Successors;

@@ -4,6 +4,7 @@
 //! slots goes behind another, so no gap is walked slot by slot.
 
 ghost use Rattle.std.specs.Prelude.{◌≡◌, ◌↔◌, ℕ, ◌+◌, ◌≤◌, [], ◌∷◌, Contains, IfSome, MatchOption};
+ghost use Rattle.sig_auto.specs.Counted.{IsCounted, IsCounted-prop};
 ghost use Rattle.sig_auto.specs.Seen.{seen};
 ghost use Rattle.sig_auto.specs.Successions.{BeginsOn, GoesOn, IsLeastAbove, successors_above};
 ghost use Rattle.sig_auto.specs.Tracks.{Follows};
@@ -11,6 +12,7 @@ ghost use Rattle.sig_auto.specs.TreeSlots.{Takes, slots_of};
 ghost use Rattle.sig_auto.specs.Trim.{IsTrim};
 
 use crate::node::Node;
+use std::alloc::AllocError;
 
 /// An iterator over the states that follow a state and take a byte, rising.
 #[derive(Debug, Drop)]
@@ -19,18 +21,20 @@ pub struct Successors<'a> {
     state: usize,
     byte: u8,
     above: usize,
+    ghost counted: { IsCounted root.now } by { IsCounted-prop root.now },
     ghost few: { slots_of (seen root.now) ≤ 65535 },
 }
 
 impl<'a> Successors<'a> {
     ghost use Rattle.std.specs.List.Sorted.{IsStrictlyIncreasing};
-    ghost use Rattle.sig_auto.specs.SuccessorsLeft.{left_of};
+    ghost use Rattle.sig_auto.specs.Remaining.{remaining_of};
 
     pub(crate) fn new(root: &'a Node, state: usize, byte: u8) -> Successors<'a>
+        requires counted { IsCounted root.now }
         requires trim { IsTrim (seen root.now) }
         requires few { slots_of (seen root.now) ≤ 65535 }
-        ensures members { (q : ℕ) → Contains (left_of result) q ↔ (Follows (seen root.now) state q × Takes (seen root.now) q byte) }
-        ensures rising { IsStrictlyIncreasing (left_of result) }
+        ensures members { (q : ℕ) → Contains (remaining_of result) q ↔ (Follows (seen root.now) state q × Takes (seen root.now) q byte) }
+        ensures rising { IsStrictlyIncreasing (remaining_of result) }
     {
         Successors {
             root,
@@ -41,15 +45,33 @@ impl<'a> Successors<'a> {
     }
 }
 
+impl Clone for Successors<'_> {
+    ghost use Rattle.std.specs.Prelude.{⊤};
+    ghost use Rattle.sig_auto.specs.Remaining.{remaining_of};
+
+    ghost is_clone = { λ one two. remaining_of two ≡ remaining_of one };
+
+    ghost is_infallible = { λ _. ⊤ };
+
+    fn clone(&self) -> Result<Self, AllocError> {
+        Ok(Successors {
+            root: self.root,
+            state: self.state,
+            byte: self.byte,
+            above: self.above,
+        })
+    }
+}
+
 impl Iterator for Successors<'_> {
     ghost use Rattle.std.specs.Iterator.{YieldsFirst, item_count};
-    ghost use Rattle.sig_auto.specs.SuccessorsLeft.{left_of};
+    ghost use Rattle.sig_auto.specs.Remaining.{remaining_of};
 
     type Item = u32;
 
-    ghost next_gives = { YieldsFirst left_of };
+    ghost next_gives = { YieldsFirst remaining_of };
 
-    ghost remaining = { item_count left_of };
+    ghost remaining = { item_count remaining_of };
 
     fn next(&mut self) -> Option<u32> {
         let q = self.root.next_state(self.state, self.byte, self.above)?;
@@ -61,7 +83,8 @@ impl Iterator for Successors<'_> {
 impl Node {
     // The least slot above this one that follows the state and takes the byte.
     fn next_state(&self, state: usize, byte: u8, above: usize) -> Option<usize>
-        requires { slots_of (seen self.now) ≤ 65535 }
+        requires counted { IsCounted self.now }
+        requires few { slots_of (seen self.now) ≤ 65535 }
         ensures next { MatchOption result (successors_above (seen self.now) state byte above ≡ []) (λ q. successors_above (seen self.now) state byte above ≡ q ∷ successors_above (seen self.now) state byte q) }
         ensures within { IfSome result (λ q. q ≤ slots_of (seen self.now)) }
     {
@@ -74,10 +97,14 @@ impl Node {
 
     // The least slot above this one that begins the tree and takes the byte.
     fn next_begin(&self, before: usize, byte: u8, above: usize) -> Option<usize>
-        requires { before + slots_of (seen self.now) ≤ 65535 }
+        requires counted { IsCounted self.now }
+        requires few { before + slots_of (seen self.now) ≤ 65535 }
         ensures least { IsLeastAbove above (BeginsOn (seen self.now) before byte) result }
         ensures within { IfSome result (λ q. q ≤ before + slots_of (seen self.now)) }
     {
+        if before + self.slots() <= above {
+            return None;
+        }
         match self {
             Node::Never | Node::Empty => None,
             Node::Slot(class) => {
@@ -94,7 +121,7 @@ impl Node {
                     None
                 }
             }
-            Node::Then(a, b) => match a.next_begin(before, byte, above) {
+            Node::Then(a, b, _) => match a.next_begin(before, byte, above) {
                 Some(q) => Some(q),
                 None => {
                     if a.skips() {
@@ -104,7 +131,7 @@ impl Node {
                     }
                 }
             },
-            Node::Or(a, b) => match a.next_begin(before, byte, above) {
+            Node::Or(a, b, _) => match a.next_begin(before, byte, above) {
                 Some(q) => Some(q),
                 None => b.next_begin(before + a.slots(), byte, above),
             },
@@ -113,10 +140,14 @@ impl Node {
 
     // The least slot above this one that goes behind p and takes the byte.
     fn next_gone(&self, before: usize, p: usize, byte: u8, above: usize) -> Option<usize>
-        requires { before + slots_of (seen self.now) ≤ 65535 }
+        requires counted { IsCounted self.now }
+        requires few { before + slots_of (seen self.now) ≤ 65535 }
         ensures least { IsLeastAbove above (GoesOn (seen self.now) before p byte) result }
         ensures within { IfSome result (λ q. q ≤ before + slots_of (seen self.now)) }
     {
+        if before + self.slots() <= above || !self.has_slot(before, p) {
+            return None;
+        }
         match self {
             Node::Never | Node::Empty | Node::Slot(_) => None,
             Node::Gap { max, .. } => {
@@ -129,7 +160,7 @@ impl Node {
                     None
                 }
             }
-            Node::Then(a, b) => match a.next_gone(before, p, byte, above) {
+            Node::Then(a, b, _) => match a.next_gone(before, p, byte, above) {
                 Some(q) => Some(q),
                 None => {
                     let between = before + a.slots();
@@ -140,7 +171,7 @@ impl Node {
                     }
                 }
             },
-            Node::Or(a, b) => match a.next_gone(before, p, byte, above) {
+            Node::Or(a, b, _) => match a.next_gone(before, p, byte, above) {
                 Some(q) => Some(q),
                 None => b.next_gone(before + a.slots(), p, byte, above),
             },

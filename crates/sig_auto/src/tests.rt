@@ -242,3 +242,60 @@ fn successors_rise(rt: HostRuntime) -> Result<(), Fail> {
     assert!(rt; has_successors(&auto, 2, 0x41, &[3]));
     Ok(())
 }
+
+#[test]
+fn a_set_begins_with_the_start(rt: HostRuntime) -> Result<(), Fail> {
+    let auto = automaton(rt.alloc(), "BOF,0,,(41|4142)43{2}").expect(&rt, "loads");
+    assert_eq!(rt; auto.slots(), 7);
+    assert_eq!(rt; auto.set_len(), 1);
+    let mut set = [0xFF];
+    auto.start_set(&mut set);
+    assert_eq!(rt; set, [0x01]);
+    let auto = automaton(rt.alloc(), "BOF,0,,(41|4142)43{3}").expect(&rt, "loads");
+    assert_eq!(rt; auto.set_len(), 2);
+    let mut set = [0xFF; 2];
+    auto.start_set(&mut set);
+    assert_eq!(rt; set, [0x01, 0x00]);
+    Ok(())
+}
+
+#[test]
+fn a_set_accepts_by_one_of_its_states(rt: HostRuntime) -> Result<(), Fail> {
+    let auto = automaton(rt.alloc(), "BOF,0,,(41|4142)43").expect(&rt, "loads");
+    assert_eq!(rt; auto.set_len(), 1);
+    let rows: [(u8, bool); 6] = [
+        (0x00, false),
+        (0x01, false),
+        (0x0E, false),
+        (0x10, true),
+        (0x20, true),
+        (0x3F, true),
+    ];
+    for (set, accepts) in rows {
+        assert_eq!(rt; auto.any_accepting(&[set]), accepts, "{set}");
+    }
+    Ok(())
+}
+
+#[test]
+fn bytes_on_the_same_sides(rt: HostRuntime) -> Result<(), Fail> {
+    let auto = automaton(rt.alloc(), "BOF,0,,(41|[42:44])??46").expect(&rt, "loads");
+    assert!(rt; auto.same_side(0x42, 0x44));
+    assert!(rt; auto.same_side(0x00, 0xFF));
+    assert!(rt; !auto.same_side(0x41, 0x42));
+    assert!(rt; !auto.same_side(0x44, 0x45));
+    assert!(rt; !auto.same_side(0x46, 0x47));
+    Ok(())
+}
+
+#[test]
+fn a_copy_of_the_successors_has_the_same_to_come(rt: HostRuntime) -> Result<(), Fail> {
+    let auto = automaton(rt.alloc(), "BOF,0,,41{1-2}42").expect(&rt, "loads");
+    let mut successors = auto.successors(2, 0x42);
+    assert_eq!(rt; successors.next(), Some(3));
+    let mut copy = successors.clone()?;
+    assert_eq!(rt; successors.next(), Some(4));
+    assert_eq!(rt; copy.next(), Some(4));
+    assert_eq!(rt; copy.next(), None);
+    Ok(())
+}

@@ -7,7 +7,7 @@ use Rattle.sig_expr.specs.declared.item.Atom.{Atom}
 use Rattle.sig_expr.specs.declared.item.Item.{Item}
 use Rattle.sig_expr.specs.declared.item.Item.TheVariants as item
 use Rattle.sig_expr.specs.Words.{AlternativeWord, Lang, PartWord, Word}
-use Rattle.sig_match.specs.declared.frontier.Interval.{Interval}
+use Rattle.sig_match.specs.declared.whole.frontier.Interval.{Interval}
 use Rattle.sig_match.specs.Frontiers.{IsIn, HasExactly, Reaches}
 use Rattle.sig_match.proofs.ReachLemmas.{Carries, Carries-more, Carries-start, HasExactly-from_Carries, Reaches-words, length-slice_range}
 

@@ -19,7 +19,8 @@ use Rattle.sig_table.specs.declared.puid.Registry.TheVariants.{Fmt, XFmt}
 use Rattle.sig_table.specs.declared.row.Row.{Row}
 use Rattle.sig_table.specs.Numbers.{number_of, positive_of}
 use Rattle.sig_table.specs.Puids.{numbered, puid_of}
-use Rattle.sig_table.specs.Rows.{◌>>=◌, IsRow, as_offset, in_order, is_word, items_in, offset_of, offsets_of, position_of, row_of, row_with, text_at, up_to}
+use Rattle.sig_table.specs.Judging.{◌>>=◌}
+use Rattle.sig_table.specs.Rows.{IsRow, as_offset, in_order, is_word, items_in, offset_of, offsets_of, position_of, row_of, row_with, text_at, up_to}
 use Rattle.sig_table.specs.Tables.{InOrder, IsNumber}
 use Rattle.sig_table.proofs.PuidLemmas.{IsNumber-positive_of}
 

@@ -4,6 +4,7 @@ pub mod Canonical
 pub mod Drafts
 pub mod FormatSets
 pub mod Gathered
+pub mod Judging
 pub mod Lines
 pub mod Loading
 pub mod Numbers
@@ -12,6 +13,7 @@ pub mod PriorityRows
 pub mod Puids
 pub mod Ranking
 pub mod Rankings
+pub mod Records
 pub mod Remaining
 pub mod Removal
 pub mod Rows

@@ -4,8 +4,10 @@
 
 ghost use Rattle.std.specs.Prelude.{◌≡◌, ◌<◌, ◌≤◌, ◌∷◌, ◌++◌, ℕ, [], false, length, nat_eq, not, OnOk, MatchResult, None, Some, Ok, IfOk, IfErr, IfSome};
 ghost use Rattle.std.specs.List.{list_any, position_or_len};
-ghost use Rattle.sig_table.specs.Loading.{empty_table, fault_at, fault_in, grown, place_in, unless, with_number, with_row};
-ghost use Rattle.sig_table.specs.Rows.{IsFault, IsRow, is_read};
+ghost use Rattle.sig_table.specs.Judging.{unless};
+ghost use Rattle.sig_table.specs.Loading.{empty_table, fault_at, fault_in, grown, place_in, with_number, with_row};
+ghost use Rattle.sig_table.specs.Judging.{IsFault, is_read};
+ghost use Rattle.sig_table.specs.Rows.{IsRow};
 ghost use Rattle.sig_table.specs.Tables.{ArePriorities, HasAllSignatures};
 
 use super::row::Row;

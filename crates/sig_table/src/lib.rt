@@ -29,7 +29,7 @@ pub use error::{OutError, TableError, TableFile};
 pub use ids::{FormatId, SigId};
 pub use laws::{
     first_fault_is_told, first_priority_fault_is_told, pairs_are_listed, rows_are_gathered,
-    written_is_loaded,
+    some_is_not_outranked, written_is_loaded,
 };
 pub use position::Position;
 pub use puid::{Puid, Registry};

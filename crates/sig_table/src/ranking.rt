@@ -5,10 +5,11 @@
 
 ghost use Rattle.std.specs.Prelude.{◌≡◌, ◌⊎◌, ℕ, ◌<◌, ◌≤◌, ◌↔◌, ◌∷◌, ◌++◌, [], List, IsTrue, IfOk, IfSome, MatchResult, None, Ok, false, length};
 ghost use Rattle.sig_table.specs.FormatSets.{HasFormat};
-ghost use Rattle.sig_table.specs.Loading.{is_listed, is_of_signatures, pair_fault, unless};
+ghost use Rattle.sig_table.specs.Judging.{unless};
+ghost use Rattle.sig_table.specs.Loading.{is_listed, is_of_signatures, pair_fault};
 ghost use Rattle.sig_table.specs.Ranking.{is_above};
 ghost use Rattle.sig_table.specs.Rankings.{AreBelow};
-ghost use Rattle.sig_table.specs.Rows.{IsFault, is_read};
+ghost use Rattle.sig_table.specs.Judging.{IsFault, is_read};
 ghost use Rattle.sig_table.specs.Tables.{ArePriorities};
 
 use super::TableError;

@@ -1,6 +1,6 @@
 //! From the table to its canonical files.
 
-ghost use Rattle.std.specs.Prelude.{◌≡◌, ◌∷◌, ◌+◌, ◌++◌, [], true, false, length, slice_get, string_bytes, IfOk, IsErrOf, OnOk};
+ghost use Rattle.std.specs.Prelude.{◌≡◌, ◌∷◌, ◌+◌, ◌++◌, [], true, false, length, slice_get, string_bytes, IfOk, IsErr, IsErrOf, IsTrue, OnOk};
 ghost use Rattle.std.specs.Fmt.{decimal};
 ghost use Rattle.std.specs.List.{flat_map};
 ghost use Rattle.csv.specs.Records.{fields_of, partial_of};
@@ -26,6 +26,7 @@ impl Table {
         ensures lowers { OnOk result (W.limit out.old ≡ length (signature_csv self.now) + W.limit out.new) }
         ensures writes { OnOk result (W.failed out.new ≡ false) }
         ensures write { IsErrOf result OutError.Write → W.failed out.new ≡ true }
+        ensures stays_failed { IsTrue (W.failed out.old) → IsErr result }
 
         // After a failed write only a front of the text may be written, and where memory ran out nothing is.
         ensures front { IsErrOf result OutError.Write → AddsFront (W.written out.old) (signature_csv self.now) (W.written out.new) }
@@ -43,6 +44,7 @@ impl Table {
         ensures lowers { OnOk result (W.limit out.old ≡ length (priority_csv self.now) + W.limit out.new) }
         ensures writes { OnOk result (W.failed out.new ≡ false) }
         ensures write { IsErrOf result OutError.Write → W.failed out.new ≡ true }
+        ensures stays_failed { IsTrue (W.failed out.old) → IsErr result }
 
         // After a failed write only a front of the text may be written, and where memory ran out nothing is.
         ensures front { IsErrOf result OutError.Write → AddsFront (W.written out.old) (priority_csv self.now) (W.written out.new) }

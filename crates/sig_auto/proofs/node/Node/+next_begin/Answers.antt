@@ -1,7 +1,8 @@
-use Rattle.std.proofs.Common.{◌≡◌, true, sym, ap, ◌∙◌}
+use Rattle.std.proofs.Common.{rules, tests, ◌≡◌, true, sym, ap, ◌∙◌}
 use Rattle.sig_auto.specs.Seen.{seen}
 use Rattle.sig_auto.specs.TreeSlots.{slots_of}
 use Rattle.sig_auto.specs.Local.{skips}
+use Rattle.sig_auto.proofs.PruneLemmas.{none_begins_above}
 use Rattle.sig_auto.proofs.SuccessorLemmas.{begin_or_first, begin_or_second, begin_then_first, begin_then_second}
 use Rattle.sig_auto.proofs.node.Node.+next_begin.Goals as goal
 
@@ -29,3 +30,6 @@ returns-in-None-next_begin-clause-least t c =
     let two : seen c.deref-in-None-next_begin.result.now ≡ seen c.in-Or.b.value = ap seen c.deref-in-None-next_begin.ensures in
     let many : c.slots-in-None-next_begin.result ≡ slots_of (seen c.in-Or.a.value) = c.slots-in-None-next_begin.ensures ∙ ap (λ node. slots_of (seen node)) c.deref-in-None-next_begin-2.ensures in
     begin_or_second (seen c.args.self.now) (seen c.in-Or.a.value) (seen c.in-Or.b.value) (seen c.deref-in-Or.result.now) (seen c.deref-in-None-next_begin.result.now) c.slots-in-None-next_begin.result c.args.before c.args.byte c.args.above c.next_begin-in-None-next_begin.result (ap seen c.in-Or.is) one two many c.in-None-next_begin.ensures.least c.next_begin-in-None-next_begin.ensures.least
+
+pub returns-then-before-slots-clause-least : goal.returns-then-before-slots-clause-least
+returns-then-before-slots-clause-least t c = none_begins_above (seen c.args.self.now) c.args.before c.args.byte c.args.above (search (rules, tests))

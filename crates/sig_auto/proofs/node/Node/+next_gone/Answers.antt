@@ -1,9 +1,12 @@
-use Rattle.std.proofs.Common.{◌≡◌, false, true, sym, ap, ◌∙◌}
+use Rattle.std.proofs.Common.{arith, ◌≡◌, false, true, sym, ap, ◌∙◌}
+use Rattle.std.proofs.lemmas.Bool.{false≢true}
 use Rattle.sig_auto.specs.Seen.{seen}
 use Rattle.sig_auto.specs.TreeSlots.{slots_of}
 use Rattle.sig_auto.specs.Local.{ends}
+use Rattle.sig_auto.proofs.PruneLemmas.{none_goes_on}
 use Rattle.sig_auto.proofs.SuccessorLemmas.{gone_or_first, gone_or_second, gone_then_first, gone_then_over, gone_then_second}
 use Rattle.sig_auto.proofs.node.Node.+next_gone.Goals as goal
+use Rattle.sig_auto.proofs.node.Node.+next_gone.Goals.{then-before-slots-via-then-before-slots, then-before-slots-via-else-before-slots+then-not-has_slot}
 
 pub returns-in-Some-clause-least : goal.returns-in-Some-clause-least
 returns-in-Some-clause-least t c =
@@ -37,3 +40,11 @@ returns-in-None-next_gone-clause-least t c =
     let two : seen c.deref-in-None-next_gone.result.now ≡ seen c.in-Or.b.value = ap seen c.deref-in-None-next_gone.ensures in
     let many : c.slots-in-None-next_gone.result ≡ slots_of (seen c.in-Or.a.value) = c.slots-in-None-next_gone.ensures ∙ ap (λ node. slots_of (seen node)) c.deref-in-None-next_gone-2.ensures in
     gone_or_second (seen c.args.self.now) (seen c.in-Or.a.value) (seen c.in-Or.b.value) (seen c.deref-in-Or.result.now) (seen c.deref-in-None-next_gone.result.now) c.slots-in-None-next_gone.result c.args.before c.args.p c.args.byte c.args.above c.next_gone-in-None-next_gone.result (ap seen c.in-Or.is) one two many c.in-None-next_gone.ensures.least c.next_gone-in-None-next_gone.ensures.least
+
+pub returns-then-before-slots-clause-least : goal.returns-then-before-slots-clause-least
+returns-then-before-slots-clause-least t c =
+    none_goes_on (seen c.args.self.now) c.args.before c.args.p c.args.byte c.args.above
+    (λ slot. elim c.then-before-slots.branch [
+      | then-before-slots-via-then-before-slots w ↦ omega (arith, w.if-before-slots.true, c.slots.ensures)
+      | then-before-slots-via-else-before-slots+then-not-has_slot w ↦ absurd (false≢true (sym w.if-not-has_slot.true ∙ w.has_slot.ensures.1 slot))
+    ])

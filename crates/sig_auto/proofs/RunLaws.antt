@@ -1,0 +1,56 @@
+-- The laws of the automaton, for proofs of other crates.
+use Rattle.std.proofs.Common.{◌≡◌, ◌↔◌, ℕ, ◌<◌, ◌≤◌, List, [], ◌∷◌, ◌++◌, arith}
+use Rattle.sig_auto.specs.Runs.{Accepts, EndsIn}
+use Rattle.sig_auto.specs.Tracks.{Accepting, Follows}
+use Rattle.sig_auto.specs.Trees.{Tree, whole_tree}
+use Rattle.sig_auto.specs.TreeSlots.{Takes, slots_of}
+use Rattle.sig_bits.specs.Bytes.{IsBytes}
+use Rattle.sig_table.specs.Slots.{slot_count}
+use Rattle.sig_table.specs.Standing.{Stands}
+use Rattle.sig_table.specs.Tables.{IsSequence}
+use Rattle.sig_table.specs.Views.{SequenceView}
+use Rattle.sig_auto.proofs.EndLemmas.{begin_only, ends_before, ends_further, last_is_slot, next_is_slot}
+use Rattle.sig_auto.proofs.RunLemmas.{accepts_is_taken, run_states}
+use Rattle.sig_auto.proofs.TakenLemmas.{taken_is_word}
+use Rattle.sig_auto.proofs.WholeLemmas.{whole_slots}
+use Rattle.sig_auto.proofs.WordLemmas.{word_is_unfolded}
+
+-- some run of a file accepts exactly where the sequence stands in the file
+pub runs_accept_what_stands : (s : SequenceView) (file : List ℕ) → IsSequence s → IsBytes file → Accepts (whole_tree s) file ↔ Stands s file
+runs_accept_what_stands s file sequence bytes =
+    let run = accepts_is_taken (whole_tree s) file in
+    let taken = taken_is_word (whole_tree s) file in
+    let word = word_is_unfolded s file sequence bytes in
+    (λ accepts. word.0 (taken.1 (run.0 accepts)), λ stands. run.1 (taken.0 (word.1 stands)))
+
+-- an automaton has as many slots as the limit of a sequence counts
+pub slots_are_counted : (s : SequenceView) → IsSequence s → slots_of (whole_tree s) ≡ slot_count s
+slots_are_counted = whole_slots
+
+-- the runs of the empty file end in the start alone
+pub runs_begin : (tree : Tree) (q : ℕ) → EndsIn tree [] q ↔ (q ≡ 0)
+runs_begin tree q = (λ ends. begin_only tree q ends.front ends.run, λ start. record { front = []; run = (start, tt) })
+
+-- the runs of a file and one more byte go on from those of the file
+pub runs_go_on : (tree : Tree) (file : List ℕ) (b q : ℕ) → EndsIn tree (file ++ b ∷ []) q ↔ ((p : ℕ) × EndsIn tree file p × Follows tree p q × Takes tree q b)
+runs_go_on tree file b q = (ends_before tree file b q, λ h. ends_further tree file h.0 b q h.1 h.2 h.3)
+
+-- a file is accepted exactly where some run of it ends in an accepting state
+pub accepts_by_an_end : (tree : Tree) (file : List ℕ) → Accepts tree file ↔ ((p : ℕ) × EndsIn tree file p × Accepting tree p)
+accepts_by_an_end tree file = (
+  λ a. (a.last, record { front = a.front; run = a.run }, a.accepting),
+  λ h. let ends : EndsIn tree file h.0 = h.1 in record { front = ends.front; last = h.0; run = ends.run; accepting = h.2 },
+)
+
+-- each state of a run is the start or a slot
+pub ends_in_a_slot : (tree : Tree) (file : List ℕ) (q : ℕ) → EndsIn tree file q → q ≤ slots_of tree
+ends_in_a_slot tree file q ends =
+    let states = run_states tree file (ends.front ++ q ∷ []) ends.run in
+    last_is_slot tree 0 file states.0 ends.front q (omega arith) states.2 states.1
+
+-- and only slots follow a state
+pub follows_to_a_slot : (tree : Tree) (p q : ℕ) → Follows tree p q → q ≤ slots_of tree
+follows_to_a_slot tree p q follows = let slot = next_is_slot tree p q follows in omega arith
+
+pub follows_above_the_start : (tree : Tree) (p q : ℕ) → Follows tree p q → 0 < q
+follows_above_the_start tree p q follows = (next_is_slot tree p q follows).0
