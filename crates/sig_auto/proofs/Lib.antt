@@ -10,7 +10,6 @@ pub mod RunLaws
 pub mod RunLemmas
 pub mod SameLemmas
 pub mod SideLemmas
-pub mod SoundLemmas
 pub mod SpelledLemmas
 pub mod StepLemmas
 pub mod SuccessorLemmas

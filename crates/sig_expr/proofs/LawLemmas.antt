@@ -5,6 +5,9 @@ use Rattle.sig_expr.specs.Profile.{IsExpression}
 use Rattle.sig_expr.specs.Texts.{expr_of}
 use Rattle.sig_expr.proofs.RefusalLemmas.{read_spells}
 use Rattle.sig_expr.proofs.ShortestLemmas.{is_expression}
+-- the words of the crate `hex` in which canonical texts are written
+pub use Rattle.hex.specs.Hex.{encode_upper, upper_digits}
+unfoldable pub use Rattle.hex.specs.Hex.{encode_with}
 pub use Rattle.sig_expr.proofs.OrderLemmas.{leaves_no_all}
 pub use Rattle.sig_expr.proofs.ShortestLemmas.{canon_spells, expression_read}
 

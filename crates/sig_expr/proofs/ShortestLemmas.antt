@@ -1,11 +1,12 @@
 -- Canonical texts spell their expressions, and none is longer than another spelling.
 use Rattle.std.proofs.Common.{◌≡◌, inl, inr, ℕ, ◌/◌, ◌%◌, ◌<◌, ◌≤◌, Bool, true, false, cond, List, [], ◌∷◌, ◌++◌, length, decimal, Option, Some, None, Ok, refl, rules, arith, nat_eq, length-append}
 use Rattle.std.proofs.lemmas.Bool.Decides.{nat_tests}
+use Rattle.hex.specs.Hex.{encode_upper, encode_with}
 use Rattle.sig_expr.specs.declared.item.Item.{Item}
 use Rattle.sig_expr.specs.declared.item.Item.TheVariants as item
 use Rattle.sig_expr.specs.declared.item.Atom.{Atom}
 use Rattle.sig_expr.specs.declared.item.Atom.TheVariants as atom
-use Rattle.sig_expr.specs.Canon.{hex_digit, pair_text, word_text, count_text, from_text, between_text, gap_text, range_text, not_text, atom_text, alternative_text, alternatives_text, item_text, canon}
+use Rattle.sig_expr.specs.Canon.{count_text, from_text, between_text, gap_text, range_text, not_text, atom_text, alternative_text, alternatives_text, item_text, canon}
 use Rattle.sig_expr.specs.Spelling.{NumberText, PairText, WordText, GapText, RangeText, NotText, AtomText, AlternativeText, AlternativesText, ListText, ItemText, Spells}
 use Rattle.sig_expr.specs.Profile.{GapSound, IsEnd, RangeSound, AtomSound, AtomsSound, AlternativesSound, ItemSound, ItemsSound, InProfile, IsExpression}
 use Rattle.sig_expr.specs.Texts.{expr_of}
@@ -13,16 +14,17 @@ use Rattle.sig_expr.proofs.PairLemmas.{pair_small, pair_spells, word_spells}
 use Rattle.sig_expr.proofs.ProfileLemmas.{read_text}
 use Rattle.sig_expr.proofs.UniqueLemmas.{spells_one}
 
-pair_shortest : (b : ℕ) (t : List ℕ) → PairText b t → PairText b (pair_text b) × (length (pair_text b) ≤ length t)
+pair_shortest : (b : ℕ) (t : List ℕ) → PairText b t → PairText b (encode_upper (b ∷ [])) × (length (encode_upper (b ∷ [])) ≤ length t)
+unfolding encode_with
 pair_shortest b t h = (pair_spells b (pair_small b t h), rw h.text (omega arith))
 
-word_shortest : (a t : List ℕ) → WordText a t → WordText a (word_text a) × (length (word_text a) ≤ length t)
-unfolding word_text
+word_shortest : (a t : List ℕ) → WordText a t → WordText a (encode_upper a) × (length (encode_upper a) ≤ length t)
+unfolding encode_with
 word_shortest [] t h = (refl, omega arith)
 word_shortest (b ∷ a) t h =
     let first = pair_shortest b h.0 h.3 in
     let rest = word_shortest a h.1 h.4 in
-    ((pair_text b, word_text a, refl, first.0, rest.0), rw h.2 (simp length-append (omega (arith, first.1, rest.1))))
+    ((encode_upper (b ∷ []), encode_upper a, refl, first.0, rest.0), rw h.2 (simp length-append (omega (arith, first.1, rest.1))))
 
 gap_if : (least : ℕ) (max : Option ℕ) (t : List ℕ) (b : Bool) (x y : List ℕ) → (b ≡ true → GapText least max x × (length x ≤ length t)) → (b ≡ false → GapText least max y × (length y ≤ length t)) → GapText least max (cond b x y) × (length (cond b x y) ≤ length t)
 gap_if least max t true x y f g = f refl
@@ -49,13 +51,13 @@ unfolding range_text
 range_shortest o a b t h =
     let first = word_shortest a h.first h.is_first in
     let second = word_shortest b h.second h.is_second in
-    (record { first = word_text a; second = word_text b; text = refl; is_first = first.0; is_second = second.0; some_first = h.some_first; some_second = h.some_second }, rw h.text (simp length-append (omega (arith, first.1, second.1))))
+    (record { first = encode_upper a; second = encode_upper b; text = refl; is_first = first.0; is_second = second.0; some_first = h.some_first; some_second = h.some_second }, rw h.text (simp length-append (omega (arith, first.1, second.1))))
 
 not_shortest : (a t : List ℕ) → NotText a t → NotText a (not_text a) × (length (not_text a) ≤ length t)
 unfolding not_text
 not_shortest a t h =
     let end = word_shortest a h.end h.is_end in
-    (record { end = word_text a; text = refl; is_end = end.0; some = h.some }, rw h.text (simp length-append (omega (arith, end.1))))
+    (record { end = encode_upper a; text = refl; is_end = end.0; some = h.some }, rw h.text (simp length-append (omega (arith, end.1))))
 
 atom_shortest : (p : Atom) (t : List ℕ) → AtomText p t → AtomText p (atom_text p) × (length (atom_text p) ≤ length t)
 atom_shortest (atom.Byte b) t h = pair_shortest b t h
@@ -121,8 +123,8 @@ gap_spells least (Some max) h =
 range_spells : (o a b : List ℕ) → RangeSound a b → RangeText o a b (range_text o a b)
 unfolding range_text
 range_spells o a b h = record {
-  first = word_text a;
-  second = word_text b;
+  first = encode_upper a;
+  second = encode_upper b;
   text = refl;
   is_first = word_spells a h.first.bytes;
   is_second = word_spells b h.second.bytes;
@@ -132,7 +134,7 @@ range_spells o a b h = record {
 
 not_spells : (a : List ℕ) → IsEnd a → NotText a (not_text a)
 unfolding not_text
-not_spells a h = record { end = word_text a; text = refl; is_end = word_spells a h.bytes; some = h.some }
+not_spells a h = record { end = encode_upper a; text = refl; is_end = word_spells a h.bytes; some = h.some }
 
 atom_spells : (p : Atom) → AtomSound p → AtomText p (atom_text p)
 atom_spells (atom.Byte b) h = pair_spells b h

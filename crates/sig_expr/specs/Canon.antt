@@ -1,22 +1,10 @@
 -- The canonical text of an expression.
-use Rattle.std.specs.Prelude.{ℕ, ◌+◌, ◌/◌, ◌%◌, nat_eq, nat_lt, if◌then◌else◌, List, [], ◌∷◌, ◌++◌, Option, Some, None, codes, decimal}
+use Rattle.std.specs.Prelude.{ℕ, nat_eq, if◌then◌else◌, List, [], ◌∷◌, ◌++◌, Option, Some, None, codes, decimal}
+use Rattle.hex.specs.Hex.{encode_upper}
 use Rattle.sig_expr.specs.declared.item.Atom.{Atom}
 use Rattle.sig_expr.specs.declared.item.Atom.TheVariants as atom
 use Rattle.sig_expr.specs.declared.item.Item.{Item}
 use Rattle.sig_expr.specs.declared.item.Item.TheVariants as item
-
--- the digit of a value below 16, in capitals
-abbrev pub hex_digit : ℕ → ℕ
-hex_digit v = if nat_lt v 10 then 48 + v else 55 + v
-
--- the two digits of a byte
-abbrev pub pair_text : ℕ → List ℕ
-pair_text b = hex_digit (b / 16) ∷ hex_digit (b % 16) ∷ []
-
--- the pairs of a word
-unfoldable pub word_text : List ℕ → List ℕ
-word_text [] = []
-word_text (b ∷ bs) = pair_text b ++ word_text bs
 
 -- a gap of one length
 unfoldable pub count_text : ℕ → List ℕ
@@ -37,15 +25,15 @@ gap_text min (Some max) = if nat_eq min max then count_text max else between_tex
 
 -- a bracket with two ends, behind what opens it
 unfoldable pub range_text : List ℕ → List ℕ → List ℕ → List ℕ
-range_text opening a b = opening ++ (word_text a ++ (codes ":" ++ (word_text b ++ codes "]")))
+range_text opening a b = opening ++ (encode_upper a ++ (codes ":" ++ (encode_upper b ++ codes "]")))
 
 -- a bracket with one end
 unfoldable pub not_text : List ℕ → List ℕ
-not_text a = codes "[!" ++ (word_text a ++ codes "]")
+not_text a = codes "[!" ++ (encode_upper a ++ codes "]")
 
 -- a part of an alternative
 abbrev pub atom_text : Atom → List ℕ
-atom_text (atom.Byte b) = pair_text b
+atom_text (atom.Byte b) = encode_upper (b ∷ [])
 atom_text (atom.Range a b) = range_text (codes "[") a b
 atom_text (atom.Not a) = not_text a
 atom_text (atom.NotRange a b) = range_text (codes "[!") a b
@@ -62,7 +50,7 @@ alternatives_text sign (a ∷ rest) = sign ++ (alternative_text a ++ alternative
 
 -- an item
 abbrev pub item_text : Item → List ℕ
-item_text (item.Byte b) = pair_text b
+item_text (item.Byte b) = encode_upper (b ∷ [])
 item_text item.Any = codes "??"
 item_text (item.Gap min max) = gap_text min max
 item_text (item.Alt alternatives) = alternatives_text (codes "(") alternatives ++ codes ")"

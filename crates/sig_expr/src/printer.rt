@@ -1,8 +1,9 @@
 //! The canonical text of an expression, written piece by piece from fixed arrays.
 
-ghost use Rattle.std.specs.Prelude.{◌≡◌, ◌+◌, ◌<◌, ◌++◌, length, map, codes, decimal, IsErr, IsTrue, OnOk, is_err};
+ghost use Rattle.std.specs.Prelude.{◌≡◌, ◌+◌, ◌<◌, [], ◌∷◌, ◌++◌, length, map, slice_index, codes, decimal, IsErr, IsTrue, OnOk, is_err};
+ghost use Rattle.hex.specs.Hex.{encode_upper, upper_digits};
 ghost use Rattle.sig_bits.specs.Device.{Adds};
-ghost use Rattle.sig_expr.specs.Canon.{hex_digit, pair_text, word_text, count_text, from_text, between_text, gap_text, range_text, not_text, atom_text, alternative_text, alternatives_text, item_text, canon};
+ghost use Rattle.sig_expr.specs.Canon.{count_text, from_text, between_text, gap_text, range_text, not_text, atom_text, alternative_text, alternatives_text, item_text, canon};
 ghost use Rattle.sig_expr.specs.Writing.{Prints};
 
 use crate::expr::Expr;
@@ -18,26 +19,23 @@ fn put<W: Output>(out: &mut W, bytes: &[u8]) -> Result<(), DeviceFault>
     out.write_all(bytes)
 }
 
-// In capitals.
+// The digit of a value below 16.
 fn digit(value: u8) -> u8
     requires { value < 16 }
-    ensures { result ≡ hex_digit value }
+    ensures { result ≡ slice_index upper_digits value }
 {
-    if value < 10 {
-        b'0' + value
-    } else {
-        b'A' + (value - 10)
-    }
+    b"0123456789ABCDEF"[usize::from(value)]
 }
 
+#[tactic(auto, unfolding(hex::specs::Hex::encode_with))]
 fn put_pair<W: Output>(out: &mut W, byte: u8) -> Result<(), DeviceFault>
-    ensures { Prints W.failed W.limit W.written out.old (pair_text byte) result out.new }
+    ensures { Prints W.failed W.limit W.written out.old (encode_upper (byte ∷ [])) result out.new }
 {
     put(out, &[digit(byte / 16), digit(byte % 16)])
 }
 
 fn put_word<W: Output>(out: &mut W, word: Short) -> Result<(), DeviceFault>
-    ensures { Prints W.failed W.limit W.written out.old (word_text word) result out.new }
+    ensures { Prints W.failed W.limit W.written out.old (encode_upper word) result out.new }
 {
     for byte in word.as_bytes() {
         put_pair(out, *byte)?;

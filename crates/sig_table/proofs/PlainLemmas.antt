@@ -1,12 +1,13 @@
 -- No field of the canonical text has a byte that calls for quotes, so `csv` writes each record as it stands.
 use Rattle.std.proofs.Common.{◌≡◌, ℕ, zero, suc, ◌+◌, ◌/◌, ◌%◌, ◌<◌, Bool, true, false, cond, nat_eq, nat_lt, List, [], ◌∷◌, ◌++◌, drop, map, Option, Some, None, refl, sym, ap, append-nil, inl, inr, arith}
-use Rattle.std.specs.Prelude.{codes, slice_get, ⊤}
+use Rattle.std.specs.Prelude.{codes, slice_get, slice_index, ⊤}
 use Rattle.std.specs.Fmt.{decimal, digit_glyph, digits, digits_onto}
 use Rattle.std.specs.List.{flat_map}
 use Rattle.std.proofs.lemmas.Bool.{cases_Bool, ne_eqb}
 use Rattle.std.proofs.lemmas.List.Folds.{list_any-append}
 use Rattle.csv.specs.Writing.{default_writer, fields_text, is_blank, needs_byte, needs_quotes, row_body, row_text}
-use Rattle.sig_expr.specs.Canon.{alternative_text, alternatives_text, atom_text, between_text, canon, count_text, from_text, gap_text, hex_digit, item_text, not_text, pair_text, range_text, word_text}
+use Rattle.sig_expr.proofs.LawLemmas.{encode_upper, encode_with, upper_digits}
+use Rattle.sig_expr.specs.Canon.{alternative_text, alternatives_text, atom_text, between_text, canon, count_text, from_text, gap_text, item_text, not_text, range_text}
 use Rattle.sig_expr.specs.declared.item.Atom.{Atom}
 use Rattle.sig_expr.specs.declared.item.Atom.TheVariants as atom
 use Rattle.sig_expr.specs.declared.item.Item.{Item}
@@ -87,19 +88,24 @@ plain-name_of formats format = plain-named (slice_get formats format)
 
 -- canonical expressions
 
-hex_above : (v : ℕ) → 44 < hex_digit v
-hex_above v = elim (cases_Bool (nat_lt v 10)) [
-  | inl t ↦ rw t (omega arith)
-  | inr f ↦ rw f (omega arith)
+-- no member of a plain text calls for quotes
+plain_at : (t : List ℕ) → Plain t → (v : ℕ) → needs_byte default_writer (slice_index t v) ≡ false
+plain_at [] p v = refl
+plain_at (x ∷ t) p zero = elim (cases_Bool (needs_byte default_writer x)) [
+  | inl y ↦ absurd (cc (rw y at p))
+  | inr f ↦ f
 ]
+plain_at (x ∷ t) p (suc v) = plain_at t (elim (cases_Bool (needs_byte default_writer x)) [
+  | inl y ↦ absurd (cc (rw y at p))
+  | inr f ↦ rw f at p
+]) v
 
-plain-pair : (b : ℕ) → Plain (pair_text b)
-plain-pair b = plain-above (hex_digit (b / 16)) (hex_digit (b % 16) ∷ []) (hex_above (b / 16)) (plain-above (hex_digit (b % 16)) [] (hex_above (b % 16)) refl)
-
-plain-word : (bs : List ℕ) → Plain (word_text bs)
-unfolding word_text
+plain-word : (bs : List ℕ) → Plain (encode_upper bs)
+unfolding encode_with
 plain-word [] = refl
-plain-word (b ∷ bs) = plain-append (pair_text b) (word_text bs) (plain-pair b) (plain-word bs)
+plain-word (b ∷ bs) =
+    plain-cons (slice_index upper_digits (b / 16)) (slice_index upper_digits (b % 16) ∷ encode_upper bs) (plain_at upper_digits refl (b / 16))
+    (plain-cons (slice_index upper_digits (b % 16)) (encode_upper bs) (plain_at upper_digits refl (b % 16)) (plain-word bs))
 
 plain-count : (n : ℕ) → Plain (count_text n)
 unfolding count_text
@@ -128,17 +134,17 @@ plain-gap min (Some max) = plain-if (nat_eq min max) (count_text max) (between_t
 plain-range : (opening a b : List ℕ) → Plain opening → Plain (range_text opening a b)
 unfolding range_text
 plain-range opening a b p =
-    plain-append opening (word_text a ++ ((58 ∷ []) ++ (word_text b ++ (93 ∷ [])))) p
-    (plain-append (word_text a) ((58 ∷ []) ++ (word_text b ++ (93 ∷ []))) (plain-word a)
-    (plain-append (58 ∷ []) (word_text b ++ (93 ∷ [])) refl
-    (plain-append (word_text b) (93 ∷ []) (plain-word b) refl)))
+    plain-append opening (encode_upper a ++ ((58 ∷ []) ++ (encode_upper b ++ (93 ∷ [])))) p
+    (plain-append (encode_upper a) ((58 ∷ []) ++ (encode_upper b ++ (93 ∷ []))) (plain-word a)
+    (plain-append (58 ∷ []) (encode_upper b ++ (93 ∷ [])) refl
+    (plain-append (encode_upper b) (93 ∷ []) (plain-word b) refl)))
 
 plain-not : (a : List ℕ) → Plain (not_text a)
 unfolding not_text
-plain-not a = plain-append (91 ∷ 33 ∷ []) (word_text a ++ (93 ∷ [])) refl (plain-append (word_text a) (93 ∷ []) (plain-word a) refl)
+plain-not a = plain-append (91 ∷ 33 ∷ []) (encode_upper a ++ (93 ∷ [])) refl (plain-append (encode_upper a) (93 ∷ []) (plain-word a) refl)
 
 plain-atom : (a : Atom) → Plain (atom_text a)
-plain-atom (atom.Byte b) = plain-pair b
+plain-atom (atom.Byte b) = plain-word (b ∷ [])
 plain-atom (atom.Range a b) = plain-range (91 ∷ []) a b refl
 plain-atom (atom.Not a) = plain-not a
 plain-atom (atom.NotRange a b) = plain-range (91 ∷ 33 ∷ []) a b refl
@@ -156,7 +162,7 @@ plain-alternatives sign (a ∷ later) h =
     (plain-append (alternative_text a) (alternatives_text (codes "|") later) (plain-alternative a) (plain-alternatives (codes "|") later refl))
 
 plain-item : (i : Item) → Plain (item_text i)
-plain-item (item.Byte b) = plain-pair b
+plain-item (item.Byte b) = plain-word (b ∷ [])
 plain-item item.Any = refl
 plain-item (item.Gap min max) = plain-gap min max
 plain-item (item.Alt alternatives) = plain-append (alternatives_text (codes "(") alternatives) (codes ")") (plain-alternatives (codes "(") alternatives refl) refl
