@@ -5,14 +5,14 @@ use Rattle.std.proofs.Props.{props}
 use Rattle.sig_auto.specs.declared.node.Node.{Node}
 use Rattle.sig_auto.specs.declared.node.Node.TheVariants as node
 use Rattle.sig_auto.specs.declared.node.Summary.{Summary}
-use Rattle.sig_auto.specs.Local.{skips}
+use Rattle.sig_auto.specs.Local.{is_nullable}
 use Rattle.sig_auto.specs.Seen.{seen}
 use Rattle.sig_auto.specs.Trees.{Tree, Then, Or}
 use Rattle.sig_auto.specs.TreeSlots.{slots_of}
 
 -- how many slots the tree has, up to one past the limit, and whether it has the empty word
 abbrev pub Counts : Summary → Tree → Type 0
-Counts summary tree = (summary.slots ≡ min (slots_of tree) 65536) × (summary.nullable ≡ skips tree)
+Counts summary tree = (summary.slots ≡ min (slots_of tree) 65536) × (summary.nullable ≡ is_nullable tree)
 
 -- so does each node that has branches
 abbrev pub IsCounted : Node → Type 0

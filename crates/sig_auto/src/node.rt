@@ -1,8 +1,11 @@
 //! The tree of a sequence: its slots, and in which order bytes take them.
+//!
+//! After Glushkov: whether it is nullable, which slots may be the first and the last, and which follow
+//! each other. A question about a slot passes over the branches that do not have it.
 
 ghost use Rattle.std.specs.Prelude.{◌≡◌, ◌↔◌, ◌+◌, ◌-◌, ◌<◌, ◌≤◌, IfOk, IsTrue, min};
 ghost use Rattle.sig_auto.specs.Counted.{IsCounted};
-ghost use Rattle.sig_auto.specs.Local.{begins, ends, goes, skips};
+ghost use Rattle.sig_auto.specs.Local.{is_first, is_last, follows, is_nullable};
 ghost use Rattle.sig_auto.specs.Seen.{seen};
 ghost use Rattle.sig_auto.specs.Sides.{SameSides};
 ghost use Rattle.sig_auto.specs.Trees.{Or, Then};
@@ -46,7 +49,7 @@ impl Node {
     {
         let summary = Summary {
             slots: (a.count() + b.count()).min(65536),
-            nullable: a.skips() && b.skips(),
+            nullable: a.is_nullable() && b.is_nullable(),
         };
         Ok(Node::Then(Box::new(alloc, a)?, Box::new(alloc, b)?, summary))
     }
@@ -60,7 +63,7 @@ impl Node {
     {
         let summary = Summary {
             slots: (a.count() + b.count()).min(65536),
-            nullable: a.skips() || b.skips(),
+            nullable: a.is_nullable() || b.is_nullable(),
         };
         Ok(Node::Or(Box::new(alloc, a)?, Box::new(alloc, b)?, summary))
     }
@@ -89,9 +92,9 @@ impl Node {
     }
 
     // Whether the empty word is one of its words.
-    pub(crate) fn skips(&self) -> bool
+    pub(crate) fn is_nullable(&self) -> bool
         requires { IsCounted self.now }
-        ensures { result ≡ skips (seen self.now) }
+        ensures { result ≡ is_nullable (seen self.now) }
     {
         match self {
             Node::Never | Node::Slot(_) => false,
@@ -111,10 +114,10 @@ impl Node {
     }
 
     // Whether some track begins with q, where so many slots stand before the tree.
-    pub(crate) fn begins(&self, before: usize, q: usize) -> bool
+    pub(crate) fn is_first(&self, before: usize, q: usize) -> bool
         requires counted { IsCounted self.now }
         requires few { before + slots_of (seen self.now) ≤ 65535 }
-        ensures { result ≡ begins (seen self.now) before q }
+        ensures { result ≡ is_first (seen self.now) before q }
     {
         if !self.has_slot(before, q) {
             return false;
@@ -124,17 +127,17 @@ impl Node {
             Node::Slot(_) => q == before + 1,
             Node::Gap { .. } => self.slots() > 0 && q == before + 1,
             Node::Then(a, b, _) => {
-                a.begins(before, q) || (a.skips() && b.begins(before + a.slots(), q))
+                a.is_first(before, q) || (a.is_nullable() && b.is_first(before + a.slots(), q))
             }
-            Node::Or(a, b, _) => a.begins(before, q) || b.begins(before + a.slots(), q),
+            Node::Or(a, b, _) => a.is_first(before, q) || b.is_first(before + a.slots(), q),
         }
     }
 
     // Whether some track ends with p.
-    pub(crate) fn ends(&self, before: usize, p: usize) -> bool
+    pub(crate) fn is_last(&self, before: usize, p: usize) -> bool
         requires counted { IsCounted self.now }
         requires few { before + slots_of (seen self.now) ≤ 65535 }
-        ensures { result ≡ ends (seen self.now) before p }
+        ensures { result ≡ is_last (seen self.now) before p }
     {
         if !self.has_slot(before, p) {
             return false;
@@ -146,17 +149,17 @@ impl Node {
                 before < p && before as u64 + *min as u64 <= p as u64 && p <= before + self.slots()
             }
             Node::Then(a, b, _) => {
-                (a.ends(before, p) && b.skips()) || b.ends(before + a.slots(), p)
+                (a.is_last(before, p) && b.is_nullable()) || b.is_last(before + a.slots(), p)
             }
-            Node::Or(a, b, _) => a.ends(before, p) || b.ends(before + a.slots(), p),
+            Node::Or(a, b, _) => a.is_last(before, p) || b.is_last(before + a.slots(), p),
         }
     }
 
     // Whether q stands directly behind p in some track.
-    pub(crate) fn goes(&self, before: usize, p: usize, q: usize) -> bool
+    pub(crate) fn follows(&self, before: usize, p: usize, q: usize) -> bool
         requires counted { IsCounted self.now }
         requires few { before + slots_of (seen self.now) ≤ 65535 }
-        ensures { result ≡ goes (seen self.now) before p q }
+        ensures { result ≡ follows (seen self.now) before p q }
     {
         if !self.has_slot(before, p) || !self.has_slot(before, q) {
             return false;
@@ -169,11 +172,11 @@ impl Node {
             }
             Node::Then(a, b, _) => {
                 let between = before + a.slots();
-                a.goes(before, p, q)
-                    || b.goes(between, p, q)
-                    || (a.ends(before, p) && b.begins(between, q))
+                a.follows(before, p, q)
+                    || b.follows(between, p, q)
+                    || (a.is_last(before, p) && b.is_first(between, q))
             }
-            Node::Or(a, b, _) => a.goes(before, p, q) || b.goes(before + a.slots(), p, q),
+            Node::Or(a, b, _) => a.follows(before, p, q) || b.follows(before + a.slots(), p, q),
         }
     }
 

@@ -1,7 +1,8 @@
 //! The states that follow one state on a byte, in order, without memory of their own.
 //!
-//! The next one is found from the tree's root. At most one slot begins a gap, and at most one of its
-//! slots goes behind another, so no gap is walked slot by slot.
+//! The next one is found from the tree's root, past the branches that have no slot above the last. At
+//! most one slot begins a gap, and at most one of its slots goes behind another, so no gap is walked
+//! slot by slot.
 
 ghost use Rattle.std.specs.Prelude.{◌≡◌, ◌↔◌, ℕ, ◌+◌, ◌≤◌, [], ◌∷◌, Contains, IfSome, MatchOption};
 ghost use Rattle.sig_auto.specs.Counted.{IsCounted, IsCounted-prop};
@@ -124,7 +125,7 @@ impl Node {
             Node::Then(a, b, _) => match a.next_begin(before, byte, above) {
                 Some(q) => Some(q),
                 None => {
-                    if a.skips() {
+                    if a.is_nullable() {
                         b.next_begin(before + a.slots(), byte, above)
                     } else {
                         None
@@ -164,7 +165,7 @@ impl Node {
                 Some(q) => Some(q),
                 None => {
                     let between = before + a.slots();
-                    if a.ends(before, p) {
+                    if a.is_last(before, p) {
                         b.next_begin(between, byte, above)
                     } else {
                         b.next_gone(between, p, byte, above)

@@ -14,8 +14,8 @@ ghost use Rattle.sig_auto.specs.Seen.{seen};
 ghost use Rattle.sig_auto.specs.Trees.{atom_tree, atoms_tree, back_tree, bracket_tree, front_tree, item_tree, row_tree, rows_tree, whole_tree, Gap};
 
 use crate::class::Class;
+use crate::class_word::{ClassWord, outside_rows, range_rows};
 use crate::node::Node;
-use crate::row::{Row, outside_rows, range_rows};
 use sig_expr::{Atom, Item};
 use sig_table::Position;
 use std::alloc::{AllocError, Global};
@@ -177,7 +177,7 @@ fn outside_node(alloc: Global, a: &[u8], b: &[u8]) -> Result<Node, AllocError>
 }
 
 // One of the rows, by halves.
-fn rows_node(alloc: Global, rows: &[Row]) -> Result<Node, AllocError>
+fn rows_node(alloc: Global, rows: &[ClassWord]) -> Result<Node, AllocError>
     ensures tree { IfOk result (λ node. IsSame (seen node) (rows_tree (map (λ v. v.items) rows.now))) }
     ensures counted { IfOk result IsCounted }
 {

@@ -1,6 +1,6 @@
 use Rattle.std.proofs.Common.{◌≡◌, [], drop, take}
 use Rattle.sig_auto.specs.Rows.{behind_these, between}
-use Rattle.sig_auto.proofs.row.range_rows.Given as goal
+use Rattle.sig_auto.proofs.class_word.range_rows.Given as goal
 
 -- both agree so far, and no row is made
 abbrev pub invariant-loop-j : goal.invariant-loop-j

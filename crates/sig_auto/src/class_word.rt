@@ -7,12 +7,12 @@ use super::Class;
 use std::alloc::{AllocError, Global};
 
 // The classes of as many bytes.
-pub(crate) type Row = Vec<Class>;
+pub(crate) type ClassWord = Vec<Class>;
 
 // Adds the rows of the words that are before the bytes, and agree with them on the first `agreed`.
 fn push_below(
     alloc: Global,
-    rows: &mut Vec<Row>,
+    rows: &mut Vec<ClassWord>,
     bytes: &[u8],
     agreed: usize,
 ) -> Result<(), AllocError>
@@ -32,7 +32,7 @@ fn push_below(
 // Adds the rows of the words that are after the bytes, and agree with them on the first `agreed`.
 fn push_above(
     alloc: Global,
-    rows: &mut Vec<Row>,
+    rows: &mut Vec<ClassWord>,
     bytes: &[u8],
     agreed: usize,
 ) -> Result<(), AllocError>
@@ -54,7 +54,7 @@ fn push_above(
 // Adds the row of the words that agree with the bytes before place j, and are there between the two.
 fn push_inner(
     alloc: Global,
-    rows: &mut Vec<Row>,
+    rows: &mut Vec<ClassWord>,
     bytes: &[u8],
     j: usize,
     last: u8,
@@ -71,7 +71,7 @@ fn push_inner(
 }
 
 // The bytes before place j, the class there, and any bytes behind it.
-fn row(alloc: Global, bytes: &[u8], j: usize, class: Class) -> Result<Row, AllocError>
+fn row(alloc: Global, bytes: &[u8], j: usize, class: Class) -> Result<ClassWord, AllocError>
     requires { j < length bytes.now }
     ensures { IfOk result (λ row. row.items ≡ only_these (take j bytes.now) ++ class ∷ rest (drop (j + 1) bytes.now)) }
 {
@@ -82,7 +82,7 @@ fn row(alloc: Global, bytes: &[u8], j: usize, class: Class) -> Result<Row, Alloc
 }
 
 // The bytes alone.
-fn only_these(alloc: Global, bytes: &[u8]) -> Result<Row, AllocError>
+fn only_these(alloc: Global, bytes: &[u8]) -> Result<ClassWord, AllocError>
     ensures { IfOk result (λ row. row.items ≡ only_these bytes.now) }
 {
     bytes
@@ -92,14 +92,14 @@ fn only_these(alloc: Global, bytes: &[u8]) -> Result<Row, AllocError>
 }
 
 // Any bytes, as many as these.
-fn rest(alloc: Global, bytes: &[u8]) -> Result<Row, AllocError>
+fn rest(alloc: Global, bytes: &[u8]) -> Result<ClassWord, AllocError>
     ensures { IfOk result (λ row. row.items ≡ rest bytes.now) }
 {
     bytes.iter().map(|_| Class::ANY).collect(alloc)
 }
 
 // The rows of the words that are before the first bytes or after the second.
-pub(crate) fn outside_rows(alloc: Global, a: &[u8], b: &[u8]) -> Result<Vec<Row>, AllocError>
+pub(crate) fn outside_rows(alloc: Global, a: &[u8], b: &[u8]) -> Result<Vec<ClassWord>, AllocError>
     ensures { IfOk result (λ rows. map (λ v. v.items) rows.items ≡ below a.now ++ above b.now) }
 {
     let mut rows = Vec::new(alloc);
@@ -109,7 +109,7 @@ pub(crate) fn outside_rows(alloc: Global, a: &[u8], b: &[u8]) -> Result<Vec<Row>
 }
 
 // The rows of the words from the first bytes to the second.
-pub(crate) fn range_rows(alloc: Global, a: &[u8], b: &[u8]) -> Result<Vec<Row>, AllocError>
+pub(crate) fn range_rows(alloc: Global, a: &[u8], b: &[u8]) -> Result<Vec<ClassWord>, AllocError>
     ensures { IfOk result (λ rows. map (λ v. v.items) rows.items ≡ between a.now b.now) }
 {
     let mut rows = Vec::new(alloc);

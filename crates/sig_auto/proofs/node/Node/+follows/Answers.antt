@@ -2,8 +2,8 @@ use Rattle.std.proofs.Common.{sym, ◌∙◌}
 use Rattle.std.proofs.lemmas.Bool.{false≢true}
 use Rattle.sig_auto.specs.Seen.{seen}
 use Rattle.sig_auto.proofs.PruneLemmas.{goes_out}
-use Rattle.sig_auto.proofs.node.Node.+goes.Goals as goal
-use Rattle.sig_auto.proofs.node.Node.+goes.Goals.{then-not-has_slot-via-then-not-has_slot, then-not-has_slot-via-else-not-has_slot+then-not-has_slot-2}
+use Rattle.sig_auto.proofs.node.Node.+follows.Goals as goal
+use Rattle.sig_auto.proofs.node.Node.+follows.Goals.{then-not-has_slot-via-then-not-has_slot, then-not-has_slot-via-else-not-has_slot+then-not-has_slot-2}
 
 pub returns-then-not-has_slot : goal.returns-then-not-has_slot
 returns-then-not-has_slot t c =

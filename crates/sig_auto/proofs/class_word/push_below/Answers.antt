@@ -1,6 +1,6 @@
 use Rattle.std.proofs.Common.{◌≡◌, ◌<◌, ◌++◌, ap, length, map, rules, slice_index, sym, tests, ◌∙◌}
 use Rattle.sig_auto.proofs.RowPushLemmas.{below_passed, below_pushed, pushed_below, pushed_row}
-use Rattle.sig_auto.proofs.row.push_below.Goals as goal
+use Rattle.sig_auto.proofs.class_word.push_below.Goals as goal
 
 pub loop-j-preserved-then-bytes-j-eq0 : goal.loop-j-preserved-then-bytes-j-eq0
 loop-j-preserved-then-bytes-j-eq0 c =

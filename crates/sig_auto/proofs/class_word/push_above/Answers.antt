@@ -1,6 +1,6 @@
 use Rattle.std.proofs.Common.{◌≡◌, ◌<◌, ◌+◌, ◌-◌, ◌++◌, ap, arith, length, map, rules, slice_index, tests, ◌∙◌}
 use Rattle.sig_auto.proofs.RowPushLemmas.{above_passed, above_pushed, pushed_above, pushed_row}
-use Rattle.sig_auto.proofs.row.push_above.Goals as goal
+use Rattle.sig_auto.proofs.class_word.push_above.Goals as goal
 
 pub loop-j-preserved-then-bytes-j : goal.loop-j-preserved-then-bytes-j
 loop-j-preserved-then-bytes-j c =

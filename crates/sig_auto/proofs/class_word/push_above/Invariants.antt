@@ -1,6 +1,6 @@
 use Rattle.std.proofs.Common.{◌≡◌, ◌≤◌, ◌-◌, ◌++◌, drop, length, map, take}
 use Rattle.sig_auto.specs.Rows.{above, behind_these}
-use Rattle.sig_auto.proofs.row.push_above.Given as goal
+use Rattle.sig_auto.proofs.class_word.push_above.Given as goal
 
 -- the rows that agree on more bytes
 abbrev pub invariant-loop-j : goal.invariant-loop-j
