@@ -9,6 +9,7 @@ pub mod LeftLemmas
 pub mod MatchedLemmas
 pub mod MemberLemmas
 pub mod NumberLemmas
+pub mod OneVerdictLemmas
 pub mod ProductLemmas
 pub mod ReadLemmas
 pub mod ReachedLemmas

@@ -12,6 +12,6 @@ mod view;
 pub use error::CheckError;
 pub use laws::{
     accepted_is_closed, closed_covers_reached, closed_decides, closed_is_accepted,
-    ends_are_reached, reached_rows_are_of_their_file, two_lines_never,
+    ends_are_reached, reached_rows_are_of_their_file, two_lines_never, verdict_is_one,
 };
 pub use view::CertView;
