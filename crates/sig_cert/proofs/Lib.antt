@@ -1,0 +1,21 @@
+-- The lemmas of this crate.
+pub mod AcceptedLemmas
+pub mod ClosedJudgedLemmas
+pub mod ClosedLemmas
+pub mod CoverLemmas
+pub mod DecidedLemmas
+pub mod FileRowLemmas
+pub mod LeftLemmas
+pub mod MatchedLemmas
+pub mod MemberLemmas
+pub mod NumberLemmas
+pub mod OneVerdictLemmas
+pub mod ProductLemmas
+pub mod ReadLemmas
+pub mod ReachedLemmas
+pub mod SomeBits
+pub mod StepLemmas
+pub mod TableJudgedLemmas
+pub mod TableReadLemmas
+pub mod WidthLemmas
+pub mod ZipLemmas

@@ -1,0 +1,8 @@
+-- What a reader must trust: what a decided table is, and which certificates are closed.
+pub mod Deciding
+pub mod Pairs
+pub mod Layouts
+pub mod Closed
+pub mod Verdicts
+-- The vocabulary of proofs.
+pub mod FileRows

@@ -1,0 +1,17 @@
+//! Certificates that a table of signatures never leaves two formats for one file, and their checker.
+//!
+//! A certificate has, for each two signatures of unrelated formats, a closed set of rows of their
+//! product. What an accepted certificate means is `specs/Deciding.antt`; when a certificate is
+//! closed, `specs/Closed.antt`; which fault of any other is told, `specs/Verdicts.antt`.
+#![tactic(auto)]
+
+mod error;
+mod laws;
+mod view;
+
+pub use error::CheckError;
+pub use laws::{
+    accepted_is_closed, closed_covers_reached, closed_decides, closed_is_accepted,
+    ends_are_reached, reached_rows_are_of_their_file, two_lines_never, verdict_is_one,
+};
+pub use view::CertView;
