@@ -7,6 +7,8 @@
 
 mod error;
 mod laws;
+#[cfg(test)]
+mod tests;
 mod view;
 
 pub use error::CheckError;
