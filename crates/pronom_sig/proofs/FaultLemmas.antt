@@ -1,24 +1,15 @@
--- What is told of a fault.
-use Rattle.std.proofs.Common.{◌≡◌, ℕ, inl, inr, List, Option, refl, sym, ◌∙◌}
-use Rattle.pronom_sig.specs.Asking.{IsFaultOf, TellsFaultOf}
-use Rattle.pronom_sig.specs.Faults.{TellsFault, TellsOf}
-use Rattle.pronom_sig.specs.declared.error.RunError.TheVariants.{OutOfMemory}
-use Rattle.pronom_sig.specs.declared.lines.Fault.{Fault}
-use Rattle.pronom_sig.specs.declared.lines.Fault.TheVariants.{Run}
-use Rattle.pronom_sig.specs.declared.words.Asked.{Asked}
-use Rattle.pronom_sig.specs.declared.words.Asked.TheVariants.{Match, Show}
+-- What writes of several pieces add to an output.
+use Rattle.std.proofs.Common.{◌++◌, ℕ, Bool, List, Option, None, Some, Result, Ok, Err, append_assoc, ◌∙◌, ap}
+use Rattle.sig_bits.specs.Device.{Adds}
+use Rattle.pronom_sig.specs.Faults.{Prints}
 
--- what is told at a status is the line of some fault of that status
-pub told_at : (told : Fault) (result status : ℕ) (before after : Option (List ℕ)) → TellsOf told result before after → result ≡ status → TellsFault status before after
-told_at told result status before after (inl h) is = (told, record { ends = sym is ∙ h.ends; adds = h.adds })
-told_at told result status before after (inr h) is = (Run OutOfMemory, record { ends = sym is ∙ h.ends; adds = h.adds })
+adds_then : (before mid after : Option (List ℕ)) (a b : List ℕ) → Adds before a mid → Adds mid b after → Adds before (a ++ b) after
+adds_then None mid after a b first second = tt
+adds_then (Some before) None after a b first second = absurd first
+adds_then (Some before) (Some mid) None a b first second = absurd second
+adds_then (Some before) (Some mid) (Some after) a b first second = second ∙ ap (λ l. l ++ b) first ∙ append_assoc before a b
 
--- memory may run out whatever is asked
-memory_fault : (asked : Asked) → IsFaultOf asked (Run OutOfMemory)
-memory_fault (Show table) = inr (inr refl)
-memory_fault (Match all table file) = inr (inr tt)
-
--- what is told of a fault of what is asked is the line of one of its faults
-pub told_of : (asked : Asked) (told : Fault) (status : ℕ) (before after : Option (List ℕ)) → IsFaultOf asked told → TellsOf told status before after → TellsFaultOf asked status before after
-told_of asked told status before after is (inl h) = (told, is, h)
-told_of asked told status before after is (inr h) = (Run OutOfMemory, memory_fault asked, h)
+-- a piece is written, and then the rest
+pub prints_then : {T E : Type 0} (result : Result T E) (before mid after : Option (List ℕ)) (a b : List ℕ) (failed : Bool) → Adds before a mid → Prints result b mid after failed → Prints result (a ++ b) before after failed
+prints_then (Ok t) before mid after a b failed first rest = (adds_then before mid after a b first rest.0, rest.1)
+prints_then (Err e) before mid after a b failed first rest = rest

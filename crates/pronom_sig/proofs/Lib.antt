@@ -1,4 +1,5 @@
 -- Lemmas of this crate.
-pub mod AskLemmas
-pub mod RowLemmas
 pub mod FaultLemmas
+pub mod HitLemmas
+pub mod RequestLemmas
+pub mod RowLemmas

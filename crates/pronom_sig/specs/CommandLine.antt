@@ -4,15 +4,15 @@ use Rattle.clap.specs.Simple.{on_top}
 use Rattle.clap.specs.Words.{App, IsAmong, Row, Rule, Text, fault_of, first_of, one_of, new_app, new_rule, subcommand_of, takes, with_rule, with_subcommand}
 use Rattle.clap.specs.declared.builder.action.ArgAction.TheVariants.{SetTrue}
 use Rattle.clap.specs.declared.error.kind.ErrorKind.TheVariants.{DisplayHelp, DisplayVersion}
-use Rattle.pronom_sig.specs.declared.words.Asked.{Asked}
-use Rattle.pronom_sig.specs.declared.words.Asked.TheVariants.{Match, Show}
-use Rattle.pronom_sig.specs.declared.words.TableWords.{TableWords}
+use Rattle.pronom_sig.specs.declared.args.Request.{Request}
+use Rattle.pronom_sig.specs.declared.args.Request.TheVariants.{Match, Show}
+use Rattle.pronom_sig.specs.declared.args.TablePaths.{TablePaths}
 
--- a word that must be there
+-- an argument that must be there
 abbrev pub wanted : Text → Rule
 wanted name = record (new_rule name) { required = true }
 
--- a command with the two words that name a table
+-- a command with the two arguments that name a table
 abbrev pub of_table : App → App
 of_table app = with_rule (with_rule app (wanted (codes "SIGS"))) (wanted (codes "PRIOS"))
 
@@ -28,31 +28,31 @@ given name = record (new_rule name) { long = Some name; action = Some SetTrue }
 abbrev pub match_command : App
 match_command = with_rule (with_rule (of_table (new_app (codes "match"))) (wanted (codes "FILE"))) (given (codes "all"))
 
--- the program, whose first word is a subcommand
+-- the program, whose first word is a subcommand, with `--version`
 abbrev pub program : App
 program =
-    let top = on_top (λ s. record s { no_binary_name = true; subcommand_required = true }) (new_app (codes "pronom_sig")) in
+    let top = on_top (λ s. record s { has_version = true; no_binary_name = true; subcommand_required = true }) (new_app (codes "pronom_sig")) in
     with_subcommand (with_subcommand top show_command.top) match_command.top
 
--- the two words of a table are the first values of their arguments
-pub record NamesTable (words : TableWords) (rows : List Row) : Type 0 where
-  pub signatures : first_of (codes "SIGS") rows ≡ Some words.signatures.now
-  pub priorities : first_of (codes "PRIOS") rows ≡ Some words.priorities.now
+-- the two files of a table are the first values of their arguments
+pub record NamesTable (paths : TablePaths) (rows : List Row) : Type 0 where
+  pub signatures : first_of (codes "SIGS") rows ≡ Some paths.signatures.now
+  pub priorities : first_of (codes "PRIOS") rows ≡ Some paths.priorities.now
 
 -- whether the flag is among the words
-pub record TellsFlag (name : Text) (is_given : Bool) (rows : List Row) : Type 0 where
+pub record HasFlag (name : Text) (is_given : Bool) (rows : List Row) : Type 0 where
   pub given : one_of name rows ≡ Some (codes "true") → is_given ≡ true
   pub left_out : one_of name rows ≡ Some (codes "false") → is_given ≡ false
   pub absent : one_of name rows ≡ None → is_given ≡ false
 
 -- the subcommand and its arguments ask for this
-abbrev pub Asks : Option (Text × List Row) → Asked → Type 0
+abbrev pub Asks : Option (Text × List Row) → Request → Type 0
 Asks found (Show table) = (rows : List Row) × (found ≡ Some (codes "show", rows)) × NamesTable table rows
-Asks found (Match all table file) = (rows : List Row) × (found ≡ Some (codes "match", rows)) × NamesTable table rows × (first_of (codes "FILE") rows ≡ Some file.now) × TellsFlag (codes "all") all rows
+Asks found (Match all table file) = (rows : List Row) × (found ≡ Some (codes "match", rows)) × NamesTable table rows × (first_of (codes "FILE") rows ≡ Some file.now) × HasFlag (codes "all") all rows
 
 -- the words are taken, and they ask for something
 abbrev pub AreTaken : List Text → Type 0
-AreTaken words = (takes program words ≡ true) × ((asked : Asked) × Asks (subcommand_of program words) asked)
+AreTaken words = (takes program words ≡ true) × ((request : Request) × Asks (subcommand_of program words) request)
 
 -- the words ask for help, or for the version
 abbrev pub IsHelpAsked : List Text → Type 0

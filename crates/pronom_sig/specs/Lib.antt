@@ -1,12 +1,13 @@
--- The definitions of this crate, and those of the crates below that its clauses cite.
-pub mod Asking
+-- What a reader must trust: what the words ask for, what answers them, and which lines and statuses the program ends with.
 pub mod CommandLine
 pub mod Faults
 pub mod Lines
+pub mod Requests
 pub mod Shown
 pub mod Statuses
 pub use Rattle.sig_bits.specs.Device
-pub use Rattle.sig_match.specs.Hitting
+pub use Rattle.sig_match.specs.Hits
 pub use Rattle.sig_table.specs.Canonical
-pub use Rattle.sig_table.specs.Views
 pub use Rattle.sig_table.specs.Puids
+pub use Rattle.sig_table.specs.Tables
+pub use Rattle.sig_table.specs.Views

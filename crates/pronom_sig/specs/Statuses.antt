@@ -1,7 +1,7 @@
 -- The statuses that the program ends with.
 use Rattle.std.specs.Prelude.{ℕ}
-use Rattle.pronom_sig.specs.declared.lines.Fault.{Fault}
-use Rattle.pronom_sig.specs.declared.lines.Fault.TheVariants.{CannotOpen, NotText, Run, Table}
+use Rattle.pronom_sig.specs.declared.fault.Fault.{Fault}
+use Rattle.pronom_sig.specs.declared.fault.Fault.TheVariants.{CannotOpen, NotText, Run, Table}
 use Rattle.sig_table.specs.declared.error.TableError.{TableError}
 use Rattle.sig_table.specs.declared.error.TableError.TheVariants.{OutOfMemory, Read}
 

@@ -1,3 +1,5 @@
+//! Why an engine gives no answer.
+
 use std::error::Error;
 use std::fmt;
 
@@ -12,18 +14,29 @@ pub enum RunError {
     OutOfMemory,
 }
 
-impl fmt::Display for RunError {
-    ghost use Rattle.std.specs.Prelude.{Some};
-    ghost use Rattle.pronom_sig.specs.Faults.{run_line};
+impl RunError {
+    ghost use Rattle.std.specs.Prelude.{◌≡◌};
+    ghost use Rattle.pronom_sig.specs.Faults.{run_text};
 
-    ghost output = { λ error. Some (run_line error) };
-
-    fn fmt<W: fmt::Write>(&self, f: &mut fmt::Formatter<W>) -> fmt::Result {
-        f.write_str(match self {
+    pub(crate) fn text(self) -> &'static str
+        ensures { result.now ≡ run_text self }
+    {
+        match self {
             RunError::Read => "read failed",
             RunError::Write => "write failed",
             RunError::OutOfMemory => "out of memory",
-        })
+        }
+    }
+}
+
+impl fmt::Display for RunError {
+    ghost use Rattle.std.specs.Prelude.{Some};
+    ghost use Rattle.pronom_sig.specs.Faults.{run_text};
+
+    ghost output = { λ error. Some (run_text error) };
+
+    fn fmt<W: fmt::Write>(&self, f: &mut fmt::Formatter<W>) -> fmt::Result {
+        f.write_str(self.text())
     }
 }
 

@@ -6,7 +6,8 @@ ghost use Rattle.pronom_sig.specs.CommandLine.{program};
 
 use clap::error::ErrorKind;
 
-/// Words with all names are taken, and they ask for no help. One word alone asks for it.
+/// Words that name all files are taken, and they ask for no help. `--help` alone asks for it, and
+/// `--version` for the version.
 pub fn words_are_taken()
     ensures shown { takes program (codes "show" ∷ codes "a" ∷ codes "b" ∷ []) ≡ true }
     ensures shown_no_help { fault_of program (codes "show" ∷ codes "a" ∷ codes "b" ∷ []) ≡ [] }
@@ -14,4 +15,5 @@ pub fn words_are_taken()
     ensures matched_no_help { fault_of program (codes "match" ∷ codes "a" ∷ codes "b" ∷ codes "c" ∷ []) ≡ [] }
     ensures all { takes program (codes "match" ∷ codes "--all" ∷ codes "a" ∷ codes "b" ∷ codes "c" ∷ []) ≡ true }
     ensures help { fault_of program (codes "--help" ∷ []) ≡ ErrorKind.DisplayHelp ∷ [] }
+    ensures version { fault_of program (codes "--version" ∷ []) ≡ ErrorKind.DisplayVersion ∷ [] }
 {}

@@ -1,53 +1,39 @@
-//! The program: matches files against a table of signatures.
+//! The program: matches files against a table of signatures, and shows tables.
+//!
+//! - `run_match`, for every core that meets the law of `DroidCore`, every input and every output:
+//!   where it answers Ok, the output has grown by exactly the lines of the formats left for a file,
+//!   or with `all` of those that it hits. The file is the one that was to come, where its bytes are
+//!   known.
+//! - `run_show` adds both canonical files with an empty line between them.
+//! - Neither writes before its answer is known: after a failed read, and where memory runs out, the
+//!   output is as it was. A failed read or write is reported as one, and nothing else is.
+//! - `command` answers a status of 0, 2 or 3. With 0 the error output is as it was, no write failed,
+//!   and what was written answers the words, or they ask for help. With 2 the output is as it was,
+//!   and with 3 too, unless a write there failed. A fault is one line, of which fault it is
+//!   (`fault_line`); it is written in pieces and needs no memory. Words that `clap` takes and that
+//!   ask for something get an answer to it, or the line of a fault of just what they ask for.
+//! - What the words ask for is what the definition of `clap` finds in them by the command line
+//!   `program`; `words_are_taken` has it at words.
 #![tactic(auto)]
 
-ghost use Rattle.std.specs.Prelude.{◌≡◌, ◌⊎◌, IfErr};
-
+mod args;
 mod command;
-mod engine;
 mod error;
+mod fault;
 mod laws;
 mod lines;
-#[cfg(test)]
-mod stream_tests;
+mod match_engine;
+mod show_engine;
 #[cfg(test)]
 mod tests;
-mod words;
 
-use command::{command, tell};
-use error::RunError;
-use lines::Fault;
+use command::run;
 use sig_bits::FromWrite;
+use std::io;
 use std::process::ExitCode;
-use std::rt::Env;
-use std::{env, io};
 
 fn main(rt: HostRuntime) -> ExitCode {
     let mut out = FromWrite::new(io::writer(&rt));
     let mut err = FromWrite::new(rt.stderr());
-    let status = match gathered_words(&rt) {
-        Ok(words) => command(&rt, words.as_slice(), &mut out, &mut err),
-        Err(fault) => tell(rt.alloc(), fault, &mut err),
-    };
-    ExitCode::from(status)
-}
-
-// The program's words, without its name.
-fn gathered_words<R: Env + AllocGlobal>(rt: &R) -> Result<Vec<String>, Fault<'static>>
-    ensures { IfErr result (λ fault. (fault ≡ Fault.NotText) ⊎ (fault ≡ Fault.Run RunError.OutOfMemory)) }
-{
-    let words = env::args(rt).map_err(of_args)?;
-    words
-        .skip(1)
-        .collect(rt.alloc())
-        .map_err(|_| Fault::Run(RunError::OutOfMemory))
-}
-
-fn of_args(error: io::Error) -> Fault<'static>
-    ensures { (result ≡ Fault.NotText) ⊎ (result ≡ Fault.Run RunError.OutOfMemory) }
-{
-    match error.kind() {
-        io::ErrorKind::InvalidData => Fault::NotText,
-        _ => Fault::Run(RunError::OutOfMemory),
-    }
+    ExitCode::from(run(&rt, &mut out, &mut err))
 }

@@ -5,7 +5,7 @@ use Rattle.sig_auto.specs.Runs.{EndsIn, Run, Steps}
 use Rattle.sig_auto.specs.Tracks.{Follows}
 use Rattle.sig_auto.specs.Trees.{Tree}
 use Rattle.sig_auto.specs.TreeSlots.{Takes, slots_of}
-use Rattle.sig_auto.proofs.LocalLemmas.{IsSlot, begins-slot, goes-slots}
+use Rattle.sig_auto.proofs.LocalLemmas.{IsSlot, is_first-slot, follows-slots}
 use Rattle.sig_auto.proofs.RunLemmas.{follows_shown, only_last, run_states}
 
 -- a run of the empty file is the start
@@ -83,8 +83,8 @@ ends_before tree file b q ends =
 -- only slots follow a state
 pub next_is_slot : (tree : Tree) (p q : ℕ) → Follows tree p q → IsSlot tree 0 q
 next_is_slot tree p q f = elim (cases_eq p 0) [
-  | inl start ↦ begins-slot tree 0 q (rw (eq-eqb p 0 start) at (follows_shown tree p q f))
-  | inr other ↦ (goes-slots tree 0 p q (rw (ne_eqb p 0 other) at (follows_shown tree p q f))).1
+  | inl start ↦ is_first-slot tree 0 q (rw (eq-eqb p 0 start) at (follows_shown tree p q f))
+  | inr other ↦ (follows-slots tree 0 p q (rw (ne_eqb p 0 other) at (follows_shown tree p q f))).1
 ]
 
 -- so the last state is one, or the first

@@ -3,12 +3,13 @@ pub mod ByteLemmas
 pub mod ClassLemmas
 pub mod EndLemmas
 pub mod LocalLemmas
+pub mod PruneLemmas
 pub mod RowLemmas
 pub mod RowPushLemmas
 pub mod RunLaws
 pub mod RunLemmas
+pub mod SameLemmas
 pub mod SideLemmas
-pub mod SoundLemmas
 pub mod SpelledLemmas
 pub mod StepLemmas
 pub mod SuccessorLemmas

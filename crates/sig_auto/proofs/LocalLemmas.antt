@@ -3,7 +3,7 @@ use Rattle.std.proofs.Common.{◌≡◌, ◌⊎◌, All, ℕ, zero, suc, ◌+◌
 use Rattle.std.proofs.lemmas.Bool.{and_from, and_parts, cases_lt, eq-eqb, eqb-true, false≢true, le-leb, leb-true, lt-ltb, ltb-true, or_cases, or_left, or_right}
 use Rattle.std.proofs.lemmas.List.{append-nil}
 use Rattle.std.proofs.lemmas.List.Elements.{All-cons, All-nil}
-use Rattle.sig_auto.specs.Local.{begins, ends, goes, loops, skips}
+use Rattle.sig_auto.specs.Local.{is_first, is_last, follows, loops, is_nullable}
 use Rattle.sig_auto.specs.Tracks.{slots_from, Track}
 use Rattle.sig_auto.specs.Trees.{Tree, Never, Empty, Slot, Gap, Then, Or}
 use Rattle.sig_auto.specs.TreeSlots.{slots_of}
@@ -11,13 +11,13 @@ use Rattle.sig_table.specs.Slots.{gap_slots}
 
 -- behind p these slots may stand, up to the end of a track
 abbrev pub Chain : Tree → ℕ → ℕ → List ℕ → Type 0
-Chain tree before p [] = ends tree before p ≡ true
-Chain tree before p (q ∷ t) = (goes tree before p q ≡ true) × Chain tree before q t
+Chain tree before p [] = is_last tree before p ≡ true
+Chain tree before p (q ∷ t) = (follows tree before p q ≡ true) × Chain tree before q t
 
 -- the first slot begins, and the others follow it; where there is none, the tree may be skipped
 abbrev pub IsLocal : Tree → ℕ → List ℕ → Type 0
-IsLocal tree before [] = skips tree ≡ true
-IsLocal tree before (q ∷ t) = (begins tree before q ≡ true) × Chain tree before q t
+IsLocal tree before [] = is_nullable tree ≡ true
+IsLocal tree before (q ∷ t) = (is_first tree before q ≡ true) × Chain tree before q t
 
 -- q is a slot of the tree
 abbrev pub IsSlot : Tree → ℕ → ℕ → Type 0
@@ -30,13 +30,13 @@ wide_right : (before x y q : ℕ) → (before + x < q) × (q ≤ before + x + y)
 wide_right before x y q h = (omega arith, omega arith)
 
 -- the tests of a gap
-pub gap_ends : (min : ℕ) (max : Option ℕ) (before p : ℕ) → ends (Gap min max) before p ≡ true → (before < p) × (before + min ≤ p) × (p ≤ before + gap_slots min max)
+pub gap_ends : (min : ℕ) (max : Option ℕ) (before p : ℕ) → is_last (Gap min max) before p ≡ true → (before < p) × (before + min ≤ p) × (p ≤ before + gap_slots min max)
 gap_ends min max before p h =
     let parts = and_parts (nat_lt before p) (nat_le (before + min) p && nat_le p (before + gap_slots min max)) h in
     let more = and_parts (nat_le (before + min) p) (nat_le p (before + gap_slots min max)) parts.1 in
     (ltb-true before p parts.0, leb-true (before + min) p more.0, leb-true p (before + gap_slots min max) more.1)
 
-pub gap_ends-from : (min : ℕ) (max : Option ℕ) (before p : ℕ) → before < p → before + min ≤ p → p ≤ before + gap_slots min max → ends (Gap min max) before p ≡ true
+pub gap_ends-from : (min : ℕ) (max : Option ℕ) (before p : ℕ) → before < p → before + min ≤ p → p ≤ before + gap_slots min max → is_last (Gap min max) before p ≡ true
 gap_ends-from min max before p low least greatest =
     and_from (nat_lt before p) (nat_le (before + min) p && nat_le p (before + gap_slots min max)) (lt-ltb before p low)
     (and_from (nat_le (before + min) p) (nat_le p (before + gap_slots min max)) (le-leb (before + min) p least) (le-leb p (before + gap_slots min max) greatest))
@@ -47,7 +47,7 @@ gap_step min max before p q h =
     let more = and_parts (nat_lt p (before + gap_slots min max)) (q == p + 1) parts.1 in
     (ltb-true before p parts.0, ltb-true p (before + gap_slots min max) more.0, eqb-true q (p + 1) more.1)
 
-pub gap_goes_none : (min before p q : ℕ) → goes (Gap min None) before p q ≡ true → ((before < p) × (p < before + (min + 1)) × (q ≡ p + 1)) ⊎ ((p ≡ before + min + 1) × (q ≡ p))
+pub gap_goes_none : (min before p q : ℕ) → follows (Gap min None) before p q ≡ true → ((before < p) × (p < before + (min + 1)) × (q ≡ p + 1)) ⊎ ((p ≡ before + min + 1) × (q ≡ p))
 gap_goes_none min before p q h =
     elim (or_cases (nat_lt before p && (nat_lt p (before + gap_slots min None) && q == p + 1)) (loops None && (p == before + min + 1 && q == p)) h) [
       | inl step ↦ inl (gap_step min None before p q step)
@@ -56,146 +56,146 @@ gap_goes_none min before p q h =
           inr (eqb-true p (before + min + 1) parts.0, eqb-true q p parts.1)
     ]
 
-pub gap_goes_some : (min max before p q : ℕ) → goes (Gap min (Some max)) before p q ≡ true → (before < p) × (p < before + max) × (q ≡ p + 1)
+pub gap_goes_some : (min max before p q : ℕ) → follows (Gap min (Some max)) before p q ≡ true → (before < p) × (p < before + max) × (q ≡ p + 1)
 gap_goes_some min max before p q h =
     elim (or_cases (nat_lt before p && (nat_lt p (before + gap_slots min (Some max)) && q == p + 1)) (loops (Some max) && (p == before + min + 1 && q == p)) h) [
       | inl step ↦ gap_step min (Some max) before p q step
       | inr stay ↦ absurd (false≢true stay)
     ]
 
-pub gap_next : (min : ℕ) (max : Option ℕ) (before p : ℕ) → before < p → p < before + gap_slots min max → goes (Gap min max) before p (p + 1) ≡ true
+pub gap_next : (min : ℕ) (max : Option ℕ) (before p : ℕ) → before < p → p < before + gap_slots min max → follows (Gap min max) before p (p + 1) ≡ true
 gap_next min max before p low high =
     or_left (nat_lt before p && (nat_lt p (before + gap_slots min max) && (p + 1) == p + 1)) (loops max && (p == before + min + 1 && (p + 1) == p))
     (and_from (nat_lt before p) (nat_lt p (before + gap_slots min max) && (p + 1) == p + 1) (lt-ltb before p low)
     (and_from (nat_lt p (before + gap_slots min max)) ((p + 1) == p + 1) (lt-ltb p (before + gap_slots min max) high) (eq-eqb (p + 1) (p + 1) refl)))
 
-pub gap_stays : (min before : ℕ) → goes (Gap min None) before (before + min + 1) (before + min + 1) ≡ true
+pub gap_stays : (min before : ℕ) → follows (Gap min None) before (before + min + 1) (before + min + 1) ≡ true
 gap_stays min before =
     let p : ℕ = before + min + 1 in
     or_right (nat_lt before p && (nat_lt p (before + gap_slots min None) && p == p + 1)) (p == p && p == p)
     (and_from (p == p) (p == p) (eq-eqb p p refl) (eq-eqb p p refl))
 
 -- the slots that begin, end and go are slots of the tree
-pub begins-slot : (tree : Tree) (before q : ℕ) → begins tree before q ≡ true → IsSlot tree before q
-begins-slot Never before q h = absurd (false≢true h)
-begins-slot Empty before q h = absurd (false≢true h)
-begins-slot (Slot c) before q h = let e = eqb-true q (before + 1) h in (omega arith, omega arith)
-begins-slot (Gap min max) before q h =
+pub is_first-slot : (tree : Tree) (before q : ℕ) → is_first tree before q ≡ true → IsSlot tree before q
+is_first-slot Never before q h = absurd (false≢true h)
+is_first-slot Empty before q h = absurd (false≢true h)
+is_first-slot (Slot c) before q h = let e = eqb-true q (before + 1) h in (omega arith, omega arith)
+is_first-slot (Gap min max) before q h =
     let parts = and_parts (nat_lt 0 (gap_slots min max)) (q == before + 1) h in
     let some = ltb-true 0 (gap_slots min max) parts.0 in
     let e = eqb-true q (before + 1) parts.1 in
     (omega arith, omega arith)
-begins-slot (Then a b) before q h =
-    elim (or_cases (begins a before q) (skips a && begins b (before + slots_of a) q) h) [
-      | inl first ↦ wide_left before (slots_of a) (slots_of b) q (begins-slot a before q first)
-      | inr second ↦ wide_right before (slots_of a) (slots_of b) q (begins-slot b (before + slots_of a) q (and_parts (skips a) (begins b (before + slots_of a) q) second).1)
+is_first-slot (Then a b) before q h =
+    elim (or_cases (is_first a before q) (is_nullable a && is_first b (before + slots_of a) q) h) [
+      | inl first ↦ wide_left before (slots_of a) (slots_of b) q (is_first-slot a before q first)
+      | inr second ↦ wide_right before (slots_of a) (slots_of b) q (is_first-slot b (before + slots_of a) q (and_parts (is_nullable a) (is_first b (before + slots_of a) q) second).1)
     ]
-begins-slot (Or a b) before q h =
-    elim (or_cases (begins a before q) (begins b (before + slots_of a) q) h) [
-      | inl first ↦ wide_left before (slots_of a) (slots_of b) q (begins-slot a before q first)
-      | inr second ↦ wide_right before (slots_of a) (slots_of b) q (begins-slot b (before + slots_of a) q second)
-    ]
-
-pub ends-slot : (tree : Tree) (before p : ℕ) → ends tree before p ≡ true → IsSlot tree before p
-ends-slot Never before p h = absurd (false≢true h)
-ends-slot Empty before p h = absurd (false≢true h)
-ends-slot (Slot c) before p h = let e = eqb-true p (before + 1) h in (omega arith, omega arith)
-ends-slot (Gap min max) before p h = let is = gap_ends min max before p h in (is.0, is.2)
-ends-slot (Then a b) before p h =
-    elim (or_cases (ends a before p && skips b) (ends b (before + slots_of a) p) h) [
-      | inl first ↦ wide_left before (slots_of a) (slots_of b) p (ends-slot a before p (and_parts (ends a before p) (skips b) first).0)
-      | inr second ↦ wide_right before (slots_of a) (slots_of b) p (ends-slot b (before + slots_of a) p second)
-    ]
-ends-slot (Or a b) before p h =
-    elim (or_cases (ends a before p) (ends b (before + slots_of a) p) h) [
-      | inl first ↦ wide_left before (slots_of a) (slots_of b) p (ends-slot a before p first)
-      | inr second ↦ wide_right before (slots_of a) (slots_of b) p (ends-slot b (before + slots_of a) p second)
+is_first-slot (Or a b) before q h =
+    elim (or_cases (is_first a before q) (is_first b (before + slots_of a) q) h) [
+      | inl first ↦ wide_left before (slots_of a) (slots_of b) q (is_first-slot a before q first)
+      | inr second ↦ wide_right before (slots_of a) (slots_of b) q (is_first-slot b (before + slots_of a) q second)
     ]
 
-pub goes-slots : (tree : Tree) (before p q : ℕ) → goes tree before p q ≡ true → IsSlot tree before p × IsSlot tree before q
-goes-slots Never before p q h = absurd (false≢true h)
-goes-slots Empty before p q h = absurd (false≢true h)
-goes-slots (Slot c) before p q h = absurd (false≢true h)
-goes-slots (Gap min None) before p q h =
+pub is_last-slot : (tree : Tree) (before p : ℕ) → is_last tree before p ≡ true → IsSlot tree before p
+is_last-slot Never before p h = absurd (false≢true h)
+is_last-slot Empty before p h = absurd (false≢true h)
+is_last-slot (Slot c) before p h = let e = eqb-true p (before + 1) h in (omega arith, omega arith)
+is_last-slot (Gap min max) before p h = let is = gap_ends min max before p h in (is.0, is.2)
+is_last-slot (Then a b) before p h =
+    elim (or_cases (is_last a before p && is_nullable b) (is_last b (before + slots_of a) p) h) [
+      | inl first ↦ wide_left before (slots_of a) (slots_of b) p (is_last-slot a before p (and_parts (is_last a before p) (is_nullable b) first).0)
+      | inr second ↦ wide_right before (slots_of a) (slots_of b) p (is_last-slot b (before + slots_of a) p second)
+    ]
+is_last-slot (Or a b) before p h =
+    elim (or_cases (is_last a before p) (is_last b (before + slots_of a) p) h) [
+      | inl first ↦ wide_left before (slots_of a) (slots_of b) p (is_last-slot a before p first)
+      | inr second ↦ wide_right before (slots_of a) (slots_of b) p (is_last-slot b (before + slots_of a) p second)
+    ]
+
+pub follows-slots : (tree : Tree) (before p q : ℕ) → follows tree before p q ≡ true → IsSlot tree before p × IsSlot tree before q
+follows-slots Never before p q h = absurd (false≢true h)
+follows-slots Empty before p q h = absurd (false≢true h)
+follows-slots (Slot c) before p q h = absurd (false≢true h)
+follows-slots (Gap min None) before p q h =
     elim (gap_goes_none min before p q h) [
       | inl step ↦ ((omega arith, omega arith), (omega arith, omega arith))
       | inr stay ↦ ((omega arith, omega arith), (omega arith, omega arith))
     ]
-goes-slots (Gap min (Some max)) before p q h =
+follows-slots (Gap min (Some max)) before p q h =
     let step = gap_goes_some min max before p q h in
     ((omega arith, omega arith), (omega arith, omega arith))
-goes-slots (Then a b) before p q h =
-    elim (or_cases (goes a before p q) (goes b (before + slots_of a) p q || (ends a before p && begins b (before + slots_of a) q)) h) [
+follows-slots (Then a b) before p q h =
+    elim (or_cases (follows a before p q) (follows b (before + slots_of a) p q || (is_last a before p && is_first b (before + slots_of a) q)) h) [
       | inl first ↦
-          let is = goes-slots a before p q first in
+          let is = follows-slots a before p q first in
           (wide_left before (slots_of a) (slots_of b) p is.0, wide_left before (slots_of a) (slots_of b) q is.1)
       | inr more ↦
-          elim (or_cases (goes b (before + slots_of a) p q) (ends a before p && begins b (before + slots_of a) q) more) [
+          elim (or_cases (follows b (before + slots_of a) p q) (is_last a before p && is_first b (before + slots_of a) q) more) [
             | inl second ↦
-                let is = goes-slots b (before + slots_of a) p q second in
+                let is = follows-slots b (before + slots_of a) p q second in
                 (wide_right before (slots_of a) (slots_of b) p is.0, wide_right before (slots_of a) (slots_of b) q is.1)
             | inr over ↦
-                let parts = and_parts (ends a before p) (begins b (before + slots_of a) q) over in
-                (wide_left before (slots_of a) (slots_of b) p (ends-slot a before p parts.0), wide_right before (slots_of a) (slots_of b) q (begins-slot b (before + slots_of a) q parts.1))
+                let parts = and_parts (is_last a before p) (is_first b (before + slots_of a) q) over in
+                (wide_left before (slots_of a) (slots_of b) p (is_last-slot a before p parts.0), wide_right before (slots_of a) (slots_of b) q (is_first-slot b (before + slots_of a) q parts.1))
           ]
     ]
-goes-slots (Or a b) before p q h =
-    elim (or_cases (goes a before p q) (goes b (before + slots_of a) p q) h) [
+follows-slots (Or a b) before p q h =
+    elim (or_cases (follows a before p q) (follows b (before + slots_of a) p q) h) [
       | inl first ↦
-          let is = goes-slots a before p q first in
+          let is = follows-slots a before p q first in
           (wide_left before (slots_of a) (slots_of b) p is.0, wide_left before (slots_of a) (slots_of b) q is.1)
       | inr second ↦
-          let is = goes-slots b (before + slots_of a) p q second in
+          let is = follows-slots b (before + slots_of a) p q second in
           (wide_right before (slots_of a) (slots_of b) p is.0, wide_right before (slots_of a) (slots_of b) q is.1)
     ]
 
 -- a branch's chains are the tree's
 pub Chain-or_left : (a b : Tree) (before p : ℕ) (t : List ℕ) → Chain a before p t → Chain (Or a b) before p t
-Chain-or_left a b before p [] h = or_left (ends a before p) (ends b (before + slots_of a) p) h
-Chain-or_left a b before p (q ∷ t) h = (or_left (goes a before p q) (goes b (before + slots_of a) p q) h.0, Chain-or_left a b before q t h.1)
+Chain-or_left a b before p [] h = or_left (is_last a before p) (is_last b (before + slots_of a) p) h
+Chain-or_left a b before p (q ∷ t) h = (or_left (follows a before p q) (follows b (before + slots_of a) p q) h.0, Chain-or_left a b before q t h.1)
 
 pub Chain-or_right : (a b : Tree) (before p : ℕ) (t : List ℕ) → Chain b (before + slots_of a) p t → Chain (Or a b) before p t
-Chain-or_right a b before p [] h = or_right (ends a before p) (ends b (before + slots_of a) p) h
-Chain-or_right a b before p (q ∷ t) h = (or_right (goes a before p q) (goes b (before + slots_of a) p q) h.0, Chain-or_right a b before q t h.1)
+Chain-or_right a b before p [] h = or_right (is_last a before p) (is_last b (before + slots_of a) p) h
+Chain-or_right a b before p (q ∷ t) h = (or_right (follows a before p q) (follows b (before + slots_of a) p q) h.0, Chain-or_right a b before q t h.1)
 
 pub Chain-then_right : (a b : Tree) (before p : ℕ) (t : List ℕ) → Chain b (before + slots_of a) p t → Chain (Then a b) before p t
-Chain-then_right a b before p [] h = or_right (ends a before p && skips b) (ends b (before + slots_of a) p) h
+Chain-then_right a b before p [] h = or_right (is_last a before p && is_nullable b) (is_last b (before + slots_of a) p) h
 Chain-then_right a b before p (q ∷ t) h = (
-  or_right (goes a before p q) (goes b (before + slots_of a) p q || (ends a before p && begins b (before + slots_of a) q))
-      (or_left (goes b (before + slots_of a) p q) (ends a before p && begins b (before + slots_of a) q) h.0),
+  or_right (follows a before p q) (follows b (before + slots_of a) p q || (is_last a before p && is_first b (before + slots_of a) q))
+      (or_left (follows b (before + slots_of a) p q) (is_last a before p && is_first b (before + slots_of a) q) h.0),
   Chain-then_right a b before q t h.1,
 )
 
 -- a chain of the first branch, and then a list of the second
 pub Chain-then : (a b : Tree) (before p : ℕ) (u v : List ℕ) → Chain a before p u → IsLocal b (before + slots_of a) v → Chain (Then a b) before p (u ++ v)
-Chain-then a b before p [] [] h k = or_left (ends a before p && skips b) (ends b (before + slots_of a) p) (and_from (ends a before p) (skips b) h k)
+Chain-then a b before p [] [] h k = or_left (is_last a before p && is_nullable b) (is_last b (before + slots_of a) p) (and_from (is_last a before p) (is_nullable b) h k)
 Chain-then a b before p [] (q ∷ v) h k = (
-  or_right (goes a before p q) (goes b (before + slots_of a) p q || (ends a before p && begins b (before + slots_of a) q))
-      (or_right (goes b (before + slots_of a) p q) (ends a before p && begins b (before + slots_of a) q)
-      (and_from (ends a before p) (begins b (before + slots_of a) q) h k.0)),
+  or_right (follows a before p q) (follows b (before + slots_of a) p q || (is_last a before p && is_first b (before + slots_of a) q))
+      (or_right (follows b (before + slots_of a) p q) (is_last a before p && is_first b (before + slots_of a) q)
+      (and_from (is_last a before p) (is_first b (before + slots_of a) q) h k.0)),
   Chain-then_right a b before q v k.1,
 )
 Chain-then a b before p (q ∷ u) v h k = (
-  or_left (goes a before p q) (goes b (before + slots_of a) p q || (ends a before p && begins b (before + slots_of a) q)) h.0,
+  or_left (follows a before p q) (follows b (before + slots_of a) p q || (is_last a before p && is_first b (before + slots_of a) q)) h.0,
   Chain-then a b before q u v h.1 k,
 )
 
 -- the same for whole lists
 pub IsLocal-or_left : (a b : Tree) (before : ℕ) (t : List ℕ) → IsLocal a before t → IsLocal (Or a b) before t
-IsLocal-or_left a b before [] h = or_left (skips a) (skips b) h
-IsLocal-or_left a b before (q ∷ t) h = (or_left (begins a before q) (begins b (before + slots_of a) q) h.0, Chain-or_left a b before q t h.1)
+IsLocal-or_left a b before [] h = or_left (is_nullable a) (is_nullable b) h
+IsLocal-or_left a b before (q ∷ t) h = (or_left (is_first a before q) (is_first b (before + slots_of a) q) h.0, Chain-or_left a b before q t h.1)
 
 pub IsLocal-or_right : (a b : Tree) (before : ℕ) (t : List ℕ) → IsLocal b (before + slots_of a) t → IsLocal (Or a b) before t
-IsLocal-or_right a b before [] h = or_right (skips a) (skips b) h
-IsLocal-or_right a b before (q ∷ t) h = (or_right (begins a before q) (begins b (before + slots_of a) q) h.0, Chain-or_right a b before q t h.1)
+IsLocal-or_right a b before [] h = or_right (is_nullable a) (is_nullable b) h
+IsLocal-or_right a b before (q ∷ t) h = (or_right (is_first a before q) (is_first b (before + slots_of a) q) h.0, Chain-or_right a b before q t h.1)
 
 pub IsLocal-then : (a b : Tree) (before : ℕ) (u v : List ℕ) → IsLocal a before u → IsLocal b (before + slots_of a) v → IsLocal (Then a b) before (u ++ v)
-IsLocal-then a b before [] [] h k = and_from (skips a) (skips b) h k
+IsLocal-then a b before [] [] h k = and_from (is_nullable a) (is_nullable b) h k
 IsLocal-then a b before [] (q ∷ v) h k = (
-  or_right (begins a before q) (skips a && begins b (before + slots_of a) q) (and_from (skips a) (begins b (before + slots_of a) q) h k.0),
+  or_right (is_first a before q) (is_nullable a && is_first b (before + slots_of a) q) (and_from (is_nullable a) (is_first b (before + slots_of a) q) h k.0),
   Chain-then_right a b before q v k.1,
 )
-IsLocal-then a b before (q ∷ u) v h k = (or_left (begins a before q) (skips a && begins b (before + slots_of a) q) h.0, Chain-then a b before q u v h.1 k)
+IsLocal-then a b before (q ∷ u) v h k = (or_left (is_first a before q) (is_nullable a && is_first b (before + slots_of a) q) h.0, Chain-then a b before q u v h.1 k)
 
 -- the last slot of a gap with no greatest length follows itself, as often as there are bytes
 gap_stay : (min before k : ℕ) → Chain (Gap min None) before (before + min + 1) (replicate k (before + min + 1))
@@ -215,7 +215,7 @@ gap_climb min max before p (suc n) rest low high h =
     let same : p + suc n ≡ p + 1 + n = omega arith in
     (gap_next min max before p low (omega arith), gap_climb min max before (p + 1) n rest (omega arith) (omega arith) (subst (λ x. Chain (Gap min max) before x rest) same h))
 
-pub gap_begins : (min : ℕ) (max : Option ℕ) (before : ℕ) → 0 < gap_slots min max → begins (Gap min max) before (before + 1) ≡ true
+pub gap_begins : (min : ℕ) (max : Option ℕ) (before : ℕ) → 0 < gap_slots min max → is_first (Gap min max) before (before + 1) ≡ true
 gap_begins min max before some =
     and_from (nat_lt 0 (gap_slots min max)) ((before + 1) == before + 1) (lt-ltb 0 (gap_slots min max) some) (eq-eqb (before + 1) (before + 1) refl)
 
@@ -223,7 +223,7 @@ pub gap_local_none : (min before k : ℕ) → IsLocal (Gap min None) before (slo
 gap_local_none zero before zero = refl
 gap_local_none zero before (suc k) =
     let same : before + 1 ≡ before + 0 + 1 = omega arith in
-    (subst (λ q. begins (Gap 0 None) before q ≡ true) same (gap_begins 0 None before (omega arith)), gap_stay 0 before k)
+    (subst (λ q. is_first (Gap 0 None) before q ≡ true) same (gap_begins 0 None before (omega arith)), gap_stay 0 before k)
 gap_local_none (suc m) before k =
     let same : before + suc m ≡ before + 1 + m = omega arith in (
       gap_begins (suc m) None before (omega arith),
@@ -304,65 +304,65 @@ gap_chain_none min before p (q ∷ t) low h =
 -- a chain of the tree from a branch's slot stays there
 pub Chain-or_left_from : (a b : Tree) (before p : ℕ) (t : List ℕ) → p ≤ before + slots_of a → Chain (Or a b) before p t → Chain a before p t
 Chain-or_left_from a b before p [] low h =
-    elim (or_cases (ends a before p) (ends b (before + slots_of a) p) h) [
+    elim (or_cases (is_last a before p) (is_last b (before + slots_of a) p) h) [
       | inl first ↦ first
-      | inr second ↦ absurd (let is = ends-slot b (before + slots_of a) p second in omega arith)
+      | inr second ↦ absurd (let is = is_last-slot b (before + slots_of a) p second in omega arith)
     ]
 Chain-or_left_from a b before p (q ∷ t) low h =
-    elim (or_cases (goes a before p q) (goes b (before + slots_of a) p q) h.0) [
-      | inl first ↦ (first, Chain-or_left_from a b before q t (goes-slots a before p q first).1.1 h.1)
-      | inr second ↦ absurd (let is = (goes-slots b (before + slots_of a) p q second).0 in omega arith)
+    elim (or_cases (follows a before p q) (follows b (before + slots_of a) p q) h.0) [
+      | inl first ↦ (first, Chain-or_left_from a b before q t (follows-slots a before p q first).1.1 h.1)
+      | inr second ↦ absurd (let is = (follows-slots b (before + slots_of a) p q second).0 in omega arith)
     ]
 
 pub Chain-or_right_from : (a b : Tree) (before p : ℕ) (t : List ℕ) → before + slots_of a < p → Chain (Or a b) before p t → Chain b (before + slots_of a) p t
 Chain-or_right_from a b before p [] high h =
-    elim (or_cases (ends a before p) (ends b (before + slots_of a) p) h) [
-      | inl first ↦ absurd (let is = ends-slot a before p first in omega arith)
+    elim (or_cases (is_last a before p) (is_last b (before + slots_of a) p) h) [
+      | inl first ↦ absurd (let is = is_last-slot a before p first in omega arith)
       | inr second ↦ second
     ]
 Chain-or_right_from a b before p (q ∷ t) high h =
-    elim (or_cases (goes a before p q) (goes b (before + slots_of a) p q) h.0) [
-      | inl first ↦ absurd (let is = (goes-slots a before p q first).0 in omega arith)
-      | inr second ↦ (second, Chain-or_right_from a b before q t (goes-slots b (before + slots_of a) p q second).1.0 h.1)
+    elim (or_cases (follows a before p q) (follows b (before + slots_of a) p q) h.0) [
+      | inl first ↦ absurd (let is = (follows-slots a before p q first).0 in omega arith)
+      | inr second ↦ (second, Chain-or_right_from a b before q t (follows-slots b (before + slots_of a) p q second).1.0 h.1)
     ]
 
 pub Chain-then_right_from : (a b : Tree) (before p : ℕ) (t : List ℕ) → before + slots_of a < p → Chain (Then a b) before p t → Chain b (before + slots_of a) p t
 Chain-then_right_from a b before p [] high h =
-    elim (or_cases (ends a before p && skips b) (ends b (before + slots_of a) p) h) [
-      | inl first ↦ absurd (let is = ends-slot a before p (and_parts (ends a before p) (skips b) first).0 in omega arith)
+    elim (or_cases (is_last a before p && is_nullable b) (is_last b (before + slots_of a) p) h) [
+      | inl first ↦ absurd (let is = is_last-slot a before p (and_parts (is_last a before p) (is_nullable b) first).0 in omega arith)
       | inr second ↦ second
     ]
 Chain-then_right_from a b before p (q ∷ t) high h =
-    elim (or_cases (goes a before p q) (goes b (before + slots_of a) p q || (ends a before p && begins b (before + slots_of a) q)) h.0) [
-      | inl first ↦ absurd (let is = (goes-slots a before p q first).0 in omega arith)
+    elim (or_cases (follows a before p q) (follows b (before + slots_of a) p q || (is_last a before p && is_first b (before + slots_of a) q)) h.0) [
+      | inl first ↦ absurd (let is = (follows-slots a before p q first).0 in omega arith)
       | inr more ↦
-          elim (or_cases (goes b (before + slots_of a) p q) (ends a before p && begins b (before + slots_of a) q) more) [
-            | inl second ↦ (second, Chain-then_right_from a b before q t (goes-slots b (before + slots_of a) p q second).1.0 h.1)
-            | inr over ↦ absurd (let is = ends-slot a before p (and_parts (ends a before p) (begins b (before + slots_of a) q) over).0 in omega arith)
+          elim (or_cases (follows b (before + slots_of a) p q) (is_last a before p && is_first b (before + slots_of a) q) more) [
+            | inl second ↦ (second, Chain-then_right_from a b before q t (follows-slots b (before + slots_of a) p q second).1.0 h.1)
+            | inr over ↦ absurd (let is = is_last-slot a before p (and_parts (is_last a before p) (is_first b (before + slots_of a) q) over).0 in omega arith)
           ]
     ]
 
 -- a chain from a slot of the first branch is one of that branch, and then a list of the second
 pub Chain-then_cut : (a b : Tree) (before p : ℕ) (t : List ℕ) → p ≤ before + slots_of a → Chain (Then a b) before p t → (u v : List ℕ) × (t ≡ u ++ v) × Chain a before p u × IsLocal b (before + slots_of a) v
 Chain-then_cut a b before p [] low h =
-    elim (or_cases (ends a before p && skips b) (ends b (before + slots_of a) p) h) [
+    elim (or_cases (is_last a before p && is_nullable b) (is_last b (before + slots_of a) p) h) [
       | inl first ↦
-          let parts = and_parts (ends a before p) (skips b) first in
+          let parts = and_parts (is_last a before p) (is_nullable b) first in
           ([], [], refl, parts.0, parts.1)
-      | inr second ↦ absurd (let is = ends-slot b (before + slots_of a) p second in omega arith)
+      | inr second ↦ absurd (let is = is_last-slot b (before + slots_of a) p second in omega arith)
     ]
 Chain-then_cut a b before p (q ∷ t) low h =
-    elim (or_cases (goes a before p q) (goes b (before + slots_of a) p q || (ends a before p && begins b (before + slots_of a) q)) h.0) [
+    elim (or_cases (follows a before p q) (follows b (before + slots_of a) p q || (is_last a before p && is_first b (before + slots_of a) q)) h.0) [
       | inl first ↦
-          let more = Chain-then_cut a b before q t (goes-slots a before p q first).1.1 h.1 in
+          let more = Chain-then_cut a b before q t (follows-slots a before p q first).1.1 h.1 in
           (q ∷ more.0, more.1, ap (λ l. q ∷ l) more.2, (first, more.3), more.4)
       | inr other ↦
-          elim (or_cases (goes b (before + slots_of a) p q) (ends a before p && begins b (before + slots_of a) q) other) [
-            | inl second ↦ absurd (let is = (goes-slots b (before + slots_of a) p q second).0 in omega arith)
+          elim (or_cases (follows b (before + slots_of a) p q) (is_last a before p && is_first b (before + slots_of a) q) other) [
+            | inl second ↦ absurd (let is = (follows-slots b (before + slots_of a) p q second).0 in omega arith)
             | inr over ↦
-                let parts = and_parts (ends a before p) (begins b (before + slots_of a) q) over in
-                let begun : begins b (before + slots_of a) q ≡ true = parts.1 in
-                ([], q ∷ t, refl, parts.0, (begun, Chain-then_right_from a b before q t (begins-slot b (before + slots_of a) q begun).0 h.1))
+                let parts = and_parts (is_last a before p) (is_first b (before + slots_of a) q) over in
+                let begun : is_first b (before + slots_of a) q ≡ true = parts.1 in
+                ([], q ∷ t, refl, parts.0, (begun, Chain-then_right_from a b before q t (is_first-slot b (before + slots_of a) q begun).0 h.1))
           ]
     ]
 
@@ -400,69 +400,69 @@ local_track (Gap min (Some max)) before (q ∷ t) h =
     let rest : t ≡ slots_from (before + 1 + 1) more.0 = more.3 ∙ ap (λ x. slots_from (x + 1) more.0) is in
     (suc more.0, omega arith, omega arith, cc)
 local_track (Then a b) before [] h =
-    let parts = and_parts (skips a) (skips b) h in
+    let parts = and_parts (is_nullable a) (is_nullable b) h in
     ([], [], refl, local_track a before [] parts.0, local_track b (before + slots_of a) [] parts.1)
 local_track (Then a b) before (q ∷ t) h =
-    elim (or_cases (begins a before q) (skips a && begins b (before + slots_of a) q) h.0) [
+    elim (or_cases (is_first a before q) (is_nullable a && is_first b (before + slots_of a) q) h.0) [
       | inl first ↦
-          let cut = Chain-then_cut a b before q t (begins-slot a before q first).1 h.1 in
+          let cut = Chain-then_cut a b before q t (is_first-slot a before q first).1 h.1 in
           (q ∷ cut.0, cut.1, ap (λ l. q ∷ l) cut.2, local_track a before (q ∷ cut.0) (first, cut.3), local_track b (before + slots_of a) cut.1 cut.4)
       | inr second ↦
-          let parts = and_parts (skips a) (begins b (before + slots_of a) q) second in
-          let begun : begins b (before + slots_of a) q ≡ true = parts.1 in
-          let chain : Chain b (before + slots_of a) q t = Chain-then_right_from a b before q t (begins-slot b (before + slots_of a) q begun).0 h.1 in
+          let parts = and_parts (is_nullable a) (is_first b (before + slots_of a) q) second in
+          let begun : is_first b (before + slots_of a) q ≡ true = parts.1 in
+          let chain : Chain b (before + slots_of a) q t = Chain-then_right_from a b before q t (is_first-slot b (before + slots_of a) q begun).0 h.1 in
           ([], q ∷ t, refl, local_track a before [] parts.0, local_track b (before + slots_of a) (q ∷ t) (begun, chain))
     ]
 local_track (Or a b) before [] h =
-    elim (or_cases (skips a) (skips b) h) [
+    elim (or_cases (is_nullable a) (is_nullable b) h) [
       | inl first ↦ inl (local_track a before [] first)
       | inr second ↦ inr (local_track b (before + slots_of a) [] second)
     ]
 local_track (Or a b) before (q ∷ t) h =
-    elim (or_cases (begins a before q) (begins b (before + slots_of a) q) h.0) [
-      | inl first ↦ inl (local_track a before (q ∷ t) (first, Chain-or_left_from a b before q t (begins-slot a before q first).1 h.1))
-      | inr second ↦ inr (local_track b (before + slots_of a) (q ∷ t) (second, Chain-or_right_from a b before q t (begins-slot b (before + slots_of a) q second).0 h.1))
+    elim (or_cases (is_first a before q) (is_first b (before + slots_of a) q) h.0) [
+      | inl first ↦ inl (local_track a before (q ∷ t) (first, Chain-or_left_from a b before q t (is_first-slot a before q first).1 h.1))
+      | inr second ↦ inr (local_track b (before + slots_of a) (q ∷ t) (second, Chain-or_right_from a b before q t (is_first-slot b (before + slots_of a) q second).0 h.1))
     ]
 
 -- what a track shows
-pub track_skips : (tree : Tree) (before : ℕ) → Track tree before [] → skips tree ≡ true
+pub track_skips : (tree : Tree) (before : ℕ) → Track tree before [] → is_nullable tree ≡ true
 track_skips tree before h = track_local tree before [] h
 
-pub track_begins : (tree : Tree) (before q : ℕ) (v : List ℕ) → Track tree before (q ∷ v) → begins tree before q ≡ true
+pub track_begins : (tree : Tree) (before q : ℕ) (v : List ℕ) → Track tree before (q ∷ v) → is_first tree before q ≡ true
 track_begins tree before q v h = (track_local tree before (q ∷ v) h).0
 
-Chain-ends : (tree : Tree) (before x p : ℕ) (u : List ℕ) → Chain tree before x (u ++ p ∷ []) → ends tree before p ≡ true
-Chain-ends tree before x p [] h = h.1
-Chain-ends tree before x p (y ∷ u) h = Chain-ends tree before y p u h.1
+Chain-is_last : (tree : Tree) (before x p : ℕ) (u : List ℕ) → Chain tree before x (u ++ p ∷ []) → is_last tree before p ≡ true
+Chain-is_last tree before x p [] h = h.1
+Chain-is_last tree before x p (y ∷ u) h = Chain-is_last tree before y p u h.1
 
-pub track_ends : (tree : Tree) (before p : ℕ) (u : List ℕ) → Track tree before (u ++ p ∷ []) → ends tree before p ≡ true
+pub track_ends : (tree : Tree) (before p : ℕ) (u : List ℕ) → Track tree before (u ++ p ∷ []) → is_last tree before p ≡ true
 track_ends tree before p [] h = (track_local tree before (p ∷ []) h).1
-track_ends tree before p (y ∷ u) h = Chain-ends tree before y p u (track_local tree before (y ∷ u ++ p ∷ []) h).1
+track_ends tree before p (y ∷ u) h = Chain-is_last tree before y p u (track_local tree before (y ∷ u ++ p ∷ []) h).1
 
-Chain-goes : (tree : Tree) (before x p q : ℕ) (u v : List ℕ) → Chain tree before x (u ++ p ∷ q ∷ v) → goes tree before p q ≡ true
-Chain-goes tree before x p q [] v h = h.1.0
-Chain-goes tree before x p q (y ∷ u) v h = Chain-goes tree before y p q u v h.1
+Chain-follows : (tree : Tree) (before x p q : ℕ) (u v : List ℕ) → Chain tree before x (u ++ p ∷ q ∷ v) → follows tree before p q ≡ true
+Chain-follows tree before x p q [] v h = h.1.0
+Chain-follows tree before x p q (y ∷ u) v h = Chain-follows tree before y p q u v h.1
 
-pub track_goes : (tree : Tree) (before p q : ℕ) (u v : List ℕ) → Track tree before (u ++ p ∷ q ∷ v) → goes tree before p q ≡ true
+pub track_goes : (tree : Tree) (before p q : ℕ) (u v : List ℕ) → Track tree before (u ++ p ∷ q ∷ v) → follows tree before p q ≡ true
 track_goes tree before p q [] v h = (track_local tree before (p ∷ q ∷ v) h).1.0
-track_goes tree before p q (y ∷ u) v h = Chain-goes tree before y p q u v (track_local tree before (y ∷ u ++ p ∷ q ∷ v) h).1
+track_goes tree before p q (y ∷ u) v h = Chain-follows tree before y p q u v (track_local tree before (y ∷ u ++ p ∷ q ∷ v) h).1
 
 Chain-slots : (tree : Tree) (before p : ℕ) (t : List ℕ) → Chain tree before p t → All (IsSlot tree before) t
 Chain-slots tree before p [] h = All-nil (IsSlot tree before)
-Chain-slots tree before p (q ∷ t) h = All-cons (IsSlot tree before) q t (goes-slots tree before p q h.0).1 (Chain-slots tree before q t h.1)
+Chain-slots tree before p (q ∷ t) h = All-cons (IsSlot tree before) q t (follows-slots tree before p q h.0).1 (Chain-slots tree before q t h.1)
 
 IsLocal-slots : (tree : Tree) (before : ℕ) (t : List ℕ) → IsLocal tree before t → All (IsSlot tree before) t
 IsLocal-slots tree before [] h = All-nil (IsSlot tree before)
-IsLocal-slots tree before (q ∷ t) h = All-cons (IsSlot tree before) q t (begins-slot tree before q h.0) (Chain-slots tree before q t h.1)
+IsLocal-slots tree before (q ∷ t) h = All-cons (IsSlot tree before) q t (is_first-slot tree before q h.0) (Chain-slots tree before q t h.1)
 
 -- the members of a track are slots of the tree
 pub track_slots : (tree : Tree) (before : ℕ) (t : List ℕ) → Track tree before t → All (IsSlot tree before) t
 track_slots tree before t h = IsLocal-slots tree before t (track_local tree before t h)
 
 Chain-slot : (tree : Tree) (before x p : ℕ) (u v : List ℕ) → Chain tree before x (u ++ p ∷ v) → IsSlot tree before p
-Chain-slot tree before x p [] v h = (goes-slots tree before x p h.0).1
+Chain-slot tree before x p [] v h = (follows-slots tree before x p h.0).1
 Chain-slot tree before x p (y ∷ u) v h = Chain-slot tree before y p u v h.1
 
 pub track_slot : (tree : Tree) (before p : ℕ) (u v : List ℕ) → Track tree before (u ++ p ∷ v) → IsSlot tree before p
-track_slot tree before p [] v h = begins-slot tree before p (track_local tree before (p ∷ v) h).0
+track_slot tree before p [] v h = is_first-slot tree before p (track_local tree before (p ∷ v) h).0
 track_slot tree before p (y ∷ u) v h = Chain-slot tree before y p u v (track_local tree before (y ∷ u ++ p ∷ v) h).1

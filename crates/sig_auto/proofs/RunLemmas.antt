@@ -1,15 +1,15 @@
 -- The runs that accept a file are the tracks whose slots take its bytes.
 use Rattle.std.proofs.Common.{◌≡◌, ◌↔◌, ℕ, ◌<◌, ◌==◌, if◌then◌else◌, true, List, [], ◌∷◌, ◌++◌, append_assoc, subst, sym, ap, ◌∙◌, refl, inl, inr, arith}
 use Rattle.std.proofs.lemmas.Bool.{cases_eq, eq-eqb, ne_eqb}
-use Rattle.sig_auto.specs.Local.{begins, ends, goes, skips}
+use Rattle.sig_auto.specs.Local.{is_first, is_last, follows, is_nullable}
 use Rattle.sig_auto.specs.Runs.{Accepts, Run, Steps}
 use Rattle.sig_auto.specs.Tracks.{Accepting, Follows, Track}
 use Rattle.sig_auto.specs.Trees.{Tree}
 use Rattle.sig_auto.specs.Unfolded.{TakesAll}
-use Rattle.sig_auto.proofs.LocalLemmas.{Chain, IsLocal, goes-slots, begins-slot, local_track, track_begins, track_ends, track_goes, track_skips, track_slot}
+use Rattle.sig_auto.proofs.LocalLemmas.{Chain, IsLocal, follows-slots, is_first-slot, local_track, track_begins, track_ends, track_goes, track_skips, track_slot}
 
 -- behind the start a slot begins, behind another it goes
-follows_start : (tree : Tree) (t front back : List ℕ) (q : ℕ) → Track tree 0 t → 0 ∷ t ≡ front ++ 0 ∷ q ∷ back → begins tree 0 q ≡ true
+follows_start : (tree : Tree) (t front back : List ℕ) (q : ℕ) → Track tree 0 t → 0 ∷ t ≡ front ++ 0 ∷ q ∷ back → is_first tree 0 q ≡ true
 follows_start tree t [] back q is e =
     let same : t ≡ q ∷ back = cc in
     track_begins tree 0 q back (subst (λ l. Track tree 0 l) same is)
@@ -18,7 +18,7 @@ follows_start tree t (x ∷ front) back q is e =
     let slot = track_slot tree 0 0 front (q ∷ back) (subst (λ l. Track tree 0 l) same is) in
     absurd (omega arith)
 
-follows_slot : (tree : Tree) (t front back : List ℕ) (p q : ℕ) → 0 < p → Track tree 0 t → 0 ∷ t ≡ front ++ p ∷ q ∷ back → goes tree 0 p q ≡ true
+follows_slot : (tree : Tree) (t front back : List ℕ) (p q : ℕ) → 0 < p → Track tree 0 t → 0 ∷ t ≡ front ++ p ∷ q ∷ back → follows tree 0 p q ≡ true
 follows_slot tree t [] back p q some is e =
     let same : 0 ≡ p = cc in
     absurd (omega arith)
@@ -26,7 +26,7 @@ follows_slot tree t (x ∷ front) back p q some is e =
     let same : t ≡ front ++ p ∷ q ∷ back = cc in
     track_goes tree 0 p q front back (subst (λ l. Track tree 0 l) same is)
 
-accepting_start : (tree : Tree) (t front : List ℕ) → Track tree 0 t → 0 ∷ t ≡ front ++ 0 ∷ [] → skips tree ≡ true
+accepting_start : (tree : Tree) (t front : List ℕ) → Track tree 0 t → 0 ∷ t ≡ front ++ 0 ∷ [] → is_nullable tree ≡ true
 accepting_start tree t [] is e =
     let same : t ≡ [] = cc in
     track_skips tree 0 (subst (λ l. Track tree 0 l) same is)
@@ -35,7 +35,7 @@ accepting_start tree t (x ∷ front) is e =
     let slot = track_slot tree 0 0 front [] (subst (λ l. Track tree 0 l) same is) in
     absurd (omega arith)
 
-accepting_slot : (tree : Tree) (t front : List ℕ) (p : ℕ) → 0 < p → Track tree 0 t → 0 ∷ t ≡ front ++ p ∷ [] → ends tree 0 p ≡ true
+accepting_slot : (tree : Tree) (t front : List ℕ) (p : ℕ) → 0 < p → Track tree 0 t → 0 ∷ t ≡ front ++ p ∷ [] → is_last tree 0 p ≡ true
 accepting_slot tree t [] p some is e =
     let same : 0 ≡ p = cc in
     absurd (omega arith)
@@ -44,13 +44,13 @@ accepting_slot tree t (x ∷ front) p some is e =
     track_ends tree 0 p front (subst (λ l. Track tree 0 l) same is)
 
 -- the same by one test, with no premise on the tree
-pub follows_shown : (tree : Tree) (p q : ℕ) → Follows tree p q → (if p == 0 then begins tree 0 q else goes tree 0 p q) ≡ true
+pub follows_shown : (tree : Tree) (p q : ℕ) → Follows tree p q → (if p == 0 then is_first tree 0 q else follows tree 0 p q) ≡ true
 follows_shown tree p q f = elim (cases_eq p 0) [
   | inl start ↦ rw (eq-eqb p 0 start) (follows_start tree f.track f.front f.back q f.is_track (subst (λ x. 0 ∷ f.track ≡ f.front ++ x ∷ q ∷ f.back) start f.next))
   | inr other ↦ rw (ne_eqb p 0 other) (follows_slot tree f.track f.front f.back p q (omega arith) f.is_track f.next)
 ]
 
-pub accepting_shown : (tree : Tree) (p : ℕ) → Accepting tree p → (if p == 0 then skips tree else ends tree 0 p) ≡ true
+pub accepting_shown : (tree : Tree) (p : ℕ) → Accepting tree p → (if p == 0 then is_nullable tree else is_last tree 0 p) ≡ true
 accepting_shown tree p a = elim (cases_eq p 0) [
   | inl start ↦ rw (eq-eqb p 0 start) (accepting_start tree a.track a.front a.is_track (subst (λ x. 0 ∷ a.track ≡ a.front ++ x ∷ []) start a.last))
   | inr other ↦ rw (ne_eqb p 0 other) (accepting_slot tree a.track a.front p (omega arith) a.is_track a.last)
@@ -73,9 +73,9 @@ steps_local tree p last (byte ∷ bytes) [] front some steps e a = absurd steps
 steps_local tree p last (byte ∷ bytes) (q ∷ states) [] some steps e a = absurd (cc)
 steps_local tree p last (byte ∷ bytes) (q ∷ states) (x ∷ front) some steps e a =
     let f : Follows tree p q = steps.0 in
-    let go : goes tree 0 p q ≡ true = follows_slot tree f.track f.front f.back p q some f.is_track f.next in
+    let go : follows tree 0 p q ≡ true = follows_slot tree f.track f.front f.back p q some f.is_track f.next in
     let rest : q ∷ states ≡ front ++ last ∷ [] = cc in
-    let more = steps_local tree q last bytes states front (goes-slots tree 0 p q go).1.0 steps.2 rest a in
+    let more = steps_local tree q last bytes states front (follows-slots tree 0 p q go).1.0 steps.2 rest a in
     ((go, more.0), (steps.1, more.1))
 
 -- and those behind the start
@@ -89,9 +89,9 @@ start_local tree last (byte ∷ bytes) [] front steps e a = absurd steps
 start_local tree last (byte ∷ bytes) (q ∷ states) [] steps e a = absurd (cc)
 start_local tree last (byte ∷ bytes) (q ∷ states) (x ∷ front) steps e a =
     let f : Follows tree 0 q = steps.0 in
-    let begun : begins tree 0 q ≡ true = follows_start tree f.track f.front f.back q f.is_track f.next in
+    let begun : is_first tree 0 q ≡ true = follows_start tree f.track f.front f.back q f.is_track f.next in
     let rest : q ∷ states ≡ front ++ last ∷ [] = cc in
-    let more = steps_local tree q last bytes states front (begins-slot tree 0 q begun).0 steps.2 rest a in
+    let more = steps_local tree q last bytes states front (is_first-slot tree 0 q begun).0 steps.2 rest a in
     ((begun, more.0), (steps.1, more.1))
 
 -- a run begins with the start

@@ -3,7 +3,7 @@ use Rattle.std.proofs.Common.{◌≡◌, ◌↔◌, ◌⊎◌, ℕ, ◌+◌, ◌
 use Rattle.std.proofs.lemmas.Bool.{and_from, and_parts, cases_eq, cases_lt, eq-eqb, ne_eqb, eqb-true, false≢true, or_cases, or_left, or_right}
 use Rattle.std.proofs.lemmas.List.{get_or_past, get_or-append_right, get_or-replicate, get_or_append_left, length-replicate}
 use Rattle.sig_auto.specs.Classes.{InClass, any}
-use Rattle.sig_auto.specs.Local.{begins, ends, goes, loops, skips}
+use Rattle.sig_auto.specs.Local.{is_first, is_last, follows, loops, is_nullable}
 use Rattle.sig_auto.specs.Stepping.{IsNext, IsNextInGap, IsStepped, Leads}
 use Rattle.sig_auto.specs.Tracks.{Accepting, Follows}
 use Rattle.sig_auto.specs.Trees.{Tree, Gap, Then, Or}
@@ -13,7 +13,7 @@ use Rattle.sig_bits.specs.BitSets.{HasBit}
 use Rattle.sig_bits.proofs.BitLemmas.{no_bit_in_zeros}
 use Rattle.sig_table.specs.Slots.{gap_slots}
 use Rattle.sig_auto.proofs.TakenLemmas.{length_classes}
-use Rattle.sig_auto.proofs.LocalLemmas.{IsSlot, begins-slot, ends-slot, gap_begins, gap_goes_none, gap_goes_some, gap_next, gap_stays, goes-slots}
+use Rattle.sig_auto.proofs.LocalLemmas.{IsSlot, is_first-slot, is_last-slot, gap_begins, gap_goes_none, gap_goes_some, gap_next, gap_stays, follows-slots}
 use Rattle.sig_auto.proofs.RunLemmas.{accepting_shown, follows_shown}
 use Rattle.sig_auto.proofs.TrimLemmas.{accepting_exact, follows_exact}
 
@@ -28,7 +28,7 @@ class_right a b before q h =
 
 -- what comes next in a tree is one of its slots
 next_slot : (tree : Tree) (before : ℕ) (enter : Bool) (from : List ℕ) (q : ℕ) → IsNext tree before enter from q → IsSlot tree before q
-next_slot tree before enter from q h = elim h [ inl begun ↦ begins-slot tree before q begun.1 | inr gone ↦ (goes-slots tree before gone.0 q gone.2).1 ]
+next_slot tree before enter from q h = elim h [ inl begun ↦ is_first-slot tree before q begun.1 | inr gone ↦ (follows-slots tree before gone.0 q gone.2).1 ]
 
 -- what is so of a branch's slot, and its class, is so in the tree
 pub class_joined : (tree a b : Tree) (before byte q : ℕ) {P A B : Type 0} → classes_of tree ≡ classes_of a ++ classes_of b → (A → IsSlot a before q) → (B → IsSlot b (before + slots_of a) q) → (P ↔ (A ⊎ B)) → (P × InClass (class_of tree (q - before)) byte) ↔ ((A × InClass (class_of a (q - before)) byte) ⊎ (B × InClass (class_of b (q - (before + slots_of a))) byte))
@@ -50,20 +50,20 @@ next_then : (a b : Tree) (before : ℕ) (enter led : Bool) (from : List ℕ) (q 
 next_then a b before enter led from q leads = (
   λ h. elim h [
     | inl begun ↦
-        elim (or_cases (begins a before q) (skips a && begins b (before + slots_of a) q) begun.1) [
+        elim (or_cases (is_first a before q) (is_nullable a && is_first b (before + slots_of a) q) begun.1) [
           | inl first ↦ inl (inl (begun.0, first))
           | inr second ↦
-              let parts = and_parts (skips a) (begins b (before + slots_of a) q) second in
+              let parts = and_parts (is_nullable a) (is_first b (before + slots_of a) q) second in
               inr (inl (leads.1 (inl (begun.0, parts.0)), parts.1))
         ]
     | inr gone ↦
-        elim (or_cases (goes a before gone.0 q) (goes b (before + slots_of a) gone.0 q || (ends a before gone.0 && begins b (before + slots_of a) q)) gone.2) [
+        elim (or_cases (follows a before gone.0 q) (follows b (before + slots_of a) gone.0 q || (is_last a before gone.0 && is_first b (before + slots_of a) q)) gone.2) [
           | inl first ↦ inl (inr (gone.0, gone.1, first))
           | inr more ↦
-              elim (or_cases (goes b (before + slots_of a) gone.0 q) (ends a before gone.0 && begins b (before + slots_of a) q) more) [
+              elim (or_cases (follows b (before + slots_of a) gone.0 q) (is_last a before gone.0 && is_first b (before + slots_of a) q) more) [
                 | inl second ↦ inr (inr (gone.0, gone.1, second))
                 | inr over ↦
-                    let parts = and_parts (ends a before gone.0) (begins b (before + slots_of a) q) over in
+                    let parts = and_parts (is_last a before gone.0) (is_first b (before + slots_of a) q) over in
                     inr (inl (leads.1 (inr (gone.0, gone.1, parts.0)), parts.1))
               ]
         ]
@@ -71,29 +71,29 @@ next_then a b before enter led from q leads = (
   λ h. elim h [
     | inl first ↦
         elim first [
-          | inl begun ↦ inl (begun.0, or_left (begins a before q) (skips a && begins b (before + slots_of a) q) begun.1)
-          | inr gone ↦ inr (gone.0, gone.1, or_left (goes a before gone.0 q) (goes b (before + slots_of a) gone.0 q || (ends a before gone.0 && begins b (before + slots_of a) q)) gone.2)
+          | inl begun ↦ inl (begun.0, or_left (is_first a before q) (is_nullable a && is_first b (before + slots_of a) q) begun.1)
+          | inr gone ↦ inr (gone.0, gone.1, or_left (follows a before gone.0 q) (follows b (before + slots_of a) gone.0 q || (is_last a before gone.0 && is_first b (before + slots_of a) q)) gone.2)
         ]
     | inr second ↦
         elim second [
           | inl begun ↦
               elim (leads.0 begun.0) [
-                | inl skipped ↦ inl (skipped.0, or_right (begins a before q) (skips a && begins b (before + slots_of a) q) (and_from (skips a) (begins b (before + slots_of a) q) skipped.1 begun.1))
+                | inl skipped ↦ inl (skipped.0, or_right (is_first a before q) (is_nullable a && is_first b (before + slots_of a) q) (and_from (is_nullable a) (is_first b (before + slots_of a) q) skipped.1 begun.1))
                 | inr ended ↦
                     inr (
                       ended.0,
                       ended.1,
-                      or_right (goes a before ended.0 q) (goes b (before + slots_of a) ended.0 q || (ends a before ended.0 && begins b (before + slots_of a) q))
-                          (or_right (goes b (before + slots_of a) ended.0 q) (ends a before ended.0 && begins b (before + slots_of a) q)
-                          (and_from (ends a before ended.0) (begins b (before + slots_of a) q) ended.2 begun.1)),
+                      or_right (follows a before ended.0 q) (follows b (before + slots_of a) ended.0 q || (is_last a before ended.0 && is_first b (before + slots_of a) q))
+                          (or_right (follows b (before + slots_of a) ended.0 q) (is_last a before ended.0 && is_first b (before + slots_of a) q)
+                          (and_from (is_last a before ended.0) (is_first b (before + slots_of a) q) ended.2 begun.1)),
                     )
               ]
           | inr gone ↦
               inr (
                 gone.0,
                 gone.1,
-                or_right (goes a before gone.0 q) (goes b (before + slots_of a) gone.0 q || (ends a before gone.0 && begins b (before + slots_of a) q))
-                    (or_left (goes b (before + slots_of a) gone.0 q) (ends a before gone.0 && begins b (before + slots_of a) q) gone.2),
+                or_right (follows a before gone.0 q) (follows b (before + slots_of a) gone.0 q || (is_last a before gone.0 && is_first b (before + slots_of a) q))
+                    (or_left (follows b (before + slots_of a) gone.0 q) (is_last a before gone.0 && is_first b (before + slots_of a) q) gone.2),
               )
         ]
   ],
@@ -103,12 +103,12 @@ next_or : (a b : Tree) (before : ℕ) (enter : Bool) (from : List ℕ) (q : ℕ)
 next_or a b before enter from q = (
   λ h. elim h [
     | inl begun ↦
-        elim (or_cases (begins a before q) (begins b (before + slots_of a) q) begun.1) [
+        elim (or_cases (is_first a before q) (is_first b (before + slots_of a) q) begun.1) [
           | inl first ↦ inl (inl (begun.0, first))
           | inr second ↦ inr (inl (begun.0, second))
         ]
     | inr gone ↦
-        elim (or_cases (goes a before gone.0 q) (goes b (before + slots_of a) gone.0 q) gone.2) [
+        elim (or_cases (follows a before gone.0 q) (follows b (before + slots_of a) gone.0 q) gone.2) [
           | inl first ↦ inl (inr (gone.0, gone.1, first))
           | inr second ↦ inr (inr (gone.0, gone.1, second))
         ]
@@ -116,13 +116,13 @@ next_or a b before enter from q = (
   λ h. elim h [
     | inl first ↦
         elim first [
-          | inl begun ↦ inl (begun.0, or_left (begins a before q) (begins b (before + slots_of a) q) begun.1)
-          | inr gone ↦ inr (gone.0, gone.1, or_left (goes a before gone.0 q) (goes b (before + slots_of a) gone.0 q) gone.2)
+          | inl begun ↦ inl (begun.0, or_left (is_first a before q) (is_first b (before + slots_of a) q) begun.1)
+          | inr gone ↦ inr (gone.0, gone.1, or_left (follows a before gone.0 q) (follows b (before + slots_of a) gone.0 q) gone.2)
         ]
     | inr second ↦
         elim second [
-          | inl begun ↦ inl (begun.0, or_right (begins a before q) (begins b (before + slots_of a) q) begun.1)
-          | inr gone ↦ inr (gone.0, gone.1, or_right (goes a before gone.0 q) (goes b (before + slots_of a) gone.0 q) gone.2)
+          | inl begun ↦ inl (begun.0, or_right (is_first a before q) (is_first b (before + slots_of a) q) begun.1)
+          | inr gone ↦ inr (gone.0, gone.1, or_right (follows a before gone.0 q) (follows b (before + slots_of a) gone.0 q) gone.2)
         ]
   ],
 )
@@ -144,7 +144,7 @@ class_in_gap min max k = elim (cases_lt (k - 1) (gap_slots min max)) [
   | inr past ↦ get_or_past (replicate (gap_slots min max) any) (k - 1) any (rw length-replicate past)
 ]
 
-gap_next_from : (min : ℕ) (max : Option ℕ) (before : ℕ) (from : List ℕ) (p q : ℕ) → HasBit from p → goes (Gap min max) before p q ≡ true → (before < q) × (q ≤ before + gap_slots min max) × (((before + 1 < q) × HasBit from (q - 1)) ⊎ ((q ≡ before + gap_slots min max) × (loops max ≡ true) × HasBit from q))
+gap_next_from : (min : ℕ) (max : Option ℕ) (before : ℕ) (from : List ℕ) (p q : ℕ) → HasBit from p → follows (Gap min max) before p q ≡ true → (before < q) × (q ≤ before + gap_slots min max) × (((before + 1 < q) × HasBit from (q - 1)) ⊎ ((q ≡ before + gap_slots min max) × (loops max ≡ true) × HasBit from q))
 gap_next_from min None before from p q bit h = elim (gap_goes_none min before p q h) [
   | inl step ↦
       let same : p ≡ q - 1 = omega arith in
@@ -156,10 +156,10 @@ gap_next_from min (Some max) before from p q bit h =
     let same : p ≡ q - 1 = omega arith in
     (omega arith, omega arith, inl (omega arith, subst (HasBit from) same bit))
 
-pub gap_last : (min : ℕ) (max : Option ℕ) (before q : ℕ) → q ≡ before + gap_slots min max → loops max ≡ true → goes (Gap min max) before q q ≡ true
+pub gap_last : (min : ℕ) (max : Option ℕ) (before q : ℕ) → q ≡ before + gap_slots min max → loops max ≡ true → follows (Gap min max) before q q ≡ true
 gap_last min None before q is loop =
     let same : before + min + 1 ≡ q = omega arith in
-    subst (λ x. goes (Gap min None) before x x ≡ true) same (gap_stays min before)
+    subst (λ x. follows (Gap min None) before x x ≡ true) same (gap_stays min before)
 gap_last min (Some max) before q is loop = absurd (false≢true loop)
 
 -- a gap, slot by slot
@@ -167,19 +167,19 @@ gap_by_slots : (min : ℕ) (max : Option ℕ) (before : ℕ) (enter : Bool) (fro
 gap_by_slots min max before enter from byte q small = (
   λ h. elim h.0 [
     | inl begun ↦
-        let slot = begins-slot (Gap min max) before q begun.1 in
+        let slot = is_first-slot (Gap min max) before q begun.1 in
         let first : q ≡ before + 1 = eqb-true q (before + 1) (and_parts (nat_lt 0 (gap_slots min max)) (q == before + 1) begun.1).1 in
         (slot.0, slot.1, inl (first, begun.0))
     | inr gone ↦ let is = gap_next_from min max before from gone.0 q gone.1 gone.2 in (is.0, is.1, inr is.2)
   ],
   λ h. (
     elim h.2 [
-      | inl first ↦ inl (first.1, subst (λ x. begins (Gap min max) before x ≡ true) (sym first.0) (gap_begins min max before (omega arith)))
+      | inl first ↦ inl (first.1, subst (λ x. is_first (Gap min max) before x ≡ true) (sym first.0) (gap_begins min max before (omega arith)))
       | inr behind ↦
           elim behind [
             | inl step ↦
                 let same : q - 1 + 1 ≡ q = omega arith in
-                inr (q - 1, step.1, subst (λ x. goes (Gap min max) before (q - 1) x ≡ true) same (gap_next min max before (q - 1) (omega arith) (omega arith)))
+                inr (q - 1, step.1, subst (λ x. follows (Gap min max) before (q - 1) x ≡ true) same (gap_next min max before (q - 1) (omega arith) (omega arith)))
             | inr stay ↦ inr (q, stay.2, gap_last min max before q stay.0 stay.1)
           ]
     ],
@@ -220,7 +220,7 @@ stepped_whole tree enter from byte q trim start =
           elim h.0 [
             | inl begun ↦ (0, start.0 begun.0, (follows_exact tree trim 0 q).0 begun.1, takes)
             | inr gone ↦
-                let slot = goes-slots tree 0 gone.0 q gone.2 in
+                let slot = follows-slots tree 0 gone.0 q gone.2 in
                 let other : gone.0 ≡ 0 → ⊥ = λ e. omega arith in
                 (gone.0, gone.1, (follows_exact tree trim gone.0 q).0 (rw (ne_eqb gone.0 0 other) gone.2), takes)
           ],
@@ -253,7 +253,7 @@ led_whole tree enter from trim start = (
   λ h. elim h [
     | inl skipped ↦ (0, start.0 skipped.0, (accepting_exact tree trim 0).0 skipped.1)
     | inr ended ↦
-        let slot = ends-slot tree 0 ended.0 ended.2 in
+        let slot = is_last-slot tree 0 ended.0 ended.2 in
         let other : ended.0 ≡ 0 → ⊥ = λ e. omega arith in
         (ended.0, ended.1, (accepting_exact tree trim ended.0).0 (rw (ne_eqb ended.0 0 other) ended.2))
   ],

@@ -5,13 +5,13 @@ use Rattle.std.proofs.lemmas.Bool.{and_from, and_parts, cases_Bool, cases_eq, eq
 use Rattle.sig_auto.specs.declared.class.Class.{Class}
 use Rattle.sig_auto.specs.declared.class.Class.TheVariants.{Within, Outside}
 use Rattle.sig_auto.specs.Classes.{InClass}
-use Rattle.sig_auto.specs.Local.{begins, ends, goes, skips}
+use Rattle.sig_auto.specs.Local.{is_first, is_last, follows, is_nullable}
 use Rattle.sig_auto.specs.Successions.{BeginsOn, GoesOn, IsLeastAbove, in_class, passing, succeeds, successors_above}
 use Rattle.sig_auto.specs.Tracks.{Follows}
 use Rattle.sig_auto.specs.Trees.{Tree, Then, Or}
 use Rattle.sig_auto.specs.TreeSlots.{Takes, class_of, slots_of}
 use Rattle.sig_auto.specs.Trim.{IsTrim}
-use Rattle.sig_auto.proofs.LocalLemmas.{begins-slot, ends-slot, goes-slots}
+use Rattle.sig_auto.proofs.LocalLemmas.{is_first-slot, is_last-slot, follows-slots}
 use Rattle.sig_auto.proofs.StepLemmas.{class_joined}
 use Rattle.sig_auto.proofs.TrimLemmas.{follows_exact}
 
@@ -32,15 +32,15 @@ least_second above None P A B either none h = λ r more p. elim ((either r).0 p)
 least_second above (Some q) P A B either none h = (h.0, (either q).1 (inr h.1), λ r more less p. elim ((either r).0 p) [ inl a ↦ none r more a | inr b ↦ h.2 r more less b ])
 
 -- one branch after the other
-begins_then : (a b : Tree) (before byte q : ℕ) → BeginsOn (Then a b) before byte q ↔ (BeginsOn a before byte q ⊎ ((((skips a ≡ true) × (begins b (before + slots_of a) q ≡ true))) × InClass (class_of b (q - (before + slots_of a))) byte))
-begins_then a b before byte q = class_joined (Then a b) a b before byte q refl (begins-slot a before q) (λ h. begins-slot b (before + slots_of a) q h.1) (
-  λ h. elim (or_cases (begins a before q) (skips a && begins b (before + slots_of a) q) h) [
+begins_then : (a b : Tree) (before byte q : ℕ) → BeginsOn (Then a b) before byte q ↔ (BeginsOn a before byte q ⊎ ((((is_nullable a ≡ true) × (is_first b (before + slots_of a) q ≡ true))) × InClass (class_of b (q - (before + slots_of a))) byte))
+begins_then a b before byte q = class_joined (Then a b) a b before byte q refl (is_first-slot a before q) (λ h. is_first-slot b (before + slots_of a) q h.1) (
+  λ h. elim (or_cases (is_first a before q) (is_nullable a && is_first b (before + slots_of a) q) h) [
     | inl first ↦ inl first
-    | inr second ↦ inr (and_parts (skips a) (begins b (before + slots_of a) q) second)
+    | inr second ↦ inr (and_parts (is_nullable a) (is_first b (before + slots_of a) q) second)
   ],
   λ h. elim h [
-    | inl first ↦ or_left (begins a before q) (skips a && begins b (before + slots_of a) q) first
-    | inr second ↦ or_right (begins a before q) (skips a && begins b (before + slots_of a) q) (and_from (skips a) (begins b (before + slots_of a) q) second.0 second.1)
+    | inl first ↦ or_left (is_first a before q) (is_nullable a && is_first b (before + slots_of a) q) first
+    | inr second ↦ or_right (is_first a before q) (is_nullable a && is_first b (before + slots_of a) q) (and_from (is_nullable a) (is_first b (before + slots_of a) q) second.0 second.1)
   ],
 )
 
@@ -48,10 +48,10 @@ pub begin_then_first : (tree a b x : Tree) (before byte above q : ℕ) → tree 
 begin_then_first tree a b x before byte above q is one h =
     let first : IsLeastAbove above (BeginsOn a before byte) (Some q) = subst (λ z. IsLeastAbove above (BeginsOn z before byte) (Some q)) one h in
     subst (λ z. IsLeastAbove above (BeginsOn z before byte) (Some q)) (sym is)
-    (least_first above (before + slots_of a) q (BeginsOn (Then a b) before byte) (BeginsOn a before byte) (λ r. ((skips a ≡ true) × (begins b (before + slots_of a) r ≡ true)) × InClass (class_of b (r - (before + slots_of a))) byte)
-    (begins_then a b before byte) (λ r k. (begins-slot a before r k.0).1) (λ r k. (begins-slot b (before + slots_of a) r k.0.1).0) first)
+    (least_first above (before + slots_of a) q (BeginsOn (Then a b) before byte) (BeginsOn a before byte) (λ r. ((is_nullable a ≡ true) × (is_first b (before + slots_of a) r ≡ true)) × InClass (class_of b (r - (before + slots_of a))) byte)
+    (begins_then a b before byte) (λ r k. (is_first-slot a before r k.0).1) (λ r k. (is_first-slot b (before + slots_of a) r k.0.1).0) first)
 
-pub begin_then_second : (tree a b x y : Tree) (n before byte above : ℕ) (o : Option ℕ) → tree ≡ Then a b → x ≡ a → y ≡ b → n ≡ slots_of a → skips a ≡ true → IsLeastAbove above (BeginsOn x before byte) None → IsLeastAbove above (BeginsOn y (before + n) byte) o → IsLeastAbove above (BeginsOn tree before byte) o
+pub begin_then_second : (tree a b x y : Tree) (n before byte above : ℕ) (o : Option ℕ) → tree ≡ Then a b → x ≡ a → y ≡ b → n ≡ slots_of a → is_nullable a ≡ true → IsLeastAbove above (BeginsOn x before byte) None → IsLeastAbove above (BeginsOn y (before + n) byte) o → IsLeastAbove above (BeginsOn tree before byte) o
 begin_then_second tree a b x y n before byte above o is one two many skipped none h =
     let first : IsLeastAbove above (BeginsOn a before byte) None = subst (λ z. IsLeastAbove above (BeginsOn z before byte) None) one none in
     let named : IsLeastAbove above (BeginsOn b (before + n) byte) o = subst (λ z. IsLeastAbove above (BeginsOn z (before + n) byte) o) two h in
@@ -66,11 +66,11 @@ begin_then_second tree a b x y n before byte above o is one two many skipped non
 
 -- one of two branches
 begins_or : (a b : Tree) (before byte q : ℕ) → BeginsOn (Or a b) before byte q ↔ (BeginsOn a before byte q ⊎ BeginsOn b (before + slots_of a) byte q)
-begins_or a b before byte q = class_joined (Or a b) a b before byte q refl (begins-slot a before q) (begins-slot b (before + slots_of a) q) (
-  or_cases (begins a before q) (begins b (before + slots_of a) q),
+begins_or a b before byte q = class_joined (Or a b) a b before byte q refl (is_first-slot a before q) (is_first-slot b (before + slots_of a) q) (
+  or_cases (is_first a before q) (is_first b (before + slots_of a) q),
   λ h. elim h [
-    | inl first ↦ or_left (begins a before q) (begins b (before + slots_of a) q) first
-    | inr second ↦ or_right (begins a before q) (begins b (before + slots_of a) q) second
+    | inl first ↦ or_left (is_first a before q) (is_first b (before + slots_of a) q) first
+    | inr second ↦ or_right (is_first a before q) (is_first b (before + slots_of a) q) second
   ],
 )
 
@@ -79,7 +79,7 @@ begin_or_first tree a b x before byte above q is one h =
     let first : IsLeastAbove above (BeginsOn a before byte) (Some q) = subst (λ z. IsLeastAbove above (BeginsOn z before byte) (Some q)) one h in
     subst (λ z. IsLeastAbove above (BeginsOn z before byte) (Some q)) (sym is)
     (least_first above (before + slots_of a) q (BeginsOn (Or a b) before byte) (BeginsOn a before byte) (BeginsOn b (before + slots_of a) byte)
-    (begins_or a b before byte) (λ r k. (begins-slot a before r k.0).1) (λ r k. (begins-slot b (before + slots_of a) r k.0).0) first)
+    (begins_or a b before byte) (λ r k. (is_first-slot a before r k.0).1) (λ r k. (is_first-slot b (before + slots_of a) r k.0).0) first)
 
 pub begin_or_second : (tree a b x y : Tree) (n before byte above : ℕ) (o : Option ℕ) → tree ≡ Or a b → x ≡ a → y ≡ b → n ≡ slots_of a → IsLeastAbove above (BeginsOn x before byte) None → IsLeastAbove above (BeginsOn y (before + n) byte) o → IsLeastAbove above (BeginsOn tree before byte) o
 begin_or_second tree a b x y n before byte above o is one two many none h =
@@ -90,23 +90,23 @@ begin_or_second tree a b x y n before byte above o is one two many none h =
     (least_second above o (BeginsOn (Or a b) before byte) (BeginsOn a before byte) (BeginsOn b (before + slots_of a) byte) (begins_or a b before byte) first second)
 
 -- behind a slot of one branch or the other
-goes_then : (a b : Tree) (before p byte q : ℕ) → GoesOn (Then a b) before p byte q ↔ (GoesOn a before p byte q ⊎ ((((goes b (before + slots_of a) p q ≡ true) ⊎ ((ends a before p ≡ true) × (begins b (before + slots_of a) q ≡ true)))) × InClass (class_of b (q - (before + slots_of a))) byte))
-goes_then a b before p byte q = class_joined (Then a b) a b before byte q refl (λ h. (goes-slots a before p q h).1) (λ h. elim h [ inl gone ↦ (goes-slots b (before + slots_of a) p q gone).1 | inr over ↦ begins-slot b (before + slots_of a) q over.1 ]) (
-  λ h. elim (or_cases (goes a before p q) (goes b (before + slots_of a) p q || (ends a before p && begins b (before + slots_of a) q)) h) [
+goes_then : (a b : Tree) (before p byte q : ℕ) → GoesOn (Then a b) before p byte q ↔ (GoesOn a before p byte q ⊎ ((((follows b (before + slots_of a) p q ≡ true) ⊎ ((is_last a before p ≡ true) × (is_first b (before + slots_of a) q ≡ true)))) × InClass (class_of b (q - (before + slots_of a))) byte))
+goes_then a b before p byte q = class_joined (Then a b) a b before byte q refl (λ h. (follows-slots a before p q h).1) (λ h. elim h [ inl gone ↦ (follows-slots b (before + slots_of a) p q gone).1 | inr over ↦ is_first-slot b (before + slots_of a) q over.1 ]) (
+  λ h. elim (or_cases (follows a before p q) (follows b (before + slots_of a) p q || (is_last a before p && is_first b (before + slots_of a) q)) h) [
     | inl first ↦ inl first
     | inr more ↦
-        elim (or_cases (goes b (before + slots_of a) p q) (ends a before p && begins b (before + slots_of a) q) more) [
+        elim (or_cases (follows b (before + slots_of a) p q) (is_last a before p && is_first b (before + slots_of a) q) more) [
           | inl second ↦ inr (inl second)
-          | inr over ↦ inr (inr (and_parts (ends a before p) (begins b (before + slots_of a) q) over))
+          | inr over ↦ inr (inr (and_parts (is_last a before p) (is_first b (before + slots_of a) q) over))
         ]
   ],
   λ h. elim h [
-    | inl first ↦ or_left (goes a before p q) (goes b (before + slots_of a) p q || (ends a before p && begins b (before + slots_of a) q)) first
+    | inl first ↦ or_left (follows a before p q) (follows b (before + slots_of a) p q || (is_last a before p && is_first b (before + slots_of a) q)) first
     | inr more ↦
-        or_right (goes a before p q) (goes b (before + slots_of a) p q || (ends a before p && begins b (before + slots_of a) q))
+        or_right (follows a before p q) (follows b (before + slots_of a) p q || (is_last a before p && is_first b (before + slots_of a) q))
         (elim more [
-          | inl second ↦ or_left (goes b (before + slots_of a) p q) (ends a before p && begins b (before + slots_of a) q) second
-          | inr over ↦ or_right (goes b (before + slots_of a) p q) (ends a before p && begins b (before + slots_of a) q) (and_from (ends a before p) (begins b (before + slots_of a) q) over.0 over.1)
+          | inl second ↦ or_left (follows b (before + slots_of a) p q) (is_last a before p && is_first b (before + slots_of a) q) second
+          | inr over ↦ or_right (follows b (before + slots_of a) p q) (is_last a before p && is_first b (before + slots_of a) q) (and_from (is_last a before p) (is_first b (before + slots_of a) q) over.0 over.1)
         ])
   ],
 )
@@ -116,14 +116,14 @@ gone_then_first tree a b x before p byte above q is one h =
     let first : IsLeastAbove above (GoesOn a before p byte) (Some q) = subst (λ z. IsLeastAbove above (GoesOn z before p byte) (Some q)) one h in
     subst (λ z. IsLeastAbove above (GoesOn z before p byte) (Some q)) (sym is)
     (least_first above (before + slots_of a) q (GoesOn (Then a b) before p byte) (GoesOn a before p byte)
-    (λ r. ((goes b (before + slots_of a) p r ≡ true) ⊎ ((ends a before p ≡ true) × (begins b (before + slots_of a) r ≡ true))) × InClass (class_of b (r - (before + slots_of a))) byte)
-    (goes_then a b before p byte) (λ r k. (goes-slots a before p r k.0).1.1)
-    (λ r k. elim k.0 [ inl gone ↦ (goes-slots b (before + slots_of a) p r gone).1.0 | inr over ↦ (begins-slot b (before + slots_of a) r over.1).0 ])
+    (λ r. ((follows b (before + slots_of a) p r ≡ true) ⊎ ((is_last a before p ≡ true) × (is_first b (before + slots_of a) r ≡ true))) × InClass (class_of b (r - (before + slots_of a))) byte)
+    (goes_then a b before p byte) (λ r k. (follows-slots a before p r k.0).1.1)
+    (λ r k. elim k.0 [ inl gone ↦ (follows-slots b (before + slots_of a) p r gone).1.0 | inr over ↦ (is_first-slot b (before + slots_of a) r over.1).0 ])
     first)
 
-pub gone_then_over : (tree a b x y : Tree) (n before p byte above : ℕ) (o : Option ℕ) → tree ≡ Then a b → x ≡ a → y ≡ b → n ≡ slots_of a → ends a before p ≡ true → IsLeastAbove above (GoesOn x before p byte) None → IsLeastAbove above (BeginsOn y (before + n) byte) o → IsLeastAbove above (GoesOn tree before p byte) o
+pub gone_then_over : (tree a b x y : Tree) (n before p byte above : ℕ) (o : Option ℕ) → tree ≡ Then a b → x ≡ a → y ≡ b → n ≡ slots_of a → is_last a before p ≡ true → IsLeastAbove above (GoesOn x before p byte) None → IsLeastAbove above (BeginsOn y (before + n) byte) o → IsLeastAbove above (GoesOn tree before p byte) o
 gone_then_over tree a b x y n before p byte above o is one two many ended none h =
-    let slot = ends-slot a before p ended in
+    let slot = is_last-slot a before p ended in
     let first : IsLeastAbove above (GoesOn a before p byte) None = subst (λ z. IsLeastAbove above (GoesOn z before p byte) None) one none in
     let named : IsLeastAbove above (BeginsOn b (before + n) byte) o = subst (λ z. IsLeastAbove above (BeginsOn z (before + n) byte) o) two h in
     let second : IsLeastAbove above (BeginsOn b (before + slots_of a) byte) o = subst (λ k. IsLeastAbove above (BeginsOn b (before + k) byte) o) many named in
@@ -134,7 +134,7 @@ gone_then_over tree a b x y n before p byte above o is one two many ended none h
         | inl at ↦ inl at
         | inr at ↦
             elim at.0 [
-              | inl gone ↦ absurd (let far = (goes-slots b (before + slots_of a) p r gone).0 in omega arith)
+              | inl gone ↦ absurd (let far = (follows-slots b (before + slots_of a) p r gone).0 in omega arith)
               | inr over ↦ inr (over.1, at.1)
             ]
       ],
@@ -142,7 +142,7 @@ gone_then_over tree a b x y n before p byte above o is one two many ended none h
     ))
     first second)
 
-pub gone_then_second : (tree a b x y : Tree) (n before p byte above : ℕ) (o : Option ℕ) → tree ≡ Then a b → x ≡ a → y ≡ b → n ≡ slots_of a → ends a before p ≡ false → IsLeastAbove above (GoesOn x before p byte) None → IsLeastAbove above (GoesOn y (before + n) p byte) o → IsLeastAbove above (GoesOn tree before p byte) o
+pub gone_then_second : (tree a b x y : Tree) (n before p byte above : ℕ) (o : Option ℕ) → tree ≡ Then a b → x ≡ a → y ≡ b → n ≡ slots_of a → is_last a before p ≡ false → IsLeastAbove above (GoesOn x before p byte) None → IsLeastAbove above (GoesOn y (before + n) p byte) o → IsLeastAbove above (GoesOn tree before p byte) o
 gone_then_second tree a b x y n before p byte above o is one two many goes_on none h =
     let first : IsLeastAbove above (GoesOn a before p byte) None = subst (λ z. IsLeastAbove above (GoesOn z before p byte) None) one none in
     let named : IsLeastAbove above (GoesOn b (before + n) p byte) o = subst (λ z. IsLeastAbove above (GoesOn z (before + n) p byte) o) two h in
@@ -159,11 +159,11 @@ gone_then_second tree a b x y n before p byte above o is one two many goes_on no
     first second)
 
 goes_or : (a b : Tree) (before p byte q : ℕ) → GoesOn (Or a b) before p byte q ↔ (GoesOn a before p byte q ⊎ GoesOn b (before + slots_of a) p byte q)
-goes_or a b before p byte q = class_joined (Or a b) a b before byte q refl (λ h. (goes-slots a before p q h).1) (λ h. (goes-slots b (before + slots_of a) p q h).1) (
-  or_cases (goes a before p q) (goes b (before + slots_of a) p q),
+goes_or a b before p byte q = class_joined (Or a b) a b before byte q refl (λ h. (follows-slots a before p q h).1) (λ h. (follows-slots b (before + slots_of a) p q h).1) (
+  or_cases (follows a before p q) (follows b (before + slots_of a) p q),
   λ h. elim h [
-    | inl first ↦ or_left (goes a before p q) (goes b (before + slots_of a) p q) first
-    | inr second ↦ or_right (goes a before p q) (goes b (before + slots_of a) p q) second
+    | inl first ↦ or_left (follows a before p q) (follows b (before + slots_of a) p q) first
+    | inr second ↦ or_right (follows a before p q) (follows b (before + slots_of a) p q) second
   ],
 )
 
@@ -172,7 +172,7 @@ gone_or_first tree a b x before p byte above q is one h =
     let first : IsLeastAbove above (GoesOn a before p byte) (Some q) = subst (λ z. IsLeastAbove above (GoesOn z before p byte) (Some q)) one h in
     subst (λ z. IsLeastAbove above (GoesOn z before p byte) (Some q)) (sym is)
     (least_first above (before + slots_of a) q (GoesOn (Or a b) before p byte) (GoesOn a before p byte) (GoesOn b (before + slots_of a) p byte)
-    (goes_or a b before p byte) (λ r k. (goes-slots a before p r k.0).1.1) (λ r k. (goes-slots b (before + slots_of a) p r k.0).1.0) first)
+    (goes_or a b before p byte) (λ r k. (follows-slots a before p r k.0).1.1) (λ r k. (follows-slots b (before + slots_of a) p r k.0).1.0) first)
 
 pub gone_or_second : (tree a b x y : Tree) (n before p byte above : ℕ) (o : Option ℕ) → tree ≡ Or a b → x ≡ a → y ≡ b → n ≡ slots_of a → IsLeastAbove above (GoesOn x before p byte) None → IsLeastAbove above (GoesOn y (before + n) p byte) o → IsLeastAbove above (GoesOn tree before p byte) o
 gone_or_second tree a b x y n before p byte above o is one two many none h =
@@ -195,11 +195,11 @@ in_class_exact (Outside first last) byte = (
       (elim h.1 [ inl low ↦ or_left (nat_lt byte first) (nat_lt last byte) (lt-ltb byte first low) | inr high ↦ or_right (nat_lt byte first) (nat_lt last byte) (lt-ltb last byte high) ]),
 )
 
-follows_and_takes : (tree : Tree) (p byte q : ℕ) (P : Type 0) → ((if p == 0 then begins tree 0 q else goes tree 0 p q) ≡ true) ↔ P → (succeeds tree p byte q ≡ true) ↔ (P × InClass (class_of tree q) byte)
+follows_and_takes : (tree : Tree) (p byte q : ℕ) (P : Type 0) → ((if p == 0 then is_first tree 0 q else follows tree 0 p q) ≡ true) ↔ P → (succeeds tree p byte q ≡ true) ↔ (P × InClass (class_of tree q) byte)
 follows_and_takes tree p byte q P is = (
-  λ h. let parts = and_parts (if p == 0 then begins tree 0 q else goes tree 0 p q) (in_class (class_of tree q) byte) h in
+  λ h. let parts = and_parts (if p == 0 then is_first tree 0 q else follows tree 0 p q) (in_class (class_of tree q) byte) h in
       (is.0 parts.0, (in_class_exact (class_of tree q) byte).0 parts.1),
-  λ h. and_from (if p == 0 then begins tree 0 q else goes tree 0 p q) (in_class (class_of tree q) byte) (is.1 h.0) ((in_class_exact (class_of tree q) byte).1 h.1),
+  λ h. and_from (if p == 0 then is_first tree 0 q else follows tree 0 p q) (in_class (class_of tree q) byte) (is.1 h.0) ((in_class_exact (class_of tree q) byte).1 h.1),
 )
 
 -- the least that is so, by another name
@@ -212,16 +212,16 @@ pub succeeds_start : (tree : Tree) (p byte above : ℕ) (o : Option ℕ) → p �
 succeeds_start tree p byte above o start h = least_as above o (λ q. succeeds tree p byte q ≡ true) (BeginsOn tree 0 byte)
     (λ q.
     let same : q - 0 ≡ q = omega arith in
-    subst (λ x. (succeeds tree p byte q ≡ true) ↔ ((begins tree 0 q ≡ true) × InClass (class_of tree x) byte)) (sym same)
-    (follows_and_takes tree p byte q (begins tree 0 q ≡ true) (rw (eq-eqb p 0 start) (λ k. k, λ k. k))))
+    subst (λ x. (succeeds tree p byte q ≡ true) ↔ ((is_first tree 0 q ≡ true) × InClass (class_of tree x) byte)) (sym same)
+    (follows_and_takes tree p byte q (is_first tree 0 q ≡ true) (rw (eq-eqb p 0 start) (λ k. k, λ k. k))))
     h
 
 pub succeeds_slot : (tree : Tree) (p byte above : ℕ) (o : Option ℕ) → (p ≡ 0 → ⊥) → IsLeastAbove above (GoesOn tree 0 p byte) o → IsLeastAbove above (λ q. succeeds tree p byte q ≡ true) o
 succeeds_slot tree p byte above o other h = least_as above o (λ q. succeeds tree p byte q ≡ true) (GoesOn tree 0 p byte)
     (λ q.
     let same : q - 0 ≡ q = omega arith in
-    subst (λ x. (succeeds tree p byte q ≡ true) ↔ ((goes tree 0 p q ≡ true) × InClass (class_of tree x) byte)) (sym same)
-    (follows_and_takes tree p byte q (goes tree 0 p q ≡ true) (rw (ne_eqb p 0 other) (λ k. k, λ k. k))))
+    subst (λ x. (succeeds tree p byte q ≡ true) ↔ ((follows tree 0 p q ≡ true) × InClass (class_of tree x) byte)) (sym same)
+    (follows_and_takes tree p byte q (follows tree 0 p q ≡ true) (rw (ne_eqb p 0 other) (λ k. k, λ k. k))))
     h
 
 -- the numbers that pass a test, from the least
@@ -311,10 +311,10 @@ IsStrictlyIncreasing-passing test above (suc n) = rises_if (test (above + 1)) (a
 -- in a trim tree the successors are the states that follow and take the byte
 succeeds_within : (tree : Tree) (p byte q : ℕ) → succeeds tree p byte q ≡ true → (0 < q) × (q ≤ slots_of tree)
 succeeds_within tree p byte q h =
-    let test : (if p == 0 then begins tree 0 q else goes tree 0 p q) ≡ true = (and_parts (if p == 0 then begins tree 0 q else goes tree 0 p q) (in_class (class_of tree q) byte) h).0 in
+    let test : (if p == 0 then is_first tree 0 q else follows tree 0 p q) ≡ true = (and_parts (if p == 0 then is_first tree 0 q else follows tree 0 p q) (in_class (class_of tree q) byte) h).0 in
     elim (cases_eq p 0) [
-      | inl start ↦ let slot = begins-slot tree 0 q (rw (eq-eqb p 0 start) at test) in (slot.0, omega arith)
-      | inr other ↦ let slot = (goes-slots tree 0 p q (rw (ne_eqb p 0 other) at test)).1 in (slot.0, omega arith)
+      | inl start ↦ let slot = is_first-slot tree 0 q (rw (eq-eqb p 0 start) at test) in (slot.0, omega arith)
+      | inr other ↦ let slot = (follows-slots tree 0 p q (rw (ne_eqb p 0 other) at test)).1 in (slot.0, omega arith)
     ]
 
 pub Contains-successors : (tree : Tree) (p byte q : ℕ) → IsTrim tree → Contains (successors_above tree p byte 0) q ↔ (Follows tree p q × Takes tree q byte)

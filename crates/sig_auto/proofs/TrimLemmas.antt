@@ -3,12 +3,12 @@ use Rattle.std.proofs.Common.{◌≡◌, ◌↔◌, Bool, false, ℕ, zero, suc,
 use Rattle.std.proofs.lemmas.Bool.{cases_eq, cases_lt, eq-eqb, ne_eqb}
 use Rattle.sig_expr.specs.Words.{IsAtMost}
 use Rattle.sig_table.specs.Slots.{gap_slots}
-use Rattle.sig_auto.specs.Local.{begins, ends, goes, skips}
+use Rattle.sig_auto.specs.Local.{is_first, is_last, follows, is_nullable}
 use Rattle.sig_auto.specs.Tracks.{Accepting, Follows, slots_from, Track}
 use Rattle.sig_auto.specs.Trees.{Tree, Never, Empty, Slot, Gap, Then, Or}
 use Rattle.sig_auto.specs.TreeSlots.{slots_of}
 use Rattle.sig_auto.specs.Trim.{HasTrack, IsTrim}
-use Rattle.sig_auto.proofs.LocalLemmas.{Chain, Chain-or_left, Chain-or_left_from, Chain-or_right, Chain-or_right_from, Chain-then, Chain-then_cut, Chain-then_right, Chain-then_right_from, IsLocal, IsLocal-or_left, IsLocal-or_right, IsLocal-then, IsSlot, begins-slot, ends-slot, gap_begins, gap_climb, gap_ends-from, gap_local_none, gap_local_some, gap_next, goes-slots, local_track}
+use Rattle.sig_auto.proofs.LocalLemmas.{Chain, Chain-or_left, Chain-or_left_from, Chain-or_right, Chain-or_right_from, Chain-then, Chain-then_cut, Chain-then_right, Chain-then_right_from, IsLocal, IsLocal-or_left, IsLocal-or_right, IsLocal-then, IsSlot, is_first-slot, is_last-slot, gap_begins, gap_climb, gap_ends-from, gap_local_none, gap_local_some, gap_next, follows-slots, local_track}
 use Rattle.sig_auto.proofs.RunLemmas.{accepting_shown, follows_shown}
 
 -- a tree that has a track
@@ -42,10 +42,10 @@ gap_least min (Some max) h = h
 gap_reach : (min : ℕ) (max : Option ℕ) (before n p : ℕ) (v : List ℕ) → before + 1 + n ≡ p → p ≤ before + gap_slots min max → Chain (Gap min max) before p v → IsLocal (Gap min max) before (slots_from (before + 1) n ++ p ∷ v)
 gap_reach min max before zero p v is high h =
     let same : before + 1 ≡ p = omega arith in
-    (subst (λ x. begins (Gap min max) before x ≡ true) same (gap_begins min max before (omega arith)), h)
+    (subst (λ x. is_first (Gap min max) before x ≡ true) same (gap_begins min max before (omega arith)), h)
 gap_reach min max before (suc m) p v is high h =
     let same : before + 1 + m + 1 ≡ p = omega arith in
-    let last : goes (Gap min max) before (before + 1 + m) p ≡ true = subst (λ x. goes (Gap min max) before (before + 1 + m) x ≡ true) same (gap_next min max before (before + 1 + m) (omega arith) (omega arith)) in
+    let last : follows (Gap min max) before (before + 1 + m) p ≡ true = subst (λ x. follows (Gap min max) before (before + 1 + m) x ≡ true) same (gap_next min max before (before + 1 + m) (omega arith) (omega arith)) in
     (gap_begins min max before (omega arith), gap_climb min max before (before + 1) m (p ∷ v) (omega arith) (omega arith) (last, h))
 
 -- some slots come before p, whatever comes behind it
@@ -120,28 +120,28 @@ goes_on (Or a b) before p trim slot =
     ]
 
 -- the tests find tracks
-pub skips_track : (tree : Tree) (before : ℕ) → skips tree ≡ true → Track tree before []
+pub skips_track : (tree : Tree) (before : ℕ) → is_nullable tree ≡ true → Track tree before []
 skips_track tree before h = local_track tree before [] h
 
-pub begins_track : (tree : Tree) (before q : ℕ) → IsTrim tree → begins tree before q ≡ true → (v : List ℕ) × Track tree before (q ∷ v)
+pub begins_track : (tree : Tree) (before q : ℕ) → IsTrim tree → is_first tree before q ≡ true → (v : List ℕ) × Track tree before (q ∷ v)
 begins_track tree before q trim h =
-    let v = goes_on tree before q trim (begins-slot tree before q h) in
+    let v = goes_on tree before q trim (is_first-slot tree before q h) in
     (v.0, local_track tree before (q ∷ v.0) (h, v.1))
 
-pub ends_track : (tree : Tree) (before p : ℕ) → IsTrim tree → ends tree before p ≡ true → (u : List ℕ) × Track tree before (u ++ p ∷ [])
+pub ends_track : (tree : Tree) (before p : ℕ) → IsTrim tree → is_last tree before p ≡ true → (u : List ℕ) × Track tree before (u ++ p ∷ [])
 ends_track tree before p trim h =
-    let u = reach tree before p trim (ends-slot tree before p h) in
+    let u = reach tree before p trim (is_last-slot tree before p h) in
     (u.0, local_track tree before (u.0 ++ p ∷ []) (u.1 [] h))
 
-pub goes_track : (tree : Tree) (before p q : ℕ) → IsTrim tree → goes tree before p q ≡ true → (u v : List ℕ) × Track tree before (u ++ p ∷ q ∷ v)
+pub goes_track : (tree : Tree) (before p q : ℕ) → IsTrim tree → follows tree before p q ≡ true → (u v : List ℕ) × Track tree before (u ++ p ∷ q ∷ v)
 goes_track tree before p q trim h =
-    let slots = goes-slots tree before p q h in
+    let slots = follows-slots tree before p q h in
     let u = reach tree before p trim slots.0 in
     let v = goes_on tree before q trim slots.1 in
     (u.0, v.0, local_track tree before (u.0 ++ p ∷ q ∷ v.0) (u.1 (q ∷ v.0) (h, v.1)))
 
 -- the test of two states is whether one follows the other
-pub follows_exact : (tree : Tree) → IsTrim tree → (p q : ℕ) → ((if p == 0 then begins tree 0 q else goes tree 0 p q) ≡ true) ↔ Follows tree p q
+pub follows_exact : (tree : Tree) → IsTrim tree → (p q : ℕ) → ((if p == 0 then is_first tree 0 q else follows tree 0 p q) ≡ true) ↔ Follows tree p q
 follows_exact tree trim p q = (
   λ h. elim (cases_eq p 0) [
     | inl start ↦
@@ -155,11 +155,11 @@ follows_exact tree trim p q = (
 )
 
 -- and the test of one, whether it accepts
-pub accepting_exact : (tree : Tree) → IsTrim tree → (p : ℕ) → ((if p == 0 then skips tree else ends tree 0 p) ≡ true) ↔ Accepting tree p
+pub accepting_exact : (tree : Tree) → IsTrim tree → (p : ℕ) → ((if p == 0 then is_nullable tree else is_last tree 0 p) ≡ true) ↔ Accepting tree p
 accepting_exact tree trim p = (
   λ h. elim (cases_eq p 0) [
     | inl start ↦
-        let is : skips tree ≡ true = rw (eq-eqb p 0 start) at h in
+        let is : is_nullable tree ≡ true = rw (eq-eqb p 0 start) at h in
         subst (λ x. Accepting tree x) (sym start) (record { track = []; is_track = skips_track tree 0 is; front = []; last = refl })
     | inr other ↦
         let found = ends_track tree 0 p trim (rw (ne_eqb p 0 other) at h) in
@@ -169,14 +169,14 @@ accepting_exact tree trim p = (
 )
 
 -- the same for an answer of the code, at the start and at a slot
-pub follows_start : (tree : Tree) → IsTrim tree → (p q : ℕ) (b : Bool) → p ≡ 0 → b ≡ begins tree 0 q → (b ≡ true) ↔ Follows tree p q
+pub follows_start : (tree : Tree) → IsTrim tree → (p q : ℕ) (b : Bool) → p ≡ 0 → b ≡ is_first tree 0 q → (b ≡ true) ↔ Follows tree p q
 follows_start tree trim p q b start is = rw start (rw is (follows_exact tree trim 0 q))
 
-pub follows_slot : (tree : Tree) → IsTrim tree → (p q : ℕ) (b : Bool) → (p == 0) ≡ false → b ≡ goes tree 0 p q → (b ≡ true) ↔ Follows tree p q
+pub follows_slot : (tree : Tree) → IsTrim tree → (p q : ℕ) (b : Bool) → (p == 0) ≡ false → b ≡ follows tree 0 p q → (b ≡ true) ↔ Follows tree p q
 follows_slot tree trim p q b slot is = let law = follows_exact tree trim p q in rw is (simp slot at law)
 
-pub accepting_start : (tree : Tree) → IsTrim tree → (p : ℕ) (b : Bool) → p ≡ 0 → b ≡ skips tree → (b ≡ true) ↔ Accepting tree p
+pub accepting_start : (tree : Tree) → IsTrim tree → (p : ℕ) (b : Bool) → p ≡ 0 → b ≡ is_nullable tree → (b ≡ true) ↔ Accepting tree p
 accepting_start tree trim p b start is = rw start (rw is (accepting_exact tree trim 0))
 
-pub accepting_slot : (tree : Tree) → IsTrim tree → (p : ℕ) (b : Bool) → (p == 0) ≡ false → b ≡ ends tree 0 p → (b ≡ true) ↔ Accepting tree p
+pub accepting_slot : (tree : Tree) → IsTrim tree → (p : ℕ) (b : Bool) → (p == 0) ≡ false → b ≡ is_last tree 0 p → (b ≡ true) ↔ Accepting tree p
 accepting_slot tree trim p b slot is = let law = accepting_exact tree trim p in rw is (simp slot at law)

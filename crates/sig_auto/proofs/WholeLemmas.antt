@@ -5,7 +5,6 @@ use Rattle.std.proofs.lemmas.Bool.{cases_Bool}
 use Rattle.std.proofs.lemmas.List.Sums.{sum_by-cons}
 use Rattle.sig_auto.proofs.ByteLemmas.{IsBytes-head, IsBytes-tail}
 use Rattle.sig_auto.proofs.RowLemmas.{IsBefore-cases, less_is, split_rows}
-use Rattle.sig_auto.proofs.SoundLemmas.{expression_sound, word_bytes}
 use Rattle.sig_auto.specs.declared.class.Class.{Class}
 use Rattle.sig_auto.specs.declared.class.Class.TheVariants.{Within}
 use Rattle.sig_auto.specs.Rows.{above, behind, below, between, inner_at, lower_at, only_these, rest, upper_at}
@@ -13,14 +12,13 @@ use Rattle.sig_auto.specs.Trees.{Tree, Slot, alternatives_tree, atom_tree, atoms
 use Rattle.sig_auto.specs.TreeSlots.{slots_of}
 use Rattle.sig_auto.specs.Trim.{HasTrack, IsTrim}
 use Rattle.sig_bits.specs.Bytes.{IsBytes}
-use Rattle.sig_expr.specs.Canon.{canon}
+use Rattle.sig_expr.proofs.LawLemmas.{leaves_no_all}
 use Rattle.sig_expr.specs.declared.item.Atom.{Atom}
 use Rattle.sig_expr.specs.declared.item.Atom.TheVariants as atom
 use Rattle.sig_expr.specs.declared.item.Item.{Item}
 use Rattle.sig_expr.specs.declared.item.Item.TheVariants as item
 use Rattle.sig_expr.specs.Faults.{are_all}
 use Rattle.sig_expr.specs.Profile.{AlternativesSound, AtomSound, AtomsSound, GapSound, ItemSound, ItemsSound}
-use Rattle.sig_expr.specs.Spelling.{AlternativesText, AlternativeText, AtomText, ItemText, Spells}
 use Rattle.sig_expr.specs.Words.{IsAtMost, IsBefore}
 use Rattle.sig_table.specs.declared.position.Position.{Position}
 use Rattle.sig_table.specs.declared.position.Position.TheVariants as position
@@ -282,22 +280,21 @@ bracket_sound : (a : List ℕ) (one : Class) (rows : List (List Class)) (n : ℕ
 bracket_sound a one rows n h some = by_length (nat_eq (length a) 1) one rows (length a * n) h some
 
 -- a part of an alternative
-atom_sound : (p : Atom) (t : List ℕ) → AtomText p t → AtomSound p → IsSound (atom_tree p) (atom_slots p)
-atom_sound (atom.Byte b) t text sound = record { slots = refl; trim = tt; track = tt }
-atom_sound (atom.Range a b) t text sound =
+atom_sound : (p : Atom) → AtomSound p → IsSound (atom_tree p) (atom_slots p)
+atom_sound (atom.Byte b) sound = record { slots = refl; trim = tt; track = tt }
+atom_sound (atom.Range a b) sound =
     bracket_sound a _ (between a b) (between_rows a b) (slots_between a b sound.same_length) (some_between a b sound.same_length sound.order)
-atom_sound (atom.Not a) t text sound =
-    bracket_sound a _ (below a ++ above a) (below_rows a + above_rows a) (slots_outside a a refl) (some_other a text.some)
-atom_sound (atom.NotRange a b) t text sound =
+atom_sound (atom.Not a) sound = bracket_sound a _ (below a ++ above a) (below_rows a + above_rows a) (slots_outside a a refl) (some_other a sound.some)
+atom_sound (atom.NotRange a b) sound =
     bracket_sound a _ (below a ++ above b) (below_rows a + above_rows b) (slots_outside a b sound.0.same_length)
-    (some_outside a b (word_bytes b text.second text.is_second) (are_all 0 a) (are_all 255 b) refl refl sound.1)
+    (some_outside a b sound.0.second.bytes (are_all 0 a) (are_all 255 b) refl refl (leaves_no_all a b sound.0.same_length sound.1))
 
 -- an alternative
-atoms_sound : (ps : List Atom) (t : List ℕ) → AlternativeText ps t → AtomsSound ps → IsSound (atoms_tree ps) (sum_by atom_slots ps)
-atoms_sound [] t text sound = record { slots = refl; trim = tt; track = tt }
-atoms_sound (p ∷ ps) t text sound =
-    let one = atom_sound p text.0 text.3 sound.0 in
-    let more = atoms_sound ps text.1 text.4 sound.1 in
+atoms_sound : (ps : List Atom) → AtomsSound ps → IsSound (atoms_tree ps) (sum_by atom_slots ps)
+atoms_sound [] sound = record { slots = refl; trim = tt; track = tt }
+atoms_sound (p ∷ ps) sound =
+    let one = atom_sound p sound.0 in
+    let more = atoms_sound ps sound.1 in
     record {
       slots = cc (one.slots, more.slots, sum_by-cons atom_slots p ps);
       trim = (one.trim, more.trim, one.track, more.track);
@@ -305,47 +302,43 @@ atoms_sound (p ∷ ps) t text sound =
     }
 
 -- one of the alternatives
-alternatives_trim : (sign : ℕ) (alternatives : List (List Atom)) (t : List ℕ) → AlternativesText sign alternatives t → AlternativesSound alternatives → IsTrim (alternatives_tree alternatives)
-alternatives_trim sign [] t text sound = tt
-alternatives_trim sign (a ∷ rest) t text sound = ((atoms_sound a text.0 text.4 sound.0).trim, alternatives_trim 124 rest text.1 text.5 sound.1)
+alternatives_trim : (alternatives : List (List Atom)) → AlternativesSound alternatives → IsTrim (alternatives_tree alternatives)
+alternatives_trim [] sound = tt
+alternatives_trim (a ∷ rest) sound = ((atoms_sound a sound.0).trim, alternatives_trim rest sound.1)
 
-alternatives_slots : (sign : ℕ) (alternatives : List (List Atom)) (t : List ℕ) → AlternativesText sign alternatives t → AlternativesSound alternatives → slots_of (alternatives_tree alternatives) ≡ sum_by (λ a. sum_by atom_slots a) alternatives
-alternatives_slots sign [] t text sound = refl
-alternatives_slots sign (a ∷ rest) t text sound =
-    let one = (atoms_sound a text.0 text.4 sound.0).slots in
-    let more = alternatives_slots 124 rest text.1 text.5 sound.1 in
+alternatives_slots : (alternatives : List (List Atom)) → AlternativesSound alternatives → slots_of (alternatives_tree alternatives) ≡ sum_by (λ a. sum_by atom_slots a) alternatives
+alternatives_slots [] sound = refl
+alternatives_slots (a ∷ rest) sound =
+    let one = (atoms_sound a sound.0).slots in
+    let more = alternatives_slots rest sound.1 in
     let count = sum_by-cons (λ (ps : List Atom). sum_by atom_slots ps) a rest in
     cc
 
-alternatives_track : (sign : ℕ) (alternatives : List (List Atom)) (t : List ℕ) → 0 < length alternatives → AlternativesText sign alternatives t → AlternativesSound alternatives → HasTrack (alternatives_tree alternatives)
-alternatives_track sign [] t some text sound = absurd (omega arith)
-alternatives_track sign (a ∷ rest) t some text sound = inl (atoms_sound a text.0 text.4 sound.0).track
+alternatives_track : (alternatives : List (List Atom)) → 0 < length alternatives → AlternativesSound alternatives → HasTrack (alternatives_tree alternatives)
+alternatives_track [] some sound = absurd (omega arith)
+alternatives_track (a ∷ rest) some sound = inl (atoms_sound a sound.0).track
 
 gap_in_order : (min : ℕ) (max : Option ℕ) → GapSound min max → IsAtMost max min
 gap_in_order min None h = tt
 gap_in_order min (Some max) h = h.0
 
 -- an item
-item_sound : (i : Item) (t : List ℕ) → ItemText i t → ItemSound i → IsSound (item_tree i) (item_slots i)
-item_sound (item.Byte b) t text sound = record { slots = refl; trim = tt; track = tt }
-item_sound item.Any t text sound = record { slots = refl; trim = tt; track = tt }
-item_sound (item.Gap min max) t text sound = record { slots = refl; trim = gap_in_order min max sound; track = gap_in_order min max sound }
-item_sound (item.Alt alternatives) t text sound =
-    let two = text.two in
-    record {
-      slots = alternatives_slots 40 alternatives text.inside text.is_inside sound;
-      trim = alternatives_trim 40 alternatives text.inside text.is_inside sound;
-      track = alternatives_track 40 alternatives text.inside (omega arith) text.is_inside sound;
-    }
-item_sound (item.Range a b) t text sound = atom_sound (atom.Range a b) t text sound
-item_sound (item.Not a) t text sound = atom_sound (atom.Not a) t text sound
-item_sound (item.NotRange a b) t text sound = atom_sound (atom.NotRange a b) t text sound
+item_sound : (i : Item) → ItemSound i → IsSound (item_tree i) (item_slots i)
+item_sound (item.Byte b) sound = record { slots = refl; trim = tt; track = tt }
+item_sound item.Any sound = record { slots = refl; trim = tt; track = tt }
+item_sound (item.Gap min max) sound = record { slots = refl; trim = gap_in_order min max sound; track = gap_in_order min max sound }
+item_sound (item.Alt alternatives) sound =
+    let two = sound.1 in
+    record { slots = alternatives_slots alternatives sound.0; trim = alternatives_trim alternatives sound.0; track = alternatives_track alternatives (omega arith) sound.0 }
+item_sound (item.Range a b) sound = atom_sound (atom.Range a b) sound
+item_sound (item.Not a) sound = atom_sound (atom.Not a) sound
+item_sound (item.NotRange a b) sound = atom_sound (atom.NotRange a b) sound
 
-items_sound : (is : List Item) (last : Tree) (n : ℕ) (t : List ℕ) → Spells is t → ItemsSound is → IsSound last n → IsSound (items_tree is last) (sum_by item_slots is + n)
-items_sound [] last n t text sound h = record { slots = omega (arith, h.slots); trim = h.trim; track = h.track }
-items_sound (i ∷ is) last n t text sound h =
-    let one = item_sound i text.0 text.3 sound.0 in
-    let more = items_sound is last n text.1 text.4 sound.1 h in
+items_sound : (is : List Item) (last : Tree) (n : ℕ) → ItemsSound is → IsSound last n → IsSound (items_tree is last) (sum_by item_slots is + n)
+items_sound [] last n sound h = record { slots = omega (arith, h.slots); trim = h.trim; track = h.track }
+items_sound (i ∷ is) last n sound h =
+    let one = item_sound i sound.0 in
+    let more = items_sound is last n sound.1 h in
     let count = sum_by-cons item_slots i is in
     record {
       slots = omega (arith, one.slots, more.slots);
@@ -370,7 +363,7 @@ place_count (position.Eof min max) = omega arith
 place_count position.Variable = refl
 
 whole_sound : (s : SequenceView) → IsSequence s → IsSound (items_tree s.items (back_tree s.position)) (sum_by item_slots s.items + slots_of (back_tree s.position))
-whole_sound s h = items_sound s.items (back_tree s.position) _ (canon s.items) h.expression.spells (expression_sound s.items h.expression) (back_sound s.position h.offsets)
+whole_sound s h = items_sound s.items (back_tree s.position) _ h.expression.sound (back_sound s.position h.offsets)
 
 -- in the tree of a sequence no slot is in vain
 pub whole_is_trim : (s : SequenceView) → IsSequence s → IsTrim (whole_tree s)

@@ -4,20 +4,17 @@ use Rattle.std.specs.Prelude.{slice_index}
 use Rattle.std.proofs.lemmas.List.Elements.{Contains-append_cases, Contains-append_left, Contains-append_right, Contains-push, Contains-push_cases}
 use Rattle.sig_auto.proofs.ByteLemmas.{IsBytes-nil, IsBytes-cons, IsBytes-head, IsBytes-left, IsBytes-right}
 use Rattle.sig_auto.proofs.RowLemmas.{above_is, below_is, between_is, IsBefore-cases, IsBefore-either, IsBefore-lower, IsUpTo-before, IsUpTo-cases, IsUpTo-same, not_before_itself, rows_append, three}
-use Rattle.sig_auto.proofs.SoundLemmas.{expression_sound, word_bytes}
 use Rattle.sig_auto.specs.declared.class.Class.{Class}
 use Rattle.sig_auto.specs.declared.class.Class.TheVariants.{Outside, Within}
 use Rattle.sig_auto.specs.Rows.{above, below, between}
 use Rattle.sig_auto.specs.Trees.{Tree, Slot, Then, alternatives_tree, atom_tree, atoms_tree, back_tree, bracket_tree, front_tree, item_tree, items_tree, rows_tree, whole_tree}
 use Rattle.sig_auto.specs.Unfolded.{TreeWord}
 use Rattle.sig_bits.specs.Bytes.{IsBytes}
-use Rattle.sig_expr.specs.Canon.{canon}
 use Rattle.sig_expr.specs.declared.item.Atom.{Atom}
 use Rattle.sig_expr.specs.declared.item.Atom.TheVariants as atom
 use Rattle.sig_expr.specs.declared.item.Item.{Item}
 use Rattle.sig_expr.specs.declared.item.Item.TheVariants as item
 use Rattle.sig_expr.specs.Profile.{AlternativesSound, AtomSound, AtomsSound, IsExpression, ItemSound, ItemsSound, RangeSound}
-use Rattle.sig_expr.specs.Spelling.{AlternativesText, AlternativeText, AtomText, ItemText, Spells}
 use Rattle.sig_expr.specs.Words.{AlternativeWord, IsBefore, IsBytesOf, IsUpTo, Lang, PartWord, Word}
 use Rattle.sig_table.specs.declared.position.Position.{Position}
 use Rattle.sig_table.specs.declared.position.Position.TheVariants as position
@@ -113,19 +110,19 @@ by_bracket a one rows w P f g = by_length (nat_eq (length a) 1) one rows w P (λ
 single_byte : (a : List ℕ) → length a ≡ 1 → IsBytes a → slice_index a 0 < 256
 single_byte a one bytes = IsBytes-head (slice_index a 0) [] (rw (single a one) at bytes)
 
-range_word : (a b w : List ℕ) → RangeSound a b → IsBytes a → IsBytes b → TreeWord (atom_tree (atom.Range a b)) w ↔ PartWord (atom.Range a b) w
-range_word a b w sound first second =
+range_word : (a b w : List ℕ) → RangeSound a b → TreeWord (atom_tree (atom.Range a b)) w ↔ PartWord (atom.Range a b) w
+range_word a b w sound =
     by_bracket a (Within (slice_index a 0) (slice_index b 0)) (between a b) w (PartWord (atom.Range a b) w)
     (λ one.
     let other : length b ≡ 1 = sym sound.same_length ∙ one in
-    let here = one_range (slice_index a 0) (slice_index b 0) w (single_byte b other second) in
+    let here = one_range (slice_index a 0) (slice_index b 0) w (single_byte b other sound.second.bytes) in
     let P : List ℕ → List ℕ → Type 0 = λ x y. (IsBytesOf 1 w × IsUpTo x w × IsUpTo w y) in
     let at_ends : P (slice_index a 0 ∷ []) (slice_index b 0 ∷ []) ↔ PartWord (atom.Range a b) w = (
       λ h. (rw one h.0, rw (single a one) h.1, rw (single b other) h.2),
       λ h. (rw one at h.0, rw (single a one) at h.1, rw (single b other) at h.2),
     ) in
     (λ h. at_ends.0 (here.0 h), λ h. here.1 (at_ends.1 h)))
-    (between_is a b w sound.same_length sound.order first second)
+    (between_is a b w sound.same_length sound.order sound.first.bytes sound.second.bytes)
 
 not_word : (a w : List ℕ) → IsBytes a → TreeWord (atom_tree (atom.Not a)) w ↔ PartWord (atom.Not a) w
 not_word a w bytes =
@@ -145,8 +142,8 @@ not_word a w bytes =
       ]),
     )
 
-not_range_word : (a b w : List ℕ) → RangeSound a b → IsBytes a → IsBytes b → TreeWord (atom_tree (atom.NotRange a b)) w ↔ PartWord (atom.NotRange a b) w
-not_range_word a b w sound first second =
+not_range_word : (a b w : List ℕ) → RangeSound a b → TreeWord (atom_tree (atom.NotRange a b)) w ↔ PartWord (atom.NotRange a b) w
+not_range_word a b w sound =
     by_bracket a (Outside (slice_index a 0) (slice_index b 0)) (below a ++ above b) w (PartWord (atom.NotRange a b) w)
     (λ one.
     let other : length b ≡ 1 = sym sound.same_length ∙ one in
@@ -157,12 +154,12 @@ not_range_word a b w sound first second =
       λ h. here.1 (rw one at h.0, elim h.1 [ inl before ↦ inl (subst (IsBefore w) is_a before) | inr after ↦ inr (subst (λ (e : List ℕ). IsBefore e w) is_b after) ]),
     )) (
       λ h. elim ((rows_append (below a) (above b) w).0 h) [
-        | inl before ↦ let k = (below_is a w first).0 before in (k.0, inl k.1)
-        | inr after ↦ let k = (above_is b w second).0 after in (rw sound.same_length k.0, inr k.1)
+        | inl before ↦ let k = (below_is a w sound.first.bytes).0 before in (k.0, inl k.1)
+        | inr after ↦ let k = (above_is b w sound.second.bytes).0 after in (rw sound.same_length k.0, inr k.1)
       ],
       λ h. (rows_append (below a) (above b) w).1 (elim h.1 [
-        | inl before ↦ inl ((below_is a w first).1 (h.0, before))
-        | inr after ↦ inr ((above_is b w second).1 (rw sound.same_length at h.0, after))
+        | inl before ↦ inl ((below_is a w sound.first.bytes).1 (h.0, before))
+        | inr after ↦ inr ((above_is b w sound.second.bytes).1 (rw sound.same_length at h.0, after))
       ]),
     )
 
@@ -173,18 +170,18 @@ byte_word b w = (
 )
 
 -- a part of an alternative
-pub atom_is : (p : Atom) (t w : List ℕ) → AtomText p t → AtomSound p → TreeWord (atom_tree p) w ↔ PartWord p w
-atom_is (atom.Byte b) t w text sound = byte_word b w
-atom_is (atom.Range a b) t w text sound = range_word a b w sound (word_bytes a text.first text.is_first) (word_bytes b text.second text.is_second)
-atom_is (atom.Not a) t w text sound = not_word a w (word_bytes a text.end text.is_end)
-atom_is (atom.NotRange a b) t w text sound = not_range_word a b w sound.0 (word_bytes a text.first text.is_first) (word_bytes b text.second text.is_second)
+pub atom_is : (p : Atom) (w : List ℕ) → AtomSound p → TreeWord (atom_tree p) w ↔ PartWord p w
+atom_is (atom.Byte b) w sound = byte_word b w
+atom_is (atom.Range a b) w sound = range_word a b w sound
+atom_is (atom.Not a) w sound = not_word a w sound.bytes
+atom_is (atom.NotRange a b) w sound = not_range_word a b w sound.0
 
 -- an alternative
-pub atoms_is : (ps : List Atom) (t w : List ℕ) → AlternativeText ps t → AtomsSound ps → TreeWord (atoms_tree ps) w ↔ AlternativeWord ps w
-atoms_is [] t w text sound = (λ h. h, λ h. h)
-atoms_is (p ∷ ps) t w text sound = (
-  λ h. (h.0, h.1, h.2, (atom_is p text.0 h.0 text.3 sound.0).0 h.3, (atoms_is ps text.1 h.1 text.4 sound.1).0 h.4),
-  λ h. (h.0, h.1, h.2, (atom_is p text.0 h.0 text.3 sound.0).1 h.3, (atoms_is ps text.1 h.1 text.4 sound.1).1 h.4),
+pub atoms_is : (ps : List Atom) (w : List ℕ) → AtomsSound ps → TreeWord (atoms_tree ps) w ↔ AlternativeWord ps w
+atoms_is [] w sound = (λ h. h, λ h. h)
+atoms_is (p ∷ ps) w sound = (
+  λ h. (h.0, h.1, h.2, (atom_is p h.0 sound.0).0 h.3, (atoms_is ps h.1 sound.1).0 h.4),
+  λ h. (h.0, h.1, h.2, (atom_is p h.0 sound.0).1 h.3, (atoms_is ps h.1 sound.1).1 h.4),
 )
 
 -- some of the alternatives has the word
@@ -210,16 +207,16 @@ of_SomeWord a rest w h = elim (contains_cases a rest h.0 h.1) [
 ]
 
 -- one of the alternatives
-pub alternatives_is : (sign : ℕ) (alternatives : List (List Atom)) (t w : List ℕ) → AlternativesText sign alternatives t → AlternativesSound alternatives → TreeWord (alternatives_tree alternatives) w ↔ SomeWord alternatives w
-alternatives_is sign [] t w text sound = (λ h. absurd h, λ h. (let below = h.1.1 in absurd (omega arith)))
-alternatives_is sign (a ∷ rest) t w text sound = (
+pub alternatives_is : (alternatives : List (List Atom)) (w : List ℕ) → AlternativesSound alternatives → TreeWord (alternatives_tree alternatives) w ↔ SomeWord alternatives w
+alternatives_is [] w sound = (λ h. absurd h, λ h. (let below = h.1.1 in absurd (omega arith)))
+alternatives_is (a ∷ rest) w sound = (
   λ h. elim h [
-    | inl one ↦ SomeWord-first a rest w ((atoms_is a text.0 w text.4 sound.0).0 one)
-    | inr other ↦ SomeWord-later a rest w ((alternatives_is 124 rest text.1 w text.5 sound.1).0 other)
+    | inl one ↦ SomeWord-first a rest w ((atoms_is a w sound.0).0 one)
+    | inr other ↦ SomeWord-later a rest w ((alternatives_is rest w sound.1).0 other)
   ],
   λ h. elim (of_SomeWord a rest w h) [
-    | inl one ↦ inl ((atoms_is a text.0 w text.4 sound.0).1 one)
-    | inr other ↦ inr ((alternatives_is 124 rest text.1 w text.5 sound.1).1 other)
+    | inl one ↦ inl ((atoms_is a w sound.0).1 one)
+    | inr other ↦ inr ((alternatives_is rest w sound.1).1 other)
   ],
 )
 
@@ -230,33 +227,33 @@ any_word w = (
 )
 
 -- an item
-pub item_is : (i : Item) (t w : List ℕ) → ItemText i t → ItemSound i → TreeWord (item_tree i) w ↔ Word i w
-item_is (item.Byte b) t w text sound = byte_word b w
-item_is item.Any t w text sound = any_word w
-item_is (item.Gap min max) t w text sound = (λ h. h, λ h. h)
-item_is (item.Alt alternatives) t w text sound = alternatives_is 40 alternatives text.inside w text.is_inside sound
-item_is (item.Range a b) t w text sound = atom_is (atom.Range a b) t w text sound
-item_is (item.Not a) t w text sound = atom_is (atom.Not a) t w text sound
-item_is (item.NotRange a b) t w text sound = atom_is (atom.NotRange a b) t w text sound
+pub item_is : (i : Item) (w : List ℕ) → ItemSound i → TreeWord (item_tree i) w ↔ Word i w
+item_is (item.Byte b) w sound = byte_word b w
+item_is item.Any w sound = any_word w
+item_is (item.Gap min max) w sound = (λ h. h, λ h. h)
+item_is (item.Alt alternatives) w sound = alternatives_is alternatives w sound.0
+item_is (item.Range a b) w sound = range_word a b w sound
+item_is (item.Not a) w sound = not_word a w sound.bytes
+item_is (item.NotRange a b) w sound = not_range_word a b w sound.0
 
 -- a word of the items, and then of what is behind them
 abbrev pub Behind : List Item → Tree → List ℕ → Type 0
 Behind is last w = (u v : List ℕ) × (w ≡ u ++ v) × Lang is u × TreeWord last v
 
-of_items : (is : List Item) (last : Tree) (t w : List ℕ) → Spells is t → ItemsSound is → TreeWord (items_tree is last) w → Behind is last w
-of_items [] last t w text sound h = ([], w, refl, refl, h)
-of_items (i ∷ is) last t w text sound h =
-    let one = (item_is i text.0 h.0 text.3 sound.0).0 h.3 in
-    let r = of_items is last text.1 h.1 text.4 sound.1 h.4 in
+of_items : (is : List Item) (last : Tree) (w : List ℕ) → ItemsSound is → TreeWord (items_tree is last) w → Behind is last w
+of_items [] last w sound h = ([], w, refl, refl, h)
+of_items (i ∷ is) last w sound h =
+    let one = (item_is i h.0 sound.0).0 h.3 in
+    let r = of_items is last h.1 sound.1 h.4 in
     (h.0 ++ r.0, r.1, h.2 ∙ ap (λ l. h.0 ++ l) r.2 ∙ sym (append_assoc h.0 r.0 r.1), (h.0, r.0, refl, one, r.3), r.4)
 
-items_word : (is : List Item) (last : Tree) (t u v : List ℕ) → Spells is t → ItemsSound is → Lang is u → TreeWord last v → TreeWord (items_tree is last) (u ++ v)
-items_word [] last t u v text sound h k = rw h k
-items_word (i ∷ is) last t u v text sound h k =
-    (h.0, h.1 ++ v, ap (λ l. l ++ v) h.2 ∙ append_assoc h.0 h.1 v, (item_is i text.0 h.0 text.3 sound.0).1 h.3, items_word is last text.1 h.1 v text.4 sound.1 h.4 k)
+items_word : (is : List Item) (last : Tree) (u v : List ℕ) → ItemsSound is → Lang is u → TreeWord last v → TreeWord (items_tree is last) (u ++ v)
+items_word [] last u v sound h k = rw h k
+items_word (i ∷ is) last u v sound h k =
+    (h.0, h.1 ++ v, ap (λ l. l ++ v) h.2 ∙ append_assoc h.0 h.1 v, (item_is i h.0 sound.0).1 h.3, items_word is last h.1 v sound.1 h.4 k)
 
-pub items_is : (is : List Item) (last : Tree) (t w : List ℕ) → Spells is t → ItemsSound is → TreeWord (items_tree is last) w ↔ Behind is last w
-items_is is last t w text sound = (λ h. of_items is last t w text sound h, λ h. rw h.2 (items_word is last t h.0 h.1 text sound h.3 h.4))
+pub items_is : (is : List Item) (last : Tree) (w : List ℕ) → ItemsSound is → TreeWord (items_tree is last) w ↔ Behind is last w
+items_is is last w sound = (λ h. of_items is last w sound h, λ h. rw h.2 (items_word is last h.0 h.1 sound h.3 h.4))
 
 -- the file's front, a word of the items, and the file's back
 abbrev CutBy : Tree → List Item → Tree → List ℕ → Type 0
@@ -264,13 +261,13 @@ CutBy front items back file = (c : Cut items file) × TreeWord front c.front × 
 
 of_whole : (front : Tree) (items : List Item) (back : Tree) (file : List ℕ) → IsExpression items → TreeWord (Then front (items_tree items back)) file → CutBy front items back file
 of_whole front items back file e h =
-    let r = of_items items back (canon items) h.1 e.spells (expression_sound items e) h.4 in
+    let r = of_items items back h.1 e.sound h.4 in
     (record { front = h.0; word = r.0; back = r.1; cut = h.2 ∙ ap (λ l. h.0 ++ l) r.2 ∙ sym (append_assoc h.0 r.0 r.1); is_word = r.3 }, h.3, r.4)
 
 whole_word : (front : Tree) (items : List Item) (back : Tree) (file : List ℕ) → IsExpression items → CutBy front items back file → TreeWord (Then front (items_tree items back)) file
 whole_word front items back file e h =
     let c = h.0 in
-    (c.front, c.word ++ c.back, c.cut ∙ append_assoc c.front c.word c.back, h.1, items_word items back (canon items) c.word c.back e.spells (expression_sound items e) c.is_word h.2)
+    (c.front, c.word ++ c.back, c.cut ∙ append_assoc c.front c.word c.back, h.1, items_word items back c.word c.back e.sound c.is_word h.2)
 
 -- what is before the word and behind it, in a file of bytes
 front_bytes : (items : List Item) (file : List ℕ) (c : Cut items file) → IsBytes file → IsBytes c.front

@@ -1,19 +1,23 @@
--- The definitions of this crate, and those of the crates below that its clauses cite.
+-- The definitions of this crate. These say what an automaton is, and what its runs are.
 pub mod Classes
-pub mod Local
-pub mod Remaining
 pub mod Rows
+pub mod Trees
+pub mod TreeSlots
+pub mod Tracks
 pub mod Runs
+pub mod Remaining
+-- These are words of the proofs.
+pub mod Counted
+pub mod Local
+pub mod Same
 pub mod Seen
 pub mod Sides
 pub mod Spelled
 pub mod Stepping
 pub mod Successions
-pub mod Tracks
-pub mod TreeSlots
-pub mod Trees
 pub mod Trim
 pub mod Unfolded
+-- These are of the crates below, for its clauses.
 pub use Rattle.sig_bits.specs.BitSets
 pub use Rattle.sig_bits.specs.ByteClasses
 pub use Rattle.sig_bits.specs.Bytes

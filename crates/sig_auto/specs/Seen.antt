@@ -8,5 +8,5 @@ seen node.Never = Never
 seen node.Empty = Empty
 seen (node.Slot c) = Slot c
 seen (node.Gap min max) = Gap min max
-seen (node.Then' p a q b) = Then (seen a) (seen b)
-seen (node.Or' p a q b) = Or (seen a) (seen b)
+seen (node.Then' p a q b s) = Then (seen a) (seen b)
+seen (node.Or' p a q b s) = Or (seen a) (seen b)

@@ -3,7 +3,7 @@ use Rattle.std.specs.Prelude.{◌≡◌, ℕ, zero, suc, ◌+◌, ◌-◌, ◌<�
 use Rattle.sig_auto.specs.declared.class.Class.{Class}
 use Rattle.sig_auto.specs.declared.class.Class.TheVariants.{Within, Outside}
 use Rattle.sig_auto.specs.Classes.{InClass}
-use Rattle.sig_auto.specs.Local.{begins, goes}
+use Rattle.sig_auto.specs.Local.{is_first, follows}
 use Rattle.sig_auto.specs.Trees.{Tree}
 use Rattle.sig_auto.specs.TreeSlots.{class_of, slots_of}
 
@@ -14,11 +14,11 @@ IsLeastAbove above P (Some q) = (above < q) × P q × ((r : ℕ) → above < r �
 
 -- slot q begins the tree and takes the byte
 abbrev pub BeginsOn : Tree → ℕ → ℕ → ℕ → Type 0
-BeginsOn tree before byte q = (begins tree before q ≡ true) × InClass (class_of tree (q - before)) byte
+BeginsOn tree before byte q = (is_first tree before q ≡ true) × InClass (class_of tree (q - before)) byte
 
 -- slot q goes behind slot p and takes the byte
 abbrev pub GoesOn : Tree → ℕ → ℕ → ℕ → ℕ → Type 0
-GoesOn tree before p byte q = (goes tree before p q ≡ true) × InClass (class_of tree (q - before)) byte
+GoesOn tree before p byte q = (follows tree before p q ≡ true) × InClass (class_of tree (q - before)) byte
 
 -- the test whether a byte is in a class
 abbrev pub in_class : Class → ℕ → Bool
@@ -27,7 +27,7 @@ in_class (Outside first last) b = nat_lt b 256 && (nat_lt b first || nat_lt last
 
 -- the test whether q follows p and takes the byte
 abbrev pub succeeds : Tree → ℕ → ℕ → ℕ → Bool
-succeeds tree p byte q = (if p == 0 then begins tree 0 q else goes tree 0 p q) && in_class (class_of tree q) byte
+succeeds tree p byte q = (if p == 0 then is_first tree 0 q else follows tree 0 p q) && in_class (class_of tree q) byte
 
 -- the numbers that pass the test among the n above this one, rising
 abbrev pub passing : (ℕ → Bool) → ℕ → ℕ → List ℕ

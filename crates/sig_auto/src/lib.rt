@@ -5,10 +5,10 @@
 
 mod auto;
 mod class;
+mod class_word;
 mod laws;
 mod node;
-mod row;
-mod state_set;
+mod step;
 mod successors;
 #[cfg(test)]
 mod tests;

@@ -1,12 +1,18 @@
 //! The tree of a sequence: its slots, and in which order bytes take them.
+//!
+//! After Glushkov: whether it is nullable, which slots may be the first and the last, and which follow
+//! each other. A question about a slot passes over the branches that do not have it.
 
-ghost use Rattle.std.specs.Prelude.{◌≡◌, ◌↔◌, ◌+◌, ◌-◌, ◌<◌, ◌≤◌, IsTrue};
-ghost use Rattle.sig_auto.specs.Local.{begins, ends, goes, skips};
+ghost use Rattle.std.specs.Prelude.{◌≡◌, ◌↔◌, ◌+◌, ◌-◌, ◌<◌, ◌≤◌, IfOk, IsTrue, min};
+ghost use Rattle.sig_auto.specs.Counted.{IsCounted};
+ghost use Rattle.sig_auto.specs.Local.{is_first, is_last, follows, is_nullable};
 ghost use Rattle.sig_auto.specs.Seen.{seen};
 ghost use Rattle.sig_auto.specs.Sides.{SameSides};
+ghost use Rattle.sig_auto.specs.Trees.{Or, Then};
 ghost use Rattle.sig_auto.specs.TreeSlots.{class_of, slots_of};
 
-use super::Class;
+use crate::class::Class;
+use std::alloc::{AllocError, Global};
 
 // A tree over slots. Those of the left branch stand before those of the right.
 #[derive(Debug, Drop)]
@@ -20,96 +26,163 @@ pub(crate) enum Node {
     // Any bytes, at least `min` and, where there is a `max`, at most so many.
     Gap { min: u32, max: Option<u32> },
     // A word of the first, and then one of the second.
-    Then(Box<Node>, Box<Node>),
+    Then(Box<Node>, Box<Node>, Summary),
     // A word of one of the two.
-    Or(Box<Node>, Box<Node>),
+    Or(Box<Node>, Box<Node>, Summary),
+}
+
+// What is known of a tree without a walk over it: how many slots it has, up to one past the limit,
+// and whether the empty word is one of its words.
+#[derive(Clone, Copy, Debug)]
+pub(crate) struct Summary {
+    slots: u32,
+    nullable: bool,
 }
 
 impl Node {
-    // How many slots it has.
-    pub(crate) fn slots(&self) -> usize
-        requires { slots_of (seen self.now) ≤ 65535 }
-        ensures { result ≡ slots_of (seen self.now) }
+    // The node of the two in a row.
+    pub(crate) fn then(alloc: Global, a: Node, b: Node) -> Result<Node, AllocError>
+        requires first { IsCounted a }
+        requires second { IsCounted b }
+        ensures tree { IfOk result (λ node. seen node ≡ Then (seen a) (seen b)) }
+        ensures counted { IfOk result IsCounted }
+    {
+        let summary = Summary {
+            slots: (a.count() + b.count()).min(65536),
+            nullable: a.is_nullable() && b.is_nullable(),
+        };
+        Ok(Node::Then(Box::new(alloc, a)?, Box::new(alloc, b)?, summary))
+    }
+
+    // The node of one of the two.
+    pub(crate) fn or(alloc: Global, a: Node, b: Node) -> Result<Node, AllocError>
+        requires first { IsCounted a }
+        requires second { IsCounted b }
+        ensures tree { IfOk result (λ node. seen node ≡ Or (seen a) (seen b)) }
+        ensures counted { IfOk result IsCounted }
+    {
+        let summary = Summary {
+            slots: (a.count() + b.count()).min(65536),
+            nullable: a.is_nullable() || b.is_nullable(),
+        };
+        Ok(Node::Or(Box::new(alloc, a)?, Box::new(alloc, b)?, summary))
+    }
+
+    // How many slots it has, up to one past the limit.
+    fn count(&self) -> u32
+        requires { IsCounted self.now }
+        ensures { result ≡ min (slots_of (seen self.now)) 65536 }
     {
         match self {
             Node::Never | Node::Empty => 0,
             Node::Slot(_) => 1,
-            Node::Gap { min, max: None } => *min as usize + 1,
-            Node::Gap { max: Some(max), .. } => *max as usize,
-            Node::Then(a, b) | Node::Or(a, b) => a.slots() + b.slots(),
+            Node::Gap { min, max: None } => (*min).min(65535) + 1,
+            Node::Gap { max: Some(max), .. } => (*max).min(65536),
+            Node::Then(_, _, summary) | Node::Or(_, _, summary) => summary.slots,
         }
     }
 
+    // How many slots it has.
+    pub(crate) fn slots(&self) -> usize
+        requires counted { IsCounted self.now }
+        requires few { slots_of (seen self.now) ≤ 65535 }
+        ensures { result ≡ slots_of (seen self.now) }
+    {
+        self.count() as usize
+    }
+
     // Whether the empty word is one of its words.
-    pub(crate) fn skips(&self) -> bool
-        ensures { result ≡ skips (seen self.now) }
+    pub(crate) fn is_nullable(&self) -> bool
+        requires { IsCounted self.now }
+        ensures { result ≡ is_nullable (seen self.now) }
     {
         match self {
             Node::Never | Node::Slot(_) => false,
             Node::Empty => true,
             Node::Gap { min, .. } => *min == 0,
-            Node::Then(a, b) => a.skips() && b.skips(),
-            Node::Or(a, b) => a.skips() || b.skips(),
+            Node::Then(_, _, summary) | Node::Or(_, _, summary) => summary.nullable,
         }
     }
 
-    // Whether some track begins with q, where so many slots stand before the tree.
-    pub(crate) fn begins(&self, before: usize, q: usize) -> bool
-        requires { before + slots_of (seen self.now) ≤ 65535 }
-        ensures { result ≡ begins (seen self.now) before q }
+    // Whether q is one of its slots, where so many stand before the tree.
+    pub(crate) fn has_slot(&self, before: usize, q: usize) -> bool
+        requires counted { IsCounted self.now }
+        requires few { before + slots_of (seen self.now) ≤ 65535 }
+        ensures { IsTrue result ↔ ((before < q) × (q ≤ before + slots_of (seen self.now))) }
     {
+        before < q && q <= before + self.slots()
+    }
+
+    // Whether some track begins with q, where so many slots stand before the tree.
+    pub(crate) fn is_first(&self, before: usize, q: usize) -> bool
+        requires counted { IsCounted self.now }
+        requires few { before + slots_of (seen self.now) ≤ 65535 }
+        ensures { result ≡ is_first (seen self.now) before q }
+    {
+        if !self.has_slot(before, q) {
+            return false;
+        }
         match self {
             Node::Never | Node::Empty => false,
             Node::Slot(_) => q == before + 1,
             Node::Gap { .. } => self.slots() > 0 && q == before + 1,
-            Node::Then(a, b) => {
-                a.begins(before, q) || (a.skips() && b.begins(before + a.slots(), q))
+            Node::Then(a, b, _) => {
+                a.is_first(before, q) || (a.is_nullable() && b.is_first(before + a.slots(), q))
             }
-            Node::Or(a, b) => a.begins(before, q) || b.begins(before + a.slots(), q),
+            Node::Or(a, b, _) => a.is_first(before, q) || b.is_first(before + a.slots(), q),
         }
     }
 
     // Whether some track ends with p.
-    pub(crate) fn ends(&self, before: usize, p: usize) -> bool
-        requires { before + slots_of (seen self.now) ≤ 65535 }
-        ensures { result ≡ ends (seen self.now) before p }
+    pub(crate) fn is_last(&self, before: usize, p: usize) -> bool
+        requires counted { IsCounted self.now }
+        requires few { before + slots_of (seen self.now) ≤ 65535 }
+        ensures { result ≡ is_last (seen self.now) before p }
     {
+        if !self.has_slot(before, p) {
+            return false;
+        }
         match self {
             Node::Never | Node::Empty => false,
             Node::Slot(_) => p == before + 1,
             Node::Gap { min, .. } => {
                 before < p && before as u64 + *min as u64 <= p as u64 && p <= before + self.slots()
             }
-            Node::Then(a, b) => {
-                (a.ends(before, p) && b.skips()) || b.ends(before + a.slots(), p)
+            Node::Then(a, b, _) => {
+                (a.is_last(before, p) && b.is_nullable()) || b.is_last(before + a.slots(), p)
             }
-            Node::Or(a, b) => a.ends(before, p) || b.ends(before + a.slots(), p),
+            Node::Or(a, b, _) => a.is_last(before, p) || b.is_last(before + a.slots(), p),
         }
     }
 
     // Whether q stands directly behind p in some track.
-    pub(crate) fn goes(&self, before: usize, p: usize, q: usize) -> bool
-        requires { before + slots_of (seen self.now) ≤ 65535 }
-        ensures { result ≡ goes (seen self.now) before p q }
+    pub(crate) fn follows(&self, before: usize, p: usize, q: usize) -> bool
+        requires counted { IsCounted self.now }
+        requires few { before + slots_of (seen self.now) ≤ 65535 }
+        ensures { result ≡ follows (seen self.now) before p q }
     {
+        if !self.has_slot(before, p) || !self.has_slot(before, q) {
+            return false;
+        }
         match self {
             Node::Never | Node::Empty | Node::Slot(_) => false,
             Node::Gap { max, .. } => {
                 let last = before + self.slots();
                 (before < p && p < last && q == p + 1) || (max.is_none() && p == last && q == p)
             }
-            Node::Then(a, b) => {
+            Node::Then(a, b, _) => {
                 let between = before + a.slots();
-                a.goes(before, p, q)
-                    || b.goes(between, p, q)
-                    || (a.ends(before, p) && b.begins(between, q))
+                a.follows(before, p, q)
+                    || b.follows(between, p, q)
+                    || (a.is_last(before, p) && b.is_first(between, q))
             }
-            Node::Or(a, b) => a.goes(before, p, q) || b.goes(before + a.slots(), p, q),
+            Node::Or(a, b, _) => a.follows(before, p, q) || b.follows(before + a.slots(), p, q),
         }
     }
 
     // The class of slot q.
     pub(crate) fn class(&self, before: usize, q: usize) -> Class
+        requires counted { IsCounted self.now }
         requires slots { before + slots_of (seen self.now) ≤ 65535 }
         requires above { before < q }
         requires within { q ≤ before + slots_of (seen self.now) }
@@ -118,7 +191,7 @@ impl Node {
         match self {
             Node::Never | Node::Empty | Node::Gap { .. } => Class::ANY,
             Node::Slot(class) => *class,
-            Node::Then(a, b) | Node::Or(a, b) => {
+            Node::Then(a, b, _) | Node::Or(a, b, _) => {
                 let between = before + a.slots();
                 if q <= between {
                     a.class(before, q)
@@ -136,7 +209,7 @@ impl Node {
         match self {
             Node::Never | Node::Empty | Node::Gap { .. } => true,
             Node::Slot(class) => class.contains(a) == class.contains(b),
-            Node::Then(x, y) | Node::Or(x, y) => x.same_side(a, b) && y.same_side(a, b),
+            Node::Then(x, y, _) | Node::Or(x, y, _) => x.same_side(a, b) && y.same_side(a, b),
         }
     }
 }

@@ -1,9 +1,11 @@
 //! The states that follow one state on a byte, in order, without memory of their own.
 //!
-//! The next one is found from the tree's root. At most one slot begins a gap, and at most one of its
-//! slots goes behind another, so no gap is walked slot by slot.
+//! The next one is found from the tree's root, past the branches that have no slot above the last. At
+//! most one slot begins a gap, and at most one of its slots goes behind another, so no gap is walked
+//! slot by slot.
 
 ghost use Rattle.std.specs.Prelude.{◌≡◌, ◌↔◌, ℕ, ◌+◌, ◌≤◌, [], ◌∷◌, Contains, IfSome, MatchOption};
+ghost use Rattle.sig_auto.specs.Counted.{IsCounted, IsCounted-prop};
 ghost use Rattle.sig_auto.specs.Seen.{seen};
 ghost use Rattle.sig_auto.specs.Successions.{BeginsOn, GoesOn, IsLeastAbove, successors_above};
 ghost use Rattle.sig_auto.specs.Tracks.{Follows};
@@ -20,6 +22,7 @@ pub struct Successors<'a> {
     state: usize,
     byte: u8,
     above: usize,
+    ghost counted: { IsCounted root.now } by { IsCounted-prop root.now },
     ghost few: { slots_of (seen root.now) ≤ 65535 },
 }
 
@@ -28,6 +31,7 @@ impl<'a> Successors<'a> {
     ghost use Rattle.sig_auto.specs.Remaining.{remaining_of};
 
     pub(crate) fn new(root: &'a Node, state: usize, byte: u8) -> Successors<'a>
+        requires counted { IsCounted root.now }
         requires trim { IsTrim (seen root.now) }
         requires few { slots_of (seen root.now) ≤ 65535 }
         ensures members { (q : ℕ) → Contains (remaining_of result) q ↔ (Follows (seen root.now) state q × Takes (seen root.now) q byte) }
@@ -80,7 +84,8 @@ impl Iterator for Successors<'_> {
 impl Node {
     // The least slot above this one that follows the state and takes the byte.
     fn next_state(&self, state: usize, byte: u8, above: usize) -> Option<usize>
-        requires { slots_of (seen self.now) ≤ 65535 }
+        requires counted { IsCounted self.now }
+        requires few { slots_of (seen self.now) ≤ 65535 }
         ensures next { MatchOption result (successors_above (seen self.now) state byte above ≡ []) (λ q. successors_above (seen self.now) state byte above ≡ q ∷ successors_above (seen self.now) state byte q) }
         ensures within { IfSome result (λ q. q ≤ slots_of (seen self.now)) }
     {
@@ -93,10 +98,14 @@ impl Node {
 
     // The least slot above this one that begins the tree and takes the byte.
     fn next_begin(&self, before: usize, byte: u8, above: usize) -> Option<usize>
-        requires { before + slots_of (seen self.now) ≤ 65535 }
+        requires counted { IsCounted self.now }
+        requires few { before + slots_of (seen self.now) ≤ 65535 }
         ensures least { IsLeastAbove above (BeginsOn (seen self.now) before byte) result }
         ensures within { IfSome result (λ q. q ≤ before + slots_of (seen self.now)) }
     {
+        if before + self.slots() <= above {
+            return None;
+        }
         match self {
             Node::Never | Node::Empty => None,
             Node::Slot(class) => {
@@ -113,17 +122,17 @@ impl Node {
                     None
                 }
             }
-            Node::Then(a, b) => match a.next_begin(before, byte, above) {
+            Node::Then(a, b, _) => match a.next_begin(before, byte, above) {
                 Some(q) => Some(q),
                 None => {
-                    if a.skips() {
+                    if a.is_nullable() {
                         b.next_begin(before + a.slots(), byte, above)
                     } else {
                         None
                     }
                 }
             },
-            Node::Or(a, b) => match a.next_begin(before, byte, above) {
+            Node::Or(a, b, _) => match a.next_begin(before, byte, above) {
                 Some(q) => Some(q),
                 None => b.next_begin(before + a.slots(), byte, above),
             },
@@ -132,10 +141,14 @@ impl Node {
 
     // The least slot above this one that goes behind p and takes the byte.
     fn next_gone(&self, before: usize, p: usize, byte: u8, above: usize) -> Option<usize>
-        requires { before + slots_of (seen self.now) ≤ 65535 }
+        requires counted { IsCounted self.now }
+        requires few { before + slots_of (seen self.now) ≤ 65535 }
         ensures least { IsLeastAbove above (GoesOn (seen self.now) before p byte) result }
         ensures within { IfSome result (λ q. q ≤ before + slots_of (seen self.now)) }
     {
+        if before + self.slots() <= above || !self.has_slot(before, p) {
+            return None;
+        }
         match self {
             Node::Never | Node::Empty | Node::Slot(_) => None,
             Node::Gap { max, .. } => {
@@ -148,18 +161,18 @@ impl Node {
                     None
                 }
             }
-            Node::Then(a, b) => match a.next_gone(before, p, byte, above) {
+            Node::Then(a, b, _) => match a.next_gone(before, p, byte, above) {
                 Some(q) => Some(q),
                 None => {
                     let between = before + a.slots();
-                    if a.ends(before, p) {
+                    if a.is_last(before, p) {
                         b.next_begin(between, byte, above)
                     } else {
                         b.next_gone(between, p, byte, above)
                     }
                 }
             },
-            Node::Or(a, b) => match a.next_gone(before, p, byte, above) {
+            Node::Or(a, b, _) => match a.next_gone(before, p, byte, above) {
                 Some(q) => Some(q),
                 None => b.next_gone(before + a.slots(), p, byte, above),
             },

@@ -299,3 +299,40 @@ fn a_copy_of_the_successors_has_the_same_to_come(rt: HostRuntime) -> Result<(), 
     assert_eq!(rt; copy.next(), None);
     Ok(())
 }
+
+// A text with so many of the same parts.
+fn repeated(alloc: Global, head: &str, part: &str, times: u32) -> Option<String> {
+    let mut text = String::new(alloc);
+    text.push_str(head).ok()?;
+    for _ in 0..times {
+        text.push_str(part).ok()?;
+    }
+    Some(text)
+}
+
+#[test]
+fn a_long_expression(rt: HostRuntime) -> Result<(), Fail> {
+    let text = repeated(rt.alloc(), "BOF,0,,41", "*42", 2700).expect(&rt, "fits");
+    let auto = automaton(rt.alloc(), text.as_str()).expect(&rt, "loads");
+    assert_eq!(rt; auto.slots(), 5402);
+    assert!(rt; auto.follows(5400, 5401));
+    assert!(rt; !auto.follows(5399, 5402));
+    assert!(rt; auto.accepting(5401));
+    assert!(rt; !auto.accepting(5399));
+    assert!(rt; has_successors(&auto, 1, 0x42, &[2, 3]));
+    assert!(rt; has_successors(&auto, 5399, 0x41, &[5400]));
+    assert!(rt; has_successors(&auto, 5402, 0x41, &[5402]));
+    Ok(())
+}
+
+#[test]
+fn a_gap_of_many_slots_steps_as_one(rt: HostRuntime) -> Result<(), Fail> {
+    let auto = automaton(rt.alloc(), "BOF,0,,41{0-60000}42").expect(&rt, "loads");
+    assert_eq!(rt; auto.slots(), 60003);
+    assert!(rt; auto.follows(1, 2) && auto.follows(1, 60002) && auto.follows(60000, 60001));
+    assert!(rt; !auto.follows(1, 3) && !auto.follows(60001, 60001));
+    assert!(rt; has_successors(&auto, 60000, 0x42, &[60001, 60002]));
+    assert!(rt; has_successors(&auto, 60001, 0x42, &[60002]));
+    assert!(rt; has_successors(&auto, 60001, 0x41, &[]));
+    Ok(())
+}

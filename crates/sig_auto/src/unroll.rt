@@ -1,17 +1,21 @@
 //! From a sequence to its tree: the whole-file expression, with each bracket of several bytes
 //! unfolded into rows of classes.
 //!
+//! Branches are grouped by halves, so that no walk over the tree is deep.
+//!
 //! `[4142:4241]` has the rows `41 42`, `41 43-FF`, `42 00-40` and `42 41`.
 
 ghost use Rattle.std.specs.Prelude.{◌≡◌, ◌<◌, ◌++◌, IfOk, None, Some, length, map, slice_index};
 ghost use Rattle.sig_auto.specs.declared.class.Class.{Class};
+ghost use Rattle.sig_auto.specs.Counted.{IsCounted};
 ghost use Rattle.sig_auto.specs.Rows.{above, below, between};
+ghost use Rattle.sig_auto.specs.Same.{IsSame, ors, thens};
 ghost use Rattle.sig_auto.specs.Seen.{seen};
-ghost use Rattle.sig_auto.specs.Trees.{alternatives_tree, atom_tree, atoms_tree, back_tree, bracket_tree, front_tree, item_tree, items_tree, row_tree, rows_tree, whole_tree, Gap, Then, Or};
+ghost use Rattle.sig_auto.specs.Trees.{atom_tree, atoms_tree, back_tree, bracket_tree, front_tree, item_tree, row_tree, rows_tree, whole_tree, Gap};
 
-use super::Class;
+use crate::class::Class;
+use crate::class_word::{ClassWord, outside_rows, range_rows};
 use crate::node::Node;
-use crate::row::{Row, outside_rows, range_rows};
 use sig_expr::{Atom, Item};
 use sig_table::Position;
 use std::alloc::{AllocError, Global};
@@ -22,15 +26,18 @@ pub(crate) fn whole_node(
     position: Position,
     items: &[Item],
 ) -> Result<Node, AllocError>
-    ensures { IfOk result (λ node. seen node ≡ whole_tree (record { position = position; items = items.now })) }
+    ensures tree { IfOk result (λ node. IsSame (seen node) (whole_tree (record { position = position; items = items.now }))) }
+    ensures counted { IfOk result IsCounted }
 {
-    let items = items_node(alloc, items, back(position))?;
-    then(alloc, front(position), items)
+    let items = items_node(alloc, items)?;
+    let later = Node::then(alloc, items, back(position))?;
+    Node::then(alloc, front(position), later)
 }
 
 // What may stand before the expression.
 fn front(position: Position) -> Node
-    ensures { seen result ≡ front_tree position }
+    ensures tree { seen result ≡ front_tree position }
+    ensures counted { IsCounted result }
 {
     match position {
         Position::Bof { min, max } => gap(min, max),
@@ -40,7 +47,8 @@ fn front(position: Position) -> Node
 
 // What may stand behind it.
 fn back(position: Position) -> Node
-    ensures { seen result ≡ back_tree position }
+    ensures tree { seen result ≡ back_tree position }
+    ensures counted { IsCounted result }
 {
     match position {
         Position::Eof { min, max } => gap(min, max),
@@ -50,7 +58,8 @@ fn back(position: Position) -> Node
 
 // Some bytes, at least `min` and at most `max`.
 fn gap(min: u16, max: u16) -> Node
-    ensures { seen result ≡ Gap min (Some max) }
+    ensures tree { seen result ≡ Gap min (Some max) }
+    ensures counted { IsCounted result }
 {
     Node::Gap {
         min: min as u32,
@@ -60,24 +69,31 @@ fn gap(min: u16, max: u16) -> Node
 
 // Any bytes.
 fn anything() -> Node
-    ensures { seen result ≡ Gap 0 None }
+    ensures tree { seen result ≡ Gap 0 None }
+    ensures counted { IsCounted result }
 {
     Node::Gap { min: 0, max: None }
 }
 
-// The items, and then this.
-fn items_node(alloc: Global, items: &[Item], last: Node) -> Result<Node, AllocError>
-    ensures { IfOk result (λ node. seen node ≡ items_tree items.now (seen last)) }
+// The items, one after the other, by halves.
+fn items_node(alloc: Global, items: &[Item]) -> Result<Node, AllocError>
+    ensures tree { IfOk result (λ node. IsSame (seen node) (thens item_tree items.now)) }
+    ensures counted { IfOk result IsCounted }
 {
-    let Some((first, later)) = items.split_first() else {
-        return Ok(last);
+    let Some((item, later)) = items.split_first() else {
+        return Ok(Node::Empty);
     };
-    let later = items_node(alloc, later, last)?;
-    then(alloc, item_node(alloc, first)?, later)
+    if later.is_empty() {
+        return item_node(alloc, item);
+    }
+    let half = items.len() / 2;
+    let first = items_node(alloc, &items[..half])?;
+    Node::then(alloc, first, items_node(alloc, &items[half..])?)
 }
 
 fn item_node(alloc: Global, item: &Item) -> Result<Node, AllocError>
-    ensures { IfOk result (λ node. seen node ≡ item_tree item.now) }
+    ensures tree { IfOk result (λ node. IsSame (seen node) (item_tree item.now)) }
+    ensures counted { IfOk result IsCounted }
 {
     match item {
         Item::Byte(b) => Ok(Node::Slot(Class::Within(*b, *b))),
@@ -93,30 +109,45 @@ fn item_node(alloc: Global, item: &Item) -> Result<Node, AllocError>
     }
 }
 
-// One of the alternatives.
+// One of the alternatives, by halves.
 fn alternatives_node(alloc: Global, alternatives: &[Vec<Atom>]) -> Result<Node, AllocError>
-    ensures { IfOk result (λ node. seen node ≡ alternatives_tree (map (λ v. v.items) alternatives.now)) }
+    ensures tree { IfOk result (λ node. IsSame (seen node) (ors (λ v. atoms_tree v.items) alternatives.now)) }
+    ensures counted { IfOk result IsCounted }
 {
-    let Some((first, later)) = alternatives.split_first() else {
+    let Some((alternative, later)) = alternatives.split_first() else {
         return Ok(Node::Never);
     };
-    let first = atoms_node(alloc, first.as_slice())?;
-    or(alloc, first, alternatives_node(alloc, later)?)
+    if later.is_empty() {
+        return atoms_node(alloc, alternative.as_slice());
+    }
+    let half = alternatives.len() / 2;
+    let first = alternatives_node(alloc, &alternatives[..half])?;
+    Node::or(
+        alloc,
+        first,
+        alternatives_node(alloc, &alternatives[half..])?,
+    )
 }
 
-// The parts, one after the other.
+// The parts, one after the other, by halves.
 fn atoms_node(alloc: Global, atoms: &[Atom]) -> Result<Node, AllocError>
-    ensures { IfOk result (λ node. seen node ≡ atoms_tree atoms.now) }
+    ensures tree { IfOk result (λ node. IsSame (seen node) (atoms_tree atoms.now)) }
+    ensures counted { IfOk result IsCounted }
 {
-    let Some((first, later)) = atoms.split_first() else {
+    let Some((atom, later)) = atoms.split_first() else {
         return Ok(Node::Empty);
     };
-    let first = atom_node(alloc, first)?;
-    then(alloc, first, atoms_node(alloc, later)?)
+    if later.is_empty() {
+        return atom_node(alloc, atom);
+    }
+    let half = atoms.len() / 2;
+    let first = atoms_node(alloc, &atoms[..half])?;
+    Node::then(alloc, first, atoms_node(alloc, &atoms[half..])?)
 }
 
 fn atom_node(alloc: Global, atom: &Atom) -> Result<Node, AllocError>
-    ensures { IfOk result (λ node. seen node ≡ atom_tree atom.now) }
+    ensures tree { IfOk result (λ node. IsSame (seen node) (atom_tree atom.now)) }
+    ensures counted { IfOk result IsCounted }
 {
     match atom {
         Atom::Byte(b) => Ok(Node::Slot(Class::Within(*b, *b))),
@@ -136,7 +167,8 @@ fn atom_node(alloc: Global, atom: &Atom) -> Result<Node, AllocError>
 fn outside_node(alloc: Global, a: &[u8], b: &[u8]) -> Result<Node, AllocError>
     requires a { 0 < length a.now }
     requires b { 0 < length b.now }
-    ensures { IfOk result (λ node. seen node ≡ bracket_tree a.now (Class.Outside (slice_index a.now 0) (slice_index b.now 0)) (below a.now ++ above b.now)) }
+    ensures tree { IfOk result (λ node. IsSame (seen node) (bracket_tree a.now (Class.Outside (slice_index a.now 0) (slice_index b.now 0)) (below a.now ++ above b.now))) }
+    ensures counted { IfOk result IsCounted }
 {
     if a.len() == 1 {
         return Ok(Node::Slot(Class::Outside(a[0], b[0])));
@@ -144,36 +176,30 @@ fn outside_node(alloc: Global, a: &[u8], b: &[u8]) -> Result<Node, AllocError>
     rows_node(alloc, outside_rows(alloc, a, b)?.as_slice())
 }
 
-// One of the rows.
-fn rows_node(alloc: Global, rows: &[Row]) -> Result<Node, AllocError>
-    ensures { IfOk result (λ node. seen node ≡ rows_tree (map (λ v. v.items) rows.now)) }
+// One of the rows, by halves.
+fn rows_node(alloc: Global, rows: &[ClassWord]) -> Result<Node, AllocError>
+    ensures tree { IfOk result (λ node. IsSame (seen node) (rows_tree (map (λ v. v.items) rows.now))) }
+    ensures counted { IfOk result IsCounted }
 {
-    let Some((first, later)) = rows.split_first() else {
+    let Some((row, later)) = rows.split_first() else {
         return Ok(Node::Never);
     };
-    let first = row_node(alloc, first.as_slice())?;
-    or(alloc, first, rows_node(alloc, later)?)
+    if later.is_empty() {
+        return row_node(alloc, row.as_slice());
+    }
+    let half = rows.len() / 2;
+    let first = rows_node(alloc, &rows[..half])?;
+    Node::or(alloc, first, rows_node(alloc, &rows[half..])?)
 }
 
-// The slots of a row, one after the other.
+// The slots of a row, one after the other. There are eight at most.
 fn row_node(alloc: Global, row: &[Class]) -> Result<Node, AllocError>
-    ensures { IfOk result (λ node. seen node ≡ row_tree row.now) }
+    ensures tree { IfOk result (λ node. seen node ≡ row_tree row.now) }
+    ensures counted { IfOk result IsCounted }
 {
     let Some((first, later)) = row.split_first() else {
         return Ok(Node::Empty);
     };
     let later = row_node(alloc, later)?;
-    then(alloc, Node::Slot(*first), later)
-}
-
-fn then(alloc: Global, a: Node, b: Node) -> Result<Node, AllocError>
-    ensures { IfOk result (λ node. seen node ≡ Then (seen a) (seen b)) }
-{
-    Ok(Node::Then(Box::new(alloc, a)?, Box::new(alloc, b)?))
-}
-
-fn or(alloc: Global, a: Node, b: Node) -> Result<Node, AllocError>
-    ensures { IfOk result (λ node. seen node ≡ Or (seen a) (seen b)) }
-{
-    Ok(Node::Or(Box::new(alloc, a)?, Box::new(alloc, b)?))
+    Node::then(alloc, Node::Slot(*first), later)
 }

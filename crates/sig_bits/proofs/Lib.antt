@@ -1,3 +1,6 @@
 -- Lemmas of this crate.
+pub mod BitLaws
 pub mod BitLemmas
 pub mod DeviceLemmas
+pub mod JoinLemmas
+pub mod RangeLemmas

@@ -1,4 +1,4 @@
--- What a read gives and a write adds, where the device tells its bytes.
+-- What a read gives and a write adds, where its bytes are known.
 use Rattle.std.specs.Prelude.{◌≡◌, ℕ, ◌≤◌, List, [], ◌++◌, length, take, Option, Some, None, ⊤}
 
 -- the bytes to come begin with these, and lose them
@@ -10,7 +10,7 @@ Gives (Some before) bytes (Some after) = before ≡ bytes ++ after
 -- no byte is to come
 abbrev pub IsAtEnd : Option (List ℕ) → Type 0
 IsAtEnd None = ⊤
-IsAtEnd (Some left) = left ≡ []
+IsAtEnd (Some rest) = rest ≡ []
 
 -- the bytes written grow by these
 abbrev pub Adds : Option (List ℕ) → List ℕ → Option (List ℕ) → Type 0

@@ -3,10 +3,13 @@
 //!
 //! The set of 0 and 9 over two bytes is `01 02`.
 
-ghost use Rattle.std.specs.Prelude.{◌≡◌, ℕ, ◌*◌, ◌<◌, ◌⊎◌, ◌↔◌, IsTrue, length, replicate};
+ghost use Rattle.std.specs.Prelude.{◌≡◌, ℕ, ◌*◌, ◌<◌, ◌≤◌, ◌⊎◌, ◌↔◌, IsTrue, length, replicate};
 ghost use Rattle.sig_bits.specs.BitSets.{HasBit};
+ghost use Rattle.sig_bits.specs.Joined.{IsJoined, common_at, missing_at};
 
-/// Adds the bits of `src` to those of `dst`.
+use crate::pieces::end_of_piece;
+
+/// Adds the numbers of the set `src` to the set `dst`.
 pub fn or_into(dst: &mut [u8], src: &[u8])
     requires { length dst.old ≡ length src.now }
     ensures { (i : ℕ) → HasBit dst.new i ↔ (HasBit dst.old i ⊎ HasBit src.now i) }
@@ -16,33 +19,69 @@ pub fn or_into(dst: &mut [u8], src: &[u8])
     }
 }
 
-/// Whether some bit is in both.
+/// Whether the two sets have a number in common.
+///
+/// The bytes are looked at in pieces of 64, so an early common number ends the search.
 pub fn and_any(a: &[u8], b: &[u8]) -> bool
     requires { length a.now ≡ length b.now }
     ensures { IsTrue result ↔ ((i : ℕ) × (HasBit a.now i × HasBit b.now i)) }
 {
-    for (i, byte) in a.iter().enumerate() {
-        if *byte & b[i] != 0 {
+    let mut from = 0;
+    while from < a.len() {
+        let to = end_of_piece(from, a.len());
+        if joined_common(a, b, from, to) != 0 {
             return true;
         }
+        from = to;
     }
     false
 }
 
-/// Whether every bit of `a` is in `b`.
+/// Whether the set `b` has all numbers of the set `a`.
 pub fn subset(a: &[u8], b: &[u8]) -> bool
     requires { length a.now ≡ length b.now }
     ensures { IsTrue result ↔ ((i : ℕ) → HasBit a.now i → HasBit b.now i) }
 {
-    for (i, byte) in a.iter().enumerate() {
-        if *byte & !b[i] != 0 {
+    let mut from = 0;
+    while from < a.len() {
+        let to = end_of_piece(from, a.len());
+        if joined_missing(a, b, from, to) != 0 {
             return false;
         }
+        from = to;
     }
     true
 }
 
-/// Sets one bit.
+// What is in both, the bytes of a piece joined into one.
+fn joined_common(a: &[u8], b: &[u8], from: usize, to: usize) -> u8
+    requires order { from ≤ to }
+    requires first { to ≤ length a.now }
+    requires second { to ≤ length b.now }
+    ensures { IsJoined (common_at a.now b.now) from to result }
+{
+    let mut joined = 0;
+    for k in from..to {
+        joined |= a[k] & b[k];
+    }
+    joined
+}
+
+// What is in `a` alone, the bytes of a piece joined into one.
+fn joined_missing(a: &[u8], b: &[u8], from: usize, to: usize) -> u8
+    requires order { from ≤ to }
+    requires first { to ≤ length a.now }
+    requires second { to ≤ length b.now }
+    ensures { IsJoined (missing_at a.now b.now) from to result }
+{
+    let mut joined = 0;
+    for k in from..to {
+        joined |= a[k] & !b[k];
+    }
+    joined
+}
+
+/// Adds `i` to the set.
 pub fn set_bit(bits: &mut [u8], i: usize)
     requires { i < 8 * length bits.old }
     ensures { (j : ℕ) → HasBit bits.new j ↔ ((j ≡ i) ⊎ HasBit bits.old j) }
@@ -50,7 +89,7 @@ pub fn set_bit(bits: &mut [u8], i: usize)
     bits[i / 8] |= 1 << (i % 8);
 }
 
-/// Whether the bit is set.
+/// Whether `i` is in the set.
 pub fn get_bit(bits: &[u8], i: usize) -> bool
     requires { i < 8 * length bits.now }
     ensures { IsTrue result ↔ HasBit bits.now i }
@@ -58,7 +97,7 @@ pub fn get_bit(bits: &[u8], i: usize) -> bool
     (bits[i / 8] >> (i % 8)) & 1 == 1
 }
 
-/// Makes every byte 0.
+/// Empties the set.
 pub fn clear(bits: &mut [u8])
     ensures { bits.new ≡ replicate (length bits.old) 0 }
 {

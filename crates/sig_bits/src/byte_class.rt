@@ -3,9 +3,9 @@
 ghost use Rattle.std.specs.Prelude.{◌≡◌, ℕ, ◌<◌, ◌≤◌, ◌↔◌, IsTrue};
 ghost use Rattle.sig_bits.specs.ByteClasses.{Holds};
 
-use super::{get_bit, set_bit, subset};
+use crate::bit_sets::{get_bit, set_bit, subset};
 
-/// A set of bytes.
+/// A set of bytes, as a slot of an automaton takes them.
 #[derive(Clone, Copy, Debug, PartialEq, Eq)]
 pub struct ByteClass {
     bits: [u8; 32],

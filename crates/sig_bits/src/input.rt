@@ -3,7 +3,7 @@
 ghost use Rattle.std.specs.Prelude.{◌≡◌, ℕ, ◌+◌, ◌-◌, ◌^◌, ◌<◌, ◌≤◌, ◌↔◌, Bool, true, false, List, length, take, Option, IfOk, OnErr, IsErr, IsTrue, is_err};
 ghost use Rattle.sig_bits.specs.Device.{Gives, IsAtEnd};
 
-use super::DeviceFault;
+use crate::fault::DeviceFault;
 use std::io::Read;
 
 /// A source of bytes, read once from its front.
@@ -16,7 +16,7 @@ pub trait Input {
     /// How many bytes may still come.
     ghost limit: { Self → ℕ };
 
-    /// The bytes still to come, where the source tells them.
+    /// The bytes still to come, where they are known.
     ghost to_come: { Self → Option (List ℕ) };
 
     /// Puts the next bytes at the front of the buffer and answers how many. None, for a buffer with
@@ -34,12 +34,12 @@ pub trait Input {
 /// The input of any reader.
 ///
 /// It gives at most 18,446,744,073,709,551,615 bytes, and any read after them fails, so an endless
-/// source ends in a fault. A source of exactly so many bytes does too: no clause tells its end from
-/// a fault.
+/// source ends in a fault. A source of exactly so many bytes does too. After a failed read the reader
+/// is not touched again.
 #[derive(Drop)]
 pub struct FromRead<R> {
     reader: R,
-    left: u64,
+    budget: u64,
     failed: bool,
 }
 
@@ -52,7 +52,7 @@ impl<R: Read> FromRead<R> {
     {
         FromRead {
             reader,
-            left: u64::MAX,
+            budget: u64::MAX,
             failed: false,
         }
     }
@@ -61,19 +61,33 @@ impl<R: Read> FromRead<R> {
 impl<R: Read> Input for FromRead<R> {
     ghost failed = { λ s. s.failed };
 
-    ghost limit = { λ s. s.left };
+    ghost limit = { λ s. s.budget };
 
     ghost to_come = { λ s. R.remaining s.reader };
 
-    fn read(&mut self, buf: &mut [u8]) -> Result<usize, DeviceFault> {
-        if self.failed || self.left == 0 {
+    fn read(&mut self, buf: &mut [u8]) -> Result<usize, DeviceFault>
+        ensures fails { self.new.failed ≡ is_err result }
+        ensures stays_failed { IsTrue self.old.failed → IsErr result }
+        ensures within { IfOk result (λ n. n ≤ length buf.new) }
+        ensures lowers { IfOk result (λ n. self.old.budget ≡ n + self.new.budget) }
+        ensures gives { IfOk result (λ n. Gives (R.remaining self.old.reader) (take n buf.new) (R.remaining self.new.reader)) }
+        ensures stays { OnErr result (self.new.budget ≡ self.old.budget) }
+        ensures ends { IfOk result (λ n. n ≡ 0 → 0 < length buf.new → IsAtEnd (R.remaining self.new.reader)) }
+
+        // A reader that failed is not read again.
+        ensures idle { IsTrue self.old.failed → self.new ≡ self.old }
+    {
+        if self.failed {
+            return Err(DeviceFault);
+        }
+        if self.budget == 0 {
             self.failed = true;
             return Err(DeviceFault);
         }
-        let room = buf.len().min(self.left as usize);
+        let room = buf.len().min(self.budget as usize);
         match self.reader.read(&mut buf[..room]) {
             Ok(n) => {
-                self.left -= n as u64;
+                self.budget -= n as u64;
                 Ok(n)
             }
             Err(_) => {

@@ -5,15 +5,19 @@
 //! A set is its bits, one by one: `specs/BitSets.antt` and `specs/ByteClasses.antt`.
 #![tactic(auto)]
 
+mod bit_ranges;
 mod bit_sets;
 mod byte_class;
 mod fault;
 mod input;
+pub mod laws;
 mod output;
+mod pieces;
 #[cfg(test)]
 mod tests;
 mod whole;
 
+pub use bit_ranges::{any_between, shift_into};
 pub use bit_sets::{and_any, clear, get_bit, or_into, set_bit, subset};
 pub use byte_class::ByteClass;
 pub use fault::{DeviceFault, ReadWholeError};

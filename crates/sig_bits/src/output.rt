@@ -1,9 +1,9 @@
 //! Where bytes go.
 
-ghost use Rattle.std.specs.Prelude.{◌≡◌, ℕ, ◌+◌, ◌-◌, ◌^◌, ◌≤◌, Bool, true, false, List, length, Option, OnOk, OnErr, IsErr, IsTrue, is_err};
+ghost use Rattle.std.specs.Prelude.{◌≡◌, ℕ, ◌+◌, ◌-◌, ◌^◌, ◌<◌, ◌≤◌, Bool, true, false, List, length, Option, OnOk, OnErr, IsErr, IsTrue, is_err};
 ghost use Rattle.sig_bits.specs.Device.{Adds, AddsFront};
 
-use super::DeviceFault;
+use crate::fault::DeviceFault;
 use std::io::Write;
 
 /// A sink of bytes, written once from its front.
@@ -17,7 +17,7 @@ pub trait Output {
     /// How many bytes may still be written.
     ghost limit: { Self → ℕ };
 
-    /// The bytes written so far, where the sink tells them.
+    /// The bytes written so far, where they are known.
     ghost written: { Self → Option (List ℕ) };
 
     /// Writes all the bytes, and sees them through to the sink.
@@ -34,11 +34,12 @@ pub trait Output {
 
 /// The output to any writer.
 ///
-/// It takes at most 18,446,744,073,709,551,615 bytes, and a write of more fails.
+/// It takes at most 18,446,744,073,709,551,615 bytes, and a write of more fails. After a failed write
+/// the writer is not touched again.
 #[derive(Drop)]
 pub struct FromWrite<W> {
     writer: W,
-    left: u64,
+    budget: u64,
     failed: bool,
 }
 
@@ -51,7 +52,7 @@ impl<W: Write> FromWrite<W> {
     {
         FromWrite {
             writer,
-            left: u64::MAX,
+            budget: u64::MAX,
             failed: false,
         }
     }
@@ -62,7 +63,7 @@ impl<W: Write> FromWrite<W> {
     {
         let FromWrite {
             writer,
-            left: _,
+            budget: _,
             failed: _,
         } = self;
         writer
@@ -72,19 +73,31 @@ impl<W: Write> FromWrite<W> {
 impl<W: Write> Output for FromWrite<W> {
     ghost failed = { λ s. s.failed };
 
-    ghost limit = { λ s. s.left };
+    ghost limit = { λ s. s.budget };
 
     ghost written = { λ s. W.contents s.writer };
 
-    fn write_all(&mut self, bytes: &[u8]) -> Result<(), DeviceFault> {
-        if self.failed
-            || (self.left as usize) < bytes.len()
-            || !write_through(&mut self.writer, bytes)
-        {
+    fn write_all(&mut self, bytes: &[u8]) -> Result<(), DeviceFault>
+        ensures fails { self.new.failed ≡ is_err result }
+        ensures stays_failed { IsTrue self.old.failed → IsErr result }
+        ensures lowers { OnOk result (self.old.budget ≡ length bytes.now + self.new.budget) }
+        ensures adds { OnOk result (Adds (W.contents self.old.writer) bytes.now (W.contents self.new.writer)) }
+        ensures front { OnErr result (AddsFront (W.contents self.old.writer) bytes.now (W.contents self.new.writer)) }
+        ensures no_room { OnErr result (self.new.budget ≤ self.old.budget) }
+
+        // A writer that failed is not written again, and one with no room for all the bytes is not
+        // written at all.
+        ensures idle { IsTrue self.old.failed → self.new ≡ self.old }
+        ensures none { self.old.budget < length bytes.now → self.new.writer ≡ self.old.writer }
+    {
+        if self.failed {
+            return Err(DeviceFault);
+        }
+        if (self.budget as usize) < bytes.len() || !write_through(&mut self.writer, bytes) {
             self.failed = true;
             return Err(DeviceFault);
         }
-        self.left -= bytes.len() as u64;
+        self.budget -= bytes.len() as u64;
         Ok(())
     }
 }

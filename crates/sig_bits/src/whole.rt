@@ -1,9 +1,10 @@
 //! An input read to its end, into one buffer that grows.
 
-ghost use Rattle.std.specs.Prelude.{◌≡◌, ◌+◌, ◌≤◌, true, false, OnOk, IfOk, IfErr, IfSome, IsErrOf, take, vec_len};
+ghost use Rattle.std.specs.Prelude.{◌≡◌, ◌+◌, ◌≤◌, true, false, OnOk, IfOk, IfErr, IfSome, IsErr, IsErrOf, IsTrue, take, vec_len};
 ghost use Rattle.sig_bits.specs.Device.{IsAtEnd};
 
-use super::{Input, ReadWholeError};
+use crate::fault::ReadWholeError;
+use crate::input::Input;
 use std::alloc::Global;
 
 // How much room a read has at least.
@@ -17,7 +18,8 @@ pub fn read_whole<R: Input>(alloc: Global, input: &mut R) -> Result<Vec<u8>, Rea
     ensures whole { IfOk result (λ bytes. IfSome (R.to_come input.old) (λ all. bytes.items ≡ all)) }
     ensures at_end { OnOk result (IsAtEnd (R.to_come input.new)) }
 
-    // A failed read is told, and only a failed read.
+    // A failed read is reported, and only a failed read.
+    ensures stays_failed { IsTrue (R.failed input.old) → IsErr result }
     ensures sound { OnOk result (R.failed input.new ≡ false) }
     ensures read { IsErrOf result ReadWholeError.Read → R.failed input.new ≡ true }
     ensures memory { IsErrOf result ReadWholeError.OutOfMemory → R.failed input.new ≡ R.failed input.old }

@@ -17,6 +17,7 @@ mod LeftLemmas
 mod MatchedLemmas
 mod MemberLemmas
 mod NumberLemmas
+mod OneVerdictLemmas
 mod PairLemmas
 mod ProductLemmas
 mod ReachedLemmas

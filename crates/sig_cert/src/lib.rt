@@ -14,6 +14,8 @@ mod rows;
 mod search;
 mod site;
 mod tables;
+#[cfg(test)]
+mod tests;
 mod version;
 mod view;
 
@@ -21,6 +23,6 @@ pub use checker::check;
 pub use error::CheckError;
 pub use laws::{
     accepted_is_closed, closed_covers_reached, closed_decides, closed_is_accepted,
-    ends_are_reached, reached_rows_are_of_their_file, two_lines_never,
+    ends_are_reached, reached_rows_are_of_their_file, two_lines_never, verdict_is_one,
 };
 pub use view::CertView;

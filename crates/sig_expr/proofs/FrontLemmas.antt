@@ -1,6 +1,7 @@
 -- What a reading has behind it: each front that is read is a front of a text.
 use Rattle.std.proofs.Common.{◌≡◌, inl, inr, ℕ, ◌+◌, ◌*◌, ◌/◌, ◌%◌, ◌<◌, ◌≤◌, Bool, true, false, cond, List, [], ◌∷◌, ◌++◌, length, Option, Some, None, refl, sym, ◌∙◌, ap, rules, arith, nat_eq, nat_lt, append_assoc, append-nil, length-append}
 use Rattle.std.specs.Prelude.{◌&&◌, ⊤}
+use Rattle.std.proofs.lemmas.Fmt.{decimal_digit, decimal_step}
 use Rattle.std.proofs.lemmas.Bool.Decides.{nat_tests}
 use Rattle.hex.specs.Hex.{hex_digit_value}
 use Rattle.sig_expr.specs.declared.end.End.{End}
@@ -8,20 +9,20 @@ use Rattle.sig_expr.specs.declared.item.Item.{Item}
 use Rattle.sig_expr.specs.declared.item.Item.TheVariants as item
 use Rattle.sig_expr.specs.declared.item.Atom.{Atom}
 use Rattle.sig_expr.specs.declared.item.Atom.TheVariants as atom
-use Rattle.sig_expr.specs.declared.token.Context.{Context}
-use Rattle.sig_expr.specs.declared.token.Context.TheVariants as context
-use Rattle.sig_expr.specs.declared.token.Token.{Token}
-use Rattle.sig_expr.specs.declared.token.Token.TheVariants as token
-use Rattle.sig_expr.specs.declared.token.Piece.{Piece}
-use Rattle.sig_expr.specs.declared.token.Piece.TheVariants as piece
-use Rattle.sig_expr.specs.declared.token.Step.{Step}
-use Rattle.sig_expr.specs.declared.token.Step.TheVariants as step
+use Rattle.sig_expr.specs.declared.lexer.Context.{Context}
+use Rattle.sig_expr.specs.declared.lexer.Context.TheVariants as context
+use Rattle.sig_expr.specs.declared.lexer.Token.{Token}
+use Rattle.sig_expr.specs.declared.lexer.Token.TheVariants as token
+use Rattle.sig_expr.specs.declared.lexer.Piece.{Piece}
+use Rattle.sig_expr.specs.declared.lexer.Piece.TheVariants as piece
+use Rattle.sig_expr.specs.declared.lexer.Step.{Step}
+use Rattle.sig_expr.specs.declared.lexer.Step.TheVariants as step
 use Rattle.sig_expr.specs.Ends.{empty_end}
 use Rattle.sig_expr.specs.Reading.{decimal_of, pair_of, with_digit, part_of, item_start_of, list_start_of, begin_of, number_of, closed_gap_of, star_of, end_of, closed_bracket_of, go_on_of, feed_of, next_of, is_between, is_after, context_of, behind_part}
-use Rattle.sig_expr.specs.Canon.{number_text}
 use Rattle.sig_expr.specs.Passes.{stop_from, stop_at}
 use Rattle.sig_expr.specs.Spelling.{PairText, WordText, NumberText, GapText, RangeText, NotText, AtomText, AlternativeText, AlternativesText, ListText, ItemText, Spells, IsText}
-use Rattle.sig_expr.proofs.ScanLemmas.{leading_1, text_more, small_digit, pair_byte}
+use Rattle.sig_expr.proofs.PairLemmas.{small_digit}
+use Rattle.sig_expr.proofs.ScanLemmas.{pair_byte}
 
 -- what opens a bracket
 abbrev opening : Bool → List ℕ
@@ -141,18 +142,16 @@ decimal_is : (b v : ℕ) → decimal_of b ≡ Some v → (b ≡ 48 + v) × (v < 
 decimal_is b v e = grind (arith, nat_tests)
 
 one_digit : (b v : ℕ) → decimal_of b ≡ Some v → NumberText v (b ∷ [])
-unfolding number_text
 one_digit b v e =
     let d = decimal_is b v e in
-    let small : v % 10 ≡ v = omega (arith, d.1) in
-    record { digits = rw (leading_1 v d.1, small, d.0) refl; few = omega (arith, d.1) }
+    record { digits = rw d.0 (sym (decimal_digit v d.1)); few = omega (arith, d.1) }
 
 more_digits : (n v b : ℕ) (u : List ℕ) → 0 < n → n < 10000 → NumberText n u → decimal_of b ≡ Some v → NumberText (n * 10 + v) (u ++ b ∷ [])
 more_digits n v b u low high h e =
     let d = decimal_is b v e in
     let front : (n * 10 + v) / 10 ≡ n = omega (arith, d.1) in
     let digit : (n * 10 + v) % 10 ≡ v = omega (arith, d.1) in
-    let text = rw (front, digit) at (text_more (n * 10 + v) (omega arith) (omega (arith, d.1))) in
+    let text = rw (front, digit) at (decimal_step (n * 10 + v) (omega arith) (omega (arith, d.1))) in
     record { digits = rw (h.digits, d.0) (sym text); few = omega (arith, d.1) }
 
 -- one pair more
@@ -254,7 +253,7 @@ abbrev Reached : Context → List ℕ → Type 0
 Reached context.Start x = x ≡ []
 Reached context.After x = (e : List Item) × (0 < length e) × Spells e x
 Reached (context.List many some) x =
-    (e : List Item) × (as' : List (List Atom)) × (a : List Atom) × (y z v : List ℕ) × (x ≡ y ++ (z ++ sign_of 40 as' ∷ v)) × Spells e y × AlternativesText 40 as' z × AlternativeText a v × (some ≡ true → 0 < length a) × (many ≡ true → 0 < length as')
+    (e : List Item) × (as' : List (List Atom)) × (a : List Atom) × (y z v : List ℕ) × (x ≡ y ++ (z ++ sign_of 40 as' ∷ v)) × Spells e y × AlternativesText (40 ∷ []) as' z × AlternativeText a v × (some ≡ true → 0 < length a) × (many ≡ true → 0 < length as')
 
 spells_more : (e : List Item) (x : List ℕ) (i : Item) (w : List ℕ) → Spells e x → ItemText i w → Spells (e ++ i ∷ []) (x ++ w)
 spells_more [] x i w h k = rw h (w, [], sym (append-nil w), k, refl)
@@ -272,7 +271,7 @@ sign_more : (as' : List (List Atom)) (a : List Atom) → sign_of 40 (as' ++ a �
 sign_more [] a = refl
 sign_more (b ∷ as') a = refl
 
-alternatives_more : (s : ℕ) (as' : List (List Atom)) (z : List ℕ) (a : List Atom) (v : List ℕ) → AlternativesText s as' z → 0 < length a → AlternativeText a v → AlternativesText s (as' ++ a ∷ []) (z ++ sign_of s as' ∷ v)
+alternatives_more : (s : ℕ) (as' : List (List Atom)) (z : List ℕ) (a : List Atom) (v : List ℕ) → AlternativesText (s ∷ []) as' z → 0 < length a → AlternativeText a v → AlternativesText (s ∷ []) (as' ++ a ∷ []) (z ++ sign_of s as' ∷ v)
 alternatives_more s [] z a v h some k = rw h (v, [], ap (λ (y : List ℕ). s ∷ y) (sym (append-nil v)), some, k, refl)
 alternatives_more s (b ∷ as') z a v h some k =
     (h.0, h.1 ++ (sign_of 124 as' ∷ v), rw (h.2, sign_bar as') (ap (λ (y : List ℕ). s ∷ y) (append_assoc h.0 h.1 (124 ∷ v))), h.3, h.4, alternatives_more 124 as' h.1 a v h.5 some k)

@@ -7,13 +7,13 @@ use Rattle.sig_expr.specs.declared.end.End.{End}
 use Rattle.sig_expr.specs.declared.item.Item.{Item}
 use Rattle.sig_expr.specs.declared.error.ExprError.{ExprError}
 use Rattle.sig_expr.specs.declared.error.ExprError.TheVariants as error
-use Rattle.sig_expr.specs.declared.token.Context.{Context}
-use Rattle.sig_expr.specs.declared.token.Context.TheVariants as context
-use Rattle.sig_expr.specs.declared.token.Token.{Token}
-use Rattle.sig_expr.specs.declared.token.Token.TheVariants as token
-use Rattle.sig_expr.specs.declared.token.State.{State}
-use Rattle.sig_expr.specs.declared.token.Step.{Step}
-use Rattle.sig_expr.specs.declared.token.Step.TheVariants as step
+use Rattle.sig_expr.specs.declared.lexer.Context.{Context}
+use Rattle.sig_expr.specs.declared.lexer.Context.TheVariants as context
+use Rattle.sig_expr.specs.declared.lexer.Token.{Token}
+use Rattle.sig_expr.specs.declared.lexer.Token.TheVariants as token
+use Rattle.sig_expr.specs.declared.lexer.State.{State}
+use Rattle.sig_expr.specs.declared.lexer.Step.{Step}
+use Rattle.sig_expr.specs.declared.lexer.Step.TheVariants as step
 use Rattle.sig_expr.specs.Reading.{feed_of, next_of, is_end_of, start, behind_part, is_between, begin_of, item_start_of, list_start_of, part_of, go_on_of, number_of, star_of, closed_gap_of, end_of, closed_bracket_of}
 use Rattle.sig_expr.proofs.Scans.{run, run_at}
 use Rattle.sig_expr.specs.Passes.{stop_of, stop_from, stop_at, fault_in, items_of}
@@ -21,8 +21,8 @@ use Rattle.sig_expr.specs.Texts.{expr_of, unless_stop, unless_fault}
 use Rattle.sig_expr.specs.Spelling.{Spells, IsText}
 use Rattle.sig_expr.specs.Profile.{InProfile}
 use Rattle.sig_expr.specs.Refusals.{Begins, IsLongestFront, IsNoText, Means}
-use Rattle.sig_expr.proofs.FaultLemmas.{told_fault}
-use Rattle.sig_expr.proofs.FirstFaultLemmas.{told_first}
+use Rattle.sig_expr.proofs.FaultLemmas.{fault_means}
+use Rattle.sig_expr.proofs.FirstFaultLemmas.{found_first}
 use Rattle.sig_expr.proofs.ProfileLemmas.{sound_text, items_text, stop_behind, text_goes_on}
 use Rattle.sig_expr.proofs.FrontLemmas.{stops_nowhere}
 
@@ -41,28 +41,28 @@ spelled_by : (x : Option ExprError) (built e : List Item) → unless_fault x bui
 spelled_by None built e q = (refl, cc)
 spelled_by (Some f) built e q = absurd (cc)
 
-not_stopped : (x : Option ℕ) (told : Result (List Item) ExprError) (e : List Item) → unless_stop x told ≡ Ok e → (x ≡ None) × (told ≡ Ok e)
-not_stopped None told e q = (refl, q)
-not_stopped (Some n) told e q = absurd (cc)
+not_stopped : (x : Option ℕ) (answer : Result (List Item) ExprError) (e : List Item) → unless_stop x answer ≡ Ok e → (x ≡ None) × (answer ≡ Ok e)
+not_stopped None answer e q = (refl, q)
+not_stopped (Some n) answer e q = absurd (cc)
 
-not_long : (b : Bool) (told : Result (List Item) ExprError) (e : List Item) → cond b (Err error.TooLong) told ≡ Ok e → (b ≡ false) × (told ≡ Ok e)
-not_long true told e q = absurd (cc)
-not_long false told e q = (refl, q)
+not_long : (b : Bool) (answer : Result (List Item) ExprError) (e : List Item) → cond b (Err error.TooLong) answer ≡ Ok e → (b ≡ false) × (answer ≡ Ok e)
+not_long true answer e q = absurd (cc)
+not_long false answer e q = (refl, q)
 
--- what is told is in the profile and spelled
-pub told_spells : (e : List Item) (t : List ℕ) → expr_of t ≡ Ok e → InProfile t × Spells e t
+-- what is read is in the profile and spelled
+pub read_spells : (e : List Item) (t : List ℕ) → expr_of t ≡ Ok e → InProfile t × Spells e t
 unfolding expr_of
-told_spells e t told =
-    let one = not_long (nat_lt 8192 (length t)) _ e told in
+read_spells e t answer =
+    let one = not_long (nat_lt 8192 (length t)) _ e answer in
     let two = not_stopped (stop_of t) _ e one.1 in
     let three = spelled_by (fault_in t) (items_of t) e two.1 in
     let short : length t ≤ 8192 = grind (arith, nat_tests, one.0) in
     rw three.1 at (spells_built t short two.0 three.0)
 
--- something told is in the profile
-pub told_profile : (r : Result (List Item) ExprError) (t : List ℕ) → expr_of t ≡ r → IsOk r → InProfile t
-told_profile (Ok e) t q h = (told_spells e t q).0
-told_profile (Err f) t q h = absurd (cc)
+-- where something is read, the text is in the profile
+pub read_in_profile : (r : Result (List Item) ExprError) (t : List ℕ) → expr_of t ≡ r → IsOk r → InProfile t
+read_in_profile (Ok e) t q h = (read_spells e t q).0
+read_in_profile (Err f) t q h = absurd (cc)
 
 abbrev at : Context → Token → State
 at c k = record { context = c; token = k }
@@ -239,28 +239,28 @@ no_text t n short e = record {
 }
 
 means_fault : (f : ExprError) (t : List ℕ) (x : Option ExprError) → length t ≤ 8192 → stop_of t ≡ None → fault_in t ≡ x → unless_fault x (items_of t) ≡ Err f → Means f t
-means_fault f t None short stops faulty told = absurd (cc)
-means_fault f t (Some g) short stops faulty told =
+means_fault f t None short stops faulty answer = absurd (cc)
+means_fault f t (Some g) short stops faulty answer =
     let same : g ≡ f = cc in
     let found : fault_in t ≡ Some f = rw same at faulty in
-    (told_fault start 0 0 t f found).1 t (told_first f t short stops found)
+    fault_means start 0 0 t f found t (found_first f t short stops found)
 
 means_stop : (f : ExprError) (t : List ℕ) (x : Option ℕ) → length t ≤ 8192 → stop_of t ≡ x → unless_stop x (unless_fault (fault_in t) (items_of t)) ≡ Err f → Means f t
-means_stop f t None short stops told = means_fault f t (fault_in t) short stops refl told
-means_stop f t (Some n) short stops told =
+means_stop f t None short stops answer = means_fault f t (fault_in t) short stops refl answer
+means_stop f t (Some n) short stops answer =
     let same : error.Syntax n ≡ f = cc in
     rw (← same) (no_text t n short stops)
 
 means_long : (f : ExprError) (t : List ℕ) (b : Bool) → nat_lt 8192 (length t) ≡ b → cond b (Err error.TooLong) (unless_stop (stop_of t) (unless_fault (fault_in t) (items_of t))) ≡ Err f → Means f t
-means_long f t true e told =
+means_long f t true e answer =
     let same : error.TooLong ≡ f = cc in
     let long : 8192 < length t = grind (arith, nat_tests, e) in
     rw (← same) long
-means_long f t false e told =
+means_long f t false e answer =
     let short : length t ≤ 8192 = grind (arith, nat_tests, e) in
-    means_stop f t (stop_of t) short refl told
+    means_stop f t (stop_of t) short refl answer
 
--- a refusal that is told means what it says
-pub told_means : (f : ExprError) (t : List ℕ) → expr_of t ≡ Err f → Means f t
+-- a refusal means what it says
+pub refusal_means : (f : ExprError) (t : List ℕ) → expr_of t ≡ Err f → Means f t
 unfolding expr_of
-told_means f t told = means_long f t (nat_lt 8192 (length t)) refl told
+refusal_means f t answer = means_long f t (nat_lt 8192 (length t)) refl answer

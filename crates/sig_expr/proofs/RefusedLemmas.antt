@@ -10,16 +10,19 @@ use Rattle.sig_expr.specs.declared.error.ExprError.{ExprError}
 use Rattle.sig_expr.specs.declared.error.ExprError.TheVariants as error
 use Rattle.sig_expr.specs.declared.item.Atom.{Atom}
 use Rattle.sig_expr.specs.declared.item.Atom.TheVariants as atom
+use Rattle.sig_bits.specs.Bytes.{IsBytes}
 use Rattle.sig_expr.specs.Ends.{word_of}
 use Rattle.sig_expr.specs.Faults.{are_all, is_less, order_fault, range_fault, not_fault, gap_fault, fault_of}
 use Rattle.sig_expr.specs.Words.{IsBefore}
-use Rattle.sig_expr.specs.Profile.{GapSound, RangeSound, AtomSound}
+use Rattle.sig_expr.specs.Profile.{GapSound, AtomSound}
 use Rattle.sig_expr.specs.Spelling.{WordText, RangeText, NotText, AtomText}
 use Rattle.sig_expr.proofs.Scans.{end_of_word, piece_of}
 use Rattle.sig_expr.specs.FirstFaults.{refusal_number, GapHas, AreEnds, RangeHas, NotHas, AtomHas, IsRefused}
 use Rattle.sig_expr.proofs.EndLemmas.{len_of_word, word_of_end}
 use Rattle.sig_expr.proofs.ScanLemmas.{below, either}
 use Rattle.sig_expr.proofs.FrontLemmas.{is_sign}
+use Rattle.sig_expr.proofs.OrderLemmas.{leaves_word, no_word, no_word_all}
+use Rattle.sig_expr.proofs.PairLemmas.{pair_small, word_bytes, range_sound, not_sound}
 
 -- an end has no more bytes than its text
 word_len : (a u : List ℕ) → WordText a u → length a ≤ length u
@@ -80,9 +83,9 @@ not_over x h = by_test (nat_lt 65535 x) refl
     by_test true e = absurd (h (grind (arith, nat_tests)))
 
 -- what is read of ends of one length, of at most eight bytes
-told_ends : (a b : List ℕ) → 0 < length a → 0 < length b → AreEnds a b
+both_ends : (a b : List ℕ) → 0 < length a → 0 < length b → AreEnds a b
     → (nat_eq (end_of_word a).len (end_of_word b).len ≡ true) × (nat_lt 8 (end_of_word a).len ≡ false) × (word_of (end_of_word a) ≡ Some a) × (word_of (end_of_word b) ≡ Some b)
-told_ends a b some some' h =
+both_ends a b some some' h =
     let p = len_of_word a in
     let q = len_of_word b in
     let short' : length b ≤ 8 = omega (arith, h.0, h.1) in
@@ -90,7 +93,7 @@ told_ends a b some some' h =
     let few : nat_lt 8 (end_of_word a).len ≡ false = grind (arith, nat_tests, h.1) in
     (same, few, word_of_end a some h.1, word_of_end b some' short')
 
--- what is told of a gap that is refused
+-- the fault that is found in a gap that is refused
 pub gap_refused : (least : ℕ) (max : Option ℕ) (n : ℕ) (f : ExprError) → IsRefused n (GapHas least max) f → gap_fault least max n ≡ Some f
 unfolding gap_fault
 gap_refused least None n (error.GapNumber m) h =
@@ -121,16 +124,16 @@ gap_refused least (Some max) n (error.GapOrder m) h =
 gap_refused least None n f h = absurd h.has
 gap_refused least (Some max) n f h = absurd h.has
 
--- what is told of a bracket with two ends that is refused
-pub range_refused : (not : Bool) (a b : List ℕ) (n : ℕ) (f : ExprError) → 0 < length a → 0 < length b → length a ≤ 8192 → length b ≤ 8192 → IsRefused n (RangeHas not a b) f → range_fault not (end_of_word a) (end_of_word b) n ≡ Some f
+-- the same of a bracket with two ends
+pub range_refused : (not : Bool) (a b : List ℕ) (n : ℕ) (f : ExprError) → 0 < length a → 0 < length b → length a ≤ 8192 → length b ≤ 8192 → IsBytes b → IsRefused n (RangeHas not a b) f → range_fault not (end_of_word a) (end_of_word b) n ≡ Some f
 unfolding range_fault order_fault
-range_refused not a b n (error.RangeLength m) some some' few few' h =
+range_refused not a b n (error.RangeLength m) some some' few few' bytes h =
     let same : m ≡ n = cc (h.place) in
     let p = len_of_word a in
     let q = len_of_word b in
     let differ : nat_eq (end_of_word a).len (end_of_word b).len ≡ false = not_same _ _ (λ e. h.has (omega arith)) in
     rw (differ, same) refl
-range_refused not a b n (error.BracketTooLong m) some some' few few' h =
+range_refused not a b n (error.BracketTooLong m) some some' few few' bytes h =
     let same : m ≡ n = cc (h.place) in
     let p = len_of_word a in
     let q = len_of_word b in
@@ -138,20 +141,21 @@ range_refused not a b n (error.BracketTooLong m) some some' few few' h =
     let one : nat_eq (end_of_word a).len (end_of_word b).len ≡ true = grind (arith, nat_tests) in
     let two : nat_lt 8 (end_of_word a).len ≡ true = grind (arith, nat_tests, h.has) in
     rw (one, two, same) refl
-range_refused not a b n (error.RangeOrder m) some some' few few' h =
+range_refused not a b n (error.RangeOrder m) some some' few few' bytes h =
     let same : m ≡ n = cc (h.place) in
-    let ends = told_ends a b some some' h.has.0 in
+    let ends = both_ends a b some some' h.has.0 in
     let order : is_less (slice_cmp nat_cmp a b) ≡ false = not_before _ h.has.1 in
     rw (ends.0, ends.1, ends.2, ends.3, order, same) refl
-range_refused true a b n (error.ClassEmpty m) some some' few few' h =
+range_refused true a b n (error.ClassEmpty m) some some' few few' bytes h =
     let same : m ≡ n = cc (h.place) in
-    let ends = told_ends a b some some' h.has.0 in
+    let ends = both_ends a b some some' h.has.0 in
     let order : IsBefore a b = before _ (λ o. omega (arith, h.lowest (error.RangeOrder n) (h.has.0, o))) in
-    rw (ends.0, ends.1, ends.2, ends.3, order, h.has.1, h.has.2, same) refl
-range_refused true a b n f some some' few few' h = absurd h.has
-range_refused false a b n f some some' few few' h = absurd h.has
+    let all = no_word_all a b h.has.0.0 bytes h.has.1 in
+    rw (ends.0, ends.1, ends.2, ends.3, order, all, same) refl
+range_refused true a b n f some some' few few' bytes h = absurd h.has
+range_refused false a b n f some some' few few' bytes h = absurd h.has
 
--- what is told of a bracket with one end that is refused
+-- the same of a bracket with one end
 pub not_refused : (a : List ℕ) (n : ℕ) (f : ExprError) → length a ≤ 8192 → IsRefused n (NotHas a) f → not_fault (end_of_word a) n ≡ Some f
 unfolding not_fault
 not_refused a n (error.BracketTooLong m) few h =
@@ -164,12 +168,12 @@ not_refused a n f few h = absurd h.has
 pub range_text_refused : (not : Bool) (opening a b t : List ℕ) (n : ℕ) (f : ExprError) → RangeText opening a b t → length t ≤ 8192 → IsRefused n (RangeHas not a b) f → range_fault not (end_of_word a) (end_of_word b) n ≡ Some f
 range_text_refused not opening a b t n f h short r =
     let lens = range_len opening a b t h in
-    range_refused not a b n f h.some_first h.some_second (omega (arith, lens.0)) (omega (arith, lens.1)) r
+    range_refused not a b n f h.some_first h.some_second (omega (arith, lens.0)) (omega (arith, lens.1)) (word_bytes b h.second h.is_second) r
 
 pub not_text_refused : (a t : List ℕ) (n : ℕ) (f : ExprError) → NotText a t → length t ≤ 8192 → IsRefused n (NotHas a) f → not_fault (end_of_word a) n ≡ Some f
 not_text_refused a t n f h short r = not_refused a n f (omega (arith, not_len a t h)) r
 
--- what is told of a part that is refused
+-- the same of a part
 pub atom_refused : (p : Atom) (t : List ℕ) (n : ℕ) (f : ExprError) → AtomText p t → length t ≤ 8192 → IsRefused n (AtomHas p) f → fault_of (piece_of p) n ≡ Some f
 atom_refused (atom.Byte b) t n f h short r = absurd r.has
 atom_refused (atom.Range a b) t n f h short r = range_text_refused false (91 ∷ []) a b t n f h short r
@@ -243,23 +247,24 @@ class_lowest a b k (error.ClassEmpty m) h = omega arith
 class_lowest a b k f h = absurd h
 
 -- no fault of a bracket with two ends
-abbrev pub RangeQuiet : Bool → List ℕ → List ℕ → Type 0
-RangeQuiet not a b = RangeSound a b × ((not && (are_all 0 a && are_all 255 b)) ≡ false)
+record RangeQuiet (not : Bool) (a b : List ℕ) : Type 0 where
+  ends : AreEnds a b
+  order : IsBefore a b
+  leaves : (not && (are_all 0 a && are_all 255 b)) ≡ false
 
-judged_class : (not : Bool) (a b : List ℕ) (n : ℕ) → RangeSound a b → (x y : Bool) → are_all 0 a ≡ x → are_all 255 b ≡ y → RangeQuiet not a b ⊎ Refused n (RangeHas not a b)
-judged_class false a b n h x y p q = inl (h, refl)
-judged_class true a b n h true true p q =
-    inr (error.ClassEmpty n, record { place = refl; has = ((h.same_length, h.short), p, q); lowest = class_lowest a b h.order })
-judged_class true a b n h false y p q = inl (h, rw p refl)
-judged_class true a b n h true false p q = inl (h, rw (p, q) refl)
+judged_class : (not : Bool) (a b : List ℕ) (n : ℕ) → AreEnds a b → IsBefore a b → (x y : Bool) → are_all 0 a ≡ x → are_all 255 b ≡ y → RangeQuiet not a b ⊎ Refused n (RangeHas not a b)
+judged_class false a b n h k x y p q = inl (record { ends = h; order = k; leaves = refl })
+judged_class true a b n h k true true p q = inr (error.ClassEmpty n, record { place = refl; has = (h, λ w. no_word a b h.0 p q w); lowest = class_lowest a b k })
+judged_class true a b n h k false y p q = inl (record { ends = h; order = k; leaves = rw p refl })
+judged_class true a b n h k true false p q = inl (record { ends = h; order = k; leaves = rw (p, q) refl })
 
 judged_order : (not : Bool) (a b : List ℕ) (n : ℕ) → AreEnds a b → (o : Ordering) → slice_cmp nat_cmp a b ≡ o → RangeQuiet not a b ⊎ Refused n (RangeHas not a b)
-judged_order not a b n h Less e = judged_class not a b n (record { same_length = h.0; short = h.1; order = e }) (are_all 0 a) (are_all 255 b) refl refl
+judged_order not a b n h Less e = judged_class not a b n h e (are_all 0 a) (are_all 255 b) refl refl
 judged_order not a b n h Equal e = inr (error.RangeOrder n, record { place = refl; has = (h, λ k. absurd (cc)); lowest = first_lowest not a b })
 judged_order not a b n h Greater e = inr (error.RangeOrder n, record { place = refl; has = (h, λ k. absurd (cc)); lowest = first_lowest not a b })
 
 -- a bracket with two ends has no fault or is refused
-pub judged_range : (not : Bool) (a b : List ℕ) (n : ℕ) → RangeQuiet not a b ⊎ Refused n (RangeHas not a b)
+judged_range : (not : Bool) (a b : List ℕ) (n : ℕ) → RangeQuiet not a b ⊎ Refused n (RangeHas not a b)
 judged_range not a b n =
     either (below (length a) (length b)) (λ l. differ (λ e. omega arith))
     (λ g. either (below (length b) (length a)) (λ l. differ (λ e. omega arith))
@@ -274,13 +279,15 @@ not_lowest : (a : List ℕ) (f : ExprError) → NotHas a f → 10 ≤ refusal_nu
 not_lowest a (error.BracketTooLong m) h = omega arith
 not_lowest a f h = absurd h
 
--- a bracket with one end has no fault or is refused
-pub judged_not : (a : List ℕ) (n : ℕ) → (length a ≤ 8) ⊎ Refused n (NotHas a)
-judged_not a n = either (below 8 (length a)) (λ o. inr (error.BracketTooLong n, record { place = refl; has = o; lowest = not_lowest a })) (λ k. inl k)
-
 -- a part has no fault or is refused
-pub judged_atom : (p : Atom) (n : ℕ) → AtomSound p ⊎ Refused n (AtomHas p)
-judged_atom (atom.Byte b) n = inl tt
-judged_atom (atom.Range a b) n = either (judged_range false a b n) (λ k. inl k.0) (λ r. inr r)
-judged_atom (atom.Not a) n = judged_not a n
-judged_atom (atom.NotRange a b) n = judged_range true a b n
+pub judged_atom : (p : Atom) (t : List ℕ) (n : ℕ) → AtomText p t → AtomSound p ⊎ Refused n (AtomHas p)
+judged_atom (atom.Byte b) t n h = inl (pair_small b t h)
+judged_atom (atom.Range a b) t n h = either (judged_range false a b n) (λ k. inl (range_sound _ a b t h k.ends.0 k.ends.1 k.order)) (λ r. inr r)
+judged_atom (atom.Not a) t n h =
+    either (below 8 (length a)) (λ o. inr (error.BracketTooLong n, record { place = refl; has = o; lowest = not_lowest a })) (λ k. inl (not_sound a t h k))
+judged_atom (atom.NotRange a b) t n h =
+    either (judged_range true a b n)
+    (λ k.
+    let sound = range_sound _ a b t h k.ends.0 k.ends.1 k.order in
+    inl (sound, leaves_word a b k.ends.0 sound.second.bytes k.leaves))
+    (λ r. inr r)

@@ -1,5 +1,6 @@
 -- The texts of pieces are read.
 use Rattle.std.proofs.Common.{◌≡◌, ◌⊎◌, inl, inr, ℕ, ◌+◌, ◌*◌, ◌/◌, ◌%◌, ◌<◌, ◌≤◌, Bool, true, false, List, [], ◌∷◌, ◌++◌, length, map, Option, Some, None, refl, sym, ◌∙◌, ap, rules, arith, nat_eq, nat_lt, append_assoc}
+use Rattle.std.proofs.lemmas.Fmt.{decimal_by_steps}
 use Rattle.std.proofs.lemmas.Bool.Decides.{nat_tests}
 use Rattle.hex.specs.Hex.{hex_digit_value}
 use Rattle.sig_expr.specs.declared.end.End.{End}
@@ -7,19 +8,19 @@ use Rattle.sig_expr.specs.declared.item.Item.{Item}
 use Rattle.sig_expr.specs.declared.item.Item.TheVariants as item
 use Rattle.sig_expr.specs.declared.item.Atom.{Atom}
 use Rattle.sig_expr.specs.declared.item.Atom.TheVariants as atom
-use Rattle.sig_expr.specs.declared.token.Context.{Context}
-use Rattle.sig_expr.specs.declared.token.Context.TheVariants as context
-use Rattle.sig_expr.specs.declared.token.Token.{Token}
-use Rattle.sig_expr.specs.declared.token.Token.TheVariants as token
-use Rattle.sig_expr.specs.declared.token.State.{State}
-use Rattle.sig_expr.specs.declared.token.Piece.{Piece}
-use Rattle.sig_expr.specs.declared.token.Piece.TheVariants as piece
-use Rattle.sig_expr.specs.declared.token.Step.{Step}
-use Rattle.sig_expr.specs.declared.token.Step.TheVariants as step
+use Rattle.sig_expr.specs.declared.lexer.Context.{Context}
+use Rattle.sig_expr.specs.declared.lexer.Context.TheVariants as context
+use Rattle.sig_expr.specs.declared.lexer.Token.{Token}
+use Rattle.sig_expr.specs.declared.lexer.Token.TheVariants as token
+use Rattle.sig_expr.specs.declared.lexer.State.{State}
+use Rattle.sig_expr.specs.declared.lexer.Piece.{Piece}
+use Rattle.sig_expr.specs.declared.lexer.Piece.TheVariants as piece
+use Rattle.sig_expr.specs.declared.lexer.Step.{Step}
+use Rattle.sig_expr.specs.declared.lexer.Step.TheVariants as step
 use Rattle.sig_expr.specs.Ends.{empty_end, push_of}
 use Rattle.sig_expr.specs.Reading.{decimal_of, pair_of, part_of, item_start_of, list_start_of, begin_of, number_of, closed_gap_of, star_of, end_of, closed_bracket_of, go_on_of, feed_of, next_of, is_between, context_of, behind_part}
-use Rattle.sig_expr.specs.Canon.{number_text, leading_zeros}
 use Rattle.sig_expr.specs.Spelling.{PairText, WordText, NumberText, GapText, RangeText, NotText, AtomText, AlternativeText, AlternativesText, ListText, ItemText, Spells}
+use Rattle.sig_expr.proofs.PairLemmas.{small_digit}
 use Rattle.sig_expr.proofs.Scans.{run, run_at, pieces, pieces_in, Scans, end_after, end_of_word, piece_of, barred, listed, pieces_of, all_pieces}
 
 abbrev pub at : Context → Token → State
@@ -65,15 +66,12 @@ scans_append s t ps y u qs z g h = record {
 }
 
 -- a sign is no digit
-not_digit : (h x k : ℕ) → hex_digit_value h ≡ Some x → hex_digit_value k ≡ None → nat_eq h k ≡ false
+pub not_digit : (h x k : ℕ) → hex_digit_value h ≡ Some x → hex_digit_value k ≡ None → nat_eq h k ≡ false
 not_digit h x k e n = not_eq (nat_eq h k) refl
   where
     not_eq : (b : Bool) → nat_eq h k ≡ b → b ≡ false
     not_eq false q = refl
     not_eq true q = let same : h ≡ k = search rules in cc
-
-pub small_digit : (h x : ℕ) → hex_digit_value h ≡ Some x → x < 16
-small_digit h x e = grind (arith, nat_tests)
 
 begin_digit : (c : Context) (h x : ℕ) → hex_digit_value h ≡ Some x → begin_of c h ≡ step.More (token.Half x)
 unfolding begin_of item_start_of list_start_of part_of
@@ -195,7 +193,7 @@ alternative_scans many [] t some h = absurd (omega arith)
 alternative_scans many (p ∷ ps) t some h = rw h.2 (scans_append _ h.0 _ _ h.1 _ _ (atom_scans (context.List many false) p h.0 h.3) (parts_scans many ps h.1 h.4))
 
 -- alternatives behind bars are read
-bars_scan : (as' : List (List Atom)) (t : List ℕ) → AlternativesText 124 as' t → Scans (at (context.List true true) token.Between) t (barred as') (at (context.List true true) token.Between)
+bars_scan : (as' : List (List Atom)) (t : List ℕ) → AlternativesText (124 ∷ []) as' t → Scans (at (context.List true true) token.Between) t (barred as') (at (context.List true true) token.Between)
 unfolding feed_of begin_of list_start_of
 bars_scan [] t h = rw h (scans_nothing _)
 bars_scan (a ∷ rest) t h =
@@ -203,7 +201,7 @@ bars_scan (a ∷ rest) t h =
     (scans_append _ h.0 _ _ h.1 _ _ (alternative_scans true a h.0 h.3 h.4) (bars_scan rest h.1 h.5)))
 
 -- the second alternative and those behind it
-more_scan : (as' : List (List Atom)) (t : List ℕ) → 0 < length as' → AlternativesText 124 as' t → Scans (at (context.List false true) token.Between) t (barred as') (at (context.List true true) token.Between)
+more_scan : (as' : List (List Atom)) (t : List ℕ) → 0 < length as' → AlternativesText (124 ∷ []) as' t → Scans (at (context.List false true) token.Between) t (barred as') (at (context.List true true) token.Between)
 unfolding feed_of begin_of list_start_of
 more_scan [] t some h = absurd (omega arith)
 more_scan (a ∷ rest) t some h =
@@ -216,7 +214,7 @@ IsOutside context.After = Unit {0}
 IsOutside (context.List many some) = ⊥
 
 -- the first alternative of a list, and those behind it
-list_parts_scan : (a : List Atom) (rest : List (List Atom)) (u v : List ℕ) → 0 < length a → 0 < length rest → AlternativeText a u → AlternativesText 124 rest v → Scans (at (context.List false false) token.Between) (u ++ (v ++ (41 ∷ []))) (map piece_of a ++ (barred rest ++ (piece.Close ∷ []))) (at context.After token.Between)
+list_parts_scan : (a : List Atom) (rest : List (List Atom)) (u v : List ℕ) → 0 < length a → 0 < length rest → AlternativeText a u → AlternativesText (124 ∷ []) rest v → Scans (at (context.List false false) token.Between) (u ++ (v ++ (41 ∷ []))) (map piece_of a ++ (barred rest ++ (piece.Close ∷ []))) (at context.After token.Between)
 unfolding feed_of begin_of list_start_of
 list_parts_scan a rest u v some two h k =
     scans_append _ u _ _ _ _ _ (alternative_scans false a u some h)
@@ -234,74 +232,6 @@ list_scans context.After outside (a ∷ rest) t h =
     let k = h.is_inside in
     rw (h.text, k.2) (scans_whole _ 40 piece.Open _ _ _ refl (rw (append_assoc k.0 k.1 (41 ∷ [])) (list_parts_scan a rest k.0 k.1 k.3 (omega (arith, h.two)) k.4 k.5)))
 
-pub leading_1 : (n : ℕ) → n < 10 → leading_zeros n ≡ 4
-leading_1 n h = grind (arith, nat_tests)
-
-leading_2 : (n : ℕ) → 10 ≤ n → n < 100 → leading_zeros n ≡ 3
-leading_2 n g h = grind (arith, nat_tests)
-
-leading_3 : (n : ℕ) → 100 ≤ n → n < 1000 → leading_zeros n ≡ 2
-leading_3 n g h = grind (arith, nat_tests)
-
-leading_4 : (n : ℕ) → 1000 ≤ n → n < 10000 → leading_zeros n ≡ 1
-leading_4 n g h = grind (arith, nat_tests)
-
-leading_5 : (n : ℕ) → 10000 ≤ n → leading_zeros n ≡ 0
-leading_5 n g = grind (arith, nat_tests)
-
--- what a number's text is, and the state of reading behind it
-record Reads (n : ℕ) : Type 0 where
-  scans : (c : Context) (least : Option ℕ) → Scans (at c (token.NumberStart least)) (number_text n) [] (at c (token.Number least n))
-
-decimal_digit : (v : ℕ) → v < 10 → decimal_of (48 + v) ≡ Some v
-decimal_digit v h = grind (arith, nat_tests)
-
-reads_1 : (n : ℕ) → n < 10 → Reads n
-unfolding number_text feed_of go_on_of number_of
-reads_1 n h = record {
-  scans = λ c least.
-      let small : n % 10 ≡ n = omega arith in
-      rw (leading_1 n h, small) (scans_more _ (48 + n) (token.Number least n) _ _ _ (rw (decimal_digit n h) refl) (scans_nothing _));
-}
-
--- a digit more is read
-reads_more : (n : ℕ) → 10 ≤ n → n < 100000 → Reads (n / 10) → number_text n ≡ number_text (n / 10) ++ (48 + n % 10) ∷ [] → Reads n
-unfolding feed_of go_on_of star_of
-reads_more n g h front text = record {
-  scans = λ c least.
-      let digit : n % 10 < 10 = omega arith in
-      let whole : n / 10 * 10 + n % 10 ≡ n = omega arith in
-      let low : nat_lt 0 (n / 10) ≡ true = grind (arith, nat_tests) in
-      let high : nat_lt (n / 10) 10000 ≡ true = grind (arith, nat_tests) in
-      rw text (scans_append _ (number_text (n / 10)) [] _ _ [] _ (front.scans c least)
-      (scans_more _ (48 + n % 10) (token.Number least n) [] [] _ (rw (decimal_digit (n % 10) digit, low, high, whole) refl) (scans_nothing _)));
-}
-
-text_2 : (n : ℕ) → 10 ≤ n → n < 100 → number_text n ≡ number_text (n / 10) ++ (48 + n % 10) ∷ []
-unfolding number_text
-text_2 n g h = rw (leading_2 n g h, leading_1 (n / 10) (omega arith)) refl
-
-text_3 : (n : ℕ) → 100 ≤ n → n < 1000 → number_text n ≡ number_text (n / 10) ++ (48 + n % 10) ∷ []
-unfolding number_text
-text_3 n g h =
-    let hundreds : n / 100 ≡ n / 10 / 10 = omega arith in
-    rw (leading_3 n g h, leading_2 (n / 10) (omega arith) (omega arith), hundreds) refl
-
-text_4 : (n : ℕ) → 1000 ≤ n → n < 10000 → number_text n ≡ number_text (n / 10) ++ (48 + n % 10) ∷ []
-unfolding number_text
-text_4 n g h =
-    let hundreds : n / 100 ≡ n / 10 / 10 = omega arith in
-    let thousands : n / 1000 ≡ n / 10 / 100 = omega arith in
-    rw (leading_4 n g h, leading_3 (n / 10) (omega arith) (omega arith), hundreds, thousands) refl
-
-text_5 : (n : ℕ) → 10000 ≤ n → n < 100000 → number_text n ≡ number_text (n / 10) ++ (48 + n % 10) ∷ []
-unfolding number_text
-text_5 n g h =
-    let hundreds : n / 100 ≡ n / 10 / 10 = omega arith in
-    let thousands : n / 1000 ≡ n / 10 / 100 = omega arith in
-    let tens : n / 10000 ≡ n / 10 / 1000 = omega arith in
-    rw (leading_5 n g, leading_4 (n / 10) (omega arith) (omega arith), hundreds, thousands, tens) refl
-
 pub below : (a b : ℕ) → (a < b) ⊎ (b ≤ a)
 below a b = below_by (nat_lt a b) refl
   where
@@ -313,26 +243,30 @@ pub either : {P Q : Type 0} {C : Type 0} → P ⊎ Q → (P → C) → (Q → C)
 either (inl p) f g = f p
 either (inr q) f g = g q
 
--- a number of two digits or more is another and a digit
-pub text_more : (n : ℕ) → 10 ≤ n → n < 100000 → number_text n ≡ number_text (n / 10) ++ (48 + n % 10) ∷ []
-text_more n g h =
-    either (below n 100) (text_2 n g) (λ g2. either (below n 1000) (text_3 n g2) (λ g3. either (below n 10000) (text_4 n g3) (λ g4. text_5 n g4 h)))
+-- a number is read of this text
+abbrev Reads : ℕ → List ℕ → Type 0
+Reads n t = n < 100000 → (c : Context) (least : Option ℕ) → Scans (at c (token.NumberStart least)) t [] (at c (token.Number least n))
 
-reads_2 : (n : ℕ) → n < 100 → Reads n
-reads_2 n h = either (below n 10) (reads_1 n) (λ g. reads_more n g (omega arith) (reads_1 (n / 10) (omega arith)) (text_2 n g h))
+digit_of : (v : ℕ) → v < 10 → decimal_of (48 + v) ≡ Some v
+digit_of v h = grind (arith, nat_tests)
 
-reads_3 : (n : ℕ) → n < 1000 → Reads n
-reads_3 n h = either (below n 100) (reads_2 n) (λ g. reads_more n (omega arith) (omega arith) (reads_2 (n / 10) (omega arith)) (text_3 n g h))
+digit_reads : (n : ℕ) → n < 10 → Reads n ((48 + n) ∷ [])
+unfolding feed_of go_on_of number_of
+digit_reads n h few c least = scans_more _ (48 + n) (token.Number least n) _ _ _ (rw (digit_of n h) refl) (scans_nothing _)
 
-reads_4 : (n : ℕ) → n < 10000 → Reads n
-reads_4 n h = either (below n 1000) (reads_3 n) (λ g. reads_more n (omega arith) (omega arith) (reads_3 (n / 10) (omega arith)) (text_4 n g h))
-
--- a number is read
-reads : (n : ℕ) → n < 100000 → Reads n
-reads n h = either (below n 10000) (reads_4 n) (λ g. reads_more n (omega arith) h (reads_4 (n / 10) (omega arith)) (text_5 n g h))
+-- a digit more is read
+more_reads : (n : ℕ) (t : List ℕ) → 10 ≤ n → Reads (n / 10) t → Reads n (t ++ ((48 + n % 10) ∷ []))
+unfolding feed_of go_on_of star_of
+more_reads n t g front few c least =
+    let digit : n % 10 < 10 = omega arith in
+    let whole : n / 10 * 10 + n % 10 ≡ n = omega arith in
+    let low : nat_lt 0 (n / 10) ≡ true = grind (arith, nat_tests) in
+    let high : nat_lt (n / 10) 10000 ≡ true = grind (arith, nat_tests) in
+    scans_append _ t [] _ _ [] _ (front (omega arith) c least)
+    (scans_more _ (48 + n % 10) (token.Number least n) [] [] _ (rw (digit_of (n % 10) digit, low, high, whole) refl) (scans_nothing _))
 
 number_scans : (c : Context) (least : Option ℕ) (n : ℕ) (t : List ℕ) → NumberText n t → Scans (at c (token.NumberStart least)) t [] (at c (token.Number least n))
-number_scans c least n t h = rw h.digits ((reads n h.few).scans c least)
+number_scans c least n t h = rw h.digits (decimal_by_steps Reads digit_reads more_reads n (omega (arith, h.few)) h.few c least)
 
 begin_gap : (c : Context) → IsOutside c → begin_of c 123 ≡ step.More (token.NumberStart None)
 unfolding begin_of item_start_of

@@ -1,11 +1,11 @@
 -- The reading of a front of a text.
 use Rattle.std.specs.Prelude.{◌≡◌, ℕ, List, [], ◌∷◌, ◌++◌, map, Option, Some, None}
 use Rattle.sig_expr.specs.declared.end.End.{End}
-use Rattle.sig_expr.specs.declared.token.State.{State}
-use Rattle.sig_expr.specs.declared.token.Piece.{Piece}
-use Rattle.sig_expr.specs.declared.token.Piece.TheVariants as piece
-use Rattle.sig_expr.specs.declared.token.Step.{Step}
-use Rattle.sig_expr.specs.declared.token.Step.TheVariants as step
+use Rattle.sig_expr.specs.declared.lexer.State.{State}
+use Rattle.sig_expr.specs.declared.lexer.Piece.{Piece}
+use Rattle.sig_expr.specs.declared.lexer.Piece.TheVariants as piece
+use Rattle.sig_expr.specs.declared.lexer.Step.{Step}
+use Rattle.sig_expr.specs.declared.lexer.Step.TheVariants as step
 use Rattle.sig_expr.specs.declared.item.Atom.{Atom}
 use Rattle.sig_expr.specs.declared.item.Atom.TheVariants as atom
 use Rattle.sig_expr.specs.declared.item.Item.{Item}

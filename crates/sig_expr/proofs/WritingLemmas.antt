@@ -1,7 +1,7 @@
 -- Writes one after the other.
 use Rattle.std.proofs.Common.{◌≡◌, ℕ, ◌+◌, ◌<◌, Bool, false, List, [], ◌∷◌, ◌++◌, length, Option, Some, None, Result, Ok, Err, OnOk, OnErr, IsErr, IsTrue, is_err, true, refl, sym, ◌∙◌, ap, arith, length-append, append_assoc, append-nil}
 use Rattle.sig_bits.specs.Device.{Adds}
-use Rattle.sig_expr.specs.Writing.{Sink, Wrote}
+use Rattle.sig_expr.specs.Writing.{Sink, Wrote, Printed}
 
 adds_nothing : (w : Option (List ℕ)) → Adds w [] w
 adds_nothing None = tt
@@ -30,24 +30,21 @@ wrote_more a b c s t p q = record {
   adds = adds_more a.written b.written c.written s t p.adds q.adds;
 }
 
--- one text is written, and then, where there is no fault, another
-pub wrote_then : {X E : Type 0} (r : Result X E) (a b c : Sink) (s t : List ℕ) → Wrote a s b → OnOk r (Wrote b t c) → OnOk r (Wrote a (s ++ t) c)
-wrote_then (Ok x) a b c s t p q = wrote_more a b c s t p q
-wrote_then (Err e) a b c s t p q = tt
+-- one text is written, and then another is printed
+pub prints_then : {X E : Type 0} (r : Result X E) (a b c : Sink) (s t : List ℕ) → Wrote a s b → Printed b t r c → Printed a (s ++ t) r c
+prints_then r a b c s t p q = record { fails = q.fails; wrote = then_wrote r q.wrote }
+  where
+    then_wrote : {X E : Type 0} (r : Result X E) → OnOk r (Wrote b t c) → OnOk r (Wrote a (s ++ t) c)
+    then_wrote (Ok x) q = wrote_more a b c s t p q
+    then_wrote (Err e) q = tt
 
--- what writes of a text that is not empty say of faults
-pub wrote_fails : {X E : Type 0} (r : Result X E) (a b : Sink) (t : List ℕ) → 0 < length t → OnErr r (b.failed ≡ true) → OnOk r (Wrote a t b) → b.failed ≡ is_err r
-wrote_fails (Ok x) a b t some fails wrote = wrote.stays ∙ wrote.sound some
-wrote_fails (Err e) a b t some fails wrote = fails
+-- what the output says of a text that is printed and not empty
+pub record Says {X E : Type 0} (a : Sink) (t : List ℕ) (r : Result X E) (b : Sink) : Type 0 where
+  pub fails : b.failed ≡ is_err r
+  pub stays_failed : IsTrue a.failed → IsErr r
+  pub lowers : OnOk r (a.limit ≡ length t + b.limit)
+  pub adds : OnOk r (Adds a.written t b.written)
 
-pub wrote_stays : {X E : Type 0} (r : Result X E) (a b : Sink) (t : List ℕ) → 0 < length t → OnOk r (Wrote a t b) → IsTrue a.failed → IsErr r
-wrote_stays (Ok x) a b t some wrote failed = absurd (cc (wrote.sound some))
-wrote_stays (Err e) a b t some wrote failed = refl
-
-pub wrote_lowers : {X E : Type 0} (r : Result X E) (a b : Sink) (t : List ℕ) → OnOk r (Wrote a t b) → OnOk r (a.limit ≡ length t + b.limit)
-wrote_lowers (Ok x) a b t wrote = wrote.lowers
-wrote_lowers (Err e) a b t wrote = tt
-
-pub wrote_adds : {X E : Type 0} (r : Result X E) (a b : Sink) (t : List ℕ) → OnOk r (Wrote a t b) → OnOk r (Adds a.written t b.written)
-wrote_adds (Ok x) a b t wrote = wrote.adds
-wrote_adds (Err e) a b t wrote = tt
+pub printed_says : {X E : Type 0} (r : Result X E) (a b : Sink) (t : List ℕ) → 0 < length t → Printed a t r b → Says a t r b
+printed_says (Ok x) a b t some p = record { fails = p.wrote.stays ∙ p.wrote.sound some; stays_failed = λ failed. absurd (cc (p.wrote.sound some)); lowers = p.wrote.lowers; adds = p.wrote.adds }
+printed_says (Err e) a b t some p = record { fails = p.fails; stays_failed = λ failed. refl; lowers = tt; adds = tt }

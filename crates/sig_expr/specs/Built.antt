@@ -1,8 +1,8 @@
 -- The items of a text from its pieces.
 use Rattle.std.specs.Prelude.{Bool, true, false, if◌then◌else◌, List, [], ◌∷◌, ◌++◌, map, Option, Some, None}
 use Rattle.sig_expr.specs.declared.builder.Builder.{Builder}
-use Rattle.sig_expr.specs.declared.token.Piece.{Piece}
-use Rattle.sig_expr.specs.declared.token.Piece.TheVariants as piece
+use Rattle.sig_expr.specs.declared.lexer.Piece.{Piece}
+use Rattle.sig_expr.specs.declared.lexer.Piece.TheVariants as piece
 use Rattle.sig_expr.specs.declared.item.Atom.{Atom}
 use Rattle.sig_expr.specs.declared.item.Atom.TheVariants as atom
 use Rattle.sig_expr.specs.declared.item.Item.{Item}

@@ -1,5 +1,5 @@
 -- The first faulty gap or bracket of a text, its fault and its place: by cases over the grammar.
-use Rattle.std.specs.Prelude.{◌≡◌, ◌≢◌, ◌⊎◌, ℕ, ◌+◌, ◌<◌, ◌≤◌, Bool, true, false, List, [], ◌∷◌, ◌++◌, length, Option, Some, None}
+use Rattle.std.specs.Prelude.{◌≡◌, ◌≢◌, ◌⊎◌, ℕ, ◌+◌, ◌<◌, ◌≤◌, Bool, true, false, List, [], ◌∷◌, ◌++◌, length, Option, Some, None, codes}
 use Rattle.sig_expr.specs.declared.item.Atom.{Atom}
 use Rattle.sig_expr.specs.declared.item.Atom.TheVariants as atom
 use Rattle.sig_expr.specs.declared.item.Item.{Item}
@@ -7,9 +7,8 @@ use Rattle.sig_expr.specs.declared.item.Item.TheVariants as item
 use Rattle.sig_expr.specs.declared.error.ExprError.{ExprError}
 use Rattle.sig_expr.specs.declared.error.ExprError.TheVariants as error
 use Rattle.sig_expr.specs.Words.{IsBefore}
-use Rattle.sig_expr.specs.Faults.{are_all}
 use Rattle.sig_expr.specs.Spelling.{AtomText, AlternativeText, AlternativesText, ItemText, Spells}
-use Rattle.sig_expr.specs.Profile.{AtomSound, AtomsSound, ItemSound}
+use Rattle.sig_expr.specs.Profile.{LeavesWord, AtomSound, AtomsSound, ItemSound}
 
 -- the number of a refusal: of `E3` it is 3
 abbrev pub refusal_number : ExprError → ℕ
@@ -55,7 +54,7 @@ abbrev pub RangeHas : Bool → List ℕ → List ℕ → ExprError → Type 0
 RangeHas excludes a b (error.RangeLength n) = length a ≢ length b
 RangeHas excludes a b (error.BracketTooLong n) = (8 < length a) ⊎ (8 < length b)
 RangeHas excludes a b (error.RangeOrder n) = AreEnds a b × (IsBefore a b → ⊥)
-RangeHas true a b (error.ClassEmpty n) = AreEnds a b × (are_all 0 a ≡ true) × (are_all 255 b ≡ true)
+RangeHas true a b (error.ClassEmpty n) = AreEnds a b × (LeavesWord a b → ⊥)
 RangeHas excludes a b fault = ⊥
 
 -- the fault of a bracket with one end: over eight bytes
@@ -83,18 +82,18 @@ FirstOfAtoms (p ∷ ps) t n fault =
     (u v : List ℕ) × (t ≡ u ++ v) × AtomText p u × AlternativeText ps v × (IsRefused n (AtomHas p) fault ⊎ (AtomSound p × FirstOfAtoms ps v (n + length u) fault))
 
 -- the first fault of alternatives whose text begins at n with this sign
-abbrev pub FirstOfAlternatives : ℕ → List (List Atom) → List ℕ → ℕ → ExprError → Type 0
+abbrev pub FirstOfAlternatives : List ℕ → List (List Atom) → List ℕ → ℕ → ExprError → Type 0
 FirstOfAlternatives sign [] t n fault = ⊥
 FirstOfAlternatives sign (a ∷ rest) t n fault =
-    (u v : List ℕ) × (t ≡ sign ∷ u ++ v) × (0 < length a) × AlternativeText a u × AlternativesText 124 rest v
-    × (FirstOfAtoms a u (n + 1) fault ⊎ (AtomsSound a × FirstOfAlternatives 124 rest v (n + 1 + length u) fault))
+    (u v : List ℕ) × (t ≡ sign ++ (u ++ v)) × (0 < length a) × AlternativeText a u × AlternativesText (codes "|") rest v
+    × (FirstOfAtoms a u (n + 1) fault ⊎ (AtomsSound a × FirstOfAlternatives (codes "|") rest v (n + 1 + length u) fault))
 
 -- the first fault of an item whose text begins at n
 abbrev pub FirstOfItem : Item → List ℕ → ℕ → ExprError → Type 0
 FirstOfItem (item.Byte b) t n fault = ⊥
 FirstOfItem item.Any t n fault = ⊥
 FirstOfItem (item.Gap min max) t n fault = IsRefused n (GapHas min max) fault
-FirstOfItem (item.Alt alternatives) t n fault = (inside : List ℕ) × (t ≡ inside ++ (41 ∷ [])) × FirstOfAlternatives 40 alternatives inside n fault
+FirstOfItem (item.Alt alternatives) t n fault = (inside : List ℕ) × (t ≡ inside ++ codes ")") × FirstOfAlternatives (codes "(") alternatives inside n fault
 FirstOfItem (item.Range a b) t n fault = IsRefused n (RangeHas false a b) fault
 FirstOfItem (item.Not a) t n fault = IsRefused n (NotHas a) fault
 FirstOfItem (item.NotRange a b) t n fault = IsRefused n (RangeHas true a b) fault

@@ -1,16 +1,17 @@
--- The definitions of this crate, and those of the crate below that its clauses cite.
-pub mod ShortLaws
-pub mod Built
+-- What a reader must trust: the definitions of the clauses and laws.
+pub use Rattle.sig_bits.specs.Bytes
+pub mod Words
+pub mod Spelling
 pub mod Canon
+pub mod Profile
+pub mod FirstFaults
+pub mod Refusals
+pub mod Texts
+-- The vocabulary of proofs.
+pub mod Built
 pub mod Ends
 pub mod Faults
-pub mod FirstFaults
 pub mod Passes
-pub mod Profile
 pub mod Reading
-pub mod Refusals
-pub mod Spelling
-pub mod Texts
-pub mod Words
+pub mod ShortLaws
 pub mod Writing
-pub use Rattle.sig_bits.specs.Bytes

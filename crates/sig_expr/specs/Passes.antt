@@ -1,8 +1,8 @@
 -- The passes over the bytes of a text.
 use Rattle.std.specs.Prelude.{ℕ, ◌+◌, if◌then◌else◌, List, [], ◌∷◌, Option, Some, None}
-use Rattle.sig_expr.specs.declared.token.State.{State}
-use Rattle.sig_expr.specs.declared.token.Step.{Step}
-use Rattle.sig_expr.specs.declared.token.Step.TheVariants as step
+use Rattle.sig_expr.specs.declared.lexer.State.{State}
+use Rattle.sig_expr.specs.declared.lexer.Step.{Step}
+use Rattle.sig_expr.specs.declared.lexer.Step.TheVariants as step
 use Rattle.sig_expr.specs.declared.item.Item.{Item}
 use Rattle.sig_expr.specs.declared.error.ExprError.{ExprError}
 use Rattle.sig_expr.specs.Reading.{feed_of, next_of, is_end_of, is_between, start}

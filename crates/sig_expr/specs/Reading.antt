@@ -2,15 +2,15 @@
 use Rattle.std.specs.Prelude.{ℕ, ◌+◌, ◌-◌, ◌*◌, ◌%◌, ◌&&◌, nat_eq, nat_le, nat_lt, Bool, true, false, if◌then◌else◌, Option, Some, None}
 use Rattle.hex.specs.Hex.{hex_digit_value}
 use Rattle.sig_expr.specs.declared.end.End.{End}
-use Rattle.sig_expr.specs.declared.token.Context.{Context}
-use Rattle.sig_expr.specs.declared.token.Context.TheVariants as context
-use Rattle.sig_expr.specs.declared.token.Token.{Token}
-use Rattle.sig_expr.specs.declared.token.Token.TheVariants as token
-use Rattle.sig_expr.specs.declared.token.State.{State}
-use Rattle.sig_expr.specs.declared.token.Piece.{Piece}
-use Rattle.sig_expr.specs.declared.token.Piece.TheVariants as piece
-use Rattle.sig_expr.specs.declared.token.Step.{Step}
-use Rattle.sig_expr.specs.declared.token.Step.TheVariants as step
+use Rattle.sig_expr.specs.declared.lexer.Context.{Context}
+use Rattle.sig_expr.specs.declared.lexer.Context.TheVariants as context
+use Rattle.sig_expr.specs.declared.lexer.Token.{Token}
+use Rattle.sig_expr.specs.declared.lexer.Token.TheVariants as token
+use Rattle.sig_expr.specs.declared.lexer.State.{State}
+use Rattle.sig_expr.specs.declared.lexer.Piece.{Piece}
+use Rattle.sig_expr.specs.declared.lexer.Piece.TheVariants as piece
+use Rattle.sig_expr.specs.declared.lexer.Step.{Step}
+use Rattle.sig_expr.specs.declared.lexer.Step.TheVariants as step
 use Rattle.sig_expr.specs.Ends.{empty_end, push_of}
 
 -- the value of a decimal digit

@@ -1,11 +1,10 @@
 -- Which texts spell an expression: the grammar, by cases over the items.
-use Rattle.std.specs.Prelude.{◌≡◌, ◌⊎◌, ℕ, ◌+◌, ◌*◌, ◌<◌, ◌≤◌, List, [], ◌∷◌, ◌++◌, length, Option, Some, None}
+use Rattle.std.specs.Prelude.{◌≡◌, ◌⊎◌, ℕ, ◌+◌, ◌*◌, ◌<◌, ◌≤◌, List, [], ◌∷◌, ◌++◌, length, Option, Some, None, codes, decimal}
 use Rattle.hex.specs.Hex.{hex_digit_value}
 use Rattle.sig_expr.specs.declared.item.Atom.{Atom}
 use Rattle.sig_expr.specs.declared.item.Atom.TheVariants as atom
 use Rattle.sig_expr.specs.declared.item.Item.{Item}
 use Rattle.sig_expr.specs.declared.item.Item.TheVariants as item
-use Rattle.sig_expr.specs.Canon.{number_text}
 
 -- two hexadecimal digits of a byte, in either case
 pub record PairText (b : ℕ) (t : List ℕ) : Type 0 where
@@ -25,23 +24,23 @@ WordText (b ∷ bs) t = (u v : List ℕ) × (t ≡ u ++ v) × PairText b u × Wo
 
 -- a number below 100,000 without leading zeros
 pub record NumberText (n : ℕ) (t : List ℕ) : Type 0 where
-  pub digits : t ≡ number_text n
+  pub digits : t ≡ decimal n
   pub few : n < 100000
 
 -- `{n}`, where both lengths are n, or `{m-n}`
 abbrev pub GapText : ℕ → Option ℕ → List ℕ → Type 0
 GapText min None t =
-    ((t ≡ 42 ∷ []) × (min ≡ 0)) ⊎
-    ((u : List ℕ) × (t ≡ 123 ∷ u ++ (45 ∷ 42 ∷ 125 ∷ [])) × NumberText min u)
+    ((t ≡ codes "*") × (min ≡ 0)) ⊎
+    ((u : List ℕ) × (t ≡ codes "{" ++ (u ++ codes "-*}")) × NumberText min u)
 GapText min (Some max) t =
-    ((u : List ℕ) × (t ≡ 123 ∷ u ++ (125 ∷ [])) × NumberText max u × (min ≡ max)) ⊎
-    ((u v : List ℕ) × (t ≡ 123 ∷ u ++ (45 ∷ v ++ (125 ∷ []))) × NumberText min u × NumberText max v)
+    ((u : List ℕ) × (t ≡ codes "{" ++ (u ++ codes "}")) × NumberText max u × (min ≡ max)) ⊎
+    ((u v : List ℕ) × (t ≡ codes "{" ++ (u ++ (codes "-" ++ (v ++ codes "}")))) × NumberText min u × NumberText max v)
 
 -- a bracket with two ends, behind what opens it
 pub record RangeText (opening a b t : List ℕ) : Type 0 where
   pub first : List ℕ
   pub second : List ℕ
-  pub text : t ≡ opening ++ (first ++ (58 ∷ second ++ (93 ∷ [])))
+  pub text : t ≡ opening ++ (first ++ (codes ":" ++ (second ++ codes "]")))
   pub is_first : WordText a first
   pub is_second : WordText b second
   pub some_first : 0 < length a
@@ -50,16 +49,16 @@ pub record RangeText (opening a b t : List ℕ) : Type 0 where
 -- a bracket with one end
 pub record NotText (a t : List ℕ) : Type 0 where
   pub end : List ℕ
-  pub text : t ≡ 91 ∷ 33 ∷ end ++ (93 ∷ [])
+  pub text : t ≡ codes "[!" ++ (end ++ codes "]")
   pub is_end : WordText a end
   pub some : 0 < length a
 
 -- a part of an alternative
 abbrev pub AtomText : Atom → List ℕ → Type 0
 AtomText (atom.Byte b) t = PairText b t
-AtomText (atom.Range a b) t = RangeText (91 ∷ []) a b t
+AtomText (atom.Range a b) t = RangeText (codes "[") a b t
 AtomText (atom.Not a) t = NotText a t
-AtomText (atom.NotRange a b) t = RangeText (91 ∷ 33 ∷ []) a b t
+AtomText (atom.NotRange a b) t = RangeText (codes "[!") a b t
 
 -- parts one after the other
 abbrev pub AlternativeText : List Atom → List ℕ → Type 0
@@ -67,26 +66,26 @@ AlternativeText [] t = t ≡ []
 AlternativeText (p ∷ ps) t = (u v : List ℕ) × (t ≡ u ++ v) × AtomText p u × AlternativeText ps v
 
 -- alternatives of one part at least, the first behind this sign and the others behind bars
-abbrev pub AlternativesText : ℕ → List (List Atom) → List ℕ → Type 0
+abbrev pub AlternativesText : List ℕ → List (List Atom) → List ℕ → Type 0
 AlternativesText sign [] t = t ≡ []
-AlternativesText sign (a ∷ rest) t = (u v : List ℕ) × (t ≡ sign ∷ u ++ v) × (0 < length a) × AlternativeText a u × AlternativesText 124 rest v
+AlternativesText sign (a ∷ rest) t = (u v : List ℕ) × (t ≡ sign ++ (u ++ v)) × (0 < length a) × AlternativeText a u × AlternativesText (codes "|") rest v
 
 -- a list of two alternatives at least
 pub record ListText (alternatives : List (List Atom)) (t : List ℕ) : Type 0 where
   pub inside : List ℕ
-  pub text : t ≡ inside ++ (41 ∷ [])
-  pub is_inside : AlternativesText 40 alternatives inside
+  pub text : t ≡ inside ++ codes ")"
+  pub is_inside : AlternativesText (codes "(") alternatives inside
   pub two : 2 ≤ length alternatives
 
 -- an item
 abbrev pub ItemText : Item → List ℕ → Type 0
 ItemText (item.Byte b) t = PairText b t
-ItemText item.Any t = t ≡ 63 ∷ 63 ∷ []
+ItemText item.Any t = t ≡ codes "??"
 ItemText (item.Gap min max) t = GapText min max t
 ItemText (item.Alt alternatives) t = ListText alternatives t
-ItemText (item.Range a b) t = RangeText (91 ∷ []) a b t
+ItemText (item.Range a b) t = RangeText (codes "[") a b t
 ItemText (item.Not a) t = NotText a t
-ItemText (item.NotRange a b) t = RangeText (91 ∷ 33 ∷ []) a b t
+ItemText (item.NotRange a b) t = RangeText (codes "[!") a b t
 
 -- the text is a text of each item, one after the other
 abbrev pub Spells : List Item → List ℕ → Type 0

@@ -3,18 +3,18 @@
 ghost use Rattle.std.specs.Prelude.{◌≡◌, OnOk, List, []};
 ghost use Rattle.sig_expr.specs.Built.{Built, built, fresh, with_bar, with_close, with_part, with_item, built_of, atom_of, item_of};
 
-use super::token::Piece;
-use super::{Alternatives, Atom, Item};
+use crate::item::{Alternatives, Atom, Item};
+use crate::lexer::Piece;
 use std::alloc::{AllocError, Global};
 use std::mem;
 
 /// The items so far. In a list also its alternatives so far, and the parts of the one that is read.
 #[derive(Drop)]
 pub(crate) struct Builder {
-    pub items: Vec<Item>,
-    pub alternatives: Vec<Vec<Atom>>,
-    pub alternative: Vec<Atom>,
-    pub inside: bool,
+    pub(crate) items: Vec<Item>,
+    pub(crate) alternatives: Vec<Vec<Atom>>,
+    pub(crate) alternative: Vec<Atom>,
+    pub(crate) inside: bool,
 }
 
 // The part of a list, where the piece is one and its ends have words.

@@ -3,15 +3,15 @@
 ghost use Rattle.std.specs.Prelude.{◌≡◌, ◌≤◌, ◌<◌, length};
 ghost use Rattle.sig_expr.specs.Ends.{push_of, word_of, empty_end};
 
-use super::Short;
-use super::parser::LONGEST_TEXT;
+use crate::parser::LONGEST_TEXT;
+use crate::short::Short;
 
 /// The first eight bytes of an end, and how many it has. No count goes beyond `LONGEST_TEXT`, as no
 /// end in a text does.
 #[derive(Clone, Copy, Debug, PartialEq, Eq)]
 pub(crate) struct End {
-    pub bytes: [u8; Short::MAX_LEN],
-    pub len: usize,
+    pub(crate) bytes: [u8; Short::MAX_LEN],
+    pub(crate) len: usize,
 }
 
 impl End {

@@ -3,7 +3,7 @@
 ghost use Rattle.std.specs.Prelude.{◌≡◌};
 ghost use Rattle.sig_expr.specs.Profile.{IsExpression};
 
-use super::Item;
+use crate::item::Item;
 use std::marker::Model;
 
 /// An expression of the profile: its items from left to right, one at least.

@@ -2,7 +2,7 @@
 
 ghost use Rattle.std.specs.Prelude.{◌≡◌, map};
 
-use super::Short;
+use crate::short::Short;
 use std::marker::Model;
 
 /// A part of an alternative: a byte, or a bracket of one to eight bytes.

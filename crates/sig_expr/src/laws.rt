@@ -25,12 +25,22 @@ pub fn refusals_mean_so()
     ensures { (fault : ExprError) (t : List ℕ) → expr_of t ≡ Err fault → Means fault t }
 {}
 
-/// A text of the profile spells one list of items alone.
+/// A text spells one list of items alone, in the profile or not.
 pub fn text_spells_one()
-    ensures { (e e' : List Item) (t : List ℕ) → InProfile t → Spells e t → Spells e' t → e ≡ e' }
+    ensures { (e e' : List Item) (t : List ℕ) → Spells e t → Spells e' t → e ≡ e' }
 {}
 
-/// What a text of the profile spells is an expression: its canonical text is in the profile.
+/// What is read is an expression, by its structure.
+pub fn read_is_expression()
+    ensures { (e : List Item) (t : List ℕ) → expr_of t ≡ Ok e → IsExpression e }
+{}
+
+/// An expression is read: of its canonical text.
+pub fn expression_is_read()
+    ensures { (e : List Item) → IsExpression e → expr_of (canon e) ≡ Ok e }
+{}
+
+/// What a text of the profile spells is an expression.
 pub fn spelled_is_expression()
     ensures { (e : List Item) (t : List ℕ) → InProfile t → Spells e t → IsExpression e }
 {}
@@ -45,8 +55,8 @@ pub fn canonical_texts_differ()
     ensures { (e e' : List Item) → IsExpression e → IsExpression e' → canon e ≡ canon e' → e ≡ e' }
 {}
 
-/// The first faulty gap or bracket is told, so a text has one first fault alone.
-pub fn first_fault_is_told()
+/// The first faulty gap or bracket is answered, so a text has one first fault alone.
+pub fn first_fault_is_answered()
     ensures { (fault : ExprError) (t : List ℕ) → IsFirstFault fault t → expr_of t ≡ Err fault }
 {}
 

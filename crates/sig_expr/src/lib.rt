@@ -9,23 +9,23 @@ mod builder;
 mod end;
 mod error;
 mod expr;
+mod faults;
 mod item;
 mod laws;
+mod lexer;
 mod parser;
-mod piece;
 mod printer;
 mod short;
 #[cfg(test)]
 mod tests;
-mod token;
 
 pub use error::ExprError;
 pub use expr::Expr;
 pub use item::{Alternatives, Atom, Item};
 pub use laws::{
-    canonical_is_shortest, canonical_texts_differ, faulty_text_has_first_fault,
-    first_fault_is_outside_profile, first_fault_is_told, read_is_spelled, refusals_mean_so,
-    spelled_is_expression, spelled_is_read, text_spells_one,
+    canonical_is_shortest, canonical_texts_differ, expression_is_read, faulty_text_has_first_fault,
+    first_fault_is_answered, first_fault_is_outside_profile, read_is_expression, read_is_spelled,
+    refusals_mean_so, spelled_is_expression, spelled_is_read, text_spells_one,
 };
 pub use parser::parse;
 pub use printer::print;

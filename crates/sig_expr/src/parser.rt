@@ -9,12 +9,14 @@ ghost use Rattle.sig_expr.specs.Passes.{stop_of, fault_in, built_step, items_of}
 ghost use Rattle.sig_expr.specs.Profile.{InProfile};
 ghost use Rattle.sig_expr.specs.Refusals.{Means};
 ghost use Rattle.sig_expr.specs.Spelling.{Spells};
-ghost use Rattle.sig_expr.specs.Texts.{Tells, expr_of};
+ghost use Rattle.sig_expr.specs.Texts.{Exact, expr_of};
 
-use super::builder::Builder;
-use super::piece::judge;
-use super::token::{State, Step, Token};
-use super::{Expr, ExprError, Item};
+use crate::builder::Builder;
+use crate::error::ExprError;
+use crate::expr::Expr;
+use crate::faults::judge;
+use crate::item::Item;
+use crate::lexer::{State, Step, Token};
 use std::alloc::{AllocError, Global};
 
 /// The greatest length of a text.
@@ -92,7 +94,7 @@ fn build_items(alloc: Global, text: &[u8]) -> Result<Vec<Item>, AllocError>
 /// Every refusal but that of memory is found before the first growth.
 #[tactic(auto, unfolding(crate::specs::Texts::expr_of))]
 pub fn parse(alloc: Global, text: &[u8]) -> Result<Expr, ExprError>
-    ensures exact { Tells result (expr_of text.now) }
+    ensures exact { Exact result (expr_of text.now) }
     ensures spelled { IfOk result (λ e. InProfile text.now × Spells e text.now) }
     ensures refused { IfErr result (λ f. Means f text.now) }
 {

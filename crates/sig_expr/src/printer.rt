@@ -1,18 +1,20 @@
 //! The canonical text of an expression, written piece by piece from fixed arrays.
 
-ghost use Rattle.std.specs.Prelude.{◌≡◌, ◌+◌, ◌%◌, ◌<◌, [], ◌∷◌, ◌++◌, List, length, map, IsErr, IsTrue, OnOk, OnErr, is_err, true};
+ghost use Rattle.std.specs.Prelude.{◌≡◌, ◌+◌, ◌<◌, [], ◌∷◌, ◌++◌, length, map, slice_index, codes, decimal, IsErr, IsTrue, OnOk, is_err};
+ghost use Rattle.hex.specs.Hex.{encode_upper, upper_digits};
 ghost use Rattle.sig_bits.specs.Device.{Adds};
-ghost use Rattle.sig_expr.specs.Canon.{hex_digit, pair_text, word_text, leading_zeros, number_text, count_text, from_text, between_text, gap_text, range_text, not_text, atom_text, alternative_text, alternatives_text, item_text, canon};
-ghost use Rattle.sig_expr.specs.Writing.{sink, Wrote};
+ghost use Rattle.sig_expr.specs.Canon.{count_text, from_text, between_text, gap_text, range_text, not_text, atom_text, alternative_text, alternatives_text, item_text, canon};
+ghost use Rattle.sig_expr.specs.Writing.{Prints};
 
-use super::{Alternatives, Atom, Expr, Item, Short};
+use crate::expr::Expr;
+use crate::item::{Alternatives, Atom, Item};
+use crate::short::Short;
+use itoa::Buffer;
 use sig_bits::{DeviceFault, Output};
 
-// One piece.
 fn put<W: Output>(out: &mut W, bytes: &[u8]) -> Result<(), DeviceFault>
     requires { 0 < length bytes.now }
-    ensures fails { OnErr result (W.failed out.new ≡ true) }
-    ensures wrote { OnOk result (Wrote (sink (W.failed out.old) (W.limit out.old) (W.written out.old)) bytes.now (sink (W.failed out.new) (W.limit out.new) (W.written out.new))) }
+    ensures { Prints W.failed W.limit W.written out.old bytes.now result out.new }
 {
     out.write_all(bytes)
 }
@@ -20,27 +22,20 @@ fn put<W: Output>(out: &mut W, bytes: &[u8]) -> Result<(), DeviceFault>
 // The digit of a value below 16.
 fn digit(value: u8) -> u8
     requires { value < 16 }
-    ensures { result ≡ hex_digit value }
+    ensures { result ≡ slice_index upper_digits value }
 {
-    if value < 10 {
-        b'0' + value
-    } else {
-        b'A' + (value - 10)
-    }
+    b"0123456789ABCDEF"[usize::from(value)]
 }
 
-// The two digits of a byte.
+#[tactic(auto, unfolding(hex::specs::Hex::encode_with))]
 fn put_pair<W: Output>(out: &mut W, byte: u8) -> Result<(), DeviceFault>
-    ensures fails { OnErr result (W.failed out.new ≡ true) }
-    ensures wrote { OnOk result (Wrote (sink (W.failed out.old) (W.limit out.old) (W.written out.old)) (pair_text byte) (sink (W.failed out.new) (W.limit out.new) (W.written out.new))) }
+    ensures { Prints W.failed W.limit W.written out.old (encode_upper (byte ∷ [])) result out.new }
 {
     put(out, &[digit(byte / 16), digit(byte % 16)])
 }
 
-// The pairs of a word.
 fn put_word<W: Output>(out: &mut W, word: Short) -> Result<(), DeviceFault>
-    ensures fails { OnErr result (W.failed out.new ≡ true) }
-    ensures wrote { OnOk result (Wrote (sink (W.failed out.old) (W.limit out.old) (W.written out.old)) (word_text word) (sink (W.failed out.new) (W.limit out.new) (W.written out.new))) }
+    ensures { Prints W.failed W.limit W.written out.old (encode_upper word) result out.new }
 {
     for byte in word.as_bytes() {
         put_pair(out, *byte)?;
@@ -48,45 +43,16 @@ fn put_word<W: Output>(out: &mut W, word: Short) -> Result<(), DeviceFault>
     Ok(())
 }
 
-// How many of five decimal digits are leading zeros.
-fn zeros(number: u32) -> usize
-    ensures { result ≡ leading_zeros number }
-{
-    match number {
-        0..=9 => 4,
-        10..=99 => 3,
-        100..=999 => 2,
-        1000..=9999 => 1,
-        _ => 0,
-    }
-}
-
-// The last decimal digit.
-fn last_digit(number: u32) -> u8
-    ensures { result ≡ 48 + number % 10 }
-{
-    b'0' + (number % 10) as u8
-}
-
-// A number below 100,000.
+#[tactic(auto, using(std::proofs::lemmas::Fmt::decimal_nonempty))]
 fn put_number<W: Output>(out: &mut W, number: u32) -> Result<(), DeviceFault>
-    ensures fails { OnErr result (W.failed out.new ≡ true) }
-    ensures wrote { OnOk result (Wrote (sink (W.failed out.old) (W.limit out.old) (W.written out.old)) (number_text number) (sink (W.failed out.new) (W.limit out.new) (W.written out.new))) }
+    ensures { Prints W.failed W.limit W.written out.old (decimal number) result out.new }
 {
-    let digits = [
-        last_digit(number / 10_000),
-        last_digit(number / 1000),
-        last_digit(number / 100),
-        last_digit(number / 10),
-        last_digit(number),
-    ];
-    put(out, &digits[zeros(number)..])
+    put(out, Buffer::new().format(number).as_bytes())
 }
 
 // A gap of this length or more.
 fn put_from<W: Output>(out: &mut W, min: u32) -> Result<(), DeviceFault>
-    ensures fails { OnErr result (W.failed out.new ≡ true) }
-    ensures wrote { OnOk result (Wrote (sink (W.failed out.old) (W.limit out.old) (W.written out.old)) (from_text min) (sink (W.failed out.new) (W.limit out.new) (W.written out.new))) }
+    ensures { Prints W.failed W.limit W.written out.old (from_text min) result out.new }
 {
     put(out, b"{")?;
     put_number(out, min)?;
@@ -95,8 +61,7 @@ fn put_from<W: Output>(out: &mut W, min: u32) -> Result<(), DeviceFault>
 
 // A gap of one length.
 fn put_count<W: Output>(out: &mut W, number: u32) -> Result<(), DeviceFault>
-    ensures fails { OnErr result (W.failed out.new ≡ true) }
-    ensures wrote { OnOk result (Wrote (sink (W.failed out.old) (W.limit out.old) (W.written out.old)) (count_text number) (sink (W.failed out.new) (W.limit out.new) (W.written out.new))) }
+    ensures { Prints W.failed W.limit W.written out.old (count_text number) result out.new }
 {
     put(out, b"{")?;
     put_number(out, number)?;
@@ -105,8 +70,7 @@ fn put_count<W: Output>(out: &mut W, number: u32) -> Result<(), DeviceFault>
 
 // A gap between two lengths.
 fn put_between<W: Output>(out: &mut W, min: u32, max: u32) -> Result<(), DeviceFault>
-    ensures fails { OnErr result (W.failed out.new ≡ true) }
-    ensures wrote { OnOk result (Wrote (sink (W.failed out.old) (W.limit out.old) (W.written out.old)) (between_text min max) (sink (W.failed out.new) (W.limit out.new) (W.written out.new))) }
+    ensures { Prints W.failed W.limit W.written out.old (between_text min max) result out.new }
 {
     put(out, b"{")?;
     put_number(out, min)?;
@@ -115,10 +79,8 @@ fn put_between<W: Output>(out: &mut W, min: u32, max: u32) -> Result<(), DeviceF
     put(out, b"}")
 }
 
-// A gap.
 fn put_gap<W: Output>(out: &mut W, min: u32, max: Option<u32>) -> Result<(), DeviceFault>
-    ensures fails { OnErr result (W.failed out.new ≡ true) }
-    ensures wrote { OnOk result (Wrote (sink (W.failed out.old) (W.limit out.old) (W.written out.old)) (gap_text min max) (sink (W.failed out.new) (W.limit out.new) (W.written out.new))) }
+    ensures { Prints W.failed W.limit W.written out.old (gap_text min max) result out.new }
 {
     match max {
         None if min == 0 => put(out, b"*"),
@@ -136,8 +98,7 @@ fn put_range<W: Output>(
     second: Short,
 ) -> Result<(), DeviceFault>
     requires { 0 < length opening.now }
-    ensures fails { OnErr result (W.failed out.new ≡ true) }
-    ensures wrote { OnOk result (Wrote (sink (W.failed out.old) (W.limit out.old) (W.written out.old)) (range_text opening.now first second) (sink (W.failed out.new) (W.limit out.new) (W.written out.new))) }
+    ensures { Prints W.failed W.limit W.written out.old (range_text opening.now first second) result out.new }
 {
     put(out, opening)?;
     put_word(out, first)?;
@@ -148,18 +109,15 @@ fn put_range<W: Output>(
 
 // A bracket with one end.
 fn put_not<W: Output>(out: &mut W, end: Short) -> Result<(), DeviceFault>
-    ensures fails { OnErr result (W.failed out.new ≡ true) }
-    ensures wrote { OnOk result (Wrote (sink (W.failed out.old) (W.limit out.old) (W.written out.old)) (not_text end) (sink (W.failed out.new) (W.limit out.new) (W.written out.new))) }
+    ensures { Prints W.failed W.limit W.written out.old (not_text end) result out.new }
 {
     put(out, b"[!")?;
     put_word(out, end)?;
     put(out, b"]")
 }
 
-// A part of an alternative.
 fn put_atom<W: Output>(out: &mut W, atom: Atom) -> Result<(), DeviceFault>
-    ensures fails { OnErr result (W.failed out.new ≡ true) }
-    ensures wrote { OnOk result (Wrote (sink (W.failed out.old) (W.limit out.old) (W.written out.old)) (atom_text atom) (sink (W.failed out.new) (W.limit out.new) (W.written out.new))) }
+    ensures { Prints W.failed W.limit W.written out.old (atom_text atom) result out.new }
 {
     match atom {
         Atom::Byte(byte) => put_pair(out, byte),
@@ -169,10 +127,8 @@ fn put_atom<W: Output>(out: &mut W, atom: Atom) -> Result<(), DeviceFault>
     }
 }
 
-// An alternative.
 fn put_alternative<W: Output>(out: &mut W, alternative: &[Atom]) -> Result<(), DeviceFault>
-    ensures fails { OnErr result (W.failed out.new ≡ true) }
-    ensures wrote { OnOk result (Wrote (sink (W.failed out.old) (W.limit out.old) (W.written out.old)) (alternative_text alternative.now) (sink (W.failed out.new) (W.limit out.new) (W.written out.new))) }
+    ensures { Prints W.failed W.limit W.written out.old (alternative_text alternative.now) result out.new }
 {
     for atom in alternative {
         put_atom(out, *atom)?;
@@ -182,8 +138,7 @@ fn put_alternative<W: Output>(out: &mut W, alternative: &[Atom]) -> Result<(), D
 
 // The alternatives of a list, each behind its sign.
 fn put_alternatives<W: Output>(out: &mut W, alternatives: &[Vec<Atom>]) -> Result<(), DeviceFault>
-    ensures fails { OnErr result (W.failed out.new ≡ true) }
-    ensures wrote { OnOk result (Wrote (sink (W.failed out.old) (W.limit out.old) (W.written out.old)) (alternatives_text 40 (map (λ v. v.items) alternatives.now)) (sink (W.failed out.new) (W.limit out.new) (W.written out.new))) }
+    ensures { Prints W.failed W.limit W.written out.old (alternatives_text (codes "(") (map (λ v. v.items) alternatives.now)) result out.new }
 {
     let mut sign = b'(';
     for alternative in alternatives {
@@ -194,19 +149,15 @@ fn put_alternatives<W: Output>(out: &mut W, alternatives: &[Vec<Atom>]) -> Resul
     Ok(())
 }
 
-// A list.
 fn put_list<W: Output>(out: &mut W, alternatives: &Alternatives) -> Result<(), DeviceFault>
-    ensures fails { OnErr result (W.failed out.new ≡ true) }
-    ensures wrote { OnOk result (Wrote (sink (W.failed out.old) (W.limit out.old) (W.written out.old)) (alternatives_text 40 alternatives.now ++ 41 ∷ []) (sink (W.failed out.new) (W.limit out.new) (W.written out.new))) }
+    ensures { Prints W.failed W.limit W.written out.old (alternatives_text (codes "(") alternatives.now ++ codes ")") result out.new }
 {
     put_alternatives(out, alternatives.as_slice())?;
     put(out, b")")
 }
 
-// An item.
 fn put_item<W: Output>(out: &mut W, item: &Item) -> Result<(), DeviceFault>
-    ensures fails { OnErr result (W.failed out.new ≡ true) }
-    ensures wrote { OnOk result (Wrote (sink (W.failed out.old) (W.limit out.old) (W.written out.old)) (item_text item.now) (sink (W.failed out.new) (W.limit out.new) (W.written out.new))) }
+    ensures { Prints W.failed W.limit W.written out.old (item_text item.now) result out.new }
 {
     match item {
         Item::Byte(byte) => put_pair(out, *byte),
@@ -219,10 +170,8 @@ fn put_item<W: Output>(out: &mut W, item: &Item) -> Result<(), DeviceFault>
     }
 }
 
-// The items.
 fn put_items<W: Output>(out: &mut W, items: &[Item]) -> Result<(), DeviceFault>
-    ensures fails { OnErr result (W.failed out.new ≡ true) }
-    ensures wrote { OnOk result (Wrote (sink (W.failed out.old) (W.limit out.old) (W.written out.old)) (canon items.now) (sink (W.failed out.new) (W.limit out.new) (W.written out.new))) }
+    ensures { Prints W.failed W.limit W.written out.old (canon items.now) result out.new }
 {
     for item in items {
         put_item(out, item)?;

@@ -1,8 +1,8 @@
-use super::error::ExprError::{
+use crate::error::ExprError::{
     BracketTooLong, ClassEmpty, GapEmpty, GapNumber, GapOrder, RangeLength, RangeOrder, Syntax,
     TooLong,
 };
-use super::*;
+use crate::{ExprError, parse, print};
 use sig_bits::FromWrite;
 use std::test::*;
 
@@ -47,11 +47,19 @@ fn first_faults_are_named(rt: HostRuntime) {
         ("[!41:42](41|[!4241:4142])", RangeOrder { place: 12 }),
     ];
     for (text, refusal) in &rows {
-        let told = parse(rt.alloc(), text.as_bytes());
-        assert!(rt; matches!(told, Err(e) if e == *refusal), "{text}");
+        let answer = parse(rt.alloc(), text.as_bytes());
+        assert!(rt; matches!(answer, Err(e) if e == *refusal), "{text}");
     }
-    let long = [b'4'; 8193];
-    assert!(rt; matches!(parse(rt.alloc(), &long), Err(TooLong)));
+}
+
+#[test]
+fn texts_of_up_to_8192_bytes_are_read(rt: HostRuntime) -> Result<(), Fail> {
+    let expr = parse(rt.alloc(), &[b'*'; 8192])
+        .ok()
+        .ok_or("the text is an expression")?;
+    assert_eq!(rt; expr.items().len(), 8192);
+    assert!(rt; matches!(parse(rt.alloc(), &[b'*'; 8193]), Err(TooLong)));
+    Ok(())
 }
 
 #[test]

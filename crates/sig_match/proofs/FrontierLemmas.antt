@@ -2,7 +2,7 @@
 use Rattle.std.proofs.Common.{◌≡◌, ◌⊎◌, ℕ, ◌+◌, ◌≤◌, ◌<◌, List, [], ◌∷◌, ◌++◌, length, get_or, take, drop, ap, ◌∙◌, subst, sym, inl, inr, arith}
 use Rattle.std.proofs.lemmas.Bool.{cases_lt}
 use Rattle.std.proofs.lemmas.List.{take_more, take_all, take-append-drop}
-use Rattle.sig_match.specs.declared.frontier.Interval.{Interval}
+use Rattle.sig_match.specs.declared.whole.frontier.Interval.{Interval}
 use Rattle.sig_match.specs.Frontiers.{IsWithin, IsIn, HasExactly, Gains, Meets}
 
 -- an offset of a longer frontier is in its front or in its back
@@ -144,7 +144,7 @@ Merged-all a b i j both all_a all_b merged =
     let b_whole : take j b ≡ b = take_all j b all_b in
     subst (λ (l : List Interval). P l b) a_whole (subst (λ (r : List Interval). P (take i a) r) b_whole merged)
 
--- an offset of the interval at a place of a frontier
+-- an offset of the interval at an index of a frontier
 pub IsIn-at : (xs : List Interval) (i : ℕ) (x : Interval) (o : ℕ) → i < length xs → x ≡ get_or xs i nowhere → IsWithin x o → IsIn xs o
 IsIn-at xs i x o at is within =
     let P : List Interval → Type 0 = λ l. IsIn l o in

@@ -6,7 +6,7 @@ use Rattle.std.proofs.lemmas.List.Elements.{All-drop, All-take}
 use Rattle.sig_bits.specs.Bytes.{IsBytes}
 use Rattle.sig_expr.specs.declared.item.Item.TheVariants as item
 use Rattle.sig_expr.specs.Words.{IsAtMost, Word}
-use Rattle.sig_match.specs.declared.frontier.Interval.{Interval}
+use Rattle.sig_match.specs.declared.whole.frontier.Interval.{Interval}
 use Rattle.sig_match.specs.Frontiers.{IsWithin, Reaches}
 use Rattle.sig_match.specs.Gaps.{gap_end}
 use Rattle.sig_match.proofs.ReachLemmas.{length-slice_range}

@@ -4,10 +4,9 @@ use Rattle.std.specs.Prelude.{slice_range}
 use Rattle.std.proofs.lemmas.List.{drop_more, drop_all}
 use Rattle.std.proofs.lemmas.List.Elements.{Contains-append_left, Contains-push, Contains-push_cases}
 use Rattle.sig_expr.specs.declared.item.Atom.{Atom}
-use Rattle.sig_expr.specs.declared.item.Item.{Item}
 use Rattle.sig_expr.specs.declared.item.Item.TheVariants as item
-use Rattle.sig_expr.specs.Words.{AlternativeWord, Lang, PartWord, Word}
-use Rattle.sig_match.specs.declared.frontier.Interval.{Interval}
+use Rattle.sig_expr.specs.Words.{AlternativeWord, PartWord, Word}
+use Rattle.sig_match.specs.declared.whole.frontier.Interval.{Interval}
 use Rattle.sig_match.specs.Frontiers.{IsIn, HasExactly, Reaches}
 use Rattle.sig_match.proofs.ReachLemmas.{Carries, Carries-more, Carries-start, HasExactly-from_Carries, Reaches-words, length-slice_range}
 
@@ -27,13 +26,6 @@ pub Carries-parts : (ps : List Atom) (i : ℕ) (file : List ℕ) (S : ℕ → Ty
 Carries-parts ps i file S ends all within carries =
     let P : List Atom → Type 0 = λ l. Carries (AlternativeWord ps) (AlternativeWord l) file S ends in
     HasExactly-from_Carries (AlternativeWord ps) file S ends within (subst P (drop_all i ps all) carries)
-
--- an expression's next item
-pub Carries-item : (is : List Item) (i : ℕ) (x d : Item) (file : List ℕ) (S : ℕ → Type 0) (old new : List Interval) → i < length is → x ≡ get_or is i d → Carries (Lang is) (Lang (drop i is)) file S old → HasExactly (Reaches (Word x) file (IsIn old)) new → Carries (Lang is) (Lang (drop (i + 1) is)) file S new
-Carries-item is i x d file S old new at same carries next =
-    let P : List Item → Type 0 = λ l. Carries (Lang is) (Lang l) file S old in
-    Carries-more (Lang is) (Word x) (Lang (x ∷ drop (i + 1) is)) (Lang (drop (i + 1) is)) file S old new
-    (λ w h. h) (λ w u v e hu hv. (u, v, e, hu, hv)) (subst P (drop-next is i x d at same) carries) next
 
 -- the offsets of a frontier that are within the file
 pub Carries-cut : (U : List ℕ → Type 0) (file : List ℕ) (S : ℕ → Type 0) (ends : List Interval) → ((a : ℕ) → a ≤ length file → S a → Reaches (Word (item.Gap 0 (Some 0))) file S a) → HasExactly (Reaches (Word (item.Gap 0 (Some 0))) file S) ends → Carries U U file S ends

@@ -3,9 +3,12 @@ pub mod FrontierLemmas
 pub mod GapLemmas
 pub mod HitLemmas
 pub mod ItemLemmas
+pub mod LangLemmas
+pub mod LeftLemmas
 pub mod ListingLemmas
+pub mod MarkLemmas
 pub mod OneListLemmas
 pub mod PartLemmas
-pub mod RankLemmas
 pub mod ReachLemmas
+pub mod RunLemmas
 pub mod StandLemmas

@@ -1,23 +1,25 @@
 -- The hits, listed format after format.
-use Rattle.std.proofs.Common.{◌≡◌, ℕ, ◌+◌, ◌≤◌, ◌<◌, List, [], ◌∷◌, ◌++◌, length, get_or, subst, sym, ap, ◌∙◌, inl, inr, arith, Option, Some, None}
+use Rattle.std.proofs.Common.{◌≡◌, ℕ, ◌+◌, ◌<◌, List, [], ◌∷◌, ◌++◌, length, get_or, subst, sym, ap, ◌∙◌, inl, inr, arith, Option, Some, None}
 use Rattle.std.specs.Prelude.{All, Contains}
 use Rattle.std.specs.List.Sorted.{IsStrictlyIncreasing}
 use Rattle.std.proofs.lemmas.Bool.{cases_lt}
-use Rattle.std.proofs.lemmas.List.{get_or_append_left, get_or_push, get_or_past, length_push, map_push}
+use Rattle.std.proofs.lemmas.List.{get_or_append_left, get_or_push, length_push, map_push}
 use Rattle.std.proofs.lemmas.List.Elements.{All-push, Contains-push, Contains-append_left}
 use Rattle.std.proofs.lemmas.Option.{slice_get_within}
 use Rattle.sig_table.specs.declared.ids.SigId.{SigId}
+use Rattle.sig_table.specs.Tables.{IsTable}
 use Rattle.sig_table.specs.Views.{TableView}
 use Rattle.sig_match.specs.declared.results.Hit.{Hit}
-use Rattle.sig_match.specs.FirstHits.{FirstHits, IsFirstBelow, IsFirstOf}
-use Rattle.sig_match.specs.Hitting.{HitFormats, HitsAt, IsFirstHit, formats_of}
+use Rattle.sig_match.specs.FirstHits.{IsFirstBelow, IsFirstOf}
+use Rattle.sig_match.specs.Hits.{HitFormats, HitsAt, IsFirstHit, formats_of}
+use Rattle.sig_match.proofs.HitLemmas.{HitsAt-known}
 
 -- the hits of the formats below the limit, with the signatures below theirs
 pub record Listed (table : TableView) (file : List ℕ) (limit n : ℕ) (hits : List Hit) : Type 0 where
   pub in_order : IsStrictlyIncreasing (formats_of hits)
   pub below : (k : ℕ) → k < length (formats_of hits) → get_or (formats_of hits) k 0 < n
   pub each : All (IsFirstHit table file) hits
-  pub none_missing : (format place : ℕ) → format < n → place < limit → HitsAt table file format place → Contains (formats_of hits) format
+  pub none_missing : (format index : ℕ) → format < n → index < limit → HitsAt table file format index → Contains (formats_of hits) format
 
 -- no format is listed yet
 pub Listed-none : (table : TableView) (file : List ℕ) (limit : ℕ) → Listed table file limit 0 []
@@ -25,7 +27,7 @@ Listed-none table file limit = record {
   in_order = λ k at. absurd (omega arith);
   below = λ k at. absurd (omega arith);
   each = λ k d at. absurd (omega arith);
-  none_missing = λ format place below known hit. absurd (omega arith);
+  none_missing = λ format index below known hit. absurd (omega arith);
 }
 
 -- a format without a hit
@@ -37,13 +39,13 @@ Listed-keep table file limit n hits first none is listed =
       in_order = listed.in_order;
       below = λ k at. (let low = listed.below k at in omega arith);
       each = listed.each;
-      none_missing = λ format place low known hit.
+      none_missing = λ format index low known hit.
           elim (cases_lt format n) [
-            | inl before ↦ listed.none_missing format place before known hit
+            | inl before ↦ listed.none_missing format index before known hit
             | inr last ↦ (
                 let same : format ≡ n = omega arith in
-                let Q : ℕ → Type 0 = λ f. HitsAt table file f place in
-                absurd (never place known (subst Q same hit))
+                let Q : ℕ → Type 0 = λ f. HitsAt table file f index in
+                absurd (never index known (subst Q same hit))
                 )
           ];
     }
@@ -94,11 +96,11 @@ Listed-push table file limit n hits hit first is_format is_first is listed =
           ])
           );
       each = All-push (IsFirstHit table file) hits hit listed.each (record { hits = known_at.hits; first = known_at.first });
-      none_missing = λ format place low within h. (
+      none_missing = λ format index low within h. (
           let C : List ℕ → Type 0 = λ l. Contains l format in
           subst C (sym formats) (
           elim (cases_lt format n) [
-            | inl before ↦ Contains-append_left (formats_of hits) (n ∷ []) format (listed.none_missing format place before within h)
+            | inl before ↦ Contains-append_left (formats_of hits) (n ∷ []) format (listed.none_missing format index before within h)
             | inr last ↦ (
                 let same : n ≡ format = omega arith in
                 subst (Contains (formats_of hits ++ n ∷ [])) same (Contains-push (formats_of hits) n)
@@ -109,19 +111,10 @@ Listed-push table file limit n hits hit first is_format is_first is listed =
     }
 
 -- all formats are listed
-pub HitFormats-from_Listed : (table : TableView) (file : List ℕ) (n : ℕ) (hits : List Hit) (firsts : List (Option SigId)) → length firsts ≤ n → FirstHits table file (length table.signatures) firsts → Listed table file (length table.signatures) n hits → HitFormats table file hits
-HitFormats-from_Listed table file n hits firsts all first listed = record {
+pub HitFormats-from_Listed : (table : TableView) (file : List ℕ) (hits : List Hit) → IsTable table → Listed table file (length table.signatures) (length table.formats) hits → HitFormats table file hits
+HitFormats-from_Listed table file hits is listed = record {
   in_order = listed.in_order;
   each = listed.each;
-  none_missing = λ format place hit. (
-      let within : place < length table.signatures = slice_get_within table.signatures place hit.signature hit.at in
-      elim (cases_lt format n) [
-        | inl below ↦ listed.none_missing format place below within hit
-        | inr past ↦ (
-            let P : Option SigId → Type 0 = λ o. IsFirstBelow table file (length table.signatures) format o in
-            let never : IsFirstBelow table file (length table.signatures) format None = subst P (get_or_past firsts format None (omega arith)) (first format) in
-            absurd (never place within hit)
-            )
-      ]
-      );
+  none_missing = λ format index hit.
+      listed.none_missing format index (HitsAt-known table file format index is hit) (slice_get_within table.signatures index hit.signature hit.at) hit;
 }

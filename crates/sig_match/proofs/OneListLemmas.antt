@@ -5,7 +5,7 @@ use Rattle.std.specs.List.{AllPairs}
 use Rattle.std.proofs.lemmas.Bool.{cases_lt}
 use Rattle.std.proofs.lemmas.List.Kept.{AllPairs-from_increasing}
 use Rattle.sig_match.specs.declared.results.Hit.{Hit}
-use Rattle.sig_match.specs.Hitting.{HitFormats, HitsAt, IsFirstHit, formats_of}
+use Rattle.sig_match.specs.Hits.{HitFormats, HitsAt, IsFirstHit, formats_of}
 use Rattle.sig_table.specs.Views.{TableView}
 
 -- a member is the first element, or one behind it
@@ -94,7 +94,7 @@ same_hits table file (a ∷ later) (b ∷ others) rise_a rise_b each_a each_b to
     (later_members m n ms ns format rise_a to) (later_members n m ns ms (sym format) rise_b back))
 
 -- each format of a list of hits has a hit
-format_hits : (table : TableView) (file : List ℕ) (hits : List Hit) (x : ℕ) → All (IsFirstHit table file) hits → Contains (formats_of hits) x → (place : ℕ) × HitsAt table file x place
+format_hits : (table : TableView) (file : List ℕ) (hits : List Hit) (x : ℕ) → All (IsFirstHit table file) hits → Contains (formats_of hits) x → (index : ℕ) × HitsAt table file x index
 format_hits table file [] x each c = absurd (let at = c.1 in omega arith)
 format_hits table file (h ∷ hs) x each c = elim (first_or_later h.format.0 (formats_of hs) x c) [
   | inl same ↦ (h.signature.0, subst (λ (f : ℕ). HitsAt table file f h.signature.0) same (each 0 h (omega arith)).hits)

@@ -2,7 +2,7 @@
 use Rattle.std.proofs.Common.{◌≡◌, ◌⊎◌, ℕ, ◌+◌, ◌-◌, ◌≤◌, ◌<◌, List, [], ◌∷◌, ◌++◌, length, get_or, take, drop, refl, subst, ap, ◌∙◌, sym, inl, inr, arith, take-add, length-append}
 use Rattle.std.specs.Prelude.{slice_range}
 use Rattle.std.proofs.lemmas.List.{drop-drop, length-take-le, length-drop, take_at, drop_at, take_all}
-use Rattle.sig_match.specs.declared.frontier.Interval.{Interval}
+use Rattle.sig_match.specs.declared.whole.frontier.Interval.{Interval}
 use Rattle.sig_match.specs.Frontiers.{IsWithin, IsIn, HasExactly, Gains, Reaches}
 use Rattle.sig_match.proofs.FrontierLemmas.{IsIn-push, IsIn-push_last, IsIn-append_left, Gains-more, HasExactly-from_Gains, nowhere, take-next}
 

@@ -1,8 +1,8 @@
 -- Frontiers: the offsets of a file at which the words so far end.
-use Rattle.std.specs.Prelude.{◌⊎◌, ℕ, ◌+◌, ◌≤◌, List, [], ◌∷◌, length, slice_range, ⊤}
+use Rattle.std.specs.Prelude.{◌⊎◌, ℕ, ◌+◌, ◌≤◌, List, [], ◌∷◌, length, slice_range, ⊤, Option, MatchOption}
 use Rattle.sig_table.specs.declared.position.Position.{Position}
 use Rattle.sig_table.specs.declared.position.Position.TheVariants as position
-use Rattle.sig_match.specs.declared.frontier.Interval.{Interval}
+use Rattle.sig_match.specs.declared.whole.frontier.Interval.{Interval}
 
 -- the offset is in the interval
 abbrev pub IsWithin : Interval → ℕ → Type 0
@@ -32,11 +32,11 @@ pub record Reaches (IsWord : List ℕ → Type 0) (file : List ℕ) (IsStart : �
   pub within : end ≤ length file
   pub is_word : IsWord (slice_range file start end)
 
--- a sequence of this position may begin at the offset
-abbrev pub MayBegin : Position → ℕ → Type 0
-MayBegin (position.Bof min max) offset = (min ≤ offset) × (offset ≤ max)
-MayBegin (position.Eof min max) offset = ⊤
-MayBegin position.Variable offset = ⊤
+-- a sequence of this position may begin at the offset of a file of this length, where no word of it is longer
+abbrev pub MayBegin : Position → Option ℕ → ℕ → ℕ → Type 0
+MayBegin (position.Bof min max) longest len offset = (min ≤ offset) × (offset ≤ max)
+MayBegin (position.Eof min max) longest len offset = MatchOption longest ⊤ (λ n. len ≤ offset + n + max)
+MayBegin position.Variable longest len offset = ⊤
 
 -- a sequence of this position may end at the offset of a file of this length
 abbrev pub MayEnd : Position → ℕ → ℕ → Type 0

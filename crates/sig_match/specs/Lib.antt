@@ -1,12 +1,18 @@
--- The definitions of this crate, and those of the crates below that its clauses cite.
+-- What a reader must trust: which signatures hit a file, which formats are hit, and which are left.
+pub mod Hits
+pub use Rattle.sig_bits.specs.Bytes
+pub use Rattle.sig_bits.specs.Device
+pub use Rattle.sig_expr.specs.Words
+pub use Rattle.sig_table.specs.Views
+pub use Rattle.sig_table.specs.Ranking
+pub use Rattle.sig_table.specs.Removal
+pub use Rattle.sig_table.specs.Standing
+pub use Rattle.sig_table.specs.Tables
+-- The vocabulary of proofs: frontiers of offsets, and the first hits of the formats.
 pub mod FirstHits
 pub mod Frontiers
 pub mod Gaps
 pub mod Hitting
 pub mod Parts
-pub use Rattle.sig_bits.specs.Bytes
-pub use Rattle.sig_bits.specs.Device
-pub use Rattle.sig_expr.specs.Words
-pub use Rattle.sig_table.specs.Views
-pub use Rattle.sig_table.specs.Removal
-pub use Rattle.sig_table.specs.Standing
+pub mod Runs
+pub use Rattle.memchr.specs.Find

@@ -1,12 +1,13 @@
 //! What a matcher is, whatever it searches with.
 
-ghost use Rattle.std.specs.Prelude.{◌≡◌, ◌↔◌, true, false, Contains, IfOk, IfSome, IsTrue, OnOk, IsErrOf};
+ghost use Rattle.std.specs.Prelude.{◌≡◌, ◌<◌, ◌↔◌, true, false, Contains, IfOk, IsTrue, OnOk, IsErrOf, length};
 ghost use Rattle.sig_bits.specs.Device.{IsAtEnd};
-ghost use Rattle.sig_match.specs.Hitting.{HitFormats, kept_hits};
+ghost use Rattle.sig_match.specs.Hits.{HitFormatsOfSome, kept_hits};
 ghost use Rattle.sig_table.specs.Views.{TableView};
 ghost use Rattle.sig_table.specs.Removal.{place_of, without};
 
-use super::{CoreError, Results};
+use crate::error::CoreError;
+use crate::results::Results;
 use sig_bits::Input;
 use sig_table::{Puid, Table};
 
@@ -20,20 +21,21 @@ pub trait DroidCore {
         ensures { result.now ≡ lists self.now };
 
     /// Reads the input to its end and answers which formats it hits, each with its first signature
-    /// that hits.
+    /// that hits. Where the input does not tell its bytes, they are the hits of some file.
     fn match_binary_signatures<R: Input>(&self, input: &mut R) -> Result<Results, CoreError>
-        ensures hits { IfOk result (λ hits. IfSome (R.to_come input.old) (λ file. HitFormats (lists self.now) file hits)) }
+        ensures hits { IfOk result (HitFormatsOfSome (lists self.now) (R.to_come input.old)) }
         ensures at_end { OnOk result (IsAtEnd (R.to_come input.new)) }
 
-        // A failed read is told, and only a failed read.
+        // A failed read is reported, and only a failed read.
         ensures sound { OnOk result (R.failed input.new ≡ false) }
         ensures read { IsErrOf result CoreError.Read → R.failed input.new ≡ true }
-        ensures memory { IsErrOf result CoreError.OutOfMemory → R.failed input.old ≡ false → R.failed input.new ≡ false };
+        ensures memory { IsErrOf result CoreError.OutOfMemory → R.failed input.new ≡ R.failed input.old };
 
     /// Keeps the hits whose format no format of the hits outranks. A hit that is itself outranked
-    /// still outranks.
+    /// still outranks. Where there are hits, some are left.
     fn remove_lower_priority_hits(&self, results: &mut Results)
-        ensures { results.new ≡ kept_hits (lists self.now) results.old };
+        ensures kept { results.new ≡ kept_hits (lists self.now) results.old }
+        ensures some { 0 < length results.old → 0 < length results.new };
 
     /// Takes out of the table all signatures of the format of this name, and answers whether there
     /// is such a format. The format and its priorities stay.

@@ -1,24 +1,24 @@
 //! Which signatures of a table hit a file.
 //!
-//! The hit formats and those left after priorities are in `specs/Hitting.antt`.
+//! The hit formats and those left after priorities are in `specs/Hits.antt`. What every matcher
+//! shares stands at the top: the list of hits (`hits`), what priorities take out of it (`removal`)
+//! and what a matcher is (`droid_core`). `whole` is the matcher that keeps the file in memory.
 #![tactic(auto)]
 
 mod droid_core;
 mod error;
-mod frontier;
-mod hitting;
+mod hits;
 mod laws;
-mod outranking;
-mod part;
-mod reach;
+mod removal;
 mod results;
-mod standing;
 #[cfg(test)]
 mod tests;
-mod whole_core;
+mod whole;
 
 pub use droid_core::DroidCore;
 pub use error::CoreError;
-pub use laws::hit_formats_are_one_list;
+pub use laws::{
+    hit_formats_are_one_list, left_is_not_outranked, left_is_one_list, some_hit_is_left,
+};
 pub use results::{Hit, Results};
-pub use whole_core::WholeCore;
+pub use whole::{WholeCore, left_in, signature_hits};

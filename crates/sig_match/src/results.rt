@@ -1,10 +1,8 @@
 //! The hits of a file.
 
 ghost use Rattle.std.specs.Prelude.{◌≡◌};
-ghost use Rattle.sig_match.specs.Hitting.{kept_hits};
 
-use super::outranking::remove_outranked;
-use sig_table::{FormatId, SigId, Table};
+use sig_table::{FormatId, SigId};
 use std::marker::Model;
 
 /// A format that is hit, with its first signature that hits.
@@ -17,7 +15,7 @@ pub struct Hit {
 /// Hits, in table order.
 #[derive(Debug, Drop)]
 pub struct Results {
-    hits: Vec<Hit>,
+    pub(crate) hits: Vec<Hit>,
 }
 
 impl Model for Results {
@@ -42,12 +40,5 @@ impl Results {
         ensures { result.now ≡ self.now }
     {
         self.hits.as_slice()
-    }
-
-    /// Takes out the hits that a hit outranks.
-    pub(crate) fn remove_outranked(&mut self, table: &Table)
-        ensures { self.new ≡ kept_hits table.now self.old }
-    {
-        remove_outranked(table, &mut self.hits);
     }
 }

@@ -1,95 +1,65 @@
-use super::frontier::{Interval, union};
-use super::reach::after_item;
-use sig_expr::{Alternatives, Atom, Item, Short};
-use std::alloc::{AllocError, Global};
+use crate::{Hit, left_in, signature_hits};
+use sig_bits::FromRead;
+use sig_table::{FormatId, SigId, Table, TableError};
+use std::alloc::Global;
 use std::test::Fail;
 
-fn offsets(from: usize, to: usize) -> Interval {
-    Interval { from, to }
+const HEADER: &[u8] = b"puid,signature,position,offset,max_offset,expression\n";
+
+const SIGNATURES: &[u8] =
+    b"puid,signature,position,offset,max_offset,expression\nfmt/1,1,BOF,0,,41\nfmt/2,2,BOF,0,,4142\nfmt/1,3,EOF,0,,43\nfmt/2,4,EOF,0,,44\n";
+
+fn loaded(alloc: Global, signatures: &[u8], priorities: &[u8]) -> Result<Table, TableError> {
+    Table::load(
+        alloc,
+        &mut FromRead::new(signatures),
+        &mut FromRead::new(priorities),
+    )
 }
 
-// The ends of the words of the items, one item after the other, from the begin of the file.
-fn ends_of(alloc: Global, file: &[u8], items: &[Item]) -> Result<Vec<Interval>, AllocError> {
-    let mut ends = Vec::new(alloc);
-    ends.push(offsets(0, 0))?;
-    for item in items {
-        ends = after_item(alloc, file, &ends, item)?;
+fn hit(format: u16, signature: u16) -> Hit {
+    Hit {
+        format: FormatId(format),
+        signature: SigId(signature),
     }
-    Ok(ends)
 }
 
 #[test]
-fn an_item_ends_at_each_place_that_it_allows(rt: HostRuntime) -> Result<(), Fail> {
-    let file = [0x40, 0x41, 0x42, 0x43];
-    let everywhere = [offsets(0, 4)];
-    let a = Short::new(&[0x41]);
-    let b = Short::new(&[0x42]);
-    let ab = Short::new(&[0x41, 0x42]);
-    let bc = Short::new(&[0x42, 0x43]);
-    let rows: [(Item, &[Interval]); 11] = [
-        (Item::Byte(0x42), &[offsets(3, 3)]),
-        (Item::Byte(0x44), &[]),
-        (Item::Any, &[offsets(1, 4)]),
-        (
-            Item::Gap {
-                min: 2,
-                max: Some(3),
-            },
-            &[offsets(2, 4)],
-        ),
-        (Item::Gap { min: 3, max: None }, &[offsets(3, 4)]),
-        (Item::Gap { min: 5, max: None }, &[]),
-        (Item::Range(a, b), &[offsets(2, 3)]),
-        (Item::Not(a), &[offsets(1, 1), offsets(3, 4)]),
-        (Item::NotRange(a, b), &[offsets(1, 1), offsets(4, 4)]),
-        (Item::Range(ab, bc), &[offsets(3, 4)]),
-        (Item::Not(ab), &[offsets(2, 2), offsets(4, 4)]),
-    ];
-    for (item, want) in &rows {
-        let ends = after_item(rt.alloc(), &file, &everywhere, item)?;
-        assert_eq!(rt; ends.as_slice(), *want, "{item:?}");
+fn an_outranked_format_is_not_left(rt: HostRuntime) -> Result<(), Fail> {
+    let priorities = b"higher,lower\nfmt/2,fmt/1\n";
+    let table = loaded(rt.alloc(), SIGNATURES, priorities.as_slice())?;
+    let both = left_in(rt.alloc(), &table, &[0x41, 0x42])?;
+    assert_eq!(rt; both.hits(), [hit(1, 1)].as_slice());
+    let lower = left_in(rt.alloc(), &table, &[0x41, 0x43])?;
+    assert_eq!(rt; lower.hits(), [hit(0, 0)].as_slice());
+    let none = left_in(rt.alloc(), &table, &[])?;
+    assert!(rt; none.hits().is_empty());
+    Ok(())
+}
+
+#[test]
+fn each_signature_is_asked_for_by_itself(rt: HostRuntime) -> Result<(), Fail> {
+    let table = loaded(rt.alloc(), SIGNATURES, b"higher,lower\n".as_slice())?;
+    for (signature, want) in [(0u16, true), (1, false), (2, true), (3, false)] {
+        assert!(rt; (signature as usize) < table.signature_count());
+        let hits = signature_hits(rt.alloc(), &table, SigId(signature), &[0x41, 0x43])?;
+        assert_eq!(rt; hits, want, "{signature}");
     }
     Ok(())
 }
 
 #[test]
-fn a_gap_gives_back_bytes(rt: HostRuntime) -> Result<(), Fail> {
-    let gap = Item::Gap {
-        min: 1,
-        max: Some(2),
-    };
-    let items = [Item::Byte(0x41), gap, Item::Byte(0x42)];
-    let ends = ends_of(rt.alloc(), &[0x41, 0x42, 0x42], &items)?;
-    assert_eq!(rt; ends.as_slice(), [offsets(3, 3)].as_slice());
-    Ok(())
-}
-
-#[test]
-fn a_longer_alternative_is_tried_too(rt: HostRuntime) -> Result<(), Fail> {
-    let one = vec![in rt.alloc(); Atom::Byte(0x41)]?;
-    let two = vec![in rt.alloc(); Atom::Byte(0x41), Atom::Byte(0x42)]?;
-    let list = Item::Alt(Alternatives::new(vec![in rt.alloc(); one, two]?));
-    let items = [list, Item::Byte(0x43)];
-    let ends = ends_of(rt.alloc(), &[0x41, 0x42, 0x43], &items)?;
-    assert_eq!(rt; ends.as_slice(), [offsets(3, 3)].as_slice());
-    Ok(())
-}
-
-#[test]
-fn a_bracket_is_compared_from_its_first_byte(rt: HostRuntime) -> Result<(), Fail> {
-    let from = Short::new(&[0x41, 0x42]);
-    let to = Short::new(&[0x42, 0x43]);
-    let ends = ends_of(rt.alloc(), &[0x41, 0xFF], &[Item::Range(from, to)])?;
-    assert_eq!(rt; ends.as_slice(), [offsets(2, 2)].as_slice());
-    Ok(())
-}
-
-#[test]
-fn merged_intervals_touch_nowhere(rt: HostRuntime) -> Result<(), Fail> {
-    let a = [offsets(0, 0), offsets(4, 4), offsets(9, 12)];
-    let b = [offsets(1, 2), offsets(6, 6), offsets(8, 10)];
-    let both = union(rt.alloc(), &a, &b)?;
-    let want = [offsets(0, 2), offsets(4, 4), offsets(6, 6), offsets(8, 12)];
-    assert_eq!(rt; both.as_slice(), want.as_slice());
+fn a_file_of_several_mib_is_searched(rt: HostRuntime) -> Result<(), Fail> {
+    let mut rows = HEADER.to_vec(rt.alloc())?;
+    rows.extend_from_slice(b"fmt/1,1,EOF,0,,01\nfmt/2,2,Variable,,,".as_slice())?;
+    for _ in 0..4095 {
+        rows.extend_from_slice(b"00".as_slice())?;
+    }
+    rows.extend_from_slice(b"01\nfmt/3,3,Variable,,,00??02\n".as_slice())?;
+    let table = loaded(rt.alloc(), rows.as_slice(), b"higher,lower\n".as_slice())?;
+    let mut file = vec![in rt.alloc(); 0u8; 4 << 20]?;
+    file.push(1)?;
+    let left = left_in(rt.alloc(), &table, &file)?;
+    assert_eq!(rt; left.hits(), [hit(0, 0), hit(1, 1)].as_slice());
     Ok(())
 }

@@ -11,7 +11,7 @@ use Rattle.sig_table.specs.declared.format_set.FormatSet.{FormatSet}
 use Rattle.sig_table.specs.FormatSets.{HasFormat}
 use Rattle.sig_table.specs.Loading.{is_listed, pair_fault}
 use Rattle.sig_table.specs.Ranking.{IsAbove, is_above}
-use Rattle.sig_table.specs.Rankings.{AreBelow}
+use Rattle.sig_table.specs.RankingViews.{AreBelow}
 
 -- the test over a list finds exactly a listed pair
 pub listed-Decides : (pairs : List (ℕ × ℕ)) (pair : ℕ × ℕ) → Decides (list_any (λ q. nat_eq pair.0 q.0 && nat_eq pair.1 q.1) pairs) (Contains pairs pair)

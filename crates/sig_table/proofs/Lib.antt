@@ -4,6 +4,7 @@ pub mod DraftLemmas
 pub mod FaultLemmas
 pub mod FormatsAgainLemmas
 pub mod GatheredLemmas
+pub mod JudgingLemmas
 pub mod LimitLemmas
 pub mod LoadLemmas
 pub mod NumberLemmas
@@ -12,6 +13,7 @@ pub mod PairsAgainLemmas
 pub mod PlainLemmas
 pub mod PriorityLemmas
 pub mod PriorityRowLemmas
+pub mod PublicLemmas
 pub mod PuidLemmas
 pub mod RankingLemmas
 pub mod RecordLemmas
@@ -19,6 +21,7 @@ pub mod RecordsAgainLemmas
 pub mod RemovalLemmas
 pub mod RowAgainLemmas
 pub mod RowLemmas
+pub mod RowTextLemmas
 pub mod SignatureFaultLemmas
 pub mod SignatureRowLemmas
 pub mod SlotLemmas

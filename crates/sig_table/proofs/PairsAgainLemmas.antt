@@ -12,13 +12,14 @@ use Rattle.sig_table.proofs.PuidLemmas.{puid_of-puid_text}
 use Rattle.sig_table.proofs.RankingLemmas.{is_above-Decides, wider}
 use Rattle.sig_table.specs.Canonical.{pair_record, priority_header}
 use Rattle.sig_table.specs.declared.puid.Puid.{Puid}
-use Rattle.sig_table.specs.Loading.{is_listed, pair_fault, pair_of, pairs_from, pairs_of, place_in}
+use Rattle.sig_table.specs.Judging.{judged}
+use Rattle.sig_table.specs.Loading.{is_listed, pair_fault, pair_of, pairs_from, pairs_of, place_in, with_pair}
 use Rattle.sig_table.specs.Puids.{puid_eq}
 use Rattle.sig_table.specs.Ranking.{is_above}
 use Rattle.sig_table.specs.Tables.{AllDifferent, ArePriorities, IsNumber}
 
 -- where all differ, none of the later ones is among those before
-not_before : {A : Type 0} (done later : List A) (x : A) → AllDifferent (done ++ x ∷ later) → Contains done x → ⊥
+pub not_before : {A : Type 0} (done later : List A) (x : A) → AllDifferent (done ++ x ∷ later) → Contains done x → ⊥
 not_before [] later x d c = absurd (let none = c.1 in omega arith)
 not_before (y ∷ done) later x d (zero, lt, same) = d.0 (subst (Contains (done ++ x ∷ later)) (sym same) (Contains-append_right done (x ∷ later) x (0, omega arith, refl)))
 not_before (y ∷ done) later x d (suc k, lt, same) = not_before done later x d.1 (k, omega arith, same)
@@ -74,7 +75,7 @@ module _ (formats : List Puid) (puids : All (λ p. IsNumber p.number) formats) (
 
     -- the pairs behind the first ones
     later_pairs : (later done : List (ℕ × ℕ)) (n : ℕ) → done ++ later ≡ all → pairs_from formats n done (map (pair_record formats) later) ≡ Ok all
-    unfolding pairs_from
+    unfolding judged with_pair
     later_pairs [] done n whole = ap (λ l. Ok l) (sym (append-nil done) ∙ whole)
     later_pairs (pair ∷ later) done n whole =
         let listed : Contains all pair = subst (λ l. Contains l pair) whole (Contains-append_right done (pair ∷ later) pair (0, omega arith, refl)) in

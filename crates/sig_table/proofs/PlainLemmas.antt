@@ -1,12 +1,13 @@
 -- No field of the canonical text has a byte that calls for quotes, so `csv` writes each record as it stands.
 use Rattle.std.proofs.Common.{◌≡◌, ℕ, zero, suc, ◌+◌, ◌/◌, ◌%◌, ◌<◌, Bool, true, false, cond, nat_eq, nat_lt, List, [], ◌∷◌, ◌++◌, drop, map, Option, Some, None, refl, sym, ap, append-nil, inl, inr, arith}
-use Rattle.std.specs.Prelude.{codes, slice_get, ⊤}
+use Rattle.std.specs.Prelude.{codes, slice_get, slice_index, ⊤}
 use Rattle.std.specs.Fmt.{decimal, digit_glyph, digits, digits_onto}
 use Rattle.std.specs.List.{flat_map}
 use Rattle.std.proofs.lemmas.Bool.{cases_Bool, ne_eqb}
 use Rattle.std.proofs.lemmas.List.Folds.{list_any-append}
 use Rattle.csv.specs.Writing.{default_writer, fields_text, is_blank, needs_byte, needs_quotes, row_body, row_text}
-use Rattle.sig_expr.specs.Canon.{alternative_text, alternatives_text, atom_text, between_text, canon, count_text, five_digits, from_text, gap_text, hex_digit, item_text, leading_zeros, not_text, number_text, pair_text, range_text, word_text}
+use Rattle.sig_expr.proofs.LawLemmas.{encode_upper, encode_with, upper_digits}
+use Rattle.sig_expr.specs.Canon.{alternative_text, alternatives_text, atom_text, between_text, canon, count_text, from_text, gap_text, item_text, not_text, range_text}
 use Rattle.sig_expr.specs.declared.item.Atom.{Atom}
 use Rattle.sig_expr.specs.declared.item.Atom.TheVariants as atom
 use Rattle.sig_expr.specs.declared.item.Item.{Item}
@@ -87,58 +88,40 @@ plain-name_of formats format = plain-named (slice_get formats format)
 
 -- canonical expressions
 
-hex_above : (v : ℕ) → 44 < hex_digit v
-hex_above v = elim (cases_Bool (nat_lt v 10)) [
-  | inl t ↦ rw t (omega arith)
-  | inr f ↦ rw f (omega arith)
+-- no member of a plain text calls for quotes
+plain_at : (t : List ℕ) → Plain t → (v : ℕ) → needs_byte default_writer (slice_index t v) ≡ false
+plain_at [] p v = refl
+plain_at (x ∷ t) p zero = elim (cases_Bool (needs_byte default_writer x)) [
+  | inl y ↦ absurd (cc (rw y at p))
+  | inr f ↦ f
 ]
-
-plain-pair : (b : ℕ) → Plain (pair_text b)
-plain-pair b = plain-above (hex_digit (b / 16)) (hex_digit (b % 16) ∷ []) (hex_above (b / 16)) (plain-above (hex_digit (b % 16)) [] (hex_above (b % 16)) refl)
-
-plain-word : (bs : List ℕ) → Plain (word_text bs)
-unfolding word_text
-plain-word [] = refl
-plain-word (b ∷ bs) = plain-append (pair_text b) (word_text bs) (plain-pair b) (plain-word bs)
-
-plain-drop : (k : ℕ) (xs : List ℕ) → Plain xs → Plain (drop k xs)
-plain-drop zero xs p = p
-plain-drop (suc k) [] p = p
-plain-drop (suc k) (x ∷ xs) p = plain-drop k xs (elim (cases_Bool (needs_byte default_writer x)) [
-  | inl t ↦ absurd (cc (rw t at p))
+plain_at (x ∷ t) p (suc v) = plain_at t (elim (cases_Bool (needs_byte default_writer x)) [
+  | inl y ↦ absurd (cc (rw y at p))
   | inr f ↦ rw f at p
-])
+]) v
 
-plain-digits : (a b c d e : ℕ) → Plain ((48 + a) ∷ (48 + b) ∷ (48 + c) ∷ (48 + d) ∷ (48 + e) ∷ [])
-plain-digits a b c d e =
-    digit a ((48 + b) ∷ (48 + c) ∷ (48 + d) ∷ (48 + e) ∷ [])
-    (digit b ((48 + c) ∷ (48 + d) ∷ (48 + e) ∷ []) (digit c ((48 + d) ∷ (48 + e) ∷ []) (digit d ((48 + e) ∷ []) (digit e [] refl))))
-  where
-    digit : (v : ℕ) (xs : List ℕ) → Plain xs → Plain ((48 + v) ∷ xs)
-    digit v xs p = plain-above (48 + v) xs (omega arith) p
-
-plain-five : (n : ℕ) → Plain (five_digits n)
-plain-five n = plain-digits (n / 10000 % 10) (n / 1000 % 10) (n / 100 % 10) (n / 10 % 10) (n % 10)
-
-plain-number : (n : ℕ) → Plain (number_text n)
-unfolding number_text
-plain-number n = plain-drop (leading_zeros n) (five_digits n) (plain-five n)
+plain-word : (bs : List ℕ) → Plain (encode_upper bs)
+unfolding encode_with
+plain-word [] = refl
+plain-word (b ∷ bs) =
+    plain-cons (slice_index upper_digits (b / 16)) (slice_index upper_digits (b % 16) ∷ encode_upper bs) (plain_at upper_digits refl (b / 16))
+    (plain-cons (slice_index upper_digits (b % 16)) (encode_upper bs) (plain_at upper_digits refl (b % 16)) (plain-word bs))
 
 plain-count : (n : ℕ) → Plain (count_text n)
 unfolding count_text
-plain-count n = plain-append (123 ∷ []) (number_text n ++ (125 ∷ [])) refl (plain-append (number_text n) (125 ∷ []) (plain-number n) refl)
+plain-count n = plain-append (123 ∷ []) (decimal n ++ (125 ∷ [])) refl (plain-append (decimal n) (125 ∷ []) (plain-decimal n) refl)
 
 plain-from : (n : ℕ) → Plain (from_text n)
 unfolding from_text
-plain-from n = plain-append (123 ∷ []) (number_text n ++ (45 ∷ 42 ∷ 125 ∷ [])) refl (plain-append (number_text n) (45 ∷ 42 ∷ 125 ∷ []) (plain-number n) refl)
+plain-from n = plain-append (123 ∷ []) (decimal n ++ (45 ∷ 42 ∷ 125 ∷ [])) refl (plain-append (decimal n) (45 ∷ 42 ∷ 125 ∷ []) (plain-decimal n) refl)
 
 plain-between : (min max : ℕ) → Plain (between_text min max)
 unfolding between_text
 plain-between min max =
-    plain-append (123 ∷ []) (number_text min ++ ((45 ∷ []) ++ (number_text max ++ (125 ∷ [])))) refl
-    (plain-append (number_text min) ((45 ∷ []) ++ (number_text max ++ (125 ∷ []))) (plain-number min)
-    (plain-append (45 ∷ []) (number_text max ++ (125 ∷ [])) refl
-    (plain-append (number_text max) (125 ∷ []) (plain-number max) refl)))
+    plain-append (123 ∷ []) (decimal min ++ ((45 ∷ []) ++ (decimal max ++ (125 ∷ [])))) refl
+    (plain-append (decimal min) ((45 ∷ []) ++ (decimal max ++ (125 ∷ []))) (plain-decimal min)
+    (plain-append (45 ∷ []) (decimal max ++ (125 ∷ [])) refl
+    (plain-append (decimal max) (125 ∷ []) (plain-decimal max) refl)))
 
 plain-if : (b : Bool) (xs ys : List ℕ) → Plain xs → Plain ys → Plain (cond b xs ys)
 plain-if true xs ys p q = p
@@ -151,17 +134,17 @@ plain-gap min (Some max) = plain-if (nat_eq min max) (count_text max) (between_t
 plain-range : (opening a b : List ℕ) → Plain opening → Plain (range_text opening a b)
 unfolding range_text
 plain-range opening a b p =
-    plain-append opening (word_text a ++ ((58 ∷ []) ++ (word_text b ++ (93 ∷ [])))) p
-    (plain-append (word_text a) ((58 ∷ []) ++ (word_text b ++ (93 ∷ []))) (plain-word a)
-    (plain-append (58 ∷ []) (word_text b ++ (93 ∷ [])) refl
-    (plain-append (word_text b) (93 ∷ []) (plain-word b) refl)))
+    plain-append opening (encode_upper a ++ ((58 ∷ []) ++ (encode_upper b ++ (93 ∷ [])))) p
+    (plain-append (encode_upper a) ((58 ∷ []) ++ (encode_upper b ++ (93 ∷ []))) (plain-word a)
+    (plain-append (58 ∷ []) (encode_upper b ++ (93 ∷ [])) refl
+    (plain-append (encode_upper b) (93 ∷ []) (plain-word b) refl)))
 
 plain-not : (a : List ℕ) → Plain (not_text a)
 unfolding not_text
-plain-not a = plain-append (91 ∷ 33 ∷ []) (word_text a ++ (93 ∷ [])) refl (plain-append (word_text a) (93 ∷ []) (plain-word a) refl)
+plain-not a = plain-append (91 ∷ 33 ∷ []) (encode_upper a ++ (93 ∷ [])) refl (plain-append (encode_upper a) (93 ∷ []) (plain-word a) refl)
 
 plain-atom : (a : Atom) → Plain (atom_text a)
-plain-atom (atom.Byte b) = plain-pair b
+plain-atom (atom.Byte b) = plain-word (b ∷ [])
 plain-atom (atom.Range a b) = plain-range (91 ∷ []) a b refl
 plain-atom (atom.Not a) = plain-not a
 plain-atom (atom.NotRange a b) = plain-range (91 ∷ 33 ∷ []) a b refl
@@ -171,18 +154,18 @@ unfolding alternative_text
 plain-alternative [] = refl
 plain-alternative (p ∷ ps) = plain-append (atom_text p) (alternative_text ps) (plain-atom p) (plain-alternative ps)
 
-plain-alternatives : (sign : ℕ) (alternatives : List (List Atom)) → needs_byte default_writer sign ≡ false → Plain (alternatives_text sign alternatives)
+plain-alternatives : (sign : List ℕ) (alternatives : List (List Atom)) → Plain sign → Plain (alternatives_text sign alternatives)
 unfolding alternatives_text
 plain-alternatives sign [] h = refl
 plain-alternatives sign (a ∷ later) h =
-    plain-append (sign ∷ []) (alternative_text a ++ alternatives_text 124 later) (plain-cons sign [] h refl)
-    (plain-append (alternative_text a) (alternatives_text 124 later) (plain-alternative a) (plain-alternatives 124 later refl))
+    plain-append sign (alternative_text a ++ alternatives_text (codes "|") later) h
+    (plain-append (alternative_text a) (alternatives_text (codes "|") later) (plain-alternative a) (plain-alternatives (codes "|") later refl))
 
 plain-item : (i : Item) → Plain (item_text i)
-plain-item (item.Byte b) = plain-pair b
+plain-item (item.Byte b) = plain-word (b ∷ [])
 plain-item item.Any = refl
 plain-item (item.Gap min max) = plain-gap min max
-plain-item (item.Alt alternatives) = plain-append (alternatives_text 40 alternatives) (41 ∷ []) (plain-alternatives 40 alternatives refl) refl
+plain-item (item.Alt alternatives) = plain-append (alternatives_text (codes "(") alternatives) (codes ")") (plain-alternatives (codes "(") alternatives refl) refl
 plain-item (item.Range a b) = plain-range (91 ∷ []) a b refl
 plain-item (item.Not a) = plain-not a
 plain-item (item.NotRange a b) = plain-range (91 ∷ 33 ∷ []) a b refl

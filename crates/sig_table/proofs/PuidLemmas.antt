@@ -55,12 +55,12 @@ IsNumeral-number_of text n h = elim (cases_Bool (nat_eq (length text) 0)) [
 ]
 
 -- what a number is read from is what is printed of it
-decimal-number_of : (text : List ℕ) (n : ℕ) → number_of 9 text ≡ Some n → decimal n ≡ text
+pub decimal-number_of : (text : List ℕ) (n : ℕ) → number_of 9 text ≡ Some n → decimal n ≡ text
 decimal-number_of text n h =
     let is = IsNumeral-number_of text n h in
     rw (← is.value) (decimal-digits_value by_test text is.digits is.some (alone (get_or text 0 0) (length text) is.front is.some) (let value = is.value in let small = is.small in omega arith))
 
-number_of-positive : (text : List ℕ) (n : ℕ) → positive_of text ≡ Some n → number_of 9 text ≡ Some n
+pub number_of-positive : (text : List ℕ) (n : ℕ) → positive_of text ≡ Some n → number_of 9 text ≡ Some n
 unfolding positive_of
 number_of-positive text n h = elim (cases_Bool (nat_eq (get_or text 0 0) 48)) [
   | inl t ↦ absurd (cc (rw t at h))

@@ -6,7 +6,7 @@ use Rattle.std.specs.Str.Parse.{digits_value}
 use Rattle.std.proofs.lemmas.Bool.{cases_lt, ne_eqb}
 use Rattle.std.proofs.lemmas.Fmt.{decimal_digit, decimal_nonempty, digits_decimal, digits_value-decimal, first_decimal, length-decimal-le}
 use Rattle.csv.specs.Records.{field_at}
-use Rattle.sig_expr.proofs.ProfileLemmas.{read_text}
+use Rattle.sig_expr.proofs.LawLemmas.{expression_read}
 use Rattle.sig_expr.specs.Canon.{canon}
 use Rattle.sig_expr.specs.Profile.{IsExpression}
 use Rattle.sig_expr.specs.Texts.{expr_of}
@@ -24,7 +24,7 @@ use Rattle.sig_table.specs.declared.position.Position.TheVariants as position
 use Rattle.sig_table.specs.declared.puid.Puid.{Puid}
 use Rattle.sig_table.specs.declared.row.Row.{Row}
 
-not_below : (a b : ℕ) → b ≤ a → nat_lt a b ≡ false
+pub not_below : (a b : ℕ) → b ≤ a → nat_lt a b ≡ false
 not_below a b h = search (rules, tests)
 
 -- a positive number of at most five digits
@@ -46,7 +46,7 @@ number_of-zero : number_of 5 (decimal 0) ≡ Some 0
 unfolding number_of
 number_of-zero = rw (decimal_digit 0 (omega arith)) refl
 
-number_of-decimal : (n : ℕ) → n ≤ 65535 → number_of 5 (decimal n) ≡ Some n
+pub number_of-decimal : (n : ℕ) → n ≤ 65535 → number_of 5 (decimal n) ≡ Some n
 number_of-decimal n h = elim (cases_lt 0 n) [
   | inl some ↦ number_of-positive n some h
   | inr none ↦ let zero : n ≡ 0 = omega arith in rw zero number_of-zero
@@ -56,7 +56,7 @@ offset_of-decimal : (n : ℕ) → n ≤ 65535 → offset_of (decimal n) ≡ Some
 offset_of-decimal n h = rw (number_of-decimal n h, not_below 65535 n h) refl
 
 -- the offsets of a place
-offsets_of-decimal : (row min max : ℕ) → min ≤ max → max ≤ 65535 → offsets_of row (decimal min) (decimal max) ≡ Ok (min, max)
+pub offsets_of-decimal : (row min max : ℕ) → min ≤ max → max ≤ 65535 → offsets_of row (decimal min) (decimal max) ≡ Ok (min, max)
 offsets_of-decimal row min max order h =
     let some = decimal_nonempty max (omega arith) in
     let empty : nat_eq (length (decimal max)) 0 ≡ false = ne_eqb (length (decimal max)) 0 (λ e. omega arith) in
@@ -64,7 +64,7 @@ offsets_of-decimal row min max order h =
 
 -- the canonical text is read as its items
 pub expr_of-canon : (items : List Item) → IsExpression items → expr_of (canon items) ≡ Ok items
-expr_of-canon items h = read_text items (canon items) h.in_profile h.spells
+expr_of-canon items h = expression_read items h
 
 -- the row of a sequence
 abbrev pub row_for : Puid → ℕ → SequenceView → Row

@@ -5,11 +5,9 @@ use Rattle.std.specs.List.{starts_with}
 use Rattle.std.specs.Option.{ok_or}
 use Rattle.std.proofs.lemmas.Bool.{cases_Bool}
 use Rattle.sig_expr.specs.declared.item.Item.{Item}
-use Rattle.sig_expr.specs.Profile.{IsExpression}
 use Rattle.sig_expr.specs.Texts.{expr_of}
 use Rattle.sig_expr.specs.declared.error.ExprError.{ExprError}
-use Rattle.sig_expr.proofs.RefusalLemmas.{told_spells}
-use Rattle.sig_expr.proofs.ShortestLemmas.{is_expression}
+use Rattle.sig_expr.proofs.LawLemmas.{read_expression}
 use Rattle.sig_table.specs.declared.error.TableError.{TableError}
 use Rattle.sig_table.specs.declared.error.TableError.TheVariants as error
 use Rattle.sig_table.specs.declared.error.TableFile.TheVariants.{Signatures}
@@ -21,7 +19,8 @@ use Rattle.sig_table.specs.declared.puid.Registry.TheVariants.{Fmt, XFmt}
 use Rattle.sig_table.specs.declared.row.Row.{Row}
 use Rattle.sig_table.specs.Numbers.{number_of, positive_of}
 use Rattle.sig_table.specs.Puids.{numbered, puid_of}
-use Rattle.sig_table.specs.Rows.{◌>>=◌, IsRow, as_offset, in_order, is_word, items_in, offset_of, offsets_of, position_of, row_of, row_with, text_at, up_to}
+use Rattle.sig_table.specs.Judging.{◌>>=◌}
+use Rattle.sig_table.specs.Rows.{IsRow, as_offset, in_order, is_word, items_in, offset_of, offsets_of, position_of, row_of, row_with, text_at, up_to}
 use Rattle.sig_table.specs.Tables.{InOrder, IsNumber}
 use Rattle.sig_table.proofs.PuidLemmas.{IsNumber-positive_of}
 
@@ -30,7 +29,7 @@ pub bind-ok : {A B : Type 0} (r : Result A TableError) (f : A → Result B Table
 bind-ok (Ok x) f y h = (x, refl, h)
 bind-ok (Err e) f y h = absurd (cc h)
 
-ok_or-ok : {A : Type 0} (o : Option A) (e : TableError) (x : A) → ok_or o e ≡ Ok x → o ≡ Some x
+pub ok_or-ok : {A : Type 0} (o : Option A) (e : TableError) (x : A) → ok_or o e ≡ Ok x → o ≡ Some x
 ok_or-ok None e x h = absurd (cc h)
 ok_or-ok (Some y) e x h = cc h
 
@@ -106,14 +105,9 @@ InOrder-position_of row word offset max place h = elim (cases_Bool (is_word word
 ]
 
 -- the expression
-items_in-ok : (row : ℕ) (r : Result (List Item) ExprError) (items : List Item) → items_in row r ≡ Ok items → r ≡ Ok items
+pub items_in-ok : (row : ℕ) (r : Result (List Item) ExprError) (items : List Item) → items_in row r ≡ Ok items → r ≡ Ok items
 items_in-ok row (Ok e) items h = cc h
 items_in-ok row (Err e) items h = absurd (cc h)
-
-IsExpression-expr_of : (text : List ℕ) (items : List Item) → expr_of text ≡ Ok items → IsExpression items
-IsExpression-expr_of text items h =
-    let told = told_spells items text h in
-    is_expression items text told.0 told.1
 
 IsRow-row_with : (n : ℕ) (puid number word offset max expression : List ℕ) (row : Row) → row_with n puid number word offset max expression ≡ Ok row → IsRow row
 IsRow-row_with n puid number word offset max expression row h =
@@ -126,7 +120,7 @@ IsRow-row_with n puid number word offset max expression row h =
       puid = IsNumber-puid_of puid p.0 (ok_or-ok _ _ _ p.1);
       number = IsNumber-positive_of number k.0 (ok_or-ok _ _ _ k.1);
       offsets = InOrder-position_of n word offset max place.0 place.1;
-      expression = IsExpression-expr_of expression items.0 (items_in-ok n _ _ items.1);
+      expression = read_expression items.0 expression (items_in-ok n _ _ items.1);
     })
 
 -- a row that is read

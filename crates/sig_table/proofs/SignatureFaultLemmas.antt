@@ -14,10 +14,12 @@ use Rattle.sig_table.specs.declared.error.TableFile.TheVariants.{Signatures}
 use Rattle.sig_table.specs.declared.position.Position.TheVariants as position
 use Rattle.sig_table.specs.declared.row.Row.{Row}
 use Rattle.sig_table.specs.Views.{SignatureView, TableView}
-use Rattle.sig_table.specs.Loading.{empty_table, fault_at, fault_in, is_full, is_of_signatures, is_signature_header, signature_in, signatures_of, table_from, unless, with_row}
+use Rattle.sig_table.specs.Judging.{judged, unless}
+use Rattle.sig_table.specs.Loading.{empty_table, fault_at, fault_in, is_full, is_of_signatures, is_signature_header, signature_in, signatures_of, table_from, with_row, with_record}
 use Rattle.sig_table.specs.Numbers.{positive_of}
 use Rattle.sig_table.specs.Puids.{puid_eq, puid_of}
-use Rattle.sig_table.specs.Rows.{◌>>=◌, IsFault, is_judged, is_memory, is_read, is_word, items_in, offset_of, offsets_of, position_of, row_of, row_with, text_at, up_to}
+use Rattle.sig_table.specs.Judging.{judged, ◌>>=◌, IsFault, is_judged, is_memory, is_read}
+use Rattle.sig_table.specs.Rows.{is_word, items_in, offset_of, offsets_of, position_of, row_of, row_with, text_at, up_to}
 use Rattle.sig_table.specs.Slots.{slot_count}
 
 -- what refuses is of the signature file
@@ -99,11 +101,12 @@ unless-of None rest fault later = later
 unless-of (Some e) rest fault later = fault
 
 table_from-of : (n : ℕ) (t : TableView) (records : List (List (List ℕ))) → IsOfSignatures (table_from n t records)
-unfolding table_from
+unfolding judged with_record
 table_from-of n t [] = tt
 table_from-of n t (fields ∷ later) =
-    bind-of (row_of n fields) _ (row_of-of n fields) (λ row.
-    unless-of (fault_in t n row) (table_from (n + 1) (with_row t row) later) (fault_in-of t n row) (table_from-of (n + 1) (with_row t row) later))
+    bind-of (with_record n t fields) (λ more. table_from (n + 1) more later)
+    (bind-of (row_of n fields) _ (row_of-of n fields) (λ row. unless-of (fault_in t n row) (Ok (with_row t row)) (fault_in-of t n row) tt))
+    (λ more. table_from-of (n + 1) more later)
 
 pub signatures_of-of : (file : List (List (List ℕ))) → IsOfSignatures (signatures_of file)
 unfolding signatures_of
@@ -122,5 +125,5 @@ judged-told false false j h = h
 -- what is judged of the signature file is of that file
 pub is_judged-of : (file : List (List (List ℕ))) (e : TableError) → IsFault (signatures_of file) e → is_judged e ≡ true → is_of_signatures e ≡ true
 is_judged-of file e fault judged =
-    let is : signatures_of file ≡ Err e = judged-told (is_read e) (is_memory e) judged fault.told_so in
+    let is : signatures_of file ≡ Err e = judged-told (is_read e) (is_memory e) judged fault.exact in
     rw is at (signatures_of-of file)

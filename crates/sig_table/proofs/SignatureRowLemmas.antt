@@ -1,33 +1,28 @@
 -- The rows of a signature file give its table, or a first faulty one.
-use Rattle.std.proofs.Common.{◌≡◌, ◌⊎◌, ℕ, suc, ◌+◌, ◌<◌, ◌≤◌, ◌&&◌, true, false, not, nat_eq, nat_lt, nat_le, List, [], ◌∷◌, ◌++◌, length, map, sym, ap, subst, eq-eqb, append-nil, append_assoc, length-append, ◌∙◌, refl, arith, rules, tests, inl, inr, Option, Some, None, Result, Ok, Err}
-use Rattle.std.proofs.Math.Nat.{add-zero}
+use Rattle.std.proofs.Common.{◌≡◌, ℕ, ◌<◌, ◌≤◌, ◌&&◌, Bool, true, false, not, nat_eq, nat_lt, nat_le, List, [], ◌∷◌, ◌++◌, length, map, sym, ap, subst, eq-eqb, append-nil, length-append, ◌∙◌, refl, arith, rules, tests, inl, inr, Some, None, Ok, Err}
 use Rattle.std.specs.Prelude.{find, Contains}
 use Rattle.std.specs.List.{list_any, position_or_len}
 use Rattle.std.proofs.lemmas.Bool.{cases_Bool, eqb-true, false≢true}
 use Rattle.std.proofs.lemmas.List.{length-map}
-use Rattle.std.proofs.lemmas.List.Elements.{All-nil, All-push, Contains-append_right, Contains-push_cases}
+use Rattle.std.proofs.lemmas.List.Elements.{All-contains, All-nil, All-pop, All-push, Contains-append_left, Contains-append_right, Contains-push, Contains-push_cases}
 use Rattle.sig_table.proofs.DraftLemmas.{any-none, any-some}
 use Rattle.sig_table.proofs.GatheredLemmas.{any-number, any-numbers_of, any-puid_of, any-signature, formats_of-append, gathered-append, number_same, numbers_of-append, puid_same, rows_of-append, rows_of-none}
+use Rattle.sig_table.proofs.JudgingLemmas.{FirstOf-one, Turns, answered, continued, continues, stopped, stops, there_or_not}
+use Rattle.sig_table.proofs.LoadLemmas.{with_record-faulty, with_record-more, with_record-unread}
 use Rattle.sig_table.proofs.LimitLemmas.{FitsBeside, FitsIn, fits_beside, fits_in, room_for}
 use Rattle.sig_table.specs.declared.error.TableError.{TableError}
 use Rattle.sig_table.specs.declared.error.TableError.TheVariants as error
+use Rattle.sig_table.specs.declared.error.TableFile.TheVariants.{Signatures}
 use Rattle.sig_table.specs.declared.puid.Puid.{Puid}
 use Rattle.sig_table.specs.declared.row.Row.{Row}
-use Rattle.sig_table.specs.Gathered.{AreRows, BeginsWithHeader, HasEight, HasTooManySlots, IsFaultAfter, IsFaultOf, IsFaultOfRow, IsOfTwo, IsTableOf, Write, first_format, formats_of, gathered, numbers_of, rows_of, signature_of}
+use Rattle.sig_table.specs.Gathered.{AreRows, BeginsWithHeader, HasEight, HasFirstFault, HasTooManySlots, IsBeyond, IsFaultAfter, IsFaultOf, IsFaultOfRow, IsOfTwo, IsTableOf, Writes, first_format, formats_of, gathered, numbers_of, rows_of, signature_of}
 use Rattle.sig_table.specs.Views.{SignatureView, TableView}
-use Rattle.sig_table.specs.Loading.{fault_at, fault_in, is_signature_header, signature_in, signatures_of, table_from}
+use Rattle.indexmap.specs.IndexSet.{insert_key}
+use Rattle.sig_table.specs.Judging.{FirstOf}
+use Rattle.sig_table.specs.Loading.{fault_at, fault_in, is_signature_header, signature_in, signatures_of, with_record, with_row}
 use Rattle.sig_table.specs.Puids.{puid_eq}
 use Rattle.sig_table.specs.Rows.{row_of}
 use Rattle.sig_table.specs.Slots.{slot_count}
-
--- an answer is one of the two
-answered : {A : Type 0} (r : Result A TableError) → ((x : A) × (r ≡ Ok x)) ⊎ ((e : TableError) × (r ≡ Err e))
-answered (Ok x) = inl (x, refl)
-answered (Err e) = inr (e, refl)
-
-told : {A : Type 0} (o : Option A) → (o ≡ None) ⊎ ((x : A) × (o ≡ Some x))
-told None = inl refl
-told (Some x) = inr (x, refl)
 
 -- PUIDs in the same place are the same
 same_place : (p q : Puid) (fs : List Puid) → list_any (puid_eq q) fs ≡ true → position_or_len (puid_eq p) fs ≡ position_or_len (puid_eq q) fs → p ≡ q
@@ -44,13 +39,13 @@ same_place p q (f ∷ fs) there h = elim (cases_Bool (puid_eq p f)) [
 ]
 
 -- the first row of a number
-record FirstOf (n : ℕ) (rows : List Row) : Type 0 where
+record FirstRow (n : ℕ) (rows : List Row) : Type 0 where
   pub row : Row
   pub among : Contains rows row
   pub number : n ≡ row.number
   pub format : (fs : List Puid) → first_format fs (rows_of n rows) ≡ position_or_len (puid_eq row.puid) fs
 
-first_of : (n : ℕ) (rows : List Row) → list_any (nat_eq n) (map (λ r. r.number) rows) ≡ true → FirstOf n rows
+first_of : (n : ℕ) (rows : List Row) → list_any (nat_eq n) (map (λ r. r.number) rows) ≡ true → FirstRow n rows
 first_of n [] h = absurd (cc h)
 first_of n (r ∷ rows) h = elim (cases_Bool (nat_eq n r.number)) [
   | inl t ↦ record { row = r; among = (0, omega arith, refl); number = number_same n r.number t; format = λ fs. rw t refl }
@@ -72,7 +67,7 @@ signature_of-found rows n (m ∷ ms) s h = elim (cases_Bool (nat_eq n m)) [
 -- earlier rows have the row's number: the first of them names the format, and all of them give sequences
 record IsMore (done : List Row) (row : Row) (s : SignatureView) : Type 0 where
   pub there : list_any (nat_eq row.number) (map (λ r. r.number) done) ≡ true
-  pub first : FirstOf row.number done
+  pub first : FirstRow row.number done
   pub format : s.format ≡ position_or_len (puid_eq first.row.puid) (formats_of done)
   pub count : length s.sequences ≡ length (rows_of row.number done)
 
@@ -151,7 +146,7 @@ new-rows done row are new fits =
 
 one_more : (done : List Row) (n : ℕ) (row : Row) → AreRows done → fault_in (gathered done) n row ≡ None → AreRows (done ++ row ∷ [])
 unfolding fault_in
-one_more done n row are fine = elim (told (signature_in (gathered done).signatures row.number)) [
+one_more done n row are fine = elim (there_or_not (signature_in (gathered done).signatures row.number)) [
   | inl none ↦ new-rows done row are (is_new done row none) (fits_beside (gathered done) row n (rw none at fine))
   | inr s ↦ more-rows done row s.0 are (is_more done row s.0 s.1) (fits_in (gathered done) row n s.0 (rw s.1 at fine))
 ]
@@ -178,20 +173,20 @@ fault-more done n row s e are more h =
             | inl full ↦
                 let is : error.TooManySequences n ≡ e = cc (rw (same, full) at h) in
                 let eight : 8 ≤ length s.sequences = search (rules, tests) in
-                subst (IsFaultOfRow done n row) is (refl, not_two, omega arith)
+                inr (not_two, inl (omega arith, sym is))
             | inr room ↦ elim (cases_Bool (nat_lt 65535 (slot_count row.sequence))) [
               | inl many ↦
                   let is : error.TooManySlots n ≡ e = cc (rw (same, room, many) at h) in
                   let below : length s.sequences < 8 = search (rules, tests) in
                   let not_eight : HasEight done row → ⊥ = λ eight. omega arith in
-                  subst (IsFaultOfRow done n row) is (refl, not_two, not_eight, search (rules, tests))
+                  inr (not_two, inr (not_eight, inl (search (rules, tests), sym is)))
               | inr few ↦ absurd (cc (rw (same, room, few) at h))
             ]
           ]
       | inr other ↦
           let is : error.SignatureOfTwo n ≡ e = cc (rw other at h) in
           let two : first.row.puid ≡ row.puid → ⊥ = λ same. false≢true (sym other ∙ eq-eqb _ _ (ap (λ p. position_or_len (puid_eq p) (formats_of done)) (sym same) ∙ sym more.format)) in
-          subst (IsFaultOfRow done n row) is (refl, (first.row, first.among, sym first.number, two))
+          inl ((first.row, first.among, sym first.number, two), sym is)
     ]
 
 -- no room for another PUID
@@ -222,18 +217,18 @@ fault-new done n row e new h =
     elim (cases_Bool (nat_lt 65535 (slot_count row.sequence))) [
       | inl many ↦
           let is : error.TooManySlots n ≡ e = cc (rw many at h) in
-          subst (IsFaultOfRow done n row) is (refl, not_two, not_eight, search (rules, tests))
+          inr (not_two, inr (not_eight, inl (search (rules, tests), sym is)))
       | inr few ↦
           let at_most : slot_count row.sequence ≤ 65535 = search (rules, tests) in
           let not_long : HasTooManySlots row → ⊥ = λ long. omega arith in
           elim (cases_Bool (nat_le 1000 (length (formats_of done)) && not (list_any (puid_eq row.puid) (formats_of done)))) [
             | inl full ↦
                 let is : error.TooManyFormats n ≡ e = cc (rw (few, full) at h) in
-                subst (IsFaultOfRow done n row) is (refl, not_two, not_eight, not_long, inl (formats-beyond done row full))
+                inr (not_two, inr (not_eight, inr (not_long, (inl (formats-beyond done row full), sym is))))
             | inr room ↦ elim (cases_Bool (nat_le 4000 (length (map (signature_of done) (numbers_of done))))) [
               | inl full ↦
                   let is : error.TooManyFormats n ≡ e = cc (rw (few, room, full) at h) in
-                  subst (IsFaultOfRow done n row) is (refl, not_two, not_eight, not_long, inr (numbers-beyond done row new full))
+                  inr (not_two, inr (not_eight, inr (not_long, (inr (numbers-beyond done row new full), sym is))))
               | inr free ↦ absurd (cc (rw (few, room, free) at h))
             ]
           ]
@@ -241,83 +236,99 @@ fault-new done n row e new h =
 
 fault_of_row : (done : List Row) (n : ℕ) (row : Row) (e : TableError) → AreRows done → fault_in (gathered done) n row ≡ Some e → IsFaultOfRow done n row e
 unfolding fault_in
-fault_of_row done n row e are h = elim (told (signature_in (gathered done).signatures row.number)) [
+fault_of_row done n row e are h = elim (there_or_not (signature_in (gathered done).signatures row.number)) [
   | inl none ↦ fault-new done n row e (is_new done row none) (rw none at h)
   | inr s ↦ fault-more done n row s.0 e are (is_more done row s.0 s.1) (rw s.1 at h)
 ]
 
--- behind these rows, the records write more, and the table is that of all
-record Continues (done : List Row) (n : ℕ) (records : List (List (List ℕ))) (table : TableView) : Type 0 where
-  pub rows : List Row
-  pub write : Write n records rows
-  pub are : AreRows (done ++ rows)
-  pub gathers : table ≡ gathered (done ++ rows)
+-- rows before the last one of a table are of a table too
+front-rows : (done : List Row) (row : Row) → AreRows (done ++ row ∷ []) → AreRows done
+front-rows done row are = record {
+  one_format = λ x y cx cy same. are.one_format x y (Contains-append_left done (row ∷ []) x cx) (Contains-append_left done (row ∷ []) y cy) same;
+  few_sequences = λ k. (let few = rw (rows_of-append k done row) at (are.few_sequences k) in omega (arith, length-append {A = Row}));
+  few_slots = (All-pop (λ r. slot_count r.sequence ≤ 65535) (done ++ row ∷ []) done (Some row) refl are.few_slots).0;
+  few_formats = front-keys puid_eq (formats_of done) row.puid 1000 (rw (formats_of-append done row) at are.few_formats);
+  few_signatures = front-keys nat_eq (numbers_of done) row.number 4000 (rw (numbers_of-append done row) at are.few_signatures);
+}
+  where
+    front-keys : {A : Type 0} (eq : A → A → Bool) (keys : List A) (key : A) (most : ℕ) → length (insert_key eq keys key) ≤ most → length keys ≤ most
+    front-keys {A} eq keys key most few = elim (cases_Bool (list_any (eq key) keys)) [
+      | inl there ↦ rw there at few
+      | inr new ↦ (let all = rw new at few in omega (arith, length-append {A = A}))
+    ]
 
-continues : (done : List Row) (n : ℕ) (records : List (List (List ℕ))) (table : TableView) → AreRows done → table_from n (gathered done) records ≡ Ok table → Continues done n records table
-unfolding table_from
-continues done n [] table are h = record { rows = []; write = refl; are = rw (append-nil done) are; gathers = rw (append-nil done) (cc h) }
-continues done n (fields ∷ later) table are h = elim (answered (row_of n fields)) [
-  | inl a ↦ elim (told (fault_in (gathered done) n a.0)) [
+-- a row with a fault makes no table with those before it
+faulty_are_not : (done : List Row) (n : ℕ) (row : Row) (e : TableError) → IsFaultOfRow done n row e → AreRows (done ++ row ∷ []) → ⊥
+faulty_are_not done n row e fault are = elim fault [
+  | inl two ↦ two.0.3 (are.one_format two.0.0 row (Contains-append_left done (row ∷ []) two.0.0 two.0.1) (Contains-push done row) two.0.2)
+  | inr a ↦ elim a.1 [
+    | inl eight ↦
+        let few = rw (rows_of-append row.number done row, eq-eqb row.number row.number refl) at (are.few_sequences row.number) in
+        let full = eight.0 in
+        omega (arith, length-append {A = Row})
+    | inr b ↦ elim b.1 [
+      | inl long ↦ (let slots = All-contains (λ r. slot_count r.sequence ≤ 65535) (done ++ row ∷ []) row are.few_slots (Contains-push done row) in let many = long.0 in omega arith)
+      | inr c ↦ elim c.1.0 [
+        | inl formats ↦ (let few = are.few_formats in omega arith)
+        | inr numbers ↦ (let few = are.few_signatures in omega arith)
+      ]
+    ]
+  ]
+]
+
+-- a row has one first fault
+one_fault : (done : List Row) (n : ℕ) (row : Row) (a b : TableError) → IsFaultOfRow done n row a → IsFaultOfRow done n row b → a ≡ b
+one_fault done n row a b x y =
+    let last : TableError → Type 0 = λ e. IsBeyond done row × (e ≡ error.TooManyFormats n) in
+    let third : TableError → Type 0 = FirstOf (HasTooManySlots row) (error.TooManySlots n) last in
+    let second : TableError → Type 0 = FirstOf (HasEight done row) (error.TooManySequences n) third in
+    FirstOf-one (IsOfTwo done row) (error.SignatureOfTwo n) second a b
+    (FirstOf-one (HasEight done row) (error.TooManySequences n) third a b (FirstOf-one (HasTooManySlots row) (error.TooManySlots n) last a b (λ x y. x.1 ∙ sym y.1))) x y
+
+more : (done : List Row) (n : ℕ) (fields : List (List ℕ)) (s : TableView) → AreRows done → with_record n (gathered done) fields ≡ Ok s → (row : Row) × Writes n fields row × AreRows (done ++ row ∷ []) × (s ≡ gathered (done ++ row ∷ []))
+unfolding with_record
+more done n fields s are h = elim (answered (row_of n fields)) [
+  | inl a ↦ elim (there_or_not (fault_in (gathered done) n a.0)) [
     | inl fine ↦
-        let rest = continues (done ++ a.0 ∷ []) (n + 1) later table (one_more done n a.0 are fine) (rw (gathered-append done a.0) (rw (a.1, fine) at h)) in
-        let whole = append_assoc done (a.0 ∷ []) rest.rows in
-        record { rows = a.0 ∷ rest.rows; write = (a.1, rest.write); are = subst AreRows whole rest.are; gathers = rest.gathers ∙ ap gathered whole }
+        let same : with_row (gathered done) a.0 ≡ s = cc (rw (a.1, fine) at h) in
+        (a.0, a.1, one_more done n a.0 are fine, sym same ∙ sym (gathered-append done a.0))
     | inr fault ↦ absurd (cc (rw (a.1, fault.1) at h))
   ]
   | inr e ↦ absurd (cc (rw e.1 at h))
 ]
 
--- behind these rows, some record has the fault, and those before it write rows
-record Stops (done : List Row) (n : ℕ) (records : List (List (List ℕ))) (fault : TableError) : Type 0 where
-  pub earlier : List (List (List ℕ))
-  pub fields : List (List ℕ)
-  pub later : List (List (List ℕ))
-  pub cut : records ≡ earlier ++ fields ∷ later
-  pub rows : List Row
-  pub write : Write n earlier rows
-  pub are : AreRows (done ++ rows)
-  pub has : IsFaultAfter (done ++ rows) (n + length earlier) fields fault
-
--- the first of the records
-stops_here : (done : List Row) (n : ℕ) (fields : List (List ℕ)) (later : List (List (List ℕ))) (fault : TableError) → AreRows done → IsFaultAfter done n fields fault → Stops done n (fields ∷ later) fault
-stops_here done n fields later fault are is = record {
-  earlier = [];
-  fields = fields;
-  later = later;
-  cut = refl;
-  rows = [];
-  write = refl;
-  are = rw (append-nil done) are;
-  has = rw (append-nil done, add-zero) is;
-}
-
-stops : (done : List Row) (n : ℕ) (records : List (List (List ℕ))) (fault : TableError) → AreRows done → table_from n (gathered done) records ≡ Err fault → Stops done n records fault
-unfolding table_from
-stops done n [] fault are h = absurd (cc h)
-stops done n (fields ∷ later) fault are h = elim (answered (row_of n fields)) [
-  | inl a ↦ elim (told (fault_in (gathered done) n a.0)) [
-    | inl fine ↦
-        let rest = stops (done ++ a.0 ∷ []) (n + 1) later fault (one_more done n a.0 are fine) (rw (gathered-append done a.0) (rw (a.1, fine) at h)) in
-        let at : (n + 1) + length rest.earlier ≡ n + suc (length rest.earlier) = omega arith in
-        let whole = append_assoc done (a.0 ∷ []) rest.rows in
-        record {
-          earlier = fields ∷ rest.earlier;
-          fields = rest.fields;
-          later = rest.later;
-          cut = ap (λ l. fields ∷ l) rest.cut;
-          rows = a.0 ∷ rest.rows;
-          write = (a.1, rest.write);
-          are = subst AreRows whole rest.are;
-          has = subst (λ k. IsFaultAfter (done ++ a.0 ∷ rest.rows) k rest.fields fault) at (subst (λ l. IsFaultAfter l ((n + 1) + length rest.earlier) rest.fields fault) whole rest.has);
-        }
-    | inr found ↦
-        let is : found.0 ≡ fault = cc (rw (a.1, found.1) at h) in
-        stops_here done n fields later fault are (inr (a.0, a.1, subst (IsFaultOfRow done n a.0) is (fault_of_row done n a.0 found.0 are found.1)))
-  ]
-  | inr e ↦
-      let is : e.0 ≡ fault = cc (rw e.1 at h) in
-      stops_here done n fields later fault are (inl (subst (λ x. row_of n fields ≡ Err x) is e.1))
+taken : (done : List Row) (n : ℕ) (fields : List (List ℕ)) (row : Row) → Writes n fields row → AreRows (done ++ row ∷ []) → with_record n (gathered done) fields ≡ Ok (gathered (done ++ row ∷ []))
+taken done n fields row writes are = elim (there_or_not (fault_in (gathered done) n row)) [
+  | inl fine ↦ with_record-more n (gathered done) fields row writes fine ∙ ap (λ t. Ok t) (sym (gathered-append done row))
+  | inr e ↦ absurd (faulty_are_not done n row e.0 (fault_of_row done n row e.0 (front-rows done row are) e.1) are)
 ]
+
+faulty : (done : List Row) (n : ℕ) (fields : List (List ℕ)) (e : TableError) → AreRows done → with_record n (gathered done) fields ≡ Err e → IsFaultAfter done n fields e
+unfolding with_record
+faulty done n fields e are h = elim (answered (row_of n fields)) [
+  | inl a ↦ elim (there_or_not (fault_in (gathered done) n a.0)) [
+    | inl fine ↦ absurd (cc (rw (a.1, fine) at h))
+    | inr fault ↦
+        let same : fault.0 ≡ e = cc (rw (a.1, fault.1) at h) in
+        inr (a.0, a.1, subst (IsFaultOfRow done n a.0) same (fault_of_row done n a.0 fault.0 are fault.1))
+  ]
+  | inr f ↦ let same : f.0 ≡ e = cc (rw f.1 at h) in inl (subst (λ x. row_of n fields ≡ Err x) same f.1)
+]
+
+refused : (done : List Row) (n : ℕ) (fields : List (List ℕ)) (e : TableError) → AreRows done → IsFaultAfter done n fields e → with_record n (gathered done) fields ≡ Err e
+refused done n fields e are fault = elim fault [
+  | inl unread ↦ with_record-unread n (gathered done) fields e unread
+  | inr row ↦ elim (there_or_not (fault_in (gathered done) n row.0)) [
+    | inl fine ↦ absurd (faulty_are_not done n row.0 e row.2 (one_more done n row.0 are fine))
+    | inr f ↦
+        let same : f.0 ≡ e = one_fault done n row.0 f.0 e (fault_of_row done n row.0 f.0 are f.1) row.2 in
+        with_record-faulty n (gathered done) fields row.0 e row.1 (rw (f.1, same) refl)
+  ]
+]
+
+-- how the rows of a signature file decide a turn
+turns : Turns with_record gathered AreRows Writes IsFaultAfter
+turns = record { front = front-rows; more = more; taken = taken; faulty = faulty; refused = refused }
 
 -- no record is no header
 nothing_begins : BeginsWithHeader [] → ⊥
@@ -332,8 +343,8 @@ unfolding signatures_of
 is_table_of [] table h = absurd (cc h)
 is_table_of (header ∷ records) table h = elim (cases_Bool (is_signature_header header)) [
   | inl t ↦
-      let c = continues [] 1 records table no_rows (rw t at h) in
-      record { header = header; records = records; cut = refl; is_header = t; rows = c.rows; write = c.write; are = c.are; gathers = c.gathers }
+      let c = continues with_record gathered AreRows Writes IsFaultAfter turns records [] 1 table no_rows (rw t at h) in
+      record { header = header; records = records; cut = refl; is_header = t; rows = c.rows; write = c.write; are = c.are; gathers = c.is }
   | inr f ↦ absurd (cc (rw f at h))
 ]
 
@@ -342,7 +353,30 @@ unfolding signatures_of
 is_fault_of [] fault h = inl (nothing_begins, cc h)
 is_fault_of (header ∷ records) fault h = elim (cases_Bool (is_signature_header header)) [
   | inl t ↦
-      let s = stops [] 1 records fault no_rows (rw t at h) in
+      let s = stops with_record gathered AreRows Writes IsFaultAfter turns records [] 1 fault no_rows (rw t at h) in
       inr (record { header = header; earlier = s.earlier; fields = s.fields; later = s.later; cut = ap (λ l. header ∷ l) s.cut; is_header = t; rows = s.rows; write = s.write; are = s.are; has = s.has })
   | inr f ↦ inl (other_begins header records f, cc (rw f at h))
+]
+
+-- and the other way
+pub table_is_given : (file : List (List (List ℕ))) (table : TableView) → IsTableOf file table → signatures_of file ≡ Ok table
+unfolding signatures_of
+table_is_given file table is = rw (is.cut, is.is_header, is.gathers) (continued with_record gathered AreRows Writes IsFaultAfter turns is.records [] is.rows 1 is.write is.are)
+
+no_header_is_told : (file : List (List (List ℕ))) → (BeginsWithHeader file → ⊥) → signatures_of file ≡ Err (error.Header Signatures)
+unfolding signatures_of
+no_header_is_told [] none = refl
+no_header_is_told (header ∷ records) none = elim (cases_Bool (is_signature_header header)) [
+  | inl t ↦ absurd (none (header, records, refl, t))
+  | inr f ↦ rw f refl
+]
+
+first_fault_given : (file : List (List (List ℕ))) (fault : TableError) → HasFirstFault file fault → signatures_of file ≡ Err fault
+unfolding signatures_of
+first_fault_given file fault is = rw (is.cut, is.is_header) (stopped with_record gathered AreRows Writes IsFaultAfter turns is.earlier [] is.rows 1 is.fields is.later fault is.write is.are is.has)
+
+pub fault_is_given : (file : List (List (List ℕ))) (fault : TableError) → IsFaultOf file fault → signatures_of file ≡ Err fault
+fault_is_given file fault is = elim is [
+  | inl none ↦ no_header_is_told file none.0 ∙ ap (λ e. Err e) (sym none.1)
+  | inr first ↦ first_fault_given file fault first
 ]

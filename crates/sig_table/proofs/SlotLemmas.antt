@@ -2,7 +2,7 @@
 use Rattle.std.proofs.Common.{◌≡◌, ℕ, ◌+◌, ◌-◌, ◌<◌, ◌≤◌, ◌⊎◌, Bool, true, false, nat_lt, List, [], ◌∷◌, drop, length, min, sym, ◌∙◌, refl, inl, inr, arith, rules, tests, Option, Some, None, is_some, not}
 use Rattle.std.proofs.lemmas.Bool.{cases_Bool}
 use Rattle.std.proofs.lemmas.List.{drop_all}
-use Rattle.sig_table.specs.Allowance.{minus}
+use Rattle.sig_table.specs.Budgets.{minus}
 use Rattle.sig_table.specs.Slots.{between_rows}
 
 -- none behind the second bytes

@@ -14,7 +14,8 @@ use Rattle.sig_table.specs.Canonical.{name_of, named, priority_csv, records_of_s
 use Rattle.sig_table.specs.declared.puid.Puid.{Puid}
 use Rattle.sig_table.specs.declared.row.Row.{Row}
 use Rattle.sig_table.specs.Views.{SequenceView, SignatureView, TableView}
-use Rattle.sig_table.specs.Loading.{fault_in, grown, is_signature_header, records_of, signatures_of, table_from, table_of, with_row}
+use Rattle.sig_table.specs.Judging.{judged}
+use Rattle.sig_table.specs.Loading.{fault_in, grown, is_signature_header, records_of, signatures_of, table_from, table_of, with_row, with_record}
 use Rattle.sig_table.specs.Puids.{puid_text}
 use Rattle.sig_table.specs.Rows.{row_of}
 use Rattle.sig_table.specs.Slots.{slot_count}
@@ -84,7 +85,7 @@ not_below a b h = search (rules, tests)
 -- one row
 step : (n : ℕ) (t t' told : TableView) (fields : List (List ℕ)) (later : List (List (List ℕ))) (row : Row) → row_of n fields ≡ Ok row → fault_in t n row ≡ None → with_row t row ≡ t'
     → table_from (n + 1) t' later ≡ Ok told → table_from n t (fields ∷ later) ≡ Ok told
-unfolding table_from
+unfolding judged with_record
 step n t t' told fields later row is fine more rest = rw (is, fine, more) rest
 
 module _ (formats : List Puid) (k k' format number : ℕ) (puid : Puid) (done : List SignatureView) (turn' : Turn formats k k' format puid) (new : list_any (is_of number) done ≡ false) where
@@ -138,7 +139,7 @@ module _ (formats : List Puid) (all : List SignatureView) (few_formats : length 
   -- the signatures behind the first ones
   signatures : (later done : List SignatureView) (k : ℕ) (met : List ℕ) (n : ℕ) → done ++ later ≡ all → All (IsSignature (length formats)) later → Met (length formats) k met (map (λ s. s.format) later)
       → table_from n (table_with (take k formats) done) (flat_map (records_of_signature formats) later) ≡ Ok (table_with formats all)
-  unfolding table_from
+  unfolding judged with_record
   signatures [] done k met n whole each m =
       let k_is : k ≡ length formats = all_met formats k met m in
       let done_is : done ≡ all = sym (append-nil done) ∙ whole in

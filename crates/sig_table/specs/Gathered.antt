@@ -7,6 +7,7 @@ use Rattle.sig_table.specs.declared.error.TableFile.TheVariants.{Signatures}
 use Rattle.sig_table.specs.declared.puid.Puid.{Puid}
 use Rattle.sig_table.specs.declared.row.Row.{Row}
 use Rattle.sig_table.specs.Views.{SignatureView, TableView}
+use Rattle.sig_table.specs.Judging.{FirstOf, WriteAll}
 use Rattle.sig_table.specs.Loading.{is_signature_header}
 use Rattle.sig_table.specs.Puids.{puid_eq}
 use Rattle.sig_table.specs.Rows.{row_of}
@@ -46,11 +47,9 @@ signature_of rows number = record {
 abbrev pub gathered : List Row → TableView
 gathered rows = record { formats = formats_of rows; signatures = map (signature_of rows) (numbers_of rows); priorities = [] }
 
--- each record writes the row in its place, the first one being the n-th
-abbrev pub Write : ℕ → List (List (List ℕ)) → List Row → Type 0
-Write n [] rows = rows ≡ []
-Write n (fields ∷ later) [] = ⊥
-Write n (fields ∷ later) (row ∷ rows) = (row_of n fields ≡ Ok row) × Write (n + 1) later rows
+-- the record of this number writes the row
+abbrev pub Writes : ℕ → List (List ℕ) → Row → Type 0
+Writes n fields row = row_of n fields ≡ Ok row
 
 -- rows of one table: a number is of one PUID and of at most eight rows, no sequence has too many slots, and there are not too many PUIDs and numbers
 pub record AreRows (rows : List Row) : Type 0 where
@@ -67,7 +66,7 @@ pub record IsTableOf (file : List (List (List ℕ))) (table : TableView) : Type 
   pub cut : file ≡ header ∷ records
   pub is_header : is_signature_header header ≡ true
   pub rows : List Row
-  pub write : Write 1 records rows
+  pub write : WriteAll Writes 1 records rows
   pub are : AreRows rows
   pub gathers : table ≡ gathered rows
 
@@ -89,11 +88,10 @@ IsBeyond rows row = (1000 < length (formats_of (rows ++ row ∷ []))) ⊎ (4000 
 
 -- the fault of the n-th row behind these rows: the first of the four that it has
 abbrev pub IsFaultOfRow : List Row → ℕ → Row → TableError → Type 0
-IsFaultOfRow rows n row (error.SignatureOfTwo at) = (at ≡ n) × IsOfTwo rows row
-IsFaultOfRow rows n row (error.TooManySequences at) = (at ≡ n) × (IsOfTwo rows row → ⊥) × HasEight rows row
-IsFaultOfRow rows n row (error.TooManySlots at) = (at ≡ n) × (IsOfTwo rows row → ⊥) × (HasEight rows row → ⊥) × HasTooManySlots row
-IsFaultOfRow rows n row (error.TooManyFormats at) = (at ≡ n) × (IsOfTwo rows row → ⊥) × (HasEight rows row → ⊥) × (HasTooManySlots row → ⊥) × IsBeyond rows row
-IsFaultOfRow rows n row _ = ⊥
+IsFaultOfRow rows n row =
+    FirstOf (IsOfTwo rows row) (error.SignatureOfTwo n)
+    (FirstOf (HasEight rows row) (error.TooManySequences n)
+    (FirstOf (HasTooManySlots row) (error.TooManySlots n) (λ e. IsBeyond rows row × (e ≡ error.TooManyFormats n))))
 
 -- the fault of the n-th record behind these rows: it writes no row, or one with a fault
 abbrev pub IsFaultAfter : List Row → ℕ → List (List ℕ) → TableError → Type 0
@@ -108,7 +106,7 @@ pub record HasFirstFault (file : List (List (List ℕ))) (fault : TableError) : 
   pub cut : file ≡ header ∷ (earlier ++ fields ∷ later)
   pub is_header : is_signature_header header ≡ true
   pub rows : List Row
-  pub write : Write 1 earlier rows
+  pub write : WriteAll Writes 1 earlier rows
   pub are : AreRows rows
   pub has : IsFaultAfter rows (1 + length earlier) fields fault
 

@@ -1,24 +1,29 @@
--- The definitions of this crate, and those of the crates below that its clauses cite.
-pub mod Allowance
+-- What a reader must trust: the definitions of the theorems.
 pub mod Canonical
-pub mod Drafts
-pub mod FormatSets
 pub mod Gathered
-pub mod Lines
+pub mod Judging
 pub mod Loading
 pub mod Numbers
 pub mod Places
 pub mod PriorityRows
 pub mod Puids
 pub mod Ranking
-pub mod Rankings
-pub mod Remaining
 pub mod Removal
 pub mod Rows
+pub mod RowTexts
 pub mod Slots
 pub mod Standing
 pub mod Tables
 pub mod Views
+-- The vocabulary of proofs: what private types keep.
+pub mod Budgets
+pub mod CsvTexts
+pub mod Drafts
+pub mod FormatSets
+pub mod RankingViews
+pub mod Records
+pub mod Remaining
+-- The definitions of the crates below that clauses cite.
 pub use Rattle.sig_bits.specs.BitSets
 pub use Rattle.sig_bits.specs.Bytes
 pub use Rattle.sig_expr.specs.Words

@@ -1,5 +1,5 @@
 -- The table of two lists of records, or their first fault.
-use Rattle.std.specs.Prelude.{ℕ, ◌+◌, ◌==◌, ◌&&◌, ◌||◌, not, find, nat_eq, nat_le, nat_lt, Bool, true, false, if◌then◌else◌, List, [], ◌∷◌, ◌++◌, length, codes, position, Option, Some, None, Result, Ok, Err}
+use Rattle.std.specs.Prelude.{ℕ, ◌==◌, ◌&&◌, ◌||◌, not, find, nat_eq, nat_le, nat_lt, Bool, true, false, if◌then◌else◌, List, [], ◌∷◌, ◌++◌, length, codes, position, Option, Some, None, Result, Ok, Err}
 use Rattle.std.specs.List.{list_any, position_or_len}
 use Rattle.std.specs.Option.{ok_or}
 use Rattle.indexmap.specs.IndexSet.{insert_key}
@@ -13,7 +13,8 @@ use Rattle.sig_table.specs.Views.{SequenceView, SignatureView, TableView}
 use Rattle.sig_table.specs.Puids.{puid_eq, puid_of}
 use Rattle.sig_table.specs.Ranking.{is_above}
 use Rattle.sig_table.specs.Slots.{slot_count}
-use Rattle.sig_table.specs.Rows.{◌>>=◌, is_word, row_of, text_at}
+use Rattle.sig_table.specs.Judging.{◌>>=◌, judged, unless}
+use Rattle.sig_table.specs.Rows.{is_word, row_of, text_at}
 
 -- the records of a text, as `csv` gives them with its default dialect
 unfoldable pub records_of : List ℕ → List (List (List ℕ))
@@ -79,16 +80,13 @@ with_row table row = record {
   priorities = table.priorities;
 }
 
--- go on where there is no fault
-abbrev pub unless : {A : Type 0} → Option TableError → Result A TableError → Result A TableError
-unless None rest = rest
-unless (Some fault) rest = Err fault
+-- the table with the row of a record
+unfoldable pub with_record : ℕ → TableView → List (List ℕ) → Result TableView TableError
+with_record n table fields = row_of n fields >>= (λ row. unless (fault_in table n row) (Ok (with_row table row)))
 
 -- the table with these records, which are counted on
-unfoldable pub table_from : ℕ → TableView → List (List (List ℕ)) → Result TableView TableError
-table_from n table [] = Ok table
-table_from n table (fields ∷ later) =
-    row_of n fields >>= (λ row. unless (fault_in table n row) (table_from (n + 1) (with_row table row) later))
+abbrev pub table_from : ℕ → TableView → List (List (List ℕ)) → Result TableView TableError
+table_from n table records = judged with_record n table records
 
 -- no row
 abbrev pub empty_table : TableView
@@ -141,11 +139,13 @@ pair_fault pairs n pair =
     if is_listed pairs pair then Some (error.PriorityTwice n)
     else (if is_above pairs pair.1 pair.0 then Some (error.PriorityCycle n) else None)
 
+-- the pairs with that of a record
+unfoldable pub with_pair : List Puid → ℕ → List (ℕ × ℕ) → List (List ℕ) → Result (List (ℕ × ℕ)) TableError
+with_pair formats n pairs fields = pair_of formats n fields >>= (λ pair. unless (pair_fault pairs n pair) (Ok (pairs ++ pair ∷ [])))
+
 -- the pairs with these records, which are counted on
-unfoldable pub pairs_from : List Puid → ℕ → List (ℕ × ℕ) → List (List (List ℕ)) → Result (List (ℕ × ℕ)) TableError
-pairs_from formats n pairs [] = Ok pairs
-pairs_from formats n pairs (fields ∷ later) =
-    pair_of formats n fields >>= (λ pair. unless (pair_fault pairs n pair) (pairs_from formats (n + 1) (pairs ++ pair ∷ []) later))
+abbrev pub pairs_from : List Puid → ℕ → List (ℕ × ℕ) → List (List (List ℕ)) → Result (List (ℕ × ℕ)) TableError
+pairs_from formats n pairs records = judged (with_pair formats) n pairs records
 
 -- the pairs of a priority file in the order of their rows, or its first fault
 unfoldable pub pairs_of : List Puid → List (List (List ℕ)) → Result (List (ℕ × ℕ)) TableError

@@ -4,15 +4,14 @@ use Rattle.sig_table.specs.declared.error.TableError.{TableError}
 use Rattle.sig_table.specs.declared.error.TableError.TheVariants as error
 use Rattle.sig_table.specs.declared.error.TableFile.TheVariants.{Priorities}
 use Rattle.sig_table.specs.declared.puid.Puid.{Puid}
+use Rattle.sig_table.specs.Judging.{FirstOf, WriteAll}
 use Rattle.sig_table.specs.Loading.{is_priority_header, pair_of}
 use Rattle.sig_table.specs.Ranking.{IsAbove}
 use Rattle.sig_table.specs.Tables.{ArePriorities}
 
--- each record writes the pair in its place, the first one being the n-th
-abbrev pub WritePairs : List Puid → ℕ → List (List (List ℕ)) → List (ℕ × ℕ) → Type 0
-WritePairs formats n [] pairs = pairs ≡ []
-WritePairs formats n (fields ∷ later) [] = ⊥
-WritePairs formats n (fields ∷ later) (pair ∷ pairs) = (pair_of formats n fields ≡ Ok pair) × WritePairs formats (n + 1) later pairs
+-- the record of this number writes the pair
+abbrev pub WritesPair : List Puid → ℕ → List (List ℕ) → ℕ × ℕ → Type 0
+WritesPair formats n fields pair = pair_of formats n fields ≡ Ok pair
 
 -- behind a header, each record writes a pair, and these are priorities: none stands twice, and they make no cycle
 pub record ArePairsOf (formats : List Puid) (file : List (List (List ℕ))) (pairs : List (ℕ × ℕ)) : Type 0 where
@@ -20,7 +19,7 @@ pub record ArePairsOf (formats : List Puid) (file : List (List (List ℕ))) (pai
   pub records : List (List (List ℕ))
   pub cut : file ≡ header ∷ records
   pub is_header : is_priority_header header ≡ true
-  pub write : WritePairs formats 1 records pairs
+  pub write : WriteAll (WritesPair formats) 1 records pairs
   pub are : ArePriorities (length formats) pairs
 
 -- a list of formats, each outranking the next, the last the first
@@ -29,8 +28,7 @@ HasCycle pairs = (f : ℕ) × IsAbove pairs f f
 
 -- the fault of the pair of the n-th record behind these pairs: it is one of them, or else makes a cycle with them
 abbrev pub IsFaultOfPair : List (ℕ × ℕ) → ℕ → ℕ × ℕ → TableError → Type 0
-IsFaultOfPair pairs n pair fault =
-    (Contains pairs pair × (fault ≡ error.PriorityTwice n)) ⊎ ((Contains pairs pair → ⊥) × HasCycle (pairs ++ pair ∷ []) × (fault ≡ error.PriorityCycle n))
+IsFaultOfPair pairs n pair = FirstOf (Contains pairs pair) (error.PriorityTwice n) (λ e. HasCycle (pairs ++ pair ∷ []) × (e ≡ error.PriorityCycle n))
 
 -- the fault of the n-th record behind these pairs: it writes no pair, or one with a fault
 abbrev pub IsPairFault : List Puid → List (ℕ × ℕ) → ℕ → List (List ℕ) → TableError → Type 0
@@ -45,7 +43,7 @@ pub record HasFirstPairFault (formats : List Puid) (file : List (List (List ℕ)
   pub cut : file ≡ header ∷ (earlier ++ fields ∷ later)
   pub is_header : is_priority_header header ≡ true
   pub pairs : List (ℕ × ℕ)
-  pub write : WritePairs formats 1 earlier pairs
+  pub write : WriteAll (WritesPair formats) 1 earlier pairs
   pub are : ArePriorities (length formats) pairs
   pub has : IsPairFault formats pairs (1 + length earlier) fields fault
 

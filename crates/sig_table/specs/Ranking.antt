@@ -1,5 +1,14 @@
 -- Pairs of which the first format outranks the second, and the ways down that they make.
 use Rattle.std.specs.Prelude.{ℕ, ◌&&◌, ◌||◌, nat_eq, Bool, false, List, [], ◌∷◌, Contains}
+use Rattle.std.specs.List.{list_any}
+
+-- the first format outranks the second: the pair is listed, and none is implied by others
+abbrev pub Outranks : List (ℕ × ℕ) → ℕ → ℕ → Type 0
+Outranks pairs higher lower = Contains pairs (higher, lower)
+
+-- whether it does
+abbrev pub ranks : List (ℕ × ℕ) → ℕ → ℕ → Bool
+ranks pairs higher lower = list_any (λ pair. nat_eq pair.0 higher && nat_eq pair.1 lower) pairs
 
 -- from the one format over these down to the other, each step a listed pair
 abbrev pub WayDown : List (ℕ × ℕ) → ℕ → List ℕ → ℕ → Type 0

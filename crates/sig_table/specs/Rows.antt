@@ -1,6 +1,5 @@
 -- What a row of the signature file spells, or its first fault.
-use Rattle.std.specs.Prelude.{◌≡◌, ◌&&◌, ◌||◌, not, ℕ, ◌==◌, nat_eq, nat_lt, Bool, true, false, if◌then◌else◌, List, [], length, codes, Option, Some, None, unwrap_or, Result, Ok, Err}
-use Rattle.std.specs.Bool.{OnFalse}
+use Rattle.std.specs.Prelude.{◌&&◌, ℕ, ◌==◌, nat_eq, nat_lt, Bool, if◌then◌else◌, List, [], length, codes, Option, Some, None, unwrap_or, Result, Ok, Err}
 use Rattle.std.specs.Cmp.Lexicographic.{pointwise}
 use Rattle.std.specs.Option.{ok_or}
 use Rattle.csv.specs.Records.{field_at}
@@ -14,44 +13,10 @@ use Rattle.sig_table.specs.declared.error.TableFile.TheVariants.{Signatures}
 use Rattle.sig_table.specs.declared.position.Position.{Position}
 use Rattle.sig_table.specs.declared.position.Position.TheVariants as position
 use Rattle.sig_table.specs.declared.row.Row.{Row}
+use Rattle.sig_table.specs.Judging.{◌>>=◌}
 use Rattle.sig_table.specs.Numbers.{number_of, positive_of}
 use Rattle.sig_table.specs.Puids.{puid_of}
 use Rattle.sig_table.specs.Tables.{InOrder, IsNumber}
-
-infixl 10 ◌>>=◌
--- a value read on, or the fault that is there
-abbrev pub ◌>>=◌ : {A B : Type 0} → Result A TableError → (A → Result B TableError) → Result B TableError
-Ok x >>= f = f x
-Err e >>= f = Err e
-
--- a failed read
-abbrev pub is_read : TableError → Bool
-is_read (error.Read file) = true
-is_read _ = false
-
--- want of memory
-abbrev pub is_memory : TableError → Bool
-is_memory error.OutOfMemory = true
-is_memory _ = false
-
--- a fault of what a file holds
-abbrev pub is_judged : TableError → Bool
-is_judged e = not (is_read e || is_memory e)
-
--- the refusal is the one that is told, unless memory ran out
-pub record IsFault {A : Type 0} (told : Result A TableError) (fault : TableError) : Type 0 where
-  pub no_read : is_read fault ≡ false
-  pub told_so : OnFalse (is_memory fault) (told ≡ Err fault)
-
--- what is answered of records in memory, where this is to be told
-abbrev pub Judges : {A : Type 0} → Result A TableError → Result A TableError → Type 0
-Judges (Ok x) told = told ≡ Ok x
-Judges (Err e) told = IsFault told e
-
--- the same of files, where a failed read too may take its place
-abbrev pub Tells : {A : Type 0} → Result A TableError → Result A TableError → Type 0
-Tells (Ok x) told = told ≡ Ok x
-Tells (Err e) told = OnFalse (is_read e || is_memory e) (told ≡ Err e)
 
 -- the field at a place
 abbrev pub text_at : List (List ℕ) → ℕ → List ℕ

@@ -4,14 +4,16 @@
 
 ghost use Rattle.std.specs.Prelude.{◌≡◌, ◌<◌, ◌≤◌, ◌∷◌, ◌++◌, ℕ, [], false, length, nat_eq, not, OnOk, MatchResult, None, Some, Ok, IfOk, IfErr, IfSome};
 ghost use Rattle.std.specs.List.{list_any, position_or_len};
-ghost use Rattle.sig_table.specs.Loading.{empty_table, fault_at, fault_in, grown, place_in, unless, with_number, with_row};
-ghost use Rattle.sig_table.specs.Rows.{IsFault, IsRow, is_read};
+ghost use Rattle.sig_table.specs.Judging.{unless};
+ghost use Rattle.sig_table.specs.Loading.{empty_table, fault_at, fault_in, grown, place_in, with_number, with_row};
+ghost use Rattle.sig_table.specs.Judging.{IsFault, is_read};
+ghost use Rattle.sig_table.specs.Rows.{IsRow};
 ghost use Rattle.sig_table.specs.Tables.{ArePriorities, HasAllSignatures};
 
-use super::row::Row;
-use super::slots::has_too_many_slots;
-use super::table::Signature;
-use super::{FormatId, Puid, Sequence, Table, TableError};
+use crate::row::Row;
+use crate::slots::has_too_many_slots;
+use crate::table::Signature;
+use crate::{FormatId, Puid, Sequence, Table, TableError};
 use indexmap::IndexSet;
 use std::alloc::{AllocError, Global};
 use std::marker::Model;
@@ -59,61 +61,66 @@ impl Draft {
     }
 
     // Judges the row after those so far, and adds it.
-    pub(crate) fn add(self, alloc: Global, row: Row, n: usize) -> Result<Draft, TableError>
+    pub(crate) fn add(self, alloc: Global, row: Row, row_number: usize) -> Result<Draft, TableError>
         requires { IsRow row }
         ensures { MatchResult result
-            (λ draft. (fault_in self n row ≡ None) × (draft ≡ with_row self row))
-            (λ e. IsFault (unless (fault_in self n row) (Ok self)) e) }
+            (λ draft. (fault_in self row_number row ≡ None) × (draft ≡ with_row self row))
+            (λ e. IsFault (unless (fault_in self row_number row) (Ok self)) e) }
     {
-        if let Some(fault) = self.fault(&row, n) {
+        if let Some(fault) = self.fault(&row, row_number) {
             return Err(fault);
         }
         self.insert(alloc, row)
     }
 
     // The first fault of the row.
-    fn fault(&self, row: &Row, n: usize) -> Option<TableError>
-        ensures fault { result ≡ fault_in self.now n row.now }
+    fn fault(&self, row: &Row, row_number: usize) -> Option<TableError>
+        ensures fault { result ≡ fault_in self.now row_number row.now }
         ensures no_read { IfSome result (λ e. is_read e ≡ false) }
     {
         match self.numbers.get_index_of(&row.number) {
-            Some(place) => self.fault_of_more(&self.signatures[place], row, n),
-            None => self.fault_of_new(row, n),
+            Some(place) => self.fault_of_more(&self.signatures[place], row, row_number),
+            None => self.fault_of_new(row, row_number),
         }
     }
 
     // The first fault of the row, which adds to the signature.
-    fn fault_of_more(&self, signature: &Signature, row: &Row, n: usize) -> Option<TableError>
+    fn fault_of_more(
+        &self,
+        signature: &Signature,
+        row: &Row,
+        row_number: usize,
+    ) -> Option<TableError>
         requires { signature.now.format < length self.now.formats }
-        ensures fault { result ≡ fault_at (Some signature.now) self.now n row.now }
+        ensures fault { result ≡ fault_at (Some signature.now) self.now row_number row.now }
         ensures no_read { IfSome result (λ e. is_read e ≡ false) }
     {
         let format = signature.format().0 as usize;
         if self.puids.get_index_of(&row.puid) != Some(format) {
-            return Some(TableError::SignatureOfTwo { row: n });
+            return Some(TableError::SignatureOfTwo { row: row_number });
         }
         if signature.sequence_count() >= MOST_SEQUENCES {
-            return Some(TableError::TooManySequences { row: n });
+            return Some(TableError::TooManySequences { row: row_number });
         }
         if has_too_many_slots(&row.sequence) {
-            return Some(TableError::TooManySlots { row: n });
+            return Some(TableError::TooManySlots { row: row_number });
         }
         None
     }
 
     // The first fault of the row, where its signature is not there.
-    fn fault_of_new(&self, row: &Row, n: usize) -> Option<TableError>
-        ensures fault { result ≡ fault_at None self.now n row.now }
+    fn fault_of_new(&self, row: &Row, row_number: usize) -> Option<TableError>
+        ensures fault { result ≡ fault_at None self.now row_number row.now }
         ensures no_read { IfSome result (λ e. is_read e ≡ false) }
     {
         if has_too_many_slots(&row.sequence) {
-            return Some(TableError::TooManySlots { row: n });
+            return Some(TableError::TooManySlots { row: row_number });
         }
         if self.puids.len() >= MOST_FORMATS && !self.puids.contains(&row.puid) {
-            return Some(TableError::TooManyFormats { row: n });
+            return Some(TableError::TooManyFormats { row: row_number });
         }
         if self.signatures.len() >= MOST_SIGNATURES {
-            return Some(TableError::TooManyFormats { row: n });
+            return Some(TableError::TooManyFormats { row: row_number });
         }
         None
     }
@@ -121,7 +128,7 @@ impl Draft {
     // Adds a row that has no fault.
     fn insert(self, alloc: Global, row: Row) -> Result<Draft, TableError>
         requires read { IsRow row }
-        requires judged { (n : ℕ) × (fault_in self n row ≡ None) }
+        requires judged { (row_number : ℕ) × (fault_in self row_number row ≡ None) }
         ensures row { IfOk result (λ draft. draft ≡ with_row self row) }
         ensures memory { IfErr result (λ e. e ≡ TableError.OutOfMemory) }
     {
@@ -137,11 +144,11 @@ impl Draft {
             return Err(TableError::OutOfMemory);
         };
         let format = FormatId(format as u16);
-        if enroll(alloc, &mut signatures, is_new, format, row.number).is_err() {
+        if push_new_signature(alloc, &mut signatures, is_new, format, row.number).is_err() {
             return Err(TableError::OutOfMemory);
         }
         let sequence = Sequence::new(row.sequence);
-        if grow(&mut signatures, place, row.number, sequence).is_err() {
+        if push_sequence(&mut signatures, place, row.number, sequence).is_err() {
             return Err(TableError::OutOfMemory);
         }
         Ok(Draft {
@@ -151,7 +158,7 @@ impl Draft {
         })
     }
 
-    // The place of the format of this name.
+    // The index of the format of this name.
     pub(crate) fn place_of(&self, puid: &Puid) -> Option<u16>
         ensures place { result ≡ place_in self.now.formats puid.now }
         ensures within { IfSome result (λ place. place < length self.now.formats) }
@@ -191,7 +198,7 @@ impl Draft {
 }
 
 // Adds a signature of the number, where it is new.
-fn enroll(
+fn push_new_signature(
     alloc: Global,
     signatures: &mut Vec<Signature>,
     is_new: bool,
@@ -208,7 +215,7 @@ fn enroll(
 }
 
 // Adds the sequence to the signature of the number, which is at the place.
-fn grow(
+fn push_sequence(
     signatures: &mut Vec<Signature>,
     place: usize,
     number: u32,

@@ -1,37 +1,48 @@
 //! Laws of tables and their texts.
 
-ghost use Rattle.std.specs.Prelude.{◌≡◌, ℕ, List, [], Err, Ok};
+ghost use Rattle.std.specs.Prelude.{◌≡◌, ◌↔◌, ℕ, ◌<◌, List, [], Contains, length, Err, Ok};
 ghost use Rattle.sig_table.specs.declared.error.TableError.{TableError};
 ghost use Rattle.sig_table.specs.declared.puid.Puid.{Puid};
+ghost use Rattle.sig_table.specs.declared.row.Row.{Row};
+ghost use Rattle.sig_table.specs.Rows.{row_of};
+ghost use Rattle.sig_table.specs.RowTexts.{RowText};
 ghost use Rattle.sig_table.specs.Canonical.{priority_csv, signature_csv};
 ghost use Rattle.sig_table.specs.Gathered.{IsFaultOf, IsTableOf};
 ghost use Rattle.sig_table.specs.Views.{TableView};
 ghost use Rattle.sig_table.specs.Loading.{pairs_of, records_of, signatures_of, table_of};
 ghost use Rattle.sig_table.specs.PriorityRows.{ArePairsOf, IsPriorityFaultOf};
+ghost use Rattle.sig_table.specs.Ranking.{NoCycle, Outranks};
 ghost use Rattle.sig_table.specs.Tables.{HasAllSignatures, IsTable};
 
 /// The table of a signature file is that of its rows: the different PUIDs and numbers in order of
-/// first row, and for each number its rows' sequences in row order. No row has a fault.
+/// first row, and for each number its rows' sequences in row order. No row has a fault. And each
+/// table of rows without a fault is given.
 pub fn rows_are_gathered()
-    ensures { (file : List (List (List ℕ))) (table : TableView) → signatures_of file ≡ Ok table → IsTableOf file table }
+    ensures { (file : List (List (List ℕ))) (table : TableView) → signatures_of file ≡ Ok table ↔ IsTableOf file table }
 {}
 
 /// A refused signature file has no header, or a first faulty row: those before it make a table, and
-/// the fault that is told is the first that the row has.
+/// the fault is the first that the row has. And each such fault is given.
 pub fn first_fault_is_told()
-    ensures { (file : List (List (List ℕ))) (fault : TableError) → signatures_of file ≡ Err fault → IsFaultOf file fault }
+    ensures { (file : List (List (List ℕ))) (fault : TableError) → signatures_of file ≡ Err fault ↔ IsFaultOf file fault }
+{}
+
+/// A record gives a row exactly where its fields are the texts of the row's parts.
+pub fn rows_are_spelled()
+    ensures { (row_number : ℕ) (fields : List (List ℕ)) (row : Row) → row_of row_number fields ≡ Ok row ↔ RowText fields row }
 {}
 
 /// The pairs of a priority file are those of its rows, in their order: none stands twice, and they
-/// make no cycle.
+/// make no cycle. And all such pairs are given.
 pub fn pairs_are_listed()
-    ensures { (formats : List Puid) (file : List (List (List ℕ))) (pairs : List (ℕ × ℕ)) → pairs_of formats file ≡ Ok pairs → ArePairsOf formats file pairs }
+    ensures { (formats : List Puid) (file : List (List (List ℕ))) (pairs : List (ℕ × ℕ)) → pairs_of formats file ≡ Ok pairs ↔ ArePairsOf formats file pairs }
 {}
 
 /// A refused priority file has no header, or a first faulty row: those before it give priorities, and
-/// it writes no pair, or one of theirs, or else one that makes a cycle with them.
+/// it writes no pair, or one of theirs, or else one that makes a cycle with them. And each such
+/// fault is given.
 pub fn first_priority_fault_is_told()
-    ensures { (formats : List Puid) (file : List (List (List ℕ))) (fault : TableError) → pairs_of formats file ≡ Err fault → IsPriorityFaultOf formats file fault }
+    ensures { (formats : List Puid) (file : List (List (List ℕ))) (fault : TableError) → pairs_of formats file ≡ Err fault ↔ IsPriorityFaultOf formats file fault }
 {}
 
 /// Loading what was written gives the same table, where each format has a signature.
@@ -43,4 +54,10 @@ pub fn written_is_loaded()
 
     // Both files give the table.
     ensures table { (t : TableView) → IsTable t → HasAllSignatures t → table_of (records_of (signature_csv t)) (records_of (priority_csv t)) ≡ Ok t }
+{}
+
+/// Where pairs make no cycle, every nonempty list of formats has a member that no member outranks.
+pub fn some_is_not_outranked()
+    ensures { (pairs : List (ℕ × ℕ)) (formats : List ℕ) → NoCycle pairs → 0 < length formats
+        → (f : ℕ) × Contains formats f × ((g : ℕ) → Contains formats g → ¬ Outranks pairs g f) }
 {}

@@ -4,12 +4,12 @@
 //! sequence stands in a file and a signature hits it in `specs/Standing.antt`.
 #![tactic(auto)]
 
+mod csv_text;
 mod draft;
 mod error;
 mod format_set;
 mod ids;
 mod laws;
-mod lines;
 mod loader;
 mod numbers;
 mod position;
@@ -29,7 +29,7 @@ pub use error::{OutError, TableError, TableFile};
 pub use ids::{FormatId, SigId};
 pub use laws::{
     first_fault_is_told, first_priority_fault_is_told, pairs_are_listed, rows_are_gathered,
-    written_is_loaded,
+    rows_are_spelled, some_is_not_outranked, written_is_loaded,
 };
 pub use position::Position;
 pub use puid::{Puid, Registry};

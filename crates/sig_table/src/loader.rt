@@ -1,20 +1,20 @@
 //! From the two files to the table.
 
-ghost use Rattle.std.specs.Prelude.{◌≡◌, ◌<◌, ◌⊎◌, [], List, ℕ, length, Some, map, true, false, Ok, Err, OnOk, IfOk, IfErr, IfSome, IsErrOf, MatchResult};
+ghost use Rattle.std.specs.Prelude.{◌≡◌, ◌<◌, ◌⊎◌, [], List, ℕ, length, Some, true, false, Ok, Err, OnOk, IfOk, IfErr, IfSome, IsErr, IsErrOf, IsTrue, MatchResult};
 ghost use Rattle.csv.specs.Records.{fields_of};
 ghost use Rattle.sig_bits.specs.Device.{IsAtEnd};
-ghost use Rattle.sig_table.specs.Loading.{is_of_signatures, is_priority_header, is_signature_header, empty_table, pair_of, pairs_from, pairs_of, place_in, records_of, signatures_of, table_from, table_of};
-ghost use Rattle.sig_table.specs.Rows.{IsFault, Tells, is_judged, is_read};
+ghost use Rattle.sig_table.specs.Loading.{is_of_signatures, is_priority_header, is_signature_header, empty_table, pair_of, pairs_from, pairs_of, place_in, records_of, signatures_of, table_from, table_of, with_pair, with_record};
+ghost use Rattle.sig_table.specs.Judging.{IsFault, Exact, is_judged, is_read};
 ghost use Rattle.sig_table.specs.Tables.{ArePriorities, HasAllSignatures};
 ghost use Rattle.std.specs.Option.{ok_or};
 ghost use Rattle.sig_table.specs.declared.row.Row.{Row};
 ghost use Rattle.sig_table.specs.declared.error.TableError.{TableError};
 
-use super::draft::Draft;
-use super::ranking::Ranking;
-use super::records::all_records;
-use super::row::{field, read_puid, read_row};
-use super::{Puid, Table, TableError, TableFile};
+use crate::draft::Draft;
+use crate::ranking::Ranking;
+use crate::records::Records;
+use crate::row::{field, read_puid, read_row};
+use crate::{Puid, Table, TableError, TableFile};
 use csv::ByteRecord;
 use indexmap::IndexSet;
 use sig_bits::{Input, ReadWholeError, read_whole};
@@ -31,14 +31,14 @@ impl Table {
     ) -> Result<Table, TableError>
         // The table of the records, or their first fault.
         ensures exact { (s p : List ℕ) → A.to_come signatures.old ≡ Some s → B.to_come priorities.old ≡ Some p
-            → Tells result (table_of (records_of s) (records_of p)) }
+            → Exact result (table_of (records_of s) (records_of p)) }
 
         // Each format has a signature.
         ensures whole { IfOk result (λ table. HasAllSignatures table) }
 
-        // A fault of the signature file is told by that file alone, and leaves the other as it was.
+        // A fault of the signature file is found in that file alone, and leaves the other as it was.
         ensures first { (s : List ℕ) (fault : TableError) → A.to_come signatures.old ≡ Some s → signatures_of (records_of s) ≡ Err fault
-            → Tells result (Err fault) × (IsErrOf result (TableError.Read TableFile.Priorities) → ⊥) × (priorities.new ≡ priorities.old) }
+            → Exact result (Err fault) × (IsErrOf result (TableError.Read TableFile.Priorities) → ⊥) × (priorities.new ≡ priorities.old) }
         ensures untouched { IfErr result (λ e. is_of_signatures e ≡ true → priorities.new ≡ priorities.old) }
 
         // A file is judged once it was read to its end.
@@ -46,12 +46,16 @@ impl Table {
         ensures judged_both { IfErr result (λ e. is_judged e ≡ true → is_of_signatures e ≡ false → (B.failed priorities.new ≡ false) × IsAtEnd (B.to_come priorities.new)) }
         ensures at_end { OnOk result (IsAtEnd (A.to_come signatures.new) × IsAtEnd (B.to_come priorities.new)) }
 
-        // A failed read is told, and only a failed read.
+        // A failed read is reported, and only a failed read.
         ensures sound { OnOk result ((A.failed signatures.new ≡ false) × (B.failed priorities.new ≡ false)) }
         ensures read_signatures { IsErrOf result (TableError.Read TableFile.Signatures) → A.failed signatures.new ≡ true }
         ensures read_priorities { IsErrOf result (TableError.Read TableFile.Priorities) → (A.failed signatures.new ≡ false) × (B.failed priorities.new ≡ true) }
-        ensures memory_signatures { IsErrOf result TableError.OutOfMemory → A.failed signatures.old ≡ false → A.failed signatures.new ≡ false }
-        ensures memory_priorities { IsErrOf result TableError.OutOfMemory → B.failed priorities.old ≡ false → B.failed priorities.new ≡ false }
+        ensures memory_signatures { IsErrOf result TableError.OutOfMemory → A.failed signatures.new ≡ A.failed signatures.old }
+        ensures memory_priorities { IsErrOf result TableError.OutOfMemory → B.failed priorities.new ≡ B.failed priorities.old }
+
+        // An input that failed before makes no table.
+        ensures stays_failed_signatures { IsTrue (A.failed signatures.old) → IsErr result }
+        ensures stays_failed_priorities { IsTrue (B.failed priorities.old) → IsErr result }
     {
         let text = read_text(alloc, signatures, TableFile::Signatures)?;
         let draft = read_signatures(alloc, &text)?;
@@ -66,6 +70,7 @@ fn read_text<R: Input>(alloc: Global, input: &mut R, file: TableFile) -> Result<
     ensures text { IfOk result (λ t. IfSome (R.to_come input.old) (λ all. t.items ≡ all)) }
     ensures at_end { OnOk result (IsAtEnd (R.to_come input.new)) }
     ensures sound { OnOk result (R.failed input.new ≡ false) }
+    ensures was_sound { OnOk result (R.failed input.old ≡ false) }
     ensures fault { IfErr result (λ e. ((e ≡ TableError.OutOfMemory) × (R.failed input.new ≡ R.failed input.old)) ⊎ ((e ≡ TableError.Read file) × (R.failed input.new ≡ true))) }
 {
     match read_whole(alloc, input) {
@@ -76,46 +81,54 @@ fn read_text<R: Input>(alloc: Global, input: &mut R, file: TableFile) -> Result<
 }
 
 // The formats and signatures of the signature file.
+#[tactic(auto, unfolding(crate::specs::Loading::signatures_of))]
 fn read_signatures(alloc: Global, text: &[u8]) -> Result<Draft, TableError>
     ensures { MatchResult result
         (λ draft. signatures_of (records_of text.now) ≡ Ok draft)
         (λ e. IsFault (signatures_of (records_of text.now)) e) }
 {
-    let records = all_records(alloc, text)?;
-    judge_signatures(alloc, &records)
-}
-
-// The formats and signatures of the records, whose first is to be the header.
-#[tactic(auto, unfolding(crate::specs::Loading::signatures_of))]
-fn judge_signatures(alloc: Global, records: &[ByteRecord]) -> Result<Draft, TableError>
-    ensures { MatchResult result
-        (λ draft. signatures_of (map fields_of records.now) ≡ Ok draft)
-        (λ e. IsFault (signatures_of (map fields_of records.now)) e) }
-{
-    let fault = TableError::Header {
-        file: TableFile::Signatures,
-    };
-    let Some((header, rows)) = records.split_first() else {
-        return Err(fault);
-    };
-    if !is_signature_header(header) {
-        return Err(fault);
+    let mut records = Records::new(alloc, text);
+    let mut header = ByteRecord::new(alloc);
+    let found = records.read(&mut header)?;
+    if found && is_signature_header(&header) {
+        return read_rows(alloc, records);
     }
-    read_rows(alloc, rows)
+    Err(TableError::Header {
+        file: TableFile::Signatures,
+    })
 }
 
-// The rows in turn, each judged after those before it.
-fn read_rows(alloc: Global, records: &[ByteRecord]) -> Result<Draft, TableError>
+// The rows in turn, each judged after those before it. No memory holds more of them than a number.
+fn read_rows(alloc: Global, mut records: Records) -> Result<Draft, TableError>
     ensures { MatchResult result
-        (λ draft. table_from 1 empty_table (map fields_of records.now) ≡ Ok draft)
-        (λ e. IsFault (table_from 1 empty_table (map fields_of records.now)) e) }
+        (λ draft. table_from 1 empty_table records.entry ≡ Ok draft)
+        (λ e. IsFault (table_from 1 empty_table records.entry) e) }
 {
     let mut draft = Draft::new(alloc);
-    for (i, line) in records.iter().enumerate() {
-        let row = read_row(alloc, line, i + 1)?;
-        draft = draft.add(alloc, row, i + 1)?;
+    let mut record = ByteRecord::new(alloc);
+    for row_number in 1..usize::MAX {
+        let found = records.read(&mut record)?;
+        if !found {
+            return Ok(draft);
+        }
+        draft = add_row(alloc, draft, &record, row_number)?;
     }
-    Ok(draft)
+    Err(TableError::OutOfMemory)
+}
+
+// The draft with the row of the record.
+fn add_row(
+    alloc: Global,
+    draft: Draft,
+    fields: &ByteRecord,
+    row_number: usize,
+) -> Result<Draft, TableError>
+    ensures { MatchResult result
+        (λ more. with_record row_number draft (fields_of fields.now) ≡ Ok more)
+        (λ e. IsFault (with_record row_number draft (fields_of fields.now)) e) }
+{
+    let row = read_row(alloc, fields, row_number)?;
+    draft.add(alloc, row, row_number)
 }
 
 // Whether the record is the header of a signature file.
@@ -132,6 +145,7 @@ fn is_signature_header(line: &ByteRecord) -> bool
 }
 
 // The pairs of the priority file.
+#[tactic(auto, unfolding(crate::specs::Loading::pairs_of))]
 fn read_priorities(
     alloc: Global,
     draft: &Draft,
@@ -142,53 +156,57 @@ fn read_priorities(
         (λ e. (is_of_signatures e ≡ false) × IsFault (pairs_of draft.now.formats (records_of text.now)) e) }
     ensures limits { IfOk result (λ pairs. ArePriorities (length draft.now.formats) pairs.keys) }
 {
-    let records = all_records(alloc, text)?;
-    judge_priorities(alloc, draft, &records)
-}
-
-// The pairs of the records, whose first is to be the header.
-#[tactic(auto, unfolding(crate::specs::Loading::pairs_of))]
-fn judge_priorities(
-    alloc: Global,
-    draft: &Draft,
-    records: &[ByteRecord],
-) -> Result<IndexSet<(u16, u16)>, TableError>
-    ensures pairs { MatchResult result
-        (λ pairs. pairs_of draft.now.formats (map fields_of records.now) ≡ Ok pairs.keys)
-        (λ e. (is_of_signatures e ≡ false) × IsFault (pairs_of draft.now.formats (map fields_of records.now)) e) }
-    ensures limits { IfOk result (λ pairs. ArePriorities (length draft.now.formats) pairs.keys) }
-{
-    let fault = TableError::Header {
-        file: TableFile::Priorities,
-    };
-    let Some((header, rows)) = records.split_first() else {
-        return Err(fault);
-    };
-    if !is_priority_header(header) {
-        return Err(fault);
+    let mut records = Records::new(alloc, text);
+    let mut header = ByteRecord::new(alloc);
+    let found = records.read(&mut header)?;
+    if found && is_priority_header(&header) {
+        return read_pairs(alloc, draft, records);
     }
-    read_pairs(alloc, draft, rows)
+    Err(TableError::Header {
+        file: TableFile::Priorities,
+    })
 }
 
 // The pairs of the rows in turn, each judged after those before it.
 fn read_pairs(
     alloc: Global,
     draft: &Draft,
-    records: &[ByteRecord],
+    mut records: Records,
 ) -> Result<IndexSet<(u16, u16)>, TableError>
     ensures pairs { MatchResult result
-        (λ pairs. pairs_from draft.now.formats 1 [] (map fields_of records.now) ≡ Ok pairs.keys)
-        (λ e. (is_of_signatures e ≡ false) × IsFault (pairs_from draft.now.formats 1 [] (map fields_of records.now)) e) }
+        (λ pairs. pairs_from draft.now.formats 1 [] records.entry ≡ Ok pairs.keys)
+        (λ e. (is_of_signatures e ≡ false) × IsFault (pairs_from draft.now.formats 1 [] records.entry) e) }
     ensures limits { IfOk result (λ pairs. ArePriorities (length draft.now.formats) pairs.keys) }
 {
     let Ok(mut ranking) = Ranking::new(alloc, draft.format_count()) else {
         return Err(TableError::OutOfMemory);
     };
-    for (i, line) in records.iter().enumerate() {
-        let pair = read_pair(draft, line, i + 1)?;
-        ranking = ranking.add(pair, i + 1)?;
+    let mut record = ByteRecord::new(alloc);
+    for row_number in 1..usize::MAX {
+        let found = records.read(&mut record)?;
+        if !found {
+            return Ok(ranking.into_pairs());
+        }
+        ranking = add_pair(draft, ranking, &record, row_number)?;
     }
-    Ok(ranking.into_pairs())
+    Err(TableError::OutOfMemory)
+}
+
+// The ranking with the pair of the record.
+fn add_pair(
+    draft: &Draft,
+    ranking: Ranking,
+    fields: &ByteRecord,
+    row_number: usize,
+) -> Result<Ranking, TableError>
+    requires { ranking.format_count ≡ length draft.now.formats }
+    ensures pairs { MatchResult result
+        (λ more. with_pair draft.now.formats row_number ranking.pairs (fields_of fields.now) ≡ Ok more.pairs)
+        (λ e. (is_of_signatures e ≡ false) × IsFault (with_pair draft.now.formats row_number ranking.pairs (fields_of fields.now)) e) }
+    ensures formats { IfOk result (λ more. more.format_count ≡ length draft.now.formats) }
+{
+    let pair = read_pair(draft, fields, row_number)?;
+    ranking.add(pair, row_number)
 }
 
 // The pair that the record writes.

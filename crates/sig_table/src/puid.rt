@@ -4,7 +4,7 @@ ghost use Rattle.std.specs.Prelude.{◌≡◌, ◌<◌, ◌^◌, IfSome, Some};
 ghost use Rattle.sig_table.specs.Puids.{numbered, puid_of, puid_text};
 ghost use Rattle.sig_table.specs.declared.puid.Puid.{Puid};
 
-use super::numbers::read_positive;
+use crate::numbers::read_positive;
 use std::fmt;
 
 /// The two registries that name formats.

@@ -5,14 +5,15 @@
 
 ghost use Rattle.std.specs.Prelude.{◌≡◌, ◌⊎◌, ℕ, ◌<◌, ◌≤◌, ◌↔◌, ◌∷◌, ◌++◌, [], List, IsTrue, IfOk, IfSome, MatchResult, None, Ok, false, length};
 ghost use Rattle.sig_table.specs.FormatSets.{HasFormat};
-ghost use Rattle.sig_table.specs.Loading.{is_listed, is_of_signatures, pair_fault, unless};
+ghost use Rattle.sig_table.specs.Judging.{unless};
+ghost use Rattle.sig_table.specs.Loading.{is_listed, is_of_signatures, pair_fault};
 ghost use Rattle.sig_table.specs.Ranking.{is_above};
-ghost use Rattle.sig_table.specs.Rankings.{AreBelow};
-ghost use Rattle.sig_table.specs.Rows.{IsFault, is_read};
+ghost use Rattle.sig_table.specs.RankingViews.{AreBelow};
+ghost use Rattle.sig_table.specs.Judging.{IsFault, is_read};
 ghost use Rattle.sig_table.specs.Tables.{ArePriorities};
 
-use super::TableError;
-use super::format_set::FormatSet;
+use crate::TableError;
+use crate::format_set::FormatSet;
 use indexmap::IndexSet;
 use std::alloc::{AllocError, Global};
 use std::marker::Model;
@@ -26,7 +27,7 @@ pub(crate) struct Ranking {
 
 impl Model for Ranking {
     ghost use Rattle.std.specs.Prelude.{length};
-    ghost use Rattle.sig_table.specs.Rankings.{IsRanking, RankingView};
+    ghost use Rattle.sig_table.specs.RankingViews.{IsRanking, RankingView};
 
     ghost Value = { RankingView };
 
@@ -49,15 +50,15 @@ impl Ranking {
     }
 
     // Judges the pair of the row, and adds it.
-    pub(crate) fn add(self, pair: (u16, u16), n: usize) -> Result<Ranking, TableError>
+    pub(crate) fn add(self, pair: (u16, u16), row_number: usize) -> Result<Ranking, TableError>
         requires higher { pair.0 < self.format_count }
         requires lower { pair.1 < self.format_count }
         requires other { ¬ (pair.0 ≡ pair.1) }
         ensures { MatchResult result
-            (λ r. (pair_fault self.pairs n pair ≡ None) × (r ≡ record self { pairs = self.pairs ++ pair ∷ [] }))
-            (λ e. (is_of_signatures e ≡ false) × IsFault (unless (pair_fault self.pairs n pair) (Ok self)) e) }
+            (λ r. (pair_fault self.pairs row_number pair ≡ None) × (r ≡ record self { pairs = self.pairs ++ pair ∷ [] }))
+            (λ e. (is_of_signatures e ≡ false) × IsFault (unless (pair_fault self.pairs row_number pair) (Ok self)) e) }
     {
-        if let Some(fault) = self.fault(pair, n) {
+        if let Some(fault) = self.fault(pair, row_number) {
             return Err(fault);
         }
         match self.insert(pair) {
@@ -66,25 +67,23 @@ impl Ranking {
         }
     }
 
-    // The fault of the pair.
     #[tactic(auto, unfolding(crate::specs::Loading::pair_fault))]
-    fn fault(&self, pair: (u16, u16), n: usize) -> Option<TableError>
+    fn fault(&self, pair: (u16, u16), row_number: usize) -> Option<TableError>
         requires higher { pair.0 < self.now.format_count }
         requires lower { pair.1 < self.now.format_count }
-        ensures fault { result ≡ pair_fault self.now.pairs n pair }
+        ensures fault { result ≡ pair_fault self.now.pairs row_number pair }
         ensures no_read { IfSome result (λ e. is_read e ≡ false) }
         ensures later { IfSome result (λ e. is_of_signatures e ≡ false) }
     {
         if self.contains(pair) {
-            return Some(TableError::PriorityTwice { row: n });
+            return Some(TableError::PriorityTwice { row: row_number });
         }
         if self.is_above(pair.1, pair.0) {
-            return Some(TableError::PriorityCycle { row: n });
+            return Some(TableError::PriorityCycle { row: row_number });
         }
         None
     }
 
-    // Whether the pair is listed.
     fn contains(&self, pair: (u16, u16)) -> bool
         ensures { result ≡ is_listed self.now.pairs pair }
     {
@@ -105,7 +104,7 @@ impl Ranking {
         requires higher { pair.0 < self.format_count }
         requires lower { pair.1 < self.format_count }
         requires other { ¬ (pair.0 ≡ pair.1) }
-        requires judged { (n : ℕ) × (pair_fault self.pairs n pair ≡ None) }
+        requires judged { (row_number : ℕ) × (pair_fault self.pairs row_number pair ≡ None) }
         ensures { IfOk result (λ r. r ≡ record self { pairs = self.pairs ++ pair ∷ [] }) }
     {
         let Ranking {
@@ -115,11 +114,10 @@ impl Ranking {
         if pairs.insert(pair).is_err() {
             return Err(AllocError);
         }
-        put_over(&mut below, pair.0, pair.1);
+        extend_below(&mut below, pair.0, pair.1);
         Ok(Ranking { pairs, below })
     }
 
-    // The pairs.
     pub(crate) fn into_pairs(self) -> IndexSet<(u16, u16)>
         ensures pairs { result.keys ≡ self.pairs }
         ensures limits { ArePriorities self.format_count result.keys }
@@ -129,7 +127,7 @@ impl Ranking {
 }
 
 // Puts the lower format, and those below it, below the higher one and those above it.
-fn put_over(below: &mut [FormatSet], higher: u16, lower: u16)
+fn extend_below(below: &mut [FormatSet], higher: u16, lower: u16)
     requires few { length below.old ≤ 1000 }
     requires higher { higher < length below.old }
     requires lower { lower < length below.old }
@@ -139,13 +137,13 @@ fn put_over(below: &mut [FormatSet], higher: u16, lower: u16)
     let mut added = below[lower as usize];
     added.insert(lower);
     for (x, set) in below.iter_mut().enumerate() {
-        raise(set, x == higher as usize, higher, lower, &added);
+        extend_set(set, x == higher as usize, higher, lower, &added);
     }
 }
 
 // Adds these formats to the set of the higher format, or of one above it. Where the lower one is
 // there already, so are they.
-fn raise(set: &mut FormatSet, is_higher: bool, higher: u16, lower: u16, added: &FormatSet)
+fn extend_set(set: &mut FormatSet, is_higher: bool, higher: u16, lower: u16, added: &FormatSet)
     requires higher { higher < 1000 }
     requires lower { lower < 1000 }
     requires there { HasFormat set.old lower → (f : ℕ) → HasFormat added.now f → HasFormat set.old f }

@@ -1,30 +1,62 @@
-//! The records of a text.
+//! The records of a text, one after the other.
 
-ghost use Rattle.std.specs.Prelude.{◌≡◌, IfOk, IfErr, map};
+ghost use Rattle.std.specs.Prelude.{◌≡◌, ◌∷◌, [], true, IfOk, IfErr};
+ghost use Rattle.std.specs.Bool.{MatchBool};
+ghost use Rattle.csv.specs.Reading.{error_kind, stops_reader};
 ghost use Rattle.csv.specs.Records.{fields_of};
 ghost use Rattle.sig_table.specs.Loading.{records_of};
+ghost use Rattle.sig_table.specs.declared.error.TableError.{TableError};
 
-use super::TableError;
-use csv::{ByteRecord, ReaderBuilder};
+use crate::TableError;
+use csv::{ByteRecord, Error, Reader, ReaderBuilder};
 use std::alloc::Global;
+use std::marker::Model;
 
-// All records, of any length. The text is in memory, so only a growth can fail.
-pub(crate) fn all_records(alloc: Global, text: &[u8]) -> Result<Vec<ByteRecord>, TableError>
-    ensures records { IfOk result (λ rows. map fields_of rows.items ≡ records_of text.now) }
-    ensures memory { IfErr result (λ e. e ≡ TableError.OutOfMemory) }
-{
-    let reader = ReaderBuilder::new()
-        .has_headers(false)
-        .flexible(true)
-        .from_reader(alloc, text);
-    let mut rows = Vec::new(alloc);
-    for row in reader.into_byte_records() {
-        let Ok(row) = row else {
-            return Err(TableError::OutOfMemory);
-        };
-        if rows.push(row).is_err() {
-            return Err(TableError::OutOfMemory);
+/// The records of a text that are still to come. One is in memory at a time.
+#[derive(Drop)]
+pub(crate) struct Records<'a> {
+    reader: Reader<&'a [u8]>,
+}
+
+impl<'a> Model for Records<'a> {
+    ghost use Rattle.std.specs.Prelude.{ℕ, List};
+    ghost use Rattle.sig_table.specs.Records.{IsReader, records_left};
+
+    ghost Value = { List (List (List ℕ)) };
+
+    ghost view = { λ r. records_left r.reader };
+
+    ghost invariant = { λ r. IsReader r.reader };
+}
+
+impl<'a> Records<'a> {
+    pub(crate) fn new(alloc: Global, text: &'a [u8]) -> Records<'a>
+        ensures { result ≡ records_of text.now }
+    {
+        let reader = ReaderBuilder::new()
+            .has_headers(false)
+            .flexible(true)
+            .from_reader(alloc, text);
+        Records { reader }
+    }
+
+    /// Reads the next record into `fields`, and says whether there was one.
+    pub(crate) fn read(&mut self, fields: &mut ByteRecord) -> Result<bool, TableError>
+        ensures next { IfOk result (λ found. MatchBool found (self.old ≡ fields_of fields.new ∷ self.new) (self.old ≡ [])) }
+        ensures memory { IfErr result (λ e. e ≡ TableError.OutOfMemory) }
+    {
+        match self.reader.read_byte_record(fields) {
+            Ok(found) => Ok(found),
+            Err(error) => Err(want_of_memory(error)),
         }
     }
-    Ok(rows)
+}
+
+// Records may be of any length and hold any bytes, and a text in memory does not fail: what stops
+// a reader is a growth.
+fn want_of_memory(error: Error) -> TableError
+    requires { stops_reader (error_kind error) ≡ true }
+    ensures { result ≡ TableError.OutOfMemory }
+{
+    TableError::OutOfMemory
 }

@@ -6,11 +6,12 @@ ghost use Rattle.sig_expr.specs.Texts.{expr_of};
 ghost use Rattle.std.specs.Option.{ok_or};
 ghost use Rattle.sig_table.specs.Puids.{puid_of};
 ghost use Rattle.sig_table.specs.Numbers.{positive_of};
-ghost use Rattle.sig_table.specs.Rows.{Judges, items_in, offset_of, offsets_of, position_of, row_of, text_at, up_to};
+ghost use Rattle.sig_table.specs.Judging.{Judges};
+ghost use Rattle.sig_table.specs.Rows.{items_in, offset_of, offsets_of, position_of, row_of, text_at, up_to};
 
-use super::numbers::{read_number, read_positive};
-use super::sequence::Placed;
-use super::{Position, Puid, TableError, TableFile};
+use crate::numbers::{read_number, read_positive};
+use crate::sequence::Placed;
+use crate::{Position, Puid, TableError, TableFile};
 use csv::ByteRecord;
 use sig_expr::{Expr, ExprError, parse};
 use std::alloc::Global;

@@ -3,7 +3,7 @@
 ghost use Rattle.std.specs.Prelude.{◌≡◌};
 ghost use Rattle.sig_table.specs.Tables.{IsSequence};
 
-use super::Position;
+use crate::Position;
 use sig_expr::Expr;
 use std::marker::Model;
 

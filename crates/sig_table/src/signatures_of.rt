@@ -2,8 +2,8 @@
 
 ghost use Rattle.std.specs.Prelude.{◌≡◌, ◌+◌, ◌≤◌, length};
 
-use super::table::Signature;
-use super::{FormatId, SigId};
+use crate::table::Signature;
+use crate::{FormatId, SigId};
 
 /// An iterator over the signatures of a format, rising.
 ///

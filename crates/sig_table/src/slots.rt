@@ -1,13 +1,13 @@
 //! How many slots a sequence takes in its automaton.
 //!
-//! Slots are taken off an allowance, so that no sum overflows.
+//! Slots are taken off a budget, so that no sum overflows.
 
 ghost use Rattle.std.specs.Prelude.{◌≡◌, ◌≤◌, ◌+◌, nat_lt, length, map, sum_by};
-ghost use Rattle.sig_table.specs.Allowance.{minus};
+ghost use Rattle.sig_table.specs.Budgets.{minus};
 ghost use Rattle.sig_table.specs.Slots.{above_rows, atom_slots, below_rows, between_rows, bracket_slots, item_slots, place_slots, slot_count};
 
-use super::Position;
-use super::sequence::Placed;
+use crate::Position;
+use crate::sequence::Placed;
 use sig_expr::{Atom, Item};
 
 // The greatest number of slots.
@@ -17,10 +17,10 @@ const MOST: usize = 65535;
 pub(crate) fn has_too_many_slots(sequence: &Placed) -> bool
     ensures { result ≡ nat_lt 65535 (slot_count sequence.now) }
 {
-    let Some(left) = minus(MOST, place_slots(sequence.position)) else {
+    let Some(budget) = minus(MOST, place_slots(sequence.position)) else {
         return true;
     };
-    left_after_items(left, sequence.expr.items()).is_none()
+    budget_after_items(budget, sequence.expr.items()).is_none()
 }
 
 // How many slots the offsets take.
@@ -33,59 +33,59 @@ fn place_slots(position: Position) -> usize
     }
 }
 
-// What is left, if there is enough.
-fn minus(left: usize, slots: usize) -> Option<usize>
-    ensures { result ≡ minus left slots }
+// What remains of the budget, if it is enough.
+fn minus(budget: usize, slots: usize) -> Option<usize>
+    ensures { result ≡ minus budget slots }
 {
-    if left < slots {
+    if budget < slots {
         None
     } else {
-        Some(left - slots)
+        Some(budget - slots)
     }
 }
 
-// What is left behind the items.
-fn left_after_items(mut left: usize, items: &[Item]) -> Option<usize>
-    ensures { result ≡ minus left (sum_by item_slots items.now) }
+// What remains behind the items.
+fn budget_after_items(mut budget: usize, items: &[Item]) -> Option<usize>
+    ensures { result ≡ minus budget (sum_by item_slots items.now) }
 {
     for item in items {
-        left = left_after_item(left, item)?;
+        budget = budget_after_item(budget, item)?;
     }
-    Some(left)
+    Some(budget)
 }
 
-fn left_after_item(left: usize, item: &Item) -> Option<usize>
-    ensures { result ≡ minus left (item_slots item.now) }
+fn budget_after_item(budget: usize, item: &Item) -> Option<usize>
+    ensures { result ≡ minus budget (item_slots item.now) }
 {
     match item {
-        Item::Byte(_) | Item::Any => minus(left, 1),
-        Item::Gap { min, max: None } => minus(left, *min as usize + 1),
-        Item::Gap { max: Some(max), .. } => minus(left, *max as usize),
-        Item::Alt(alternatives) => left_after_alternatives(left, alternatives.as_slice()),
-        Item::Range(a, b) => minus(left, range_slots(a.as_bytes(), b.as_bytes())),
-        Item::Not(a) => minus(left, outside_slots(a.as_bytes(), a.as_bytes())),
-        Item::NotRange(a, b) => minus(left, outside_slots(a.as_bytes(), b.as_bytes())),
+        Item::Byte(_) | Item::Any => minus(budget, 1),
+        Item::Gap { min, max: None } => minus(budget, *min as usize + 1),
+        Item::Gap { max: Some(max), .. } => minus(budget, *max as usize),
+        Item::Alt(alternatives) => budget_after_alternatives(budget, alternatives.as_slice()),
+        Item::Range(a, b) => minus(budget, range_slots(a.as_bytes(), b.as_bytes())),
+        Item::Not(a) => minus(budget, outside_slots(a.as_bytes(), a.as_bytes())),
+        Item::NotRange(a, b) => minus(budget, outside_slots(a.as_bytes(), b.as_bytes())),
     }
 }
 
-// What is left behind the alternatives.
-fn left_after_alternatives(mut left: usize, alternatives: &[Vec<Atom>]) -> Option<usize>
-    ensures { result ≡ minus left (sum_by (λ a. sum_by atom_slots a) (map (λ v. v.items) alternatives.now)) }
+// What remains behind the alternatives.
+fn budget_after_alternatives(mut budget: usize, alternatives: &[Vec<Atom>]) -> Option<usize>
+    ensures { result ≡ minus budget (sum_by (λ a. sum_by atom_slots a) (map (λ v. v.items) alternatives.now)) }
 {
     for alternative in alternatives {
-        left = left_after_atoms(left, alternative.as_slice())?;
+        budget = budget_after_atoms(budget, alternative.as_slice())?;
     }
-    Some(left)
+    Some(budget)
 }
 
-// What is left behind the parts.
-fn left_after_atoms(mut left: usize, atoms: &[Atom]) -> Option<usize>
-    ensures { result ≡ minus left (sum_by atom_slots atoms.now) }
+// What remains behind the parts.
+fn budget_after_atoms(mut budget: usize, atoms: &[Atom]) -> Option<usize>
+    ensures { result ≡ minus budget (sum_by atom_slots atoms.now) }
 {
     for atom in atoms {
-        left = minus(left, atom_slots(atom))?;
+        budget = minus(budget, atom_slots(atom))?;
     }
-    Some(left)
+    Some(budget)
 }
 
 fn atom_slots(atom: &Atom) -> usize

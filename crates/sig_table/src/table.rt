@@ -3,7 +3,7 @@
 ghost use Rattle.std.specs.Prelude.{◌≡◌, ◌<◌, ◌≤◌, ◌↔◌, [], ◌∷◌, ◌++◌, false, IsTrue, OnOk, Some, Contains, length, option_map, position, slice_get};
 ghost use Rattle.sig_table.specs.Puids.{puid_eq};
 
-use super::{FormatId, Puid, Sequence, SigId, SignaturesOf};
+use crate::{FormatId, Puid, Sequence, SigId, SignaturesOf};
 use indexmap::IndexSet;
 use std::alloc::{AllocError, Global};
 use std::marker::Model;
@@ -80,6 +80,8 @@ impl Signature {
 impl Table {
     ghost use Rattle.sig_table.specs.Remaining.{remaining_of};
     ghost use Rattle.sig_table.specs.Places.{places_of};
+    ghost use Rattle.sig_table.specs.Ranking.{Outranks, ranks};
+    ghost use Rattle.sig_table.specs.Views.{SignatureView};
     ghost use Rattle.sig_table.specs.Removal.{place_of, without};
     ghost use Rattle.sig_table.specs.Tables.{IsNumber, IsTable};
 
@@ -120,6 +122,7 @@ impl Table {
     pub fn signature_count(&self) -> usize
         ensures count { result ≡ length self.now.signatures }
         ensures limit { result ≤ 4000 }
+        ensures table { IsTable self.now }
     {
         self.signatures.len()
     }
@@ -128,6 +131,7 @@ impl Table {
     pub fn format_of(&self, signature: SigId) -> FormatId
         requires { signature.0 < length self.now.signatures }
         ensures format { option_map (λ s. s.format) (slice_get self.now.signatures signature.0) ≡ Some result.0 }
+        ensures of_view { (s : SignatureView) → slice_get self.now.signatures signature.0 ≡ Some s → result.0 ≡ s.format }
         ensures within { result.0 < length self.now.formats }
     {
         let signature = &self.signatures[signature.0 as usize];
@@ -155,6 +159,7 @@ impl Table {
     pub fn sequences_of(&self, signature: SigId) -> &[Sequence]
         requires { signature.0 < length self.now.signatures }
         ensures sequences { option_map (λ s. s.sequences) (slice_get self.now.signatures signature.0) ≡ Some result.now }
+        ensures of_view { (s : SignatureView) → slice_get self.now.signatures signature.0 ≡ Some s → result.now ≡ s.sequences }
         ensures some { 0 < length result.now }
         ensures few { length result.now ≤ 8 }
     {
@@ -164,7 +169,8 @@ impl Table {
 
     /// Whether a listed pair puts the one format over the other. No pair is implied by others.
     pub fn outranks(&self, higher: FormatId, lower: FormatId) -> bool
-        ensures { IsTrue result ↔ Contains self.now.priorities (higher.0, lower.0) }
+        ensures listed { IsTrue result ↔ Outranks self.now.priorities higher.0 lower.0 }
+        ensures test { result ≡ ranks self.now.priorities higher.0 lower.0 }
     {
         self.priorities.contains(&(higher.0, lower.0))
     }

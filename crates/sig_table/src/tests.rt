@@ -340,6 +340,25 @@ fn formats_and_signatures_are_taken_to_their_limits(rt: HostRuntime) -> Result<(
     Ok(())
 }
 
+#[test]
+fn all_pairs_of_the_formats_of_a_table_are_taken(rt: HostRuntime) -> Result<(), Fail> {
+    let mut signatures = HEADER.to_vec(rt.alloc())?;
+    let mut pairs = b"higher,lower\n".to_vec(rt.alloc())?;
+    for higher in 1..1001u32 {
+        let row = format!(in rt.alloc(); "fmt/{higher},{higher},BOF,0,,41\n")?;
+        signatures.extend_from_slice(row.as_bytes())?;
+        for lower in higher + 1..1001u32 {
+            let pair = format!(in rt.alloc(); "fmt/{higher},fmt/{lower}\n")?;
+            pairs.extend_from_slice(pair.as_bytes())?;
+        }
+    }
+    let table = loaded(rt.alloc(), &signatures, &pairs)?;
+    assert!(rt; table.outranks(FormatId(0), FormatId(999)));
+    assert!(rt; table.outranks(FormatId(998), FormatId(999)));
+    assert!(rt; !table.outranks(FormatId(999), FormatId(998)));
+    Ok(())
+}
+
 // A device whose every read and write fails.
 #[derive(Drop)]
 struct Failing;

@@ -1,6 +1,6 @@
 //! From the table to its canonical files.
 
-ghost use Rattle.std.specs.Prelude.{◌≡◌, ◌∷◌, ◌+◌, ◌++◌, [], true, false, length, slice_get, string_bytes, IfOk, IsErrOf, OnOk};
+ghost use Rattle.std.specs.Prelude.{◌≡◌, ◌∷◌, ◌+◌, ◌++◌, [], true, false, length, slice_get, string_bytes, IfOk, IsErr, IsErrOf, IsTrue, OnOk};
 ghost use Rattle.std.specs.Fmt.{decimal};
 ghost use Rattle.std.specs.List.{flat_map};
 ghost use Rattle.csv.specs.Records.{fields_of, partial_of};
@@ -9,9 +9,9 @@ ghost use Rattle.sig_bits.specs.Device.{Adds, AddsFront};
 ghost use Rattle.sig_expr.specs.Canon.{canon};
 ghost use Rattle.sig_table.specs.Canonical.{name_of, pair_record, place_fields, priority_csv, records_of_signature, sequence_record, signature_csv, signature_header};
 
-use super::lines::Lines;
-use super::table::Signature;
-use super::{OutError, Position, Puid, Sequence, Table};
+use crate::csv_text::CsvText;
+use crate::table::Signature;
+use crate::{OutError, Position, Puid, Sequence, Table};
 use csv::ByteRecord;
 use sig_bits::{FromWrite, Output};
 use sig_expr::{Expr, print};
@@ -26,6 +26,7 @@ impl Table {
         ensures lowers { OnOk result (W.limit out.old ≡ length (signature_csv self.now) + W.limit out.new) }
         ensures writes { OnOk result (W.failed out.new ≡ false) }
         ensures write { IsErrOf result OutError.Write → W.failed out.new ≡ true }
+        ensures stays_failed { IsTrue (W.failed out.old) → IsErr result }
 
         // After a failed write only a front of the text may be written, and where memory ran out nothing is.
         ensures front { IsErrOf result OutError.Write → AddsFront (W.written out.old) (signature_csv self.now) (W.written out.new) }
@@ -43,6 +44,7 @@ impl Table {
         ensures lowers { OnOk result (W.limit out.old ≡ length (priority_csv self.now) + W.limit out.new) }
         ensures writes { OnOk result (W.failed out.new ≡ false) }
         ensures write { IsErrOf result OutError.Write → W.failed out.new ≡ true }
+        ensures stays_failed { IsTrue (W.failed out.old) → IsErr result }
 
         // After a failed write only a front of the text may be written, and where memory ran out nothing is.
         ensures front { IsErrOf result OutError.Write → AddsFront (W.written out.old) (priority_csv self.now) (W.written out.new) }
@@ -57,7 +59,7 @@ impl Table {
 fn signature_text(alloc: Global, table: &Table) -> Result<Vec<u8>, AllocError>
     ensures { IfOk result (λ text. text.items ≡ signature_csv table.now) }
 {
-    let mut lines = Lines::new(alloc).with(&signature_header(alloc)?)?;
+    let mut lines = CsvText::new(alloc).with(&signature_header(alloc)?)?;
     for signature in table.signatures() {
         lines = with_signature(alloc, lines, table.formats(), signature)?;
     }
@@ -82,10 +84,10 @@ fn signature_header(alloc: Global) -> Result<ByteRecord, AllocError>
 // The lines with those of the signature.
 fn with_signature(
     alloc: Global,
-    mut lines: Lines,
+    mut lines: CsvText,
     formats: &[Puid],
     signature: &Signature,
-) -> Result<Lines, AllocError>
+) -> Result<CsvText, AllocError>
     ensures { IfOk result (λ more. more ≡ lines ++ flat_map (row_text default_writer) (records_of_signature formats.now signature.now)) }
 {
     let name = name_of(alloc, formats, signature.format().0)?;
@@ -171,7 +173,7 @@ fn priority_text(alloc: Global, table: &Table) -> Result<Vec<u8>, AllocError>
     ensures { IfOk result (λ text. text.items ≡ priority_csv table.now) }
 {
     let header = ByteRecord::from_fields(alloc, &[b"higher", b"lower"])?;
-    let mut lines = Lines::new(alloc).with(&header)?;
+    let mut lines = CsvText::new(alloc).with(&header)?;
     for pair in table.priorities() {
         lines = lines.with(&pair_record(alloc, table.formats(), *pair)?)?;
     }

@@ -1,7 +1,10 @@
-use Rattle.std.proofs.Common.{◌≡◌, ℕ, ◌<◌, slice_index, bit_and, w8}
-use Rattle.std.specs.Int.{bit_not}
+use Rattle.std.proofs.Common.{◌≡◌, ℕ, ◌-◌, ◌<◌, ◌≤◌, length}
+use Rattle.sig_bits.specs.Joined.{missing_at}
 use Rattle.sig_bits.proofs.bit_sets.subset.Given as goal
 
 -- no byte so far has a bit in the first alone
-abbrev pub invariant-loop-i : goal.invariant-loop-i
-invariant-loop-i l = (k : ℕ) → k < l.i → bit_and (slice_index l.a k) (bit_not w8 (slice_index l.b k)) ≡ 0
+abbrev pub invariant-loop-from : goal.invariant-loop-from
+invariant-loop-from l = (l.from ≤ length l.a) × ((k : ℕ) → k < l.from → missing_at l.a l.b k ≡ 0)
+
+abbrev pub decreases-loop-from : goal.decreases-loop-from
+decreases-loop-from l = length l.a - l.from

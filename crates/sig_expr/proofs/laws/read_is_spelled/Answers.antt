@@ -1,5 +1,5 @@
-use Rattle.sig_expr.proofs.RefusalLemmas.{told_spells}
+use Rattle.sig_expr.proofs.RefusalLemmas.{read_spells}
 use Rattle.sig_expr.proofs.laws.read_is_spelled.Goals as goal
 
 pub returns : goal.returns
-returns c = told_spells
+returns c = read_spells

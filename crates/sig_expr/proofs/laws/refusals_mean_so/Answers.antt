@@ -1,5 +1,5 @@
-use Rattle.sig_expr.proofs.RefusalLemmas.{told_means}
+use Rattle.sig_expr.proofs.RefusalLemmas.{refusal_means}
 use Rattle.sig_expr.proofs.laws.refusals_mean_so.Goals as goal
 
 pub returns : goal.returns
-returns c = told_means
+returns c = refusal_means

@@ -1,4 +1,4 @@
-use Rattle.sig_expr.proofs.ShortestLemmas.{spells_one}
+use Rattle.sig_expr.proofs.UniqueLemmas.{spells_one}
 use Rattle.sig_expr.proofs.laws.text_spells_one.Goals as goal
 
 pub returns : goal.returns

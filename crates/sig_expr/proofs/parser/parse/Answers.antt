@@ -1,9 +1,9 @@
-use Rattle.std.proofs.Common.{◌≡◌, Some, None, Err, rules, arith}
+use Rattle.std.proofs.Common.{◌≡◌, inl, Some, None, rules, arith}
 use Rattle.sig_expr.specs.Reading.{start}
 use Rattle.sig_expr.specs.Passes.{stop_of, fault_in}
 use Rattle.sig_expr.specs.Texts.{expr_of}
-use Rattle.sig_expr.proofs.FaultLemmas.{told_fault}
-use Rattle.sig_expr.proofs.FirstFaultLemmas.{told_first}
+use Rattle.sig_expr.proofs.FaultLemmas.{fault_means}
+use Rattle.sig_expr.proofs.FirstFaultLemmas.{found_first}
 use Rattle.sig_expr.proofs.ShortestLemmas.{is_expression}
 use Rattle.sig_expr.proofs.RefusalLemmas.{spells_built, no_text}
 use Rattle.sig_expr.proofs.parser.parse.Goals as goal
@@ -16,15 +16,13 @@ returns-in-Some-clause-refused c =
 pub returns-in-Some-first_fault-clause-exact : goal.returns-in-Some-first_fault-clause-exact
 unfolding expr_of
 returns-in-Some-first_fault-clause-exact c =
-    let told = told_fault start 0 0 c.args.text.now c.in-Some-first_fault.fault (search rules) in
-    let refused : expr_of c.args.text.now ≡ Err c.in-Some-first_fault.fault = search rules in
-    rw refused told.0
+    inl (search rules)
 
 pub returns-in-Some-first_fault-clause-refused : goal.returns-in-Some-first_fault-clause-refused
 returns-in-Some-first_fault-clause-refused c =
     let stops : stop_of c.args.text.now ≡ None = search rules in
     let faulty : fault_in c.args.text.now ≡ Some c.in-Some-first_fault.fault = search rules in
-    (told_fault start 0 0 c.args.text.now c.in-Some-first_fault.fault faulty).1 c.args.text.now (told_first c.in-Some-first_fault.fault c.args.text.now (omega arith) stops faulty)
+    fault_means start 0 0 c.args.text.now c.in-Some-first_fault.fault faulty c.args.text.now (found_first c.in-Some-first_fault.fault c.args.text.now (omega arith) stops faulty)
 
 pub new-requires : goal.new-requires
 new-requires c =

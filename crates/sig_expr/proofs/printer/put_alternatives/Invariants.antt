@@ -1,10 +1,9 @@
-use Rattle.std.proofs.Common.{drop, map}
+use Rattle.std.proofs.Common.{[], ◌∷◌, drop, map}
 use Rattle.sig_expr.specs.Canon.{alternatives_text}
-use Rattle.sig_expr.specs.Writing.{Sink, sink, Wrote}
+use Rattle.sig_expr.specs.Writing.{IsLeft}
 use Rattle.sig_expr.proofs.printer.put_alternatives.Given as goal
 
 -- what writes the rest from here has written all
 abbrev pub invariant-loop-alternative : goal.invariant-loop-alternative
 invariant-loop-alternative g l =
-    (end : Sink) → Wrote (sink (g.W.Output.failed l.out) (g.W.Output.limit l.out) (g.W.Output.written l.out)) (alternatives_text l.sign (map (λ v. v.items) (drop l.alternative-index l.alternatives))) end →
-    Wrote (sink (g.W.Output.failed l.initial.out) (g.W.Output.limit l.initial.out) (g.W.Output.written l.initial.out)) (alternatives_text 40 (map (λ v. v.items) l.alternatives)) end
+    IsLeft g.W.Output.failed g.W.Output.limit g.W.Output.written l.initial.out (alternatives_text (40 ∷ []) (map (λ v. v.items) l.alternatives)) l.out (alternatives_text (l.sign ∷ []) (map (λ v. v.items) (drop l.alternative-index l.alternatives)))

@@ -8,7 +8,7 @@ pub loop-item-preserved : goal.loop-item-preserved
 loop-item-preserved g c = λ end w.
     c.loop-item.invariant end (rw (canon-rest c.args.items.now c.loop-item.item-index c.item-item.result c.loop-item-test.true, ← c.item-item.is) (wrote_more _ _ _ _ _ c.in_ok-put_item.ensures.wrote w))
 
-pub returns-clause-wrote : goal.returns-clause-wrote
+pub returns : goal.returns
 unfolding canon
-returns-clause-wrote g c =
-    c.loop-item.invariant _ (rw (drop_all c.loop-item.item-index c.args.items.now c.loop-item-test.false) (wrote_nothing _))
+returns g c =
+    record { fails = tt; wrote = c.loop-item.invariant _ (rw (drop_all c.loop-item.item-index c.args.items.now c.loop-item-test.false) (wrote_nothing _)) }

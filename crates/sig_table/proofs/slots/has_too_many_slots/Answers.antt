@@ -13,5 +13,5 @@ pub returns : goal.returns
 unfolding slot_count
 returns c =
     let some = rw c.place_slots.ensures at (sym c.in-Some.ensures) in
-    let items = rw c.items.ensures.items at c.left_after_items.ensures in
-    rw (← c.sequence.view_is) (too_many-items (place_slots c.sequence.inside.position) (sum_by item_slots c.sequence.inside.expr) c.in-Some.left c.left_after_items.result c.is_none.result some items c.is_none.ensures)
+    let items = rw c.items.ensures.items at c.budget_after_items.ensures in
+    rw (← c.sequence.view_is) (too_many-items (place_slots c.sequence.inside.position) (sum_by item_slots c.sequence.inside.expr) c.in-Some.budget c.budget_after_items.result c.is_none.result some items c.is_none.ensures)

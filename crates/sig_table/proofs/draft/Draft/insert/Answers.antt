@@ -6,27 +6,27 @@ use Rattle.sig_table.proofs.LimitLemmas.{IsSequence-judged, IsWhole-with_row}
 use Rattle.sig_table.proofs.DraftLemmas.{OnOk-holds, any-numbers, numbers-with_row, place-of, place-within, position-puid, puid_eq-is, with_row-is}
 use Rattle.sig_table.proofs.draft.Draft.insert.Goals as goal
 
-pub enroll-requires : goal.enroll-requires
-enroll-requires c = c.in-Ok-insert_full.ensures.added ∙ ap (λ b. not b) (rw c.self.invariant.numbers (any-numbers c.args.row.number c.self.inside.signatures.items))
+pub push_new_signature-requires : goal.push_new_signature-requires
+push_new_signature-requires c = c.in-Ok-insert_full.ensures.added ∙ ap (λ b. not b) (rw c.self.invariant.numbers (any-numbers c.args.row.number c.self.inside.signatures.items))
 
 pub new-sequence-requires : goal.new-sequence-requires
 new-sequence-requires c = IsSequence-judged c.args.self c.args.row c.requires.judged.0 c.requires.read c.requires.judged.1
 
-pub grow-requires-clause-at : goal.grow-requires-clause-at
-grow-requires-clause-at c =
-    let enrolled = OnOk-holds c.enroll.result (sym c.is_err.ensures.value ∙ c.if-is_err.false) c.enroll.ensures in
-    place-of c.args.row.number _ c.in-Ok-insert_full.place c.self.inside.numbers.keys c.self.inside.signatures.items c.enroll.new.signatures.items c.self.invariant.numbers c.in-Ok-insert_full.ensures.index enrolled
+pub push_sequence-requires-clause-at : goal.push_sequence-requires-clause-at
+push_sequence-requires-clause-at c =
+    let enrolled = OnOk-holds c.push_new_signature.result (sym c.is_err.ensures.value ∙ c.if-is_err.false) c.push_new_signature.ensures in
+    place-of c.args.row.number _ c.in-Ok-insert_full.place c.self.inside.numbers.keys c.self.inside.signatures.items c.push_new_signature.new.signatures.items c.self.invariant.numbers c.in-Ok-insert_full.ensures.index enrolled
 
-pub grow-requires-clause-within : goal.grow-requires-clause-within
-grow-requires-clause-within c =
-    let enrolled = OnOk-holds c.enroll.result (sym c.is_err.ensures.value ∙ c.if-is_err.false) c.enroll.ensures in
-    place-within c.args.row.number _ c.in-Ok-insert_full.place c.self.inside.numbers.keys c.self.inside.signatures.items c.enroll.new.signatures.items c.self.invariant.numbers c.in-Ok-insert_full.ensures.index enrolled
+pub push_sequence-requires-clause-within : goal.push_sequence-requires-clause-within
+push_sequence-requires-clause-within c =
+    let enrolled = OnOk-holds c.push_new_signature.result (sym c.is_err.ensures.value ∙ c.if-is_err.false) c.push_new_signature.ensures in
+    place-within c.args.row.number _ c.in-Ok-insert_full.place c.self.inside.numbers.keys c.self.inside.signatures.items c.push_new_signature.new.signatures.items c.self.invariant.numbers c.in-Ok-insert_full.ensures.index enrolled
 
 pub invariant_of-result : goal.invariant_of-result
 invariant_of-result c =
     let t : TableView = record { formats = c.self.inside.puids.keys; signatures = c.self.inside.signatures.items; priorities = [] } in
-    let enrolled = OnOk-holds c.enroll.result (sym c.is_err.ensures.value ∙ c.if-is_err.false) c.enroll.ensures in
-    let grew = OnOk-holds c.grow.result (sym c.is_err-2.ensures.value ∙ c.if-is_err-2.false) c.grow.ensures in
+    let enrolled = OnOk-holds c.push_new_signature.result (sym c.is_err.ensures.value ∙ c.if-is_err.false) c.push_new_signature.ensures in
+    let grew = OnOk-holds c.push_sequence.result (sym c.is_err-2.ensures.value ∙ c.if-is_err-2.false) c.push_sequence.ensures in
     let formats = rw puid_eq-is at c.in-Ok.ensures.keys in
     let format : c.in-Ok.format ≡ position_or_len (puid_eq c.args.row.puid) c.self.inside.puids.keys = c.in-Ok.ensures.index ∙ position-puid c.args.row.puid c.self.inside.puids.keys in
     let signatures = rw (enrolled, format, c.new-sequence.ensures) at grew in
@@ -40,8 +40,8 @@ invariant_of-result c =
 pub returns-clause-row : goal.returns-clause-row
 returns-clause-row c =
     let t : TableView = record { formats = c.self.inside.puids.keys; signatures = c.self.inside.signatures.items; priorities = [] } in
-    let enrolled = OnOk-holds c.enroll.result (sym c.is_err.ensures.value ∙ c.if-is_err.false) c.enroll.ensures in
-    let grew = OnOk-holds c.grow.result (sym c.is_err-2.ensures.value ∙ c.if-is_err-2.false) c.grow.ensures in
+    let enrolled = OnOk-holds c.push_new_signature.result (sym c.is_err.ensures.value ∙ c.if-is_err.false) c.push_new_signature.ensures in
+    let grew = OnOk-holds c.push_sequence.result (sym c.is_err-2.ensures.value ∙ c.if-is_err-2.false) c.push_sequence.ensures in
     let formats = rw puid_eq-is at c.in-Ok.ensures.keys in
     let format : c.in-Ok.format ≡ position_or_len (puid_eq c.args.row.puid) c.self.inside.puids.keys = c.in-Ok.ensures.index ∙ position-puid c.args.row.puid c.self.inside.puids.keys in
     let signatures = rw (enrolled, format, c.new-sequence.ensures) at grew in

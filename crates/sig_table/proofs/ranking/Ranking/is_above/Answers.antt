@@ -1,7 +1,7 @@
 use Rattle.std.proofs.Common.{sym}
 use Rattle.sig_table.proofs.BelowLemmas.{same_answer}
 use Rattle.sig_table.proofs.RankingLemmas.{is_above-Decides}
-use Rattle.sig_table.specs.Rankings.{AreBelow}
+use Rattle.sig_table.specs.RankingViews.{AreBelow}
 use Rattle.sig_table.proofs.ranking.Ranking.is_above.Goals as goal
 
 pub returns : goal.returns

@@ -1,7 +1,7 @@
 use Rattle.std.proofs.Common.{◌≡◌, ◌∙◌, sym}
 use Rattle.std.proofs.lemmas.Result.{err_from_is_err_and}
 use Rattle.sig_table.specs.Loading.{records_of}
-use Rattle.sig_table.proofs.FaultLemmas.{Tells-from_IsFault, Tells-last}
+use Rattle.sig_table.proofs.FaultLemmas.{Exact-from_IsFault, Exact-last}
 use Rattle.sig_table.proofs.LoadLemmas.{table_of-unranked, table_of-unread, table_of-whole}
 use Rattle.sig_table.proofs.SignatureFaultLemmas.{is_judged-of}
 use Rattle.sig_table.proofs.table.Table.load.Goals as goal
@@ -10,7 +10,7 @@ pub returns-in_err-draft-clause-exact : goal.returns-in_err-draft-clause-exact
 returns-in_err-draft-clause-exact g c s p to_s to_p =
     let r = err_from_is_err_and c.from_residual-in_err-draft.result c.from_residual-in_err-draft.ensures.1 in
     let text : c.deref.result.now ≡ s = c.deref.ensures.value ∙ rw to_s at c.in_ok-text.ensures.text in
-    rw (r.1, r.2) (Tells-from_IsFault _ _ _ (λ h. table_of-unread (records_of s) (records_of p) _ (rw text at h)) c.in_err-draft.ensures)
+    rw (r.1, r.2) (Exact-from_IsFault _ _ _ (λ h. table_of-unread (records_of s) (records_of p) _ (rw text at h)) c.in_err-draft.ensures)
 
 pub returns-in_err-pairs-clause-exact : goal.returns-in_err-pairs-clause-exact
 returns-in_err-pairs-clause-exact g c s p to_s to_p =
@@ -18,7 +18,7 @@ returns-in_err-pairs-clause-exact g c s p to_s to_p =
     let text : c.deref.result.now ≡ s = c.deref.ensures.value ∙ rw to_s at c.in_ok-text.ensures.text in
     let later : c.deref-2.result.now ≡ p = c.deref-2.ensures.value ∙ rw to_p at c.in_ok-text-2.ensures.text in
     let read = rw text at c.in_ok-draft.ensures in
-    rw (r.1, r.2) (Tells-from_IsFault _ _ _ (λ h. table_of-unranked (records_of s) (records_of p) _ _ read (rw later at h)) c.in_err-pairs.ensures.pairs.1)
+    rw (r.1, r.2) (Exact-from_IsFault _ _ _ (λ h. table_of-unranked (records_of s) (records_of p) _ _ read (rw later at h)) c.in_err-pairs.ensures.pairs.1)
 
 pub returns-clause-exact : goal.returns-clause-exact
 returns-clause-exact g c s p to_s to_p =
@@ -26,7 +26,7 @@ returns-clause-exact g c s p to_s to_p =
     let later : c.deref-2.result.now ≡ p = c.deref-2.ensures.value ∙ rw to_p at c.in_ok-text-2.ensures.text in
     let read = rw text at c.in_ok-draft.ensures in
     let ranked = rw later at c.in_ok-pairs.ensures.pairs in
-    Tells-last _ _ _ c.into_table.ensures.table c.into_table.ensures.memory (table_of-whole (records_of s) (records_of p) _ _ read ranked)
+    Exact-last _ _ _ c.into_table.ensures.table c.into_table.ensures.memory (table_of-whole (records_of s) (records_of p) _ _ read ranked)
 
 pub returns-in_err-draft-clause-judged_both : goal.returns-in_err-draft-clause-judged_both
 returns-in_err-draft-clause-judged_both g c =

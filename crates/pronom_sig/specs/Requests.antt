@@ -1,0 +1,56 @@
+-- What comes of what the words ask for: its answers, and its faults.
+use Rattle.std.specs.Prelude.{◌≡◌, ℕ, ◌⊎◌, List, Option, ⊤}
+use Rattle.clap.specs.Words.{Text, subcommand_of}
+use Rattle.sig_bits.specs.Device.{Adds}
+use Rattle.sig_table.specs.Tables.{IsTable}
+use Rattle.sig_table.specs.Views.{TableView}
+use Rattle.pronom_sig.specs.CommandLine.{Asks, program}
+use Rattle.pronom_sig.specs.Faults.{Reports}
+use Rattle.pronom_sig.specs.Lines.{AddsLines}
+use Rattle.pronom_sig.specs.Shown.{show_text}
+use Rattle.pronom_sig.specs.declared.error.RunError.TheVariants.{OutOfMemory, Write}
+use Rattle.pronom_sig.specs.declared.fault.Fault.{Fault}
+use Rattle.pronom_sig.specs.declared.fault.Fault.TheVariants.{CannotOpen, NotText, Run, Table}
+use Rattle.pronom_sig.specs.declared.args.Request.{Request}
+use Rattle.pronom_sig.specs.declared.args.Request.TheVariants.{Match, Show}
+use Rattle.pronom_sig.specs.declared.args.TablePaths.{TablePaths}
+
+-- a file of the table can't be opened, or there is no table
+abbrev pub IsLoadFault : TablePaths → Fault → Type 0
+IsLoadFault paths NotText = ⊥
+IsLoadFault paths (CannotOpen name) = (name ≡ paths.signatures) ⊎ (name ≡ paths.priorities)
+IsLoadFault paths (Table error) = ⊤
+IsLoadFault paths (Run error) = ⊥
+
+-- an engine gives no answer
+abbrev pub IsRunFault : Fault → Type 0
+IsRunFault NotText = ⊥
+IsRunFault (CannotOpen name) = ⊥
+IsRunFault (Table error) = ⊥
+IsRunFault (Run error) = ⊤
+
+-- the table is not shown: nothing is read for that
+abbrev pub IsShowFault : Fault → Type 0
+IsShowFault fault = (fault ≡ Run Write) ⊎ (fault ≡ Run OutOfMemory)
+
+-- the faults of the table, of the file that is matched, and of the engine
+abbrev pub IsFaultOf : Request → Fault → Type 0
+IsFaultOf (Show table) fault = IsLoadFault table fault ⊎ IsShowFault fault
+IsFaultOf (Match all table file) fault = IsLoadFault table fault ⊎ ((fault ≡ CannotOpen file) ⊎ IsRunFault fault)
+
+-- what is written grows by the canonical files of a table, or by the lines that are asked for of what a file hits in a table
+abbrev pub Answers : Request → Option (List ℕ) → Option (List ℕ) → Type 0
+Answers (Show table) before after = (t : TableView) × IsTable t × Adds before (show_text t) after
+Answers (Match all table path) before after = (t : TableView) × IsTable t × (file : List ℕ) × AddsLines all t file before after
+
+-- what is written grows by an answer to what the words ask for
+abbrev pub AnswersWords : List Text → Option (List ℕ) → Option (List ℕ) → Type 0
+AnswersWords words before after = (request : Request) × Asks (subcommand_of program words) request × Answers request before after
+
+-- the line of a fault of the request is reported
+abbrev pub ReportsFaultOf : Request → ℕ → Option (List ℕ) → Option (List ℕ) → Type 0
+ReportsFaultOf request status before after = (reason : Fault) × IsFaultOf request reason × Reports reason status before after
+
+-- the line of a fault of what the words ask for is reported
+abbrev pub ReportsFaultOfWords : List Text → ℕ → Option (List ℕ) → Option (List ℕ) → Type 0
+ReportsFaultOfWords words status before after = (request : Request) × Asks (subcommand_of program words) request × ReportsFaultOf request status before after

@@ -1,0 +1,214 @@
+//! Readers and writers that fail midway, through the engines, the cores and the program.
+
+ghost use Rattle.std.specs.Prelude.{◌≡◌, ◌-◌, None, length};
+
+use crate::command::command;
+use crate::error::RunError;
+use crate::match_engine::run_match;
+use crate::show_engine::run_show;
+use crate::tests::{PRIORITIES, SIGNATURES, folder, owned_words, put, put_table};
+use sig_bits::{DeviceFault, FromRead, FromWrite, Input, Output};
+use sig_match::{CoreError, DroidCore, Hit, WholeCore};
+use sig_table::{FormatId, Puid, SigId, Table};
+use std::fs;
+use std::test::Fail;
+
+// An input that gives one byte at a time, and at its end may fail.
+#[derive(Drop)]
+pub(crate) struct Pieces<'a> {
+    bytes: &'a [u8],
+    at: usize,
+    fails: bool,
+    failed: bool,
+}
+
+impl<'a> Pieces<'a> {
+    // The bytes, and then the end.
+    pub(crate) fn of(bytes: &'a [u8]) -> Pieces<'a> {
+        Pieces {
+            bytes,
+            at: 0,
+            fails: false,
+            failed: false,
+        }
+    }
+
+    // The bytes, and then a fault.
+    fn failing(bytes: &'a [u8]) -> Pieces<'a> {
+        Pieces {
+            bytes,
+            at: 0,
+            fails: true,
+            failed: false,
+        }
+    }
+}
+
+impl Input for Pieces<'_> {
+    ghost failed = { λ s. s.failed };
+
+    ghost limit = { λ s. length s.bytes.now - s.at };
+
+    ghost to_come = { λ _. None };
+
+    fn read(&mut self, buf: &mut [u8]) -> Result<usize, DeviceFault> {
+        if self.at < self.bytes.len() && !buf.is_empty() && !self.failed {
+            buf[0] = self.bytes[self.at];
+            self.at += 1;
+            return Ok(1);
+        }
+        if self.fails || self.failed {
+            self.failed = true;
+            return Err(DeviceFault);
+        }
+        Ok(0)
+    }
+}
+
+// An output whose every write fails.
+#[derive(Drop)]
+struct Broken {
+    failed: bool,
+}
+
+impl Output for Broken {
+    ghost failed = { λ s. s.failed };
+
+    ghost limit = { λ _. 0 };
+
+    ghost written = { λ _. None };
+
+    fn write_all(&mut self, _bytes: &[u8]) -> Result<(), DeviceFault> {
+        self.failed = true;
+        Err(DeviceFault)
+    }
+}
+
+// The table of the one row `fmt/1,1,BOF,0,,4142`.
+fn table_of_one(rt: &HostRuntime) -> Result<Table, Fail> {
+    let signatures = format!(in rt.alloc(); "{SIGNATURES}fmt/1,1,BOF,0,,4142\n")?;
+    let mut signatures = FromRead::new(signatures.as_bytes());
+    let mut priorities = FromRead::new(PRIORITIES.as_bytes());
+    let table = Table::load(rt.alloc(), &mut signatures, &mut priorities)?;
+    Ok(table)
+}
+
+// The core of that table.
+fn core_of_one(rt: &HostRuntime) -> Result<WholeCore, Fail> {
+    Ok(WholeCore::new(rt.alloc(), table_of_one(rt)?))
+}
+
+#[test]
+fn writes_nothing_before_the_last_read(rt: HostRuntime) -> Result<(), Fail> {
+    let core = core_of_one(&rt)?;
+    let mut out = FromWrite::new(Vec::new(rt.alloc()));
+    let answer = run_match(
+        rt.alloc(),
+        &core,
+        false,
+        &mut Pieces::failing(b"AB"),
+        &mut out,
+    );
+    assert_eq!(rt; answer, Err(RunError::Read));
+    assert_eq!(rt; out.into_inner().len(), 0);
+    Ok(())
+}
+
+#[test]
+fn reports_a_failed_write(rt: HostRuntime) -> Result<(), Fail> {
+    let core = core_of_one(&rt)?;
+    let mut file = FromRead::new(b"AB".as_slice());
+    let mut out = Broken { failed: false };
+    let answer = run_match(rt.alloc(), &core, false, &mut file, &mut out);
+    assert_eq!(rt; answer, Err(RunError::Write));
+    let table = table_of_one(&rt)?;
+    let mut out = Broken { failed: false };
+    let answer = run_show(rt.alloc(), &table, &mut out);
+    assert_eq!(rt; answer, Err(RunError::Write));
+    Ok(())
+}
+
+// Runs the program with a broken output, and gives the status and what is reported.
+fn run_unwritten(rt: &HostRuntime, words: &[&str]) -> Result<(u8, String), Fail> {
+    let words = owned_words(rt, words)?;
+    let mut out = Broken { failed: false };
+    let mut err = FromWrite::new(Vec::new(rt.alloc()));
+    let status = command(rt, words.as_slice(), &mut out, &mut err);
+    Ok((status, String::from_utf8(err.into_inner())?))
+}
+
+// Runs the program where nothing can be reported, and gives the status.
+fn run_unreported(rt: &HostRuntime, words: &[&str]) -> Result<u8, Fail> {
+    let words = owned_words(rt, words)?;
+    let mut out = FromWrite::new(Vec::new(rt.alloc()));
+    let mut err = Broken { failed: false };
+    Ok(command(rt, words.as_slice(), &mut out, &mut err))
+}
+
+#[test]
+fn reports_an_answer_that_is_not_written(rt: HostRuntime) -> Result<(), Fail> {
+    let folder = folder(&rt, "unwritten")?;
+    let folder = folder.as_str();
+    let (signatures, priorities) = put_table(&rt, folder, "fmt/1,1,BOF,0,,4142\n", "")?;
+    let (signatures, priorities) = (signatures.as_str(), priorities.as_str());
+    let file = put(&rt, folder, "file.bin", b"AB")?;
+    let answers = [
+        run_unwritten(&rt, &["match", signatures, priorities, file.as_str()])?,
+        run_unwritten(&rt, &["show", signatures, priorities])?,
+        run_unwritten(&rt, &["--help"])?,
+    ];
+    for (status, line) in answers {
+        assert_eq!(rt; line.as_str(), "write failed\n");
+        assert_eq!(rt; status, 3);
+    }
+    fs::remove_dir_all(&rt, folder)?;
+    Ok(())
+}
+
+#[test]
+fn keeps_the_status_of_a_fault_that_is_not_reported(rt: HostRuntime) -> Result<(), Fail> {
+    let folder = folder(&rt, "unreported")?;
+    let folder = folder.as_str();
+    let refused = put(&rt, folder, "refused.csv", b"puid\n")?;
+    let priorities = put(&rt, folder, "priorities.csv", PRIORITIES.as_bytes())?;
+    let priorities = priorities.as_str();
+    assert_eq!(rt; run_unreported(&rt, &["look"])?, 2);
+    assert_eq!(rt;
+        run_unreported(&rt, &["show", refused.as_str(), priorities])?,
+        2
+    );
+    assert_eq!(rt; run_unreported(&rt, &["show", "none.csv", priorities])?, 3);
+    fs::remove_dir_all(&rt, folder)?;
+    Ok(())
+}
+
+#[test]
+fn a_core_matches_on_after_a_failed_read(rt: HostRuntime) -> Result<(), Fail> {
+    let core = core_of_one(&rt)?;
+    let mut broken = Pieces::failing(b"AB");
+    match core.match_binary_signatures(&mut broken) {
+        Ok(_) => assert!(rt; false, "a failed read is no end"),
+        Err(error) => assert_eq!(rt; error, CoreError::Read),
+    }
+    let mut whole = Pieces::of(b"AB");
+    let results = core.match_binary_signatures(&mut whole)?;
+    let hit = Hit {
+        format: FormatId(0),
+        signature: SigId(0),
+    };
+    assert_eq!(rt; results.hits(), [hit].as_slice());
+    Ok(())
+}
+
+#[test]
+fn a_removed_format_is_hit_no_more(rt: HostRuntime) -> Result<(), Fail> {
+    let mut core = core_of_one(&rt)?;
+    let other = Puid::parse(b"fmt/9").ok_or("the text is a PUID")?;
+    assert!(rt; !core.remove_signature_for_puid(&other));
+    assert_eq!(rt; core.match_bytes(b"AB")?.hits().len(), 1);
+    let first = Puid::parse(b"fmt/1").ok_or("the text is a PUID")?;
+    assert!(rt; core.remove_signature_for_puid(&first));
+    assert_eq!(rt; core.table().format_count(), 1);
+    assert_eq!(rt; core.match_bytes(b"AB")?.hits().len(), 0);
+    Ok(())
+}

@@ -1,0 +1,15 @@
+-- Numbers joined by their bits, one after the other.
+use Rattle.std.specs.Prelude.{◌≡◌, ◌≢◌, ℕ, ◌<◌, ◌≤◌, List, slice_index, bit_and}
+use Rattle.std.specs.Int.{bit_not, w8}
+
+-- what came out is 0 exactly where all of the numbers f k are, from the first k up to the second
+pub record IsJoined (f : ℕ → ℕ) (from to joined : ℕ) : Type 0 where
+  pub none : joined ≡ 0 → (k : ℕ) → from ≤ k → k < to → f k ≡ 0
+  pub some : joined ≢ 0 → (k : ℕ) × ((from ≤ k) × (k < to) × (f k ≢ 0))
+
+-- the bits of two bytes that both have, and those that the first has alone
+abbrev pub common_at : List ℕ → List ℕ → ℕ → ℕ
+common_at a b k = bit_and (slice_index a k) (slice_index b k)
+
+abbrev pub missing_at : List ℕ → List ℕ → ℕ → ℕ
+missing_at a b k = bit_and (slice_index a k) (bit_not w8 (slice_index b k))

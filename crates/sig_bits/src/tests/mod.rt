@@ -1,0 +1,3 @@
+mod byte_classes;
+mod devices;
+mod sets;

@@ -1,8 +1,0 @@
-use Rattle.std.proofs.Common.{◌≡◌, drop, sum_by}
-use Rattle.sig_table.specs.Allowance.{minus}
-use Rattle.sig_table.specs.Slots.{item_slots}
-use Rattle.sig_table.proofs.slots.left_after_items.Given as goal
-
--- what the items from here on leave is what all leave
-abbrev pub invariant-loop-item : goal.invariant-loop-item
-invariant-loop-item l = minus l.fn.left (sum_by item_slots l.items) ≡ minus l.left (sum_by item_slots (drop l.item-index l.items))
