@@ -16,6 +16,7 @@ mod KindLemmas
 mod LeftLemmas
 mod MatchedLemmas
 mod MemberLemmas
+mod MissingLemmas
 mod NumberLemmas
 mod OneVerdictLemmas
 mod PairLemmas
