@@ -1,0 +1,16 @@
+-- Files that leave two formats, and tables of which no file does.
+use Rattle.std.specs.Prelude.{ℕ, ◌≤◌, List, length}
+use Rattle.sig_bits.specs.Bytes.{IsBytes}
+use Rattle.sig_match.specs.Hitting.{Left}
+use Rattle.sig_match.specs.declared.results.Hit.{Hit}
+use Rattle.sig_table.specs.Views.{TableView}
+
+-- at least two formats are left for the file
+pub record Ambiguous (table : TableView) (file : List ℕ) : Type 0 where
+  pub left : List Hit
+  pub is_left : Left table file left
+  pub two : 2 ≤ length left
+
+-- no file whatever is ambiguous
+abbrev pub Decided : TableView → Type 0
+Decided table = (file : List ℕ) → IsBytes file → ¬ Ambiguous table file

@@ -1,0 +1,26 @@
+//! Certificates that a table of signatures never leaves two formats for one file, and their checker.
+//!
+//! A certificate has, for each two signatures of unrelated formats, a closed set of rows of their
+//! product. What an accepted certificate means is `specs/Deciding.antt`; when a certificate is
+//! closed, `specs/Closed.antt`; which fault of any other is told, `specs/Verdicts.antt`.
+#![tactic(auto)]
+
+mod checker;
+mod closed;
+mod error;
+mod fields;
+mod laws;
+mod rows;
+mod search;
+mod site;
+mod tables;
+mod version;
+mod view;
+
+pub use checker::check;
+pub use error::CheckError;
+pub use laws::{
+    accepted_is_closed, closed_covers_reached, closed_decides, closed_is_accepted,
+    ends_are_reached, reached_rows_are_of_their_file, two_lines_never,
+};
+pub use view::CertView;

@@ -1,0 +1,7 @@
+/// Where a table stands in a certificate: the number of its pair of formats, and its own among the
+/// pair's tables, both counted from 0.
+#[derive(Clone, Copy, Debug, PartialEq, Eq)]
+pub(crate) struct Site {
+    pub(crate) pair: u32,
+    pub(crate) table: u32,
+}
