@@ -17,6 +17,7 @@
 #![tactic(auto)]
 
 mod args;
+mod check_engine;
 mod command;
 mod error;
 mod fault;
