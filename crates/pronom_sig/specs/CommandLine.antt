@@ -5,7 +5,7 @@ use Rattle.clap.specs.Words.{App, IsAmong, Row, Rule, Text, fault_of, first_of, 
 use Rattle.clap.specs.declared.builder.action.ArgAction.TheVariants.{SetTrue}
 use Rattle.clap.specs.declared.error.kind.ErrorKind.TheVariants.{DisplayHelp, DisplayVersion}
 use Rattle.pronom_sig.specs.declared.args.Request.{Request}
-use Rattle.pronom_sig.specs.declared.args.Request.TheVariants.{Match, Show}
+use Rattle.pronom_sig.specs.declared.args.Request.TheVariants.{Check, Match, Show}
 use Rattle.pronom_sig.specs.declared.args.TablePaths.{TablePaths}
 
 -- an argument that must be there
@@ -28,11 +28,15 @@ given name = record (new_rule name) { long = Some name; action = Some SetTrue }
 abbrev pub match_command : App
 match_command = with_rule (with_rule (of_table (new_app (codes "match"))) (wanted (codes "FILE"))) (given (codes "all"))
 
+-- `check SIGS PRIOS CERT`
+abbrev pub check_command : App
+check_command = with_rule (of_table (new_app (codes "check"))) (wanted (codes "CERT"))
+
 -- the program, whose first word is a subcommand, with `--version`
 abbrev pub program : App
 program =
     let top = on_top (λ s. record s { has_version = true; no_binary_name = true; subcommand_required = true }) (new_app (codes "pronom_sig")) in
-    with_subcommand (with_subcommand top show_command.top) match_command.top
+    with_subcommand (with_subcommand (with_subcommand top show_command.top) match_command.top) check_command.top
 
 -- the two files of a table are the first values of their arguments
 pub record NamesTable (paths : TablePaths) (rows : List Row) : Type 0 where
@@ -49,6 +53,7 @@ pub record HasFlag (name : Text) (is_given : Bool) (rows : List Row) : Type 0 wh
 abbrev pub Asks : Option (Text × List Row) → Request → Type 0
 Asks found (Show table) = (rows : List Row) × (found ≡ Some (codes "show", rows)) × NamesTable table rows
 Asks found (Match all table file) = (rows : List Row) × (found ≡ Some (codes "match", rows)) × NamesTable table rows × (first_of (codes "FILE") rows ≡ Some file.now) × HasFlag (codes "all") all rows
+Asks found (Check table certificate) = (rows : List Row) × (found ≡ Some (codes "check", rows)) × NamesTable table rows × (first_of (codes "CERT") rows ≡ Some certificate.now)
 
 -- the words are taken, and they ask for something
 abbrev pub AreTaken : List Text → Type 0

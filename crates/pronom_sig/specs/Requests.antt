@@ -1,18 +1,19 @@
 -- What comes of what the words ask for: its answers, and its faults.
-use Rattle.std.specs.Prelude.{◌≡◌, ℕ, ◌⊎◌, List, Option, ⊤}
+use Rattle.std.specs.Prelude.{◌≡◌, ℕ, ◌⊎◌, Bool, true, List, Option, ⊤}
 use Rattle.clap.specs.Words.{Text, subcommand_of}
 use Rattle.sig_bits.specs.Device.{Adds}
 use Rattle.sig_table.specs.Tables.{IsTable}
 use Rattle.sig_table.specs.Views.{TableView}
 use Rattle.pronom_sig.specs.CommandLine.{Asks, program}
 use Rattle.pronom_sig.specs.Faults.{Reports}
+use Rattle.pronom_sig.specs.Judged.{AddsVerdict}
 use Rattle.pronom_sig.specs.Lines.{AddsLines}
 use Rattle.pronom_sig.specs.Shown.{show_text}
 use Rattle.pronom_sig.specs.declared.error.RunError.TheVariants.{OutOfMemory, Write}
 use Rattle.pronom_sig.specs.declared.fault.Fault.{Fault}
 use Rattle.pronom_sig.specs.declared.fault.Fault.TheVariants.{CannotOpen, NotText, Run, Table}
 use Rattle.pronom_sig.specs.declared.args.Request.{Request}
-use Rattle.pronom_sig.specs.declared.args.Request.TheVariants.{Match, Show}
+use Rattle.pronom_sig.specs.declared.args.Request.TheVariants.{Check, Match, Show}
 use Rattle.pronom_sig.specs.declared.args.TablePaths.{TablePaths}
 
 -- a file of the table can't be opened, or there is no table
@@ -33,19 +34,21 @@ IsRunFault (Run error) = ⊤
 abbrev pub IsShowFault : Fault → Type 0
 IsShowFault fault = (fault ≡ Run Write) ⊎ (fault ≡ Run OutOfMemory)
 
--- the faults of the table, of the file that is matched, and of the engine
+-- the faults of the table, of the file that is matched or judged, and of the engine
 abbrev pub IsFaultOf : Request → Fault → Type 0
 IsFaultOf (Show table) fault = IsLoadFault table fault ⊎ IsShowFault fault
 IsFaultOf (Match all table file) fault = IsLoadFault table fault ⊎ ((fault ≡ CannotOpen file) ⊎ IsRunFault fault)
+IsFaultOf (Check table certificate) fault = IsLoadFault table fault ⊎ ((fault ≡ CannotOpen certificate) ⊎ IsRunFault fault)
 
--- what is written grows by the canonical files of a table, or by the lines that are asked for of what a file hits in a table
-abbrev pub Answers : Request → Option (List ℕ) → Option (List ℕ) → Type 0
-Answers (Show table) before after = (t : TableView) × IsTable t × Adds before (show_text t) after
-Answers (Match all table path) before after = (t : TableView) × IsTable t × (file : List ℕ) × AddsLines all t file before after
+-- what is written grows by the canonical files of a table, by the lines that are asked for of what a file hits in a table, or by the line of the verdict on a certificate; only a verdict can be a no
+abbrev pub Answers : Request → Bool → Option (List ℕ) → Option (List ℕ) → Type 0
+Answers (Show table) is_yes before after = (is_yes ≡ true) × (t : TableView) × IsTable t × Adds before (show_text t) after
+Answers (Match all table path) is_yes before after = (is_yes ≡ true) × (t : TableView) × IsTable t × (file : List ℕ) × AddsLines all t file before after
+Answers (Check table path) is_yes before after = (t : TableView) × IsTable t × (certificate : List ℕ) × AddsVerdict is_yes t certificate before after
 
--- what is written grows by an answer to what the words ask for
-abbrev pub AnswersWords : List Text → Option (List ℕ) → Option (List ℕ) → Type 0
-AnswersWords words before after = (request : Request) × Asks (subcommand_of program words) request × Answers request before after
+-- what is written grows by an answer to what the words ask for, a yes or a no
+abbrev pub AnswersWords : List Text → Bool → Option (List ℕ) → Option (List ℕ) → Type 0
+AnswersWords words is_yes before after = (request : Request) × Asks (subcommand_of program words) request × Answers request is_yes before after
 
 -- the line of a fault of the request is reported
 abbrev pub ReportsFaultOf : Request → ℕ → Option (List ℕ) → Option (List ℕ) → Type 0

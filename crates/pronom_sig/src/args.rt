@@ -30,6 +30,17 @@ Statuses:
   2  the words are wrong, or the table is refused
   3  a file can't be opened, a read or a write failed, or memory ran out";
 
+const CHECK_HELP: &str = "\
+The one line is `accepted`, or `refused` and the first fault of the certificate. An accepted
+certificate means that no file whatever leaves two formats of the table. Pairs, tables and rows of
+the certificate are counted from 0, and a byte is two hexadecimal digits.
+
+Statuses:
+  0  the certificate is accepted
+  1  the certificate is refused
+  2  the words are wrong, or the table is refused
+  3  a file can't be opened, a read or a write failed, or memory ran out";
+
 /// What the words ask for.
 #[derive(Clone, Copy, Debug, PartialEq, Eq)]
 pub(crate) enum Request<'a> {
@@ -42,6 +53,11 @@ pub(crate) enum Request<'a> {
         all: bool,
         table: TablePaths<'a>,
         file: &'a str,
+    },
+    /// Whether a certificate of a table is accepted.
+    Check {
+        table: TablePaths<'a>,
+        certificate: &'a str,
     },
 }
 
@@ -81,6 +97,10 @@ fn command_line<'a>(alloc: Global) -> Result<Command<'a>, Error>
         .after_help(MATCH_HELP)
         .arg(required(alloc, "FILE").help("The file to identify"))?
         .arg(flag(alloc, "all").help("Print all formats that the file hits, before priorities"))?;
+    let checking = with_table_args(alloc, Command::new(alloc, "check"))?
+        .about("Judge a certificate of a table")
+        .after_help(CHECK_HELP)
+        .arg(required(alloc, "CERT").help("The certificate"))?;
     let command = Command::new(alloc, "pronom_sig")
         .about("Match files against tables of signatures")
         .version("0.1.0")
@@ -88,7 +108,8 @@ fn command_line<'a>(alloc: Global) -> Result<Command<'a>, Error>
         .no_binary_name(true)
         .subcommand_required(true)
         .subcommand(show)?
-        .subcommand(matching)?;
+        .subcommand(matching)?
+        .subcommand(checking)?;
     Ok(command)
 }
 
@@ -125,6 +146,12 @@ fn request_of<'a>(matches: &ArgMatches<'a>) -> Option<Request<'a>>
     if let Some(shown) = matches.subcommand_matches("show") {
         return Some(Request::Show {
             table: table_paths(shown)?,
+        });
+    }
+    if let Some(checking) = matches.subcommand_matches("check") {
+        return Some(Request::Check {
+            table: table_paths(checking)?,
+            certificate: checking.get_str("CERT")?,
         });
     }
     let matching = matches.subcommand_matches("match")?;

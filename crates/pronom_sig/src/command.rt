@@ -1,6 +1,6 @@
 //! All that the program does: it reads the words, opens the files, answers, and gives the status.
 
-ghost use Rattle.std.specs.Prelude.{◌≡◌, ◌≢◌, ◌⊎◌, false, List, map, string_bytes, true, IfErr, IfOk, IsErrOf, OnOk};
+ghost use Rattle.std.specs.Prelude.{◌≡◌, ◌≢◌, ◌<◌, ◌≤◌, ◌⊎◌, false, List, map, string_bytes, true, IfErr, IfOk, IsErrOf, OnOk};
 ghost use Rattle.clap.specs.Values.{kind_of};
 ghost use Rattle.clap.specs.Words.{Text};
 ghost use Rattle.pronom_sig.specs.Requests.{Answers, AnswersWords, IsFaultOf, IsLoadFault, ReportsFaultOfWords};
@@ -9,6 +9,7 @@ ghost use Rattle.pronom_sig.specs.Faults.{Reports, ReportsFault};
 ghost use Rattle.sig_table.specs.Tables.{IsTable};
 
 use crate::args::{Request, TablePaths, read_args};
+use crate::check_engine::run_check;
 use crate::error::RunError;
 use crate::fault::Fault;
 use crate::match_engine::run_match;
@@ -28,15 +29,16 @@ pub fn run<R: Env + Files + AllocGlobal, W: Output, E: Output>(
     out: &mut W,
     err: &mut E,
 ) -> u8
-    ensures known { (result ≡ 0) ⊎ ((result ≡ 2) ⊎ (result ≡ 3)) }
-    ensures shown { result ≡ 0 → W.failed out.new ≡ false }
-    ensures quiet { result ≡ 0 → err.new ≡ err.old }
+    ensures known { result < 4 }
+    ensures shown { result < 2 → W.failed out.new ≡ false }
+    ensures quiet { result < 2 → err.new ≡ err.old }
     ensures refused { result ≡ 2 → out.new ≡ out.old }
     ensures whole { result ≡ 3 → W.failed out.new ≡ false → out.new ≡ out.old }
     ensures reported { result ≡ 3 → E.failed err.new ≡ false → ReportsFault 3 (E.written err.old) (E.written err.new) }
 
     // What is shown answers some words, or they ask for help.
-    ensures answered { result ≡ 0 → (words : List Text) × (IsHelpAsked words ⊎ AnswersWords words (W.written out.old) (W.written out.new)) }
+    ensures answered { result ≡ 0 → (words : List Text) × (IsHelpAsked words ⊎ AnswersWords words true (W.written out.old) (W.written out.new)) }
+    ensures denied { result ≡ 1 → (words : List Text) × AnswersWords words false (W.written out.old) (W.written out.new) }
 {
     match words_of(rt) {
         Ok(words) => command(rt, words.as_slice(), out, err),
@@ -74,10 +76,11 @@ pub fn command<R: Files + AllocGlobal, W: Output, E: Output>(
     out: &mut W,
     err: &mut E,
 ) -> u8
-    ensures known { (result ≡ 0) ⊎ ((result ≡ 2) ⊎ (result ≡ 3)) }
-    ensures shown { result ≡ 0 → W.failed out.new ≡ false }
-    ensures quiet { result ≡ 0 → err.new ≡ err.old }
-    ensures answered { result ≡ 0 → IsHelpAsked (map string_bytes words.now) ⊎ AnswersWords (map string_bytes words.now) (W.written out.old) (W.written out.new) }
+    ensures known { result < 4 }
+    ensures shown { result < 2 → W.failed out.new ≡ false }
+    ensures quiet { result < 2 → err.new ≡ err.old }
+    ensures answered { result ≡ 0 → IsHelpAsked (map string_bytes words.now) ⊎ AnswersWords (map string_bytes words.now) true (W.written out.old) (W.written out.new) }
+    ensures denied { result ≡ 1 → AnswersWords (map string_bytes words.now) false (W.written out.old) (W.written out.new) }
 
     // Each refusal, and what stays.
     ensures refused { result ≡ 2 → out.new ≡ out.old }
@@ -85,40 +88,52 @@ pub fn command<R: Files + AllocGlobal, W: Output, E: Output>(
     ensures reported { result ≡ 3 → E.failed err.new ≡ false → ReportsFault 3 (E.written err.old) (E.written err.new) }
 
     // Words that ask for something get it, or one of its faults.
-    ensures taken { AreTaken (map string_bytes words.now) → result ≡ 0 → AnswersWords (map string_bytes words.now) (W.written out.old) (W.written out.new) }
-    ensures faults { AreTaken (map string_bytes words.now) → result ≢ 0 → E.failed err.new ≡ false → ReportsFaultOfWords (map string_bytes words.now) result (E.written err.old) (E.written err.new) }
+    ensures taken { AreTaken (map string_bytes words.now) → result ≡ 0 → AnswersWords (map string_bytes words.now) true (W.written out.old) (W.written out.new) }
+    ensures faults { AreTaken (map string_bytes words.now) → 2 ≤ result → E.failed err.new ≡ false → ReportsFaultOfWords (map string_bytes words.now) result (E.written err.old) (E.written err.new) }
 {
     match read_args(rt.alloc(), words) {
         Ok(request) => match answer(rt, request, out) {
-            Ok(()) => 0,
+            Ok(true) => 0,
+            Ok(false) => 1,
             Err(fault) => fault.report(err),
         },
         Err(error) => show_usage(rt.alloc(), &error, out, err),
     }
 }
 
+// Whether the answer is a yes.
 fn answer<'a, R: Files + AllocGlobal, W: Output>(
     rt: &R,
     request: Request<'a>,
     out: &mut W,
-) -> Result<(), Fault<'a>>
+) -> Result<bool, Fault<'a>>
     ensures shown { OnOk result (W.failed out.new ≡ false) }
-    ensures answers { OnOk result (Answers request.entry (W.written out.old) (W.written out.new)) }
+    ensures answers { IfOk result (λ is_yes. Answers request.entry is_yes (W.written out.old) (W.written out.new)) }
     ensures faults { IfErr result (λ fault. IsFaultOf request.entry fault) }
     ensures write { IsErrOf result (Fault.Run RunError.Write) → W.failed out.new ≡ true }
     ensures untouched { IfErr result (λ fault. fault ≢ Fault.Run RunError.Write → out.new ≡ out.old) }
 {
-    let answered = match request {
-        Request::Show { table } => run_show(rt.alloc(), &load(rt, table)?, out),
+    match request {
+        Request::Show { table } => match run_show(rt.alloc(), &load(rt, table)?, out) {
+            Ok(()) => Ok(true),
+            Err(error) => Err(Fault::Run(error)),
+        },
         Request::Match { all, table, file } => {
             let core = WholeCore::new(rt.alloc(), load(rt, table)?);
             let mut file = open(rt, file)?;
-            run_match(rt.alloc(), &core, all, &mut file, out)
+            match run_match(rt.alloc(), &core, all, &mut file, out) {
+                Ok(()) => Ok(true),
+                Err(error) => Err(Fault::Run(error)),
+            }
         }
-    };
-    match answered {
-        Ok(()) => Ok(()),
-        Err(error) => Err(Fault::Run(error)),
+        Request::Check { table, certificate } => {
+            let table = load(rt, table)?;
+            let mut certificate = open(rt, certificate)?;
+            match run_check(rt.alloc(), &table, &mut certificate, out) {
+                Ok(is_accepted) => Ok(is_accepted),
+                Err(error) => Err(Fault::Run(error)),
+            }
+        }
     }
 }
 

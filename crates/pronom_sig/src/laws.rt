@@ -14,6 +14,8 @@ pub fn words_are_taken()
     ensures matched { takes program (codes "match" ∷ codes "a" ∷ codes "b" ∷ codes "c" ∷ []) ≡ true }
     ensures matched_no_help { fault_of program (codes "match" ∷ codes "a" ∷ codes "b" ∷ codes "c" ∷ []) ≡ [] }
     ensures all { takes program (codes "match" ∷ codes "--all" ∷ codes "a" ∷ codes "b" ∷ codes "c" ∷ []) ≡ true }
+    ensures checked { takes program (codes "check" ∷ codes "a" ∷ codes "b" ∷ codes "c" ∷ []) ≡ true }
+    ensures checked_no_help { fault_of program (codes "check" ∷ codes "a" ∷ codes "b" ∷ codes "c" ∷ []) ≡ [] }
     ensures help { fault_of program (codes "--help" ∷ []) ≡ ErrorKind.DisplayHelp ∷ [] }
     ensures version { fault_of program (codes "--version" ∷ []) ≡ ErrorKind.DisplayVersion ∷ [] }
 {}

@@ -1,8 +1,10 @@
 //! The lines that are answers.
 
-ghost use Rattle.std.specs.Prelude.{◌≡◌, ◌++◌, All, IfOk, OnOk, string_bytes};
+ghost use Rattle.std.specs.Prelude.{◌≡◌, ◌++◌, ◌∷◌, [], All, codes, decimal, IfOk, OnOk, string_bytes};
+ghost use Rattle.pronom_sig.specs.Judged.{byte_text, refusal_text, row_text, table_text, verdict_line};
 ghost use Rattle.pronom_sig.specs.Lines.{IsOf, line_of, lines_of};
 
+use sig_cert::CheckError;
 use sig_match::Hit;
 use sig_table::Table;
 use std::alloc::{AllocError, Global};
@@ -31,5 +33,94 @@ fn push_hit(lines: &mut String, table: &Table, hit: Hit) -> Result<(), AllocErro
     let puid = table.puid(table.format_of(hit.signature));
     let number = table.number_of(hit.signature);
     writeln!(lines, "{puid} {number}")?;
+    Ok(())
+}
+
+/// The line of a verdict on a certificate.
+pub(crate) fn line_of_verdict(
+    alloc: Global,
+    verdict: Result<(), CheckError>,
+) -> Result<String, AllocError>
+    ensures { IfOk result (λ line. string_bytes line ≡ verdict_line verdict) }
+{
+    let mut line = String::new(alloc);
+    match verdict {
+        Ok(()) => line.push_str("accepted")?,
+        Err(fault) => {
+            line.push_str("refused ")?;
+            push_refusal(&mut line, fault)?;
+        }
+    }
+    line.push_str("\n")?;
+    Ok(line)
+}
+
+// Why a certificate is refused, and where.
+fn push_refusal(line: &mut String, fault: CheckError) -> Result<(), AllocError>
+    ensures { OnOk result (string_bytes line.new ≡ string_bytes line.old ++ refusal_text fault) }
+{
+    match fault {
+        CheckError::Magic => line.push_str("C1 magic"),
+        CheckError::Version => line.push_str("C2 version"),
+        CheckError::PairCount => line.push_str("C3 pair count"),
+        CheckError::Kind { pair } => push_numbered(line, "C4 kind pair ", pair),
+        CheckError::Blockers { pair, table } => push_at_table(line, "C5 blockers", pair, table),
+        CheckError::RowForm { pair, table, row } => {
+            push_at_row(line, "C6 row form", pair, table, row)
+        }
+        CheckError::RowOrder { pair, table, row } => {
+            push_at_row(line, "C7 row order", pair, table, row)
+        }
+        CheckError::NoStart { pair, table } => push_at_table(line, "C8 no start", pair, table),
+        CheckError::Bad { pair, table, row } => push_at_row(line, "C9 bad", pair, table, row),
+        CheckError::NotClosed {
+            pair,
+            table,
+            row,
+            byte,
+        } => {
+            push_at_row(line, "C10 not closed", pair, table, row)?;
+            push_byte(line, byte)
+        }
+        CheckError::Trailing => line.push_str("C11 trailing"),
+        CheckError::Truncated => line.push_str("C12 truncated"),
+        CheckError::OutOfMemory => line.push_str("C13 out of memory"),
+    }
+}
+
+// A text and a number behind it.
+fn push_numbered(line: &mut String, text: &str, number: u32) -> Result<(), AllocError>
+    ensures { OnOk result (string_bytes line.new ≡ string_bytes line.old ++ (text.now ++ decimal number)) }
+{
+    write!(line, "{text}{number}")?;
+    Ok(())
+}
+
+// A text and a table behind it.
+fn push_at_table(line: &mut String, text: &str, pair: u32, table: u32) -> Result<(), AllocError>
+    ensures { OnOk result (string_bytes line.new ≡ string_bytes line.old ++ (text.now ++ table_text pair table)) }
+{
+    write!(line, "{text} pair {pair} table {table}")?;
+    Ok(())
+}
+
+// A text and a row behind it.
+fn push_at_row(
+    line: &mut String,
+    text: &str,
+    pair: u32,
+    table: u32,
+    row: u32,
+) -> Result<(), AllocError>
+    ensures { OnOk result (string_bytes line.new ≡ string_bytes line.old ++ (text.now ++ row_text pair table row)) }
+{
+    push_at_table(line, text, pair, table)?;
+    push_numbered(line, " row ", row)
+}
+
+fn push_byte(line: &mut String, byte: u8) -> Result<(), AllocError>
+    ensures { OnOk result (string_bytes line.new ≡ string_bytes line.old ++ (codes " byte " ++ byte_text byte)) }
+{
+    write!(line, " byte {byte:02X}")?;
     Ok(())
 }

@@ -1,14 +1,17 @@
-//! The program: matches files against a table of signatures, and shows tables.
+//! The program: matches files against a table of signatures, shows tables, and judges certificates.
 //!
 //! - `run_match`, for every core that meets the law of `DroidCore`, every input and every output:
 //!   where it answers Ok, the output has grown by exactly the lines of the formats left for a file,
 //!   or with `all` of those that it hits. The file is the one that was to come, where its bytes are
 //!   known.
 //! - `run_show` adds both canonical files with an empty line between them.
-//! - Neither writes before its answer is known: after a failed read, and where memory runs out, the
+//! - `run_check` adds the line of the verdict on a certificate, and answers a yes exactly for an
+//!   accepted one: then no file whatever leaves two formats of the table (`decided`).
+//! - None writes before its answer is known: after a failed read, and where memory runs out, the
 //!   output is as it was. A failed read or write is reported as one, and nothing else is.
-//! - `command` answers a status of 0, 2 or 3. With 0 the error output is as it was, no write failed,
-//!   and what was written answers the words, or they ask for help. With 2 the output is as it was,
+//! - `command` answers a status of 0, 1, 2 or 3. With 0 and 1 the error output is as it was, no write
+//!   failed, and what was written answers the words, with 1 by the line of a refused certificate; or,
+//!   with 0, they ask for help. With 2 the output is as it was,
 //!   and with 3 too, unless a write there failed. A fault is one line, of which fault it is
 //!   (`fault_line`); it is written in pieces and needs no memory. Words that `clap` takes and that
 //!   ask for something get an answer to it, or the line of a fault of just what they ask for.
@@ -17,6 +20,7 @@
 #![tactic(auto)]
 
 mod args;
+mod check_engine;
 mod command;
 mod error;
 mod fault;

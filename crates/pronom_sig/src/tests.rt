@@ -1,6 +1,7 @@
 //! What no contract says: the answers to rows worked out by hand, texts and statuses, and what
 //! failing readers and writers do to them.
 
+mod checking;
 mod matching;
 mod refusals;
 mod showing;

@@ -34,7 +34,7 @@ impl<'a> Pieces<'a> {
     }
 
     // The bytes, and then a fault.
-    fn failing(bytes: &'a [u8]) -> Pieces<'a> {
+    pub(crate) fn failing(bytes: &'a [u8]) -> Pieces<'a> {
         Pieces {
             bytes,
             at: 0,

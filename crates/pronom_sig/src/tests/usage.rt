@@ -5,7 +5,7 @@ use std::test::Fail;
 
 #[test]
 fn shows_help_and_the_version(rt: HostRuntime) -> Result<(), Fail> {
-    let texts: [(&[&str], &str); 6] = [
+    let texts: [(&[&str], &str); 7] = [
         (&["--help"], "Match files against tables of signatures\n"),
         (&["-h"], "Match files against tables of signatures\n"),
         (&["help"], "Match files against tables of signatures\n"),
@@ -14,6 +14,7 @@ fn shows_help_and_the_version(rt: HostRuntime) -> Result<(), Fail> {
             "Print the canonical files of a table\n",
         ),
         (&["match", "--help"], "Print the formats left for a file\n"),
+        (&["check", "--help"], "Judge a certificate of a table\n"),
         (&["--version"], "pronom_sig 0.1.0\n"),
     ];
     for (words, begin) in texts {
@@ -37,7 +38,7 @@ fn shows_help_and_the_version(rt: HostRuntime) -> Result<(), Fail> {
 
 #[test]
 fn refuses_wrong_words(rt: HostRuntime) -> Result<(), Fail> {
-    let faults: [(&[&str], &str); 7] = [
+    let faults: [(&[&str], &str); 8] = [
         (&[], "error: 'pronom_sig' requires a subcommand"),
         (&["look"], "error: unrecognized subcommand 'look'"),
         (
@@ -50,6 +51,10 @@ fn refuses_wrong_words(rt: HostRuntime) -> Result<(), Fail> {
         ),
         (
             &["match", "a", "b"],
+            "error: the following required arguments were not provided:",
+        ),
+        (
+            &["check", "a", "b"],
             "error: the following required arguments were not provided:",
         ),
         (
