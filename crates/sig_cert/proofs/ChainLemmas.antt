@@ -47,8 +47,8 @@ length-signatures_left table format [] = sym zero_times
 length-signatures_left table format (s ∷ these) =
     length-append (map (λ t. (s.0, t)) (signatures_of table format)) (signatures_left table format these)
     ∙ (let first = length-map {B = ℕ × ℕ} (signatures_of table format) (λ t. (s.0, t)) in
-       let later = length-signatures_left table format these in
-       let all = suc-mul (length these) (length (signatures_of table format)) in omega (arith, first, later, all))
+    let later = length-signatures_left table format these in
+    let all = suc-mul (length these) (length (signatures_of table format)) in omega (arith, first, later, all))
 
 -- there are at most sixteen million pairs of signatures of two formats
 pub few_pairs : (table : TableView) (a b : ℕ) → length table.signatures ≤ 4000 → length (signatures_left table b (places_of a 0 table.signatures)) ≤ 16000000

@@ -16,7 +16,7 @@ use Rattle.sig_table.specs.Views.{TableView}
 pub accepted_decides : (table : TableView) (certificate view after : List ℕ) (result : Result Unit CheckError) → IsTable table → IsBytes certificate → view ≡ certificate → Judges (CertificateJudged table) view after result → MatchResult result (λ done. after ≡ []) (λ e. Unit {0}) → OnOk result (Decided table)
 accepted_decides table certificate view after (Ok done) is_table bytes same judged end =
     closed_decides table certificate is_table (accepted_is_closed table certificate bytes
-        (subst (λ c. CertificateJudged table c (Ok [])) same (subst (λ a. CertificateJudged table view (Ok a)) end judged)))
+    (subst (λ c. CertificateJudged table c (Ok [])) same (subst (λ a. CertificateJudged table view (Ok a)) end judged)))
 accepted_decides table certificate view after (Err e) is_table bytes same judged end = tt
 
 -- the items of a slice of bytes are bytes
