@@ -4,8 +4,8 @@
     python3 bench/compare.py PROGRAM [--tables N] [--seed S]
 
 PROGRAM is the built `pronom_sig`. Each random table of three or four formats goes to `find` and to
-the plain finder; certificates of both versions and changed ones go to `check` and to the plain
-checker, and a few files to `witness`. Subcommands that the program lacks are left out. Any
+the plain finder; certificates of both versions and changed ones go to `check`, to the plain checker
+and to the one that was written from `docs/FORMATS.md` alone, and a few files to `witness`. Subcommands that the program lacks are left out. Any
 difference is printed, with the folder that holds its files, and ends the script with status 1.
 """
 import argparse
@@ -17,6 +17,7 @@ import tempfile
 
 sys.dont_write_bytecode = True
 
+import page_check
 import plain_check
 import plain_find
 from tables import HEADER
@@ -100,6 +101,10 @@ class Comparison:
         with open(self.path(name), "wb") as f:
             f.write(data)
 
+    def read(self, name):
+        with open(self.path(name), "rb") as f:
+            return f.read()
+
     def table(self, chance):
         write_table(self.folder, *random_rows(chance))
         table = plain_check.read_table(self.path("signatures.csv"), self.path("priorities.csv"))
@@ -127,11 +132,13 @@ class Comparison:
             self.witnessed(table, written)
 
     def judged(self, chance, table, certificate):
+        tables = [self.read(name) for name in ("signatures.csv", "priorities.csv")]
         for changed in changes(chance, certificate, 20):
             self.put("certificate", changed)
             verdict = plain_check.check(table, changed)
             self.same("check", self.run("check", "signatures.csv", "priorities.csv", "certificate"),
                       (verdict + "\n", 0 if verdict == "accepted" else 1))
+            self.same("check by the page", (page_check.verdict(*tables, changed), 0), (verdict, 0))
 
     def witnessed(self, table, file):
         self.put("file", file)

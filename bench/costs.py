@@ -33,11 +33,12 @@ class Run:
 
     def __init__(self, words, folder, stack=None):
         def limit():
-            if stack is not None:
-                resource.setrlimit(resource.RLIMIT_STACK, (stack, stack))
+            resource.setrlimit(resource.RLIMIT_STACK, (stack, stack))
         with tempfile.TemporaryFile() as out:
             begin = time.perf_counter()
-            child = subprocess.Popen(words, cwd=folder, stdout=out, stderr=out, preexec_fn=limit)
+            # With a function to call before the program, all of this script is copied first.
+            before = limit if stack is not None else None
+            child = subprocess.Popen(words, cwd=folder, stdout=out, stderr=out, preexec_fn=before)
             _, status, usage = os.wait4(child.pid, 0)
             self.seconds = time.perf_counter() - begin
             child.returncode = os.waitstatus_to_exitcode(status)
@@ -95,9 +96,12 @@ def match_lines(program, folder):
 
     table(one("{0-2000}" + "41" * 10))
     written(folder, "file", [b"A" * 100_000])
-    run = median(words, folder, stack=128 << 10)
-    line("match with a stack of 128 KiB", run, "works")
+    run = median(words, folder, stack=100 << 10)
+    line("match with a stack of 100 KiB", run, "works")
     wanted(run, 0, "fmt/1 1\n")
+    run = median([program, "show", "signatures.csv", "priorities.csv"], folder, stack=100 << 10)
+    line("show with a stack of 100 KiB", run, "works")
+    wanted(run, 0, HEADER)
 
     size = written(folder, "signatures.csv", [HEADER.encode()] + [b"a\n" * 500_000] * 100)
     run = median(words, folder)

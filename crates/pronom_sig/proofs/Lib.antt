@@ -1,4 +1,6 @@
 -- Lemmas of this crate.
+mod FoundLemmas
+pub mod BudgetLemmas
 pub mod FaultLemmas
 pub mod HitLemmas
 pub mod JudgedLemmas

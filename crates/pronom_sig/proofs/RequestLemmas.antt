@@ -1,60 +1,78 @@
 -- What words ask for, and what they do not.
-use Rattle.std.proofs.Common.{◌≡◌, ◌⊎◌, List, Option, None, Some, ap, arith, codes, inl, inr, length, subst, sym, ◌∙◌}
+use Rattle.std.proofs.Common.{◌≡◌, ◌≢◌, ◌⊎◌, ℕ, List, Option, Some, ap, arith, codes, inl, inr, subst, sym, ◌∙◌}
 use Rattle.std.proofs.Math.ListN.{get_or}
 use Rattle.std.proofs.lemmas.Option.{same_Some}
 use Rattle.clap.specs.Words.{HasKind, IsAmong, Kinds, Row, Text, first_of, kind_of}
 use Rattle.clap.specs.declared.error.Error.{Error}
 use Rattle.clap.specs.declared.error.kind.ErrorKind.TheVariants.{DisplayHelp, DisplayVersion, OutOfMemory}
-use Rattle.pronom_sig.specs.CommandLine.{Asks}
+use Rattle.pronom_sig.specs.CommandLine.{Asks, NamesBudget, NamesTable}
 use Rattle.pronom_sig.specs.declared.args.Request.{Request}
-use Rattle.pronom_sig.specs.declared.args.Request.TheVariants.{Check, Match, Show}
+use Rattle.pronom_sig.specs.declared.args.Request.TheVariants.{Check, Find, Match, Show, Witness}
+use Rattle.pronom_sig.specs.declared.args.TablePaths.{TablePaths}
 
--- the names of the subcommands differ
-match_no_show : codes "match" ≡ codes "show" → ⊥
-match_no_show same =
-    let lengths : length (codes "match") ≡ length (codes "show") = ap (λ (t : Text). length t) same in
-    absurd (omega (arith, lengths))
+-- one subcommand and its rows are another and its own
+abbrev AreSame : Text → List Row → Text → List Row → Type 0
+AreSame name rows other more =
+    let mine : Option (Text × List Row) = Some (name, rows) in
+    let asked : Option (Text × List Row) = Some (other, more) in
+    mine ≡ asked
 
-check_no_show : codes "check" ≡ codes "show" → ⊥
-check_no_show same =
-    let lengths : length (codes "check") ≡ length (codes "show") = ap (λ (t : Text). length t) same in
-    absurd (omega (arith, lengths))
-
-check_no_match : codes "check" ≡ codes "match" → ⊥
-check_no_match same =
-    let firsts : get_or (codes "check") 0 0 ≡ get_or (codes "match") 0 0 = ap (λ (t : Text). get_or t 0 0) same in
-    absurd (omega (arith, firsts))
-
--- one subcommand is found
-name_of_found : (found : Option (Text × List Row)) (name other : Text) (rows more : List Row) → found ≡ Some (name, rows) → found ≡ Some (other, more) → name ≡ other
-name_of_found found name other rows more is also =
-    let mine : Text × List Row = (name, rows) in
-    let asked : Text × List Row = (other, more) in
-    ap (λ (p : Text × List Row). p.0) (same_Some mine asked (sym is ∙ also))
-
-rows_of_found : (found : Option (Text × List Row)) (name : Text) (rows more : List Row) → found ≡ Some (name, rows) → found ≡ Some (name, more) → rows ≡ more
-rows_of_found found name rows more is also =
+rows_of_found : (name : Text) (rows more : List Row) → AreSame name rows name more → more ≡ rows
+rows_of_found name rows more same =
     let mine : Text × List Row = (name, rows) in
     let asked : Text × List Row = (name, more) in
-    ap (λ (p : Text × List Row). p.1) (same_Some mine asked (sym is ∙ also))
+    sym (ap (λ (p : Text × List Row). p.1) (same_Some mine asked same))
 
--- nothing is asked for where a match has no file
-pub no_file : (found : Option (Text × List Row)) (rows : List Row) → found ≡ Some (codes "match", rows) → None ≡ first_of (codes "FILE") rows → (asked : Request) → Asks found asked → ⊥
-no_file found rows is none (Show table) asks = match_no_show (name_of_found found (codes "match") (codes "show") rows asks.0 is asks.1)
-no_file found rows is none (Match all table file) asks =
-    let same : rows ≡ asks.0 = rows_of_found found (codes "match") rows asks.0 is asks.1 in
-    let named : None ≡ Some file.now = none ∙ ap (first_of (codes "FILE")) same ∙ asks.3 in
-    cc
-no_file found rows is none (Check table certificate) asks = check_no_match (sym (name_of_found found (codes "match") (codes "check") rows asks.0 is asks.1))
+-- a subcommand does not ask for what another one does: their names begin with other letters
+other_name : (name other : Text) (rows more : List Row) → get_or name 0 0 ≢ get_or other 0 0 → AreSame name rows other more → ⊥
+other_name name other rows more letters same =
+    let mine : Text × List Row = (name, rows) in
+    let asked : Text × List Row = (other, more) in
+    letters (ap (λ (p : Text × List Row). get_or p.0 0 0) (same_Some mine asked same))
 
--- nor where a check has no certificate
-pub no_certificate : (found : Option (Text × List Row)) (rows : List Row) → found ≡ Some (codes "check", rows) → None ≡ first_of (codes "CERT") rows → (asked : Request) → Asks found asked → ⊥
-no_certificate found rows is none (Show table) asks = check_no_show (name_of_found found (codes "check") (codes "show") rows asks.0 is asks.1)
-no_certificate found rows is none (Match all table file) asks = check_no_match (name_of_found found (codes "check") (codes "match") rows asks.0 is asks.1)
-no_certificate found rows is none (Check table certificate) asks =
-    let same : rows ≡ asks.0 = rows_of_found found (codes "check") rows asks.0 is asks.1 in
-    let named : None ≡ Some certificate.now = none ∙ ap (first_of (codes "CERT")) same ∙ asks.3 in
-    cc
+-- nothing is asked for where a word is missing
+pub no_show : (rows : List Row) → ((table : TablePaths) → NamesTable table rows → ⊥) → (asked : Request) → Asks (Some (codes "show", rows)) asked → ⊥
+no_show rows missing (Show table) asks = missing table (subst (NamesTable table) (rows_of_found (codes "show") rows asks.0 asks.1) asks.2)
+no_show rows missing (Match all table file) asks = other_name (codes "show") (codes "match") rows asks.0 (omega arith) asks.1
+no_show rows missing (Find table budget out hex) asks = other_name (codes "show") (codes "find") rows asks.0 (omega arith) asks.1
+no_show rows missing (Check table certificate) asks = other_name (codes "show") (codes "check") rows asks.0 (omega arith) asks.1
+no_show rows missing (Witness table file) asks = other_name (codes "show") (codes "witness") rows asks.0 (omega arith) asks.1
+
+pub no_match : (rows : List Row) → ((table : TablePaths) (text : Text) → NamesTable table rows → first_of (codes "FILE") rows ≡ Some text → ⊥) → (asked : Request) → Asks (Some (codes "match", rows)) asked → ⊥
+no_match rows missing (Show table) asks = other_name (codes "match") (codes "show") rows asks.0 (omega arith) asks.1
+no_match rows missing (Match all table file) asks =
+    let same : asks.0 ≡ rows = rows_of_found (codes "match") rows asks.0 asks.1 in
+    missing table file.now (subst (NamesTable table) same asks.2) (subst (λ (r : List Row). first_of (codes "FILE") r ≡ Some file.now) same asks.3)
+no_match rows missing (Find table budget out hex) asks = other_name (codes "match") (codes "find") rows asks.0 (omega arith) asks.1
+no_match rows missing (Check table certificate) asks = other_name (codes "match") (codes "check") rows asks.0 (omega arith) asks.1
+no_match rows missing (Witness table file) asks = other_name (codes "match") (codes "witness") rows asks.0 (omega arith) asks.1
+
+pub no_check : (rows : List Row) → ((table : TablePaths) (text : Text) → NamesTable table rows → first_of (codes "CERT") rows ≡ Some text → ⊥) → (asked : Request) → Asks (Some (codes "check", rows)) asked → ⊥
+no_check rows missing (Show table) asks = other_name (codes "check") (codes "show") rows asks.0 (omega arith) asks.1
+no_check rows missing (Match all table file) asks = other_name (codes "check") (codes "match") rows asks.0 (omega arith) asks.1
+no_check rows missing (Find table budget out hex) asks = other_name (codes "check") (codes "find") rows asks.0 (omega arith) asks.1
+no_check rows missing (Check table certificate) asks =
+    let same : asks.0 ≡ rows = rows_of_found (codes "check") rows asks.0 asks.1 in
+    missing table certificate.now (subst (NamesTable table) same asks.2) (subst (λ (r : List Row). first_of (codes "CERT") r ≡ Some certificate.now) same asks.3)
+no_check rows missing (Witness table file) asks = other_name (codes "check") (codes "witness") rows asks.0 (omega arith) asks.1
+
+pub no_witness : (rows : List Row) → ((table : TablePaths) (text : Text) → NamesTable table rows → first_of (codes "FILE") rows ≡ Some text → ⊥) → (asked : Request) → Asks (Some (codes "witness", rows)) asked → ⊥
+no_witness rows missing (Show table) asks = other_name (codes "witness") (codes "show") rows asks.0 (omega arith) asks.1
+no_witness rows missing (Match all table file) asks = other_name (codes "witness") (codes "match") rows asks.0 (omega arith) asks.1
+no_witness rows missing (Find table budget out hex) asks = other_name (codes "witness") (codes "find") rows asks.0 (omega arith) asks.1
+no_witness rows missing (Check table certificate) asks = other_name (codes "witness") (codes "check") rows asks.0 (omega arith) asks.1
+no_witness rows missing (Witness table file) asks =
+    let same : asks.0 ≡ rows = rows_of_found (codes "witness") rows asks.0 asks.1 in
+    missing table file.now (subst (NamesTable table) same asks.2) (subst (λ (r : List Row). first_of (codes "FILE") r ≡ Some file.now) same asks.3)
+
+pub no_find : (rows : List Row) → ((table : TablePaths) (budget : ℕ) (text : Text) → NamesTable table rows → NamesBudget budget rows → first_of (codes "OUT") rows ≡ Some text → ⊥) → (asked : Request) → Asks (Some (codes "find", rows)) asked → ⊥
+no_find rows missing (Show table) asks = other_name (codes "find") (codes "show") rows asks.0 (omega arith) asks.1
+no_find rows missing (Match all table file) asks = other_name (codes "find") (codes "match") rows asks.0 (omega arith) asks.1
+no_find rows missing (Find table budget out hex) asks =
+    let same : asks.0 ≡ rows = rows_of_found (codes "find") rows asks.0 asks.1 in
+    missing table budget out.now (subst (NamesTable table) same asks.2) (subst (NamesBudget budget) same asks.3) (subst (λ (r : List Row). first_of (codes "OUT") r ≡ Some out.now) same asks.4)
+no_find rows missing (Check table certificate) asks = other_name (codes "find") (codes "check") rows asks.0 (omega arith) asks.1
+no_find rows missing (Witness table file) asks = other_name (codes "find") (codes "witness") rows asks.0 (omega arith) asks.1
 
 -- where memory ran out, no help is asked for
 pub no_help : (e : Error) → kind_of e ≡ OutOfMemory → (kind_of e ≡ DisplayHelp) ⊎ (kind_of e ≡ DisplayVersion) → ⊥

@@ -9,6 +9,8 @@ use Rattle.pronom_sig.specs.declared.fault.Fault.TheVariants as fault
 use Rattle.pronom_sig.specs.declared.fault.Site.{Site}
 use Rattle.pronom_sig.specs.declared.fault.Site.TheVariants.{Nowhere, File, Row}
 use Rattle.sig_bits.specs.Device.{Adds}
+use Rattle.sig_bits.specs.declared.fault.ReadWholeError.{ReadWholeError}
+use Rattle.sig_bits.specs.declared.fault.ReadWholeError.TheVariants as whole
 use Rattle.sig_expr.specs.declared.error.ExprError.{ExprError}
 use Rattle.sig_expr.specs.declared.error.ExprError.TheVariants as expr
 use Rattle.sig_table.specs.declared.error.TableError.{TableError}
@@ -79,6 +81,11 @@ abbrev pub site_text : Site → List ℕ
 site_text Nowhere = []
 site_text (File file) = file_name file ++ codes ": "
 site_text (Row file row_number) = file_name file ++ codes " row " ++ decimal row_number ++ codes ": "
+
+-- why an engine gives no answer where its input is not read whole
+abbrev pub reading_fault : ReadWholeError → RunError
+reading_fault whole.Read = run.Read
+reading_fault whole.OutOfMemory = run.OutOfMemory
 
 -- the text of an engine that gives no answer
 abbrev pub run_text : RunError → List ℕ

@@ -1,11 +1,14 @@
 -- What a reader must trust: what the words ask for, what answers them, and which lines and statuses the program ends with.
 pub mod CommandLine
+pub mod Endings
 pub mod Faults
+pub mod Finding
 pub mod Judged
 pub mod Lines
 pub mod Requests
 pub mod Shown
 pub mod Statuses
+pub mod Witnessed
 pub use Rattle.sig_bits.specs.Device
 pub use Rattle.sig_cert.specs.Deciding
 pub use Rattle.sig_cert.specs.Verdicts

@@ -1,14 +1,14 @@
 //! What the words of the command line ask for, as `clap` reads them.
 
-ghost use Rattle.std.specs.Prelude.{◌≡◌, ◌⊎◌, false, map, string_bytes, IfErr, IfOk, IfSome};
+ghost use Rattle.std.specs.Prelude.{◌≡◌, ◌⊎◌, codes, false, map, string_bytes, IfErr, IfOk, IfSome};
 ghost use Rattle.clap.specs.Values.{kind_of};
 ghost use Rattle.clap.specs.Matches.{found_of};
 ghost use Rattle.clap.specs.declared.Command.TheViews.{out-Command as fields_of};
 ghost use Rattle.clap.specs.Words.{app_of, rows_of, rule_of, subcommand_of, subcommand_rows_of};
-ghost use Rattle.pronom_sig.specs.CommandLine.{AreTaken, Asks, IsHelpAsked, NamesTable, given, of_table, program, wanted};
+ghost use Rattle.pronom_sig.specs.CommandLine.{AreTaken, Asks, IsHelpAsked, IsLine, NamesTable, asking, budget_rule, check_command, find_command, given, match_command, named, of_table, program, show_command, wanted, witness_command};
 
 use clap::error::ErrorKind;
-use clap::{Arg, ArgAction, ArgMatches, Command, Error};
+use clap::{Arg, ArgAction, ArgMatches, Command, Error, value_parser};
 use std::alloc::Global;
 
 const SHOW_HELP: &str = "\
@@ -30,6 +30,26 @@ Statuses:
   2  the words are wrong, or the table is refused
   3  a file can't be opened, a read or a write failed, or memory ran out";
 
+const FIND_HELP: &str = "\
+The first line is one of three answers:
+  decided      no file whatever leaves two formats of the table. OUT is a certificate of it, which
+               `check` accepts
+  witness A B  OUT is a file that leaves the formats A and B, as `witness` and `match` show. No
+               shorter one does that the same two signatures hit
+  gave up S T  the signatures numbered S and T need more rows than the budget, or more than 64
+               signatures outrank them. OUT is not touched
+
+The budget is the greatest number of rows that are kept at a time, each of which stands for all files
+that the signatures do not tell apart. 100000 is a sensible one. Where the search gave up, try ten
+times as many; where that does not do, look at the signatures S and T: fewer gaps, an anchor at the
+beginning or the end, or a priority between their formats settles them.
+
+Statuses:
+  0  the table is decided, or a witness was found
+  1  the search gave up
+  2  the words are wrong, or the table is refused
+  3  a file can't be opened or made, a read or a write failed, or memory ran out";
+
 const CHECK_HELP: &str = "\
 The one line is `accepted`, or `refused` and the first fault of the certificate. An accepted
 certificate means that no file whatever leaves two formats of the table. Pairs, tables and rows of
@@ -38,6 +58,16 @@ the certificate are counted from 0, and a byte is two hexadecimal digits.
 Statuses:
   0  the certificate is accepted
   1  the certificate is refused
+  2  the words are wrong, or the table is refused
+  3  a file can't be opened, a read or a write failed, or memory ran out";
+
+const WITNESS_HELP: &str = "\
+The one line is `ambiguous` and the first two formats of the table that are left for the file, or
+`not ambiguous` where at most one is left. An ambiguous file shows that the table is not decided.
+
+Statuses:
+  0  the file is ambiguous
+  1  the file is not ambiguous
   2  the words are wrong, or the table is refused
   3  a file can't be opened, a read or a write failed, or memory ran out";
 
@@ -54,10 +84,22 @@ pub(crate) enum Request<'a> {
         table: TablePaths<'a>,
         file: &'a str,
     },
+    /// Whether a table is decided: a certificate of it, or a file that leaves two formats.
+    Find {
+        table: TablePaths<'a>,
+        budget: u32,
+        out: &'a str,
+        hex: bool,
+    },
     /// Whether a certificate of a table is accepted.
     Check {
         table: TablePaths<'a>,
         certificate: &'a str,
+    },
+    /// Whether a file leaves two formats of a table.
+    Witness {
+        table: TablePaths<'a>,
+        file: &'a str,
     },
 }
 
@@ -89,28 +131,80 @@ fn command_line<'a>(alloc: Global) -> Result<Command<'a>, Error>
     ensures app { IfOk result (λ command. app_of command ≡ program) }
     ensures memory { IfErr result (λ e. kind_of e ≡ ErrorKind.OutOfMemory) }
 {
-    let show = with_table_args(alloc, Command::new(alloc, "show"))?
-        .about("Print the canonical files of a table")
-        .after_help(SHOW_HELP);
-    let matching = with_table_args(alloc, Command::new(alloc, "match"))?
-        .about("Print the formats left for a file")
-        .after_help(MATCH_HELP)
-        .arg(required(alloc, "FILE").help("The file to identify"))?
-        .arg(flag(alloc, "all").help("Print all formats that the file hits, before priorities"))?;
-    let checking = with_table_args(alloc, Command::new(alloc, "check"))?
-        .about("Judge a certificate of a table")
-        .after_help(CHECK_HELP)
-        .arg(required(alloc, "CERT").help("The certificate"))?;
     let command = Command::new(alloc, "pronom_sig")
         .about("Match files against tables of signatures")
         .version("0.1.0")
         .bin_name("pronom_sig")?
         .no_binary_name(true)
         .subcommand_required(true)
-        .subcommand(show)?
-        .subcommand(matching)?
-        .subcommand(checking)?;
+        .subcommand(show_line(alloc)?)?
+        .subcommand(match_line(alloc)?)?
+        .subcommand(find_line(alloc)?)?
+        .subcommand(check_line(alloc)?)?
+        .subcommand(witness_line(alloc)?)?;
     Ok(command)
+}
+
+// `show SIGS PRIOS`
+fn show_line<'a>(alloc: Global) -> Result<Command<'a>, Error>
+    ensures line { IfOk result (IsLine show_command) }
+    ensures memory { IfErr result (λ e. kind_of e ≡ ErrorKind.OutOfMemory) }
+{
+    let line = with_table_args(alloc, Command::new(alloc, "show"))?
+        .about("Print the canonical files of a table")
+        .after_help(SHOW_HELP);
+    Ok(line)
+}
+
+// `match [--all] SIGS PRIOS FILE`
+fn match_line<'a>(alloc: Global) -> Result<Command<'a>, Error>
+    ensures line { IfOk result (IsLine match_command) }
+    ensures memory { IfErr result (λ e. kind_of e ≡ ErrorKind.OutOfMemory) }
+{
+    let line = with_table_args(alloc, Command::new(alloc, "match"))?
+        .about("Print the formats left for a file")
+        .after_help(MATCH_HELP)
+        .arg(required(alloc, "FILE").help("The file to identify"))?
+        .arg(flag(alloc, "all").help("Print all formats that the file hits, before priorities"))?;
+    Ok(line)
+}
+
+// `find --budget N --out OUT [--hex] SIGS PRIOS`
+fn find_line<'a>(alloc: Global) -> Result<Command<'a>, Error>
+    ensures line { IfOk result (IsLine find_command) }
+    ensures memory { IfErr result (λ e. kind_of e ≡ ErrorKind.OutOfMemory) }
+{
+    let line = with_table_args(alloc, Command::new(alloc, "find"))?
+        .about("Find a certificate of a table, or a file that leaves two of its formats")
+        .after_help(FIND_HELP)
+        .arg(budget(alloc).help("The greatest number of rows for two signatures"))?
+        .arg(option(alloc, "out", "OUT").help("Where the certificate or the file goes"))?
+        .arg(flag(alloc, "hex").help("Print the bytes of OUT, too, on a second line"))?;
+    Ok(line)
+}
+
+// `check SIGS PRIOS CERT`
+fn check_line<'a>(alloc: Global) -> Result<Command<'a>, Error>
+    ensures line { IfOk result (IsLine check_command) }
+    ensures memory { IfErr result (λ e. kind_of e ≡ ErrorKind.OutOfMemory) }
+{
+    let line = with_table_args(alloc, Command::new(alloc, "check"))?
+        .about("Judge a certificate of a table")
+        .after_help(CHECK_HELP)
+        .arg(required(alloc, "CERT").help("The certificate"))?;
+    Ok(line)
+}
+
+// `witness SIGS PRIOS FILE`
+fn witness_line<'a>(alloc: Global) -> Result<Command<'a>, Error>
+    ensures line { IfOk result (IsLine witness_command) }
+    ensures memory { IfErr result (λ e. kind_of e ≡ ErrorKind.OutOfMemory) }
+{
+    let line = with_table_args(alloc, Command::new(alloc, "witness"))?
+        .about("Tell whether a file leaves two formats of a table")
+        .after_help(WITNESS_HELP)
+        .arg(required(alloc, "FILE").help("The file to judge"))?;
+    Ok(line)
 }
 
 // The two words that name a table.
@@ -139,26 +233,90 @@ fn flag<'a>(alloc: Global, name: &'a str) -> Arg<'a>
     Arg::new(alloc, name).long(name).action(ArgAction::SetTrue)
 }
 
+// An option that must be there, with the name of its value.
+fn option<'a>(alloc: Global, name: &'a str, value: &'a str) -> Arg<'a>
+    ensures rule { rule_of result ≡ named name.entry.now value.entry.now }
+    ensures local { result.global ≡ false }
+{
+    Arg::new(alloc, value).long(name).required(true)
+}
+
+// `--budget N`
+fn budget<'a>(alloc: Global) -> Arg<'a>
+    ensures rule { rule_of result ≡ budget_rule }
+    ensures local { result.global ≡ false }
+{
+    option(alloc, "budget", "N").value_parser(value_parser!(u32).range(1..))
+}
+
 fn request_of<'a>(matches: &ArgMatches<'a>) -> Option<Request<'a>>
     ensures asked { IfSome result (λ request. Asks (subcommand_rows_of matches.now) request) }
     ensures none { result ≡ None → (request : Request) → ¬ Asks (subcommand_rows_of matches.now) request }
 {
     if let Some(shown) = matches.subcommand_matches("show") {
-        return Some(Request::Show {
-            table: table_paths(shown)?,
-        });
+        return show_request(shown);
     }
     if let Some(checking) = matches.subcommand_matches("check") {
-        return Some(Request::Check {
-            table: table_paths(checking)?,
-            certificate: checking.get_str("CERT")?,
-        });
+        return check_request(checking);
     }
-    let matching = matches.subcommand_matches("match")?;
+    if let Some(finding) = matches.subcommand_matches("find") {
+        return find_request(finding);
+    }
+    if let Some(judging) = matches.subcommand_matches("witness") {
+        return witness_request(judging);
+    }
+    match_request(matches.subcommand_matches("match")?)
+}
+
+fn show_request<'a>(matches: &ArgMatches<'a>) -> Option<Request<'a>>
+    ensures asked { IfSome result (λ request. Asks (asking (codes "show") matches.now) request) }
+    ensures none { result ≡ None → (request : Request) → ¬ Asks (asking (codes "show") matches.now) request }
+{
+    Some(Request::Show {
+        table: table_paths(matches)?,
+    })
+}
+
+fn match_request<'a>(matches: &ArgMatches<'a>) -> Option<Request<'a>>
+    ensures asked { IfSome result (λ request. Asks (asking (codes "match") matches.now) request) }
+    ensures none { result ≡ None → (request : Request) → ¬ Asks (asking (codes "match") matches.now) request }
+{
     Some(Request::Match {
-        all: matching.get_flag("all"),
-        table: table_paths(matching)?,
-        file: matching.get_str("FILE")?,
+        all: matches.get_flag("all"),
+        table: table_paths(matches)?,
+        file: matches.get_str("FILE")?,
+    })
+}
+
+fn find_request<'a>(matches: &ArgMatches<'a>) -> Option<Request<'a>>
+    ensures asked { IfSome result (λ request. Asks (asking (codes "find") matches.now) request) }
+    ensures none { result ≡ None → (request : Request) → ¬ Asks (asking (codes "find") matches.now) request }
+{
+    Some(Request::Find {
+        budget: matches.get_one::<u32>("N")?,
+        out: matches.get_str("OUT")?,
+        hex: matches.get_flag("hex"),
+        table: table_paths(matches)?,
+    })
+}
+
+fn check_request<'a>(matches: &ArgMatches<'a>) -> Option<Request<'a>>
+    ensures asked { IfSome result (λ request. Asks (asking (codes "check") matches.now) request) }
+    ensures none { result ≡ None → (request : Request) → ¬ Asks (asking (codes "check") matches.now) request }
+{
+    Some(Request::Check {
+        table: table_paths(matches)?,
+        certificate: matches.get_str("CERT")?,
+    })
+}
+
+fn witness_request<'a>(matches: &ArgMatches<'a>) -> Option<Request<'a>>
+    ensures asked { IfSome result (λ request. Asks (asking (codes "witness") matches.now) request) }
+    ensures none { result ≡ None → (request : Request) → ¬ Asks (asking (codes "witness") matches.now) request }
+{
+    Some(Request::Witness {
+        table: table_paths(matches)?,
+        file: matches.get_str("FILE")?,
     })
 }
 

@@ -2,7 +2,7 @@
 //!
 //! The certificate is judged whole before a byte is written.
 
-ghost use Rattle.std.specs.Prelude.{◌≡◌, ◌≢◌, false, true, IfErr, IfOk, IsErrOf, Ok, OnOk};
+ghost use Rattle.std.specs.Prelude.{◌≡◌, false, true, IfErr, IfOk, IsErrOf, Ok, OnOk};
 ghost use Rattle.sig_bits.specs.Device.{IsAtEnd};
 ghost use Rattle.sig_cert.specs.Deciding.{Decided};
 ghost use Rattle.sig_cert.specs.Verdicts.{Verdict};
@@ -10,7 +10,7 @@ ghost use Rattle.pronom_sig.specs.Judged.{AddsVerdictOfSome};
 
 use crate::error::RunError;
 use crate::lines::line_of_verdict;
-use sig_bits::{Input, Output, ReadWholeError, read_whole};
+use sig_bits::{Input, Output, read_whole};
 use sig_cert::{CheckError, check};
 use sig_table::Table;
 use std::alloc::Global;
@@ -41,7 +41,7 @@ pub fn run_check<C: Input, W: Output>(
     ensures read_stays { IsErrOf result RunError.Read → out.new ≡ out.old }
     ensures memory_stays { IsErrOf result RunError.OutOfMemory → out.new ≡ out.old }
 {
-    let bytes = read_whole(alloc, certificate).map_err(run_error)?;
+    let bytes = read_whole(alloc, certificate)?;
     let verdict = judge(alloc, table, &bytes)?;
     let line = line_of_verdict(alloc, verdict).map_err(|_| RunError::OutOfMemory)?;
     out.write_all(line.as_bytes()).map_err(|_| RunError::Write)?;
@@ -61,16 +61,5 @@ fn judge(
     match check(alloc, table, certificate) {
         Err(CheckError::OutOfMemory) => Err(RunError::OutOfMemory),
         verdict => Ok(verdict),
-    }
-}
-
-fn run_error(error: ReadWholeError) -> RunError
-    ensures read { result ≡ RunError.Read → error ≡ ReadWholeError.Read }
-    ensures memory { result ≡ RunError.OutOfMemory → error ≡ ReadWholeError.OutOfMemory }
-    ensures never_write { result ≢ RunError.Write }
-{
-    match error {
-        ReadWholeError::Read => RunError::Read,
-        ReadWholeError::OutOfMemory => RunError::OutOfMemory,
     }
 }

@@ -1,22 +1,28 @@
 //! All that the program does: it reads the words, opens the files, answers, and gives the status.
 
-ghost use Rattle.std.specs.Prelude.{◌≡◌, ◌≢◌, ◌<◌, ◌≤◌, ◌⊎◌, false, List, map, string_bytes, true, IfErr, IfOk, IsErrOf, OnOk};
+ghost use Rattle.std.specs.Prelude.{◌≡◌, ◌≢◌, ◌<◌, ◌⊎◌, false, List, map, string_bytes, true, IfErr, IfOk, OnOk};
 ghost use Rattle.clap.specs.Values.{kind_of};
 ghost use Rattle.clap.specs.Words.{Text};
-ghost use Rattle.pronom_sig.specs.Requests.{Answers, AnswersWords, IsFaultOf, IsLoadFault, ReportsFaultOfWords};
-ghost use Rattle.pronom_sig.specs.CommandLine.{AreTaken, IsHelpAsked};
-ghost use Rattle.pronom_sig.specs.Faults.{Reports, ReportsFault};
+ghost use Rattle.pronom_sig.specs.Finding.{IsKnown, found_text, is_answered};
+ghost use Rattle.pronom_sig.specs.Requests.{Answers, AnswersWords, IsFaultOf, IsLoadFault, IsRunFault};
+ghost use Rattle.sig_bits.specs.Device.{Adds};
+ghost use Rattle.pronom_sig.specs.CommandLine.{IsHelpAsked};
+ghost use Rattle.pronom_sig.specs.Endings.{AnswersBy, KeepsErrors, KeepsOutput, ReportsBy, ReportsMemory};
 ghost use Rattle.sig_table.specs.Tables.{IsTable};
 
 use crate::args::{Request, TablePaths, read_args};
 use crate::check_engine::run_check;
 use crate::error::RunError;
 use crate::fault::Fault;
+use crate::find_engine::{bytes_of, search, write_found};
+use crate::lines::lines_of_found;
 use crate::match_engine::run_match;
 use crate::show_engine::run_show;
+use crate::witness_engine::run_witness;
 use clap::Error;
 use clap::error::ErrorKind;
-use sig_bits::{FromRead, Output};
+use sig_bits::{FromRead, FromWrite, Output};
+use sig_find::Found;
 use sig_match::WholeCore;
 use sig_table::Table;
 use std::alloc::Global;
@@ -30,11 +36,8 @@ pub fn run<R: Env + Files + AllocGlobal, W: Output, E: Output>(
     err: &mut E,
 ) -> u8
     ensures known { result < 4 }
-    ensures shown { result < 2 → W.failed out.new ≡ false }
-    ensures quiet { result < 2 → err.new ≡ err.old }
-    ensures refused { result ≡ 2 → out.new ≡ out.old }
-    ensures whole { result ≡ 3 → W.failed out.new ≡ false → out.new ≡ out.old }
-    ensures reported { result ≡ 3 → E.failed err.new ≡ false → ReportsFault 3 (E.written err.old) (E.written err.new) }
+    ensures output { KeepsOutput result (W.failed out.new) out.old out.new }
+    ensures errors { KeepsErrors result (E.failed err.new) err.old err.new (E.written err.old) (E.written err.new) }
 
     // What is shown answers some words, or they ask for help.
     ensures answered { result ≡ 0 → (words : List Text) × (IsHelpAsked words ⊎ AnswersWords words true (W.written out.old) (W.written out.new)) }
@@ -77,19 +80,10 @@ pub fn command<R: Files + AllocGlobal, W: Output, E: Output>(
     err: &mut E,
 ) -> u8
     ensures known { result < 4 }
-    ensures shown { result < 2 → W.failed out.new ≡ false }
-    ensures quiet { result < 2 → err.new ≡ err.old }
-    ensures answered { result ≡ 0 → IsHelpAsked (map string_bytes words.now) ⊎ AnswersWords (map string_bytes words.now) true (W.written out.old) (W.written out.new) }
-    ensures denied { result ≡ 1 → AnswersWords (map string_bytes words.now) false (W.written out.old) (W.written out.new) }
-
-    // Each refusal, and what stays.
-    ensures refused { result ≡ 2 → out.new ≡ out.old }
-    ensures whole { result ≡ 3 → W.failed out.new ≡ false → out.new ≡ out.old }
-    ensures reported { result ≡ 3 → E.failed err.new ≡ false → ReportsFault 3 (E.written err.old) (E.written err.new) }
-
-    // Words that ask for something get it, or one of its faults.
-    ensures taken { AreTaken (map string_bytes words.now) → result ≡ 0 → AnswersWords (map string_bytes words.now) true (W.written out.old) (W.written out.new) }
-    ensures faults { AreTaken (map string_bytes words.now) → 2 ≤ result → E.failed err.new ≡ false → ReportsFaultOfWords (map string_bytes words.now) result (E.written err.old) (E.written err.new) }
+    ensures output { KeepsOutput result (W.failed out.new) out.old out.new }
+    ensures errors { KeepsErrors result (E.failed err.new) err.old err.new (E.written err.old) (E.written err.new) }
+    ensures answers { AnswersBy (map string_bytes words.now) result (W.written out.old) (W.written out.new) }
+    ensures faults { ReportsBy (map string_bytes words.now) result (E.failed err.new) (E.written err.old) (E.written err.new) }
 {
     match read_args(rt.alloc(), words) {
         Ok(request) => match answer(rt, request, out) {
@@ -110,8 +104,8 @@ fn answer<'a, R: Files + AllocGlobal, W: Output>(
     ensures shown { OnOk result (W.failed out.new ≡ false) }
     ensures answers { IfOk result (λ is_yes. Answers request.entry is_yes (W.written out.old) (W.written out.new)) }
     ensures faults { IfErr result (λ fault. IsFaultOf request.entry fault) }
-    ensures write { IsErrOf result (Fault.Run RunError.Write) → W.failed out.new ≡ true }
     ensures untouched { IfErr result (λ fault. fault ≢ Fault.Run RunError.Write → out.new ≡ out.old) }
+    ensures whole { IfErr result (λ fault. W.failed out.new ≡ false → out.new ≡ out.old) }
 {
     match request {
         Request::Show { table } => match run_show(rt.alloc(), &load(rt, table)?, out) {
@@ -126,6 +120,18 @@ fn answer<'a, R: Files + AllocGlobal, W: Output>(
                 Err(error) => Err(Fault::Run(error)),
             }
         }
+        Request::Find {
+            table,
+            budget,
+            out: name,
+            hex,
+        } => {
+            let table = load(rt, table)?;
+            match search(rt.alloc(), &table, budget) {
+                Ok(found) => answer_found(rt, &table, &found, hex, name, out),
+                Err(error) => Err(Fault::Run(error)),
+            }
+        }
         Request::Check { table, certificate } => {
             let table = load(rt, table)?;
             let mut certificate = open(rt, certificate)?;
@@ -134,6 +140,49 @@ fn answer<'a, R: Files + AllocGlobal, W: Output>(
                 Err(error) => Err(Fault::Run(error)),
             }
         }
+        Request::Witness { table, file } => {
+            let table = load(rt, table)?;
+            let mut file = open(rt, file)?;
+            match run_witness(rt.alloc(), &table, &mut file, out) {
+                Ok(is_ambiguous) => Ok(is_ambiguous),
+                Err(error) => Err(Fault::Run(error)),
+            }
+        }
+    }
+}
+
+/// Writes what was found to the file of this name, and then its lines. The file is made only now, and
+/// where the search gave up not at all.
+fn answer_found<'a, R: Files + AllocGlobal, W: Output>(
+    rt: &R,
+    table: &Table,
+    found: &Found,
+    hex: bool,
+    name: &'a str,
+    out: &mut W,
+) -> Result<bool, Fault<'a>>
+    requires { IsKnown table.now found.now }
+    ensures shown { OnOk result (W.failed out.new ≡ false) }
+    ensures answered { IfOk result (λ is_yes. is_yes ≡ is_answered found.now) }
+    ensures lines { OnOk result (Adds (W.written out.old) (found_text hex table.now found.now) (W.written out.new)) }
+    ensures faults { IfErr result (λ fault. (fault ≡ Fault.CannotOpen name.entry) ⊎ IsRunFault fault) }
+    ensures untouched { IfErr result (λ fault. fault ≢ Fault.Run RunError.Write → out.new ≡ out.old) }
+    ensures whole { IfErr result (λ fault. W.failed out.new ≡ false → out.new ≡ out.old) }
+{
+    let lines = match lines_of_found(rt.alloc(), table, found, hex) {
+        Ok(lines) => lines,
+        Err(_) => return Err(Fault::Run(RunError::OutOfMemory)),
+    };
+    let Some(bytes) = bytes_of(found) else {
+        return match out.write_all(lines.as_bytes()) {
+            Ok(()) => Ok(false),
+            Err(_) => Err(Fault::Run(RunError::Write)),
+        };
+    };
+    let mut file = create(rt, name)?;
+    match write_found(bytes, lines.as_str(), &mut file, out) {
+        Ok(()) => Ok(true),
+        Err(error) => Err(Fault::Run(error)),
     }
 }
 
@@ -165,16 +214,22 @@ fn open<'a, R: Files>(rt: &R, name: &'a str) -> Result<FromRead<R::File>, Fault<
     }
 }
 
+fn create<'a, R: Files>(rt: &R, name: &'a str) -> Result<FromWrite<R::File>, Fault<'a>>
+    ensures { IfErr result (λ fault. fault ≡ Fault.CannotOpen name.entry) }
+{
+    let Ok(file) = fs::create(rt, name) else {
+        return Err(Fault::CannotOpen(name));
+    };
+    Ok(FromWrite::new(file))
+}
+
 // What `clap` says: help is an answer, and all else a fault of the words, unless memory ran out.
 fn show_usage<W: Output, E: Output>(alloc: Global, error: &Error, out: &mut W, err: &mut E) -> u8
     ensures known { (result ≡ 0) ⊎ ((result ≡ 2) ⊎ (result ≡ 3)) }
-    ensures shown { result ≡ 0 → W.failed out.new ≡ false }
-    ensures quiet { result ≡ 0 → err.new ≡ err.old }
-    ensures refused { result ≡ 2 → out.new ≡ out.old }
-    ensures whole { result ≡ 3 → W.failed out.new ≡ false → out.new ≡ out.old }
-    ensures reported { result ≡ 3 → E.failed err.new ≡ false → ReportsFault 3 (E.written err.old) (E.written err.new) }
+    ensures output { KeepsOutput result (W.failed out.new) out.old out.new }
+    ensures errors { KeepsErrors result (E.failed err.new) err.old err.new (E.written err.old) (E.written err.new) }
     ensures memory { kind_of error.now ≡ ErrorKind.OutOfMemory → result ≡ 3 }
-    ensures memory_reported { kind_of error.now ≡ ErrorKind.OutOfMemory → E.failed err.new ≡ false → Reports (Fault.Run RunError.OutOfMemory) 3 (E.written err.old) (E.written err.new) }
+    ensures memory_reported { kind_of error.now ≡ ErrorKind.OutOfMemory → E.failed err.new ≡ false → ReportsMemory (E.written err.old) (E.written err.new) }
     ensures help { result ≡ 0 → (kind_of error.now ≡ ErrorKind.DisplayHelp) ⊎ (kind_of error.now ≡ ErrorKind.DisplayVersion) }
     ensures usage { result ≡ 2 → (kind_of error.now ≢ ErrorKind.DisplayHelp) × (kind_of error.now ≢ ErrorKind.DisplayVersion) }
 {

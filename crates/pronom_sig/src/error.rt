@@ -1,5 +1,6 @@
 //! Why an engine gives no answer.
 
+use sig_bits::ReadWholeError;
 use std::error::Error;
 use std::fmt;
 
@@ -41,3 +42,17 @@ impl fmt::Display for RunError {
 }
 
 impl Error for RunError {}
+
+impl From<ReadWholeError> for RunError {
+    ghost use Rattle.std.specs.Prelude.{◌≡◌};
+    ghost use Rattle.pronom_sig.specs.Faults.{reading_fault};
+
+    ghost from_gives = { λ error gives. gives ≡ reading_fault error };
+
+    fn from(error: ReadWholeError) -> RunError {
+        match error {
+            ReadWholeError::Read => RunError::Read,
+            ReadWholeError::OutOfMemory => RunError::OutOfMemory,
+        }
+    }
+}

@@ -1,6 +1,6 @@
 //! Laws of the command line.
 
-ghost use Rattle.std.specs.Prelude.{◌≡◌, true, [], ◌∷◌, codes};
+ghost use Rattle.std.specs.Prelude.{◌≡◌, false, true, [], ◌∷◌, codes};
 ghost use Rattle.clap.specs.Words.{fault_of, takes};
 ghost use Rattle.pronom_sig.specs.CommandLine.{program};
 
@@ -14,8 +14,12 @@ pub fn words_are_taken()
     ensures matched { takes program (codes "match" ∷ codes "a" ∷ codes "b" ∷ codes "c" ∷ []) ≡ true }
     ensures matched_no_help { fault_of program (codes "match" ∷ codes "a" ∷ codes "b" ∷ codes "c" ∷ []) ≡ [] }
     ensures all { takes program (codes "match" ∷ codes "--all" ∷ codes "a" ∷ codes "b" ∷ codes "c" ∷ []) ≡ true }
+    ensures found { takes program (codes "find" ∷ codes "--budget" ∷ codes "100000" ∷ codes "--out" ∷ codes "a" ∷ codes "b" ∷ codes "c" ∷ []) ≡ true }
+    ensures budget_wanted { takes program (codes "find" ∷ codes "--budget" ∷ codes "0" ∷ codes "--out" ∷ codes "a" ∷ codes "b" ∷ codes "c" ∷ []) ≡ false }
     ensures checked { takes program (codes "check" ∷ codes "a" ∷ codes "b" ∷ codes "c" ∷ []) ≡ true }
     ensures checked_no_help { fault_of program (codes "check" ∷ codes "a" ∷ codes "b" ∷ codes "c" ∷ []) ≡ [] }
+    ensures witnessed { takes program (codes "witness" ∷ codes "a" ∷ codes "b" ∷ codes "c" ∷ []) ≡ true }
+    ensures witnessed_no_help { fault_of program (codes "witness" ∷ codes "a" ∷ codes "b" ∷ codes "c" ∷ []) ≡ [] }
     ensures help { fault_of program (codes "--help" ∷ []) ≡ ErrorKind.DisplayHelp ∷ [] }
     ensures version { fault_of program (codes "--version" ∷ []) ≡ ErrorKind.DisplayVersion ∷ [] }
 {}

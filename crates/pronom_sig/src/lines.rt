@@ -1,12 +1,16 @@
 //! The lines that are answers.
 
-ghost use Rattle.std.specs.Prelude.{◌≡◌, ◌++◌, ◌∷◌, [], All, codes, decimal, IfOk, OnOk, string_bytes};
+ghost use Rattle.std.specs.Prelude.{◌≡◌, ◌++◌, ◌∷◌, [], All, codes, decimal, IfOk, IfSome, OnOk, Some, string_bytes};
+ghost use Rattle.pronom_sig.specs.Finding.{AreSignatures, IsKnown, found_text, hex_line, numbers_text};
 ghost use Rattle.pronom_sig.specs.Judged.{byte_text, refusal_text, row_text, table_text, verdict_line};
 ghost use Rattle.pronom_sig.specs.Lines.{IsOf, line_of, lines_of};
+ghost use Rattle.pronom_sig.specs.Witnessed.{pair_text, witness_line};
+ghost use Rattle.sig_cert.specs.Deciding.{AreFormats};
 
 use sig_cert::CheckError;
+use sig_find::Found;
 use sig_match::Hit;
-use sig_table::Table;
+use sig_table::{FormatId, SigId, Table};
 use std::alloc::{AllocError, Global};
 use std::fmt::Write;
 
@@ -33,6 +37,94 @@ fn push_hit(lines: &mut String, table: &Table, hit: Hit) -> Result<(), AllocErro
     let puid = table.puid(table.format_of(hit.signature));
     let number = table.number_of(hit.signature);
     writeln!(lines, "{puid} {number}")?;
+    Ok(())
+}
+
+/// The line of a file: the two formats that it leaves, or that it is not ambiguous.
+pub(crate) fn line_of_witness(
+    alloc: Global,
+    table: &Table,
+    two: Option<(FormatId, FormatId)>,
+) -> Result<String, AllocError>
+    requires { IfSome two (AreFormats table.now) }
+    ensures { IfOk result (λ line. string_bytes line ≡ witness_line table.now two) }
+{
+    let mut line = String::new(alloc);
+    match two {
+        Some((a, b)) => {
+            line.push_str("ambiguous ")?;
+            push_pair(&mut line, table, a, b)?;
+        }
+        None => line.push_str("not ambiguous\n")?,
+    }
+    Ok(line)
+}
+
+/// The lines of what was found: what it is, and with `with_hex` its bytes in hexadecimal.
+pub(crate) fn lines_of_found(
+    alloc: Global,
+    table: &Table,
+    found: &Found,
+    with_hex: bool,
+) -> Result<String, AllocError>
+    requires { IsKnown table.now found.now }
+    ensures { IfOk result (λ lines. string_bytes lines ≡ found_text with_hex table.now found.now) }
+{
+    let mut lines = String::new(alloc);
+    match found {
+        Found::Certificate(certificate) => {
+            lines.push_str("decided\n")?;
+            push_hex(alloc, &mut lines, with_hex, certificate)?;
+        }
+        Found::Witness { file, a, b } => {
+            lines.push_str("witness ")?;
+            push_pair(&mut lines, table, *a, *b)?;
+            push_hex(alloc, &mut lines, with_hex, file)?;
+        }
+        Found::GaveUp { s, t } => {
+            lines.push_str("gave up ")?;
+            push_numbers(&mut lines, table, *s, *t)?;
+        }
+    }
+    Ok(lines)
+}
+
+// The bytes in lower case hexadecimal, where they are asked for, and the end of the line.
+fn push_hex(
+    alloc: Global,
+    lines: &mut String,
+    with_hex: bool,
+    bytes: &[u8],
+) -> Result<(), AllocError>
+    ensures { OnOk result (string_bytes lines.new ≡ string_bytes lines.old ++ hex_line with_hex (Some bytes.now)) }
+{
+    if with_hex {
+        let digits = hex::encode(alloc, bytes)?;
+        lines.push_str(digits.as_str())?;
+        lines.push_str("\n")?;
+    }
+    Ok(())
+}
+
+// The numbers of two signatures, and the end of the line.
+fn push_numbers(line: &mut String, table: &Table, s: SigId, t: SigId) -> Result<(), AllocError>
+    requires { AreSignatures table.now s t }
+    ensures { OnOk result (string_bytes line.new ≡ string_bytes line.old ++ numbers_text table.now s t) }
+{
+    let first_number = table.number_of(s);
+    let second_number = table.number_of(t);
+    writeln!(line, "{first_number} {second_number}")?;
+    Ok(())
+}
+
+// The names of two formats, and the end of the line.
+fn push_pair(line: &mut String, table: &Table, a: FormatId, b: FormatId) -> Result<(), AllocError>
+    requires { AreFormats table.now (a, b) }
+    ensures { OnOk result (string_bytes line.new ≡ string_bytes line.old ++ pair_text table.now (a, b)) }
+{
+    let first = table.puid(a);
+    let second = table.puid(b);
+    writeln!(line, "{first} {second}")?;
     Ok(())
 }
 

@@ -6,7 +6,9 @@ mod matching;
 mod refusals;
 mod showing;
 mod streams;
+mod tables;
 mod usage;
+mod witnessing;
 mod worked_rows;
 
 use crate::command::command;

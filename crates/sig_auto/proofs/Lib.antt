@@ -1,6 +1,8 @@
 -- Lemmas of this crate.
+pub mod BeginLemmas
 pub mod ByteLemmas
 pub mod ClassLemmas
+pub mod CutLemmas
 pub mod EndLemmas
 pub mod LocalLemmas
 pub mod PruneLemmas

@@ -1,5 +1,5 @@
 -- The tracks of a tree are the lists whose first slot begins, whose neighbours go next to each other, and whose last slot ends.
-use Rattle.std.proofs.Common.{◌≡◌, ◌⊎◌, All, ℕ, zero, suc, ◌+◌, ◌<◌, ◌≤◌, ◌==◌, ◌&&◌, ◌||◌, true, nat_le, nat_lt, List, [], ◌∷◌, ◌++◌, replicate, Option, Some, None, subst, sym, ap, ◌∙◌, refl, inl, inr, arith}
+use Rattle.std.proofs.Common.{◌≡◌, ◌⊎◌, ◌↔◌, All, ℕ, zero, suc, ◌+◌, ◌<◌, ◌≤◌, ◌==◌, ◌&&◌, ◌||◌, Bool, true, nat_le, nat_lt, List, [], ◌∷◌, ◌++◌, replicate, Option, Some, None, subst, sym, ap, ◌∙◌, refl, inl, inr, arith}
 use Rattle.std.proofs.lemmas.Bool.{and_from, and_parts, cases_lt, eq-eqb, eqb-true, false≢true, le-leb, leb-true, lt-ltb, ltb-true, or_cases, or_left, or_right}
 use Rattle.std.proofs.lemmas.List.{append-nil}
 use Rattle.std.proofs.lemmas.List.Elements.{All-cons, All-nil}
@@ -75,6 +75,48 @@ gap_stays min before =
     or_right (nat_lt before p && (nat_lt p (before + gap_slots min None) && p == p + 1)) (p == p && p == p)
     (and_from (p == p) (p == p) (eq-eqb p p refl) (eq-eqb p p refl))
 
+-- ---- what begins, ends and goes in two branches
+
+pub either : (x y : Bool) → ((x || y) ≡ true) ↔ ((x ≡ true) ⊎ (y ≡ true))
+either x y = (or_cases x y, λ h. elim h [ inl one ↦ or_left x y one | inr other ↦ or_right x y other ])
+
+pub both : (x y : Bool) → ((x && y) ≡ true) ↔ ((x ≡ true) × (y ≡ true))
+both x y = (and_parts x y, λ h. and_from x y h.0 h.1)
+
+pub first_then : (a b : Tree) (before q : ℕ) → (is_first (Then a b) before q ≡ true) ↔ ((is_first a before q ≡ true) ⊎ ((is_nullable a ≡ true) × (is_first b (before + slots_of a) q ≡ true)))
+first_then a b before q =
+    let cases = either (is_first a before q) (is_nullable a && is_first b (before + slots_of a) q) in
+    let second = both (is_nullable a) (is_first b (before + slots_of a) q) in (
+      λ h. elim (cases.0 h) [ inl one ↦ inl one | inr other ↦ inr (second.0 other) ],
+      λ h. cases.1 (elim h [ inl one ↦ inl one | inr other ↦ inr (second.1 other) ]),
+    )
+
+pub first_or : (a b : Tree) (before q : ℕ) → (is_first (Or a b) before q ≡ true) ↔ ((is_first a before q ≡ true) ⊎ (is_first b (before + slots_of a) q ≡ true))
+first_or a b before q = either (is_first a before q) (is_first b (before + slots_of a) q)
+
+pub last_then : (a b : Tree) (before p : ℕ) → (is_last (Then a b) before p ≡ true) ↔ (((is_last a before p ≡ true) × (is_nullable b ≡ true)) ⊎ (is_last b (before + slots_of a) p ≡ true))
+last_then a b before p =
+    let cases = either (is_last a before p && is_nullable b) (is_last b (before + slots_of a) p) in
+    let first = both (is_last a before p) (is_nullable b) in (
+      λ h. elim (cases.0 h) [ inl one ↦ inl (first.0 one) | inr other ↦ inr other ],
+      λ h. cases.1 (elim h [ inl one ↦ inl (first.1 one) | inr other ↦ inr other ]),
+    )
+
+pub last_or : (a b : Tree) (before p : ℕ) → (is_last (Or a b) before p ≡ true) ↔ ((is_last a before p ≡ true) ⊎ (is_last b (before + slots_of a) p ≡ true))
+last_or a b before p = either (is_last a before p) (is_last b (before + slots_of a) p)
+
+pub follows_then : (a b : Tree) (before p q : ℕ) → (follows (Then a b) before p q ≡ true) ↔ ((follows a before p q ≡ true) ⊎ ((follows b (before + slots_of a) p q ≡ true) ⊎ ((is_last a before p ≡ true) × (is_first b (before + slots_of a) q ≡ true))))
+follows_then a b before p q =
+    let cases = either (follows a before p q) (follows b (before + slots_of a) p q || (is_last a before p && is_first b (before + slots_of a) q)) in
+    let others = either (follows b (before + slots_of a) p q) (is_last a before p && is_first b (before + slots_of a) q) in
+    let over = both (is_last a before p) (is_first b (before + slots_of a) q) in (
+      λ h. elim (cases.0 h) [ inl one ↦ inl one | inr more ↦ inr (elim (others.0 more) [ inl other ↦ inl other | inr at ↦ inr (over.0 at) ]) ],
+      λ h. cases.1 (elim h [ inl one ↦ inl one | inr more ↦ inr (others.1 (elim more [ inl other ↦ inl other | inr at ↦ inr (over.1 at) ])) ]),
+    )
+
+pub follows_or : (a b : Tree) (before p q : ℕ) → (follows (Or a b) before p q ≡ true) ↔ ((follows a before p q ≡ true) ⊎ (follows b (before + slots_of a) p q ≡ true))
+follows_or a b before p q = either (follows a before p q) (follows b (before + slots_of a) p q)
+
 -- the slots that begin, end and go are slots of the tree
 pub is_first-slot : (tree : Tree) (before q : ℕ) → is_first tree before q ≡ true → IsSlot tree before q
 is_first-slot Never before q h = absurd (false≢true h)
@@ -86,12 +128,12 @@ is_first-slot (Gap min max) before q h =
     let e = eqb-true q (before + 1) parts.1 in
     (omega arith, omega arith)
 is_first-slot (Then a b) before q h =
-    elim (or_cases (is_first a before q) (is_nullable a && is_first b (before + slots_of a) q) h) [
+    elim ((first_then a b before q).0 h) [
       | inl first ↦ wide_left before (slots_of a) (slots_of b) q (is_first-slot a before q first)
-      | inr second ↦ wide_right before (slots_of a) (slots_of b) q (is_first-slot b (before + slots_of a) q (and_parts (is_nullable a) (is_first b (before + slots_of a) q) second).1)
+      | inr second ↦ wide_right before (slots_of a) (slots_of b) q (is_first-slot b (before + slots_of a) q second.1)
     ]
 is_first-slot (Or a b) before q h =
-    elim (or_cases (is_first a before q) (is_first b (before + slots_of a) q) h) [
+    elim ((first_or a b before q).0 h) [
       | inl first ↦ wide_left before (slots_of a) (slots_of b) q (is_first-slot a before q first)
       | inr second ↦ wide_right before (slots_of a) (slots_of b) q (is_first-slot b (before + slots_of a) q second)
     ]
@@ -102,12 +144,12 @@ is_last-slot Empty before p h = absurd (false≢true h)
 is_last-slot (Slot c) before p h = let e = eqb-true p (before + 1) h in (omega arith, omega arith)
 is_last-slot (Gap min max) before p h = let is = gap_ends min max before p h in (is.0, is.2)
 is_last-slot (Then a b) before p h =
-    elim (or_cases (is_last a before p && is_nullable b) (is_last b (before + slots_of a) p) h) [
-      | inl first ↦ wide_left before (slots_of a) (slots_of b) p (is_last-slot a before p (and_parts (is_last a before p) (is_nullable b) first).0)
+    elim ((last_then a b before p).0 h) [
+      | inl first ↦ wide_left before (slots_of a) (slots_of b) p (is_last-slot a before p first.0)
       | inr second ↦ wide_right before (slots_of a) (slots_of b) p (is_last-slot b (before + slots_of a) p second)
     ]
 is_last-slot (Or a b) before p h =
-    elim (or_cases (is_last a before p) (is_last b (before + slots_of a) p) h) [
+    elim ((last_or a b before p).0 h) [
       | inl first ↦ wide_left before (slots_of a) (slots_of b) p (is_last-slot a before p first)
       | inr second ↦ wide_right before (slots_of a) (slots_of b) p (is_last-slot b (before + slots_of a) p second)
     ]
@@ -125,22 +167,21 @@ follows-slots (Gap min (Some max)) before p q h =
     let step = gap_goes_some min max before p q h in
     ((omega arith, omega arith), (omega arith, omega arith))
 follows-slots (Then a b) before p q h =
-    elim (or_cases (follows a before p q) (follows b (before + slots_of a) p q || (is_last a before p && is_first b (before + slots_of a) q)) h) [
+    elim ((follows_then a b before p q).0 h) [
       | inl first ↦
           let is = follows-slots a before p q first in
           (wide_left before (slots_of a) (slots_of b) p is.0, wide_left before (slots_of a) (slots_of b) q is.1)
       | inr more ↦
-          elim (or_cases (follows b (before + slots_of a) p q) (is_last a before p && is_first b (before + slots_of a) q) more) [
+          elim more [
             | inl second ↦
                 let is = follows-slots b (before + slots_of a) p q second in
                 (wide_right before (slots_of a) (slots_of b) p is.0, wide_right before (slots_of a) (slots_of b) q is.1)
             | inr over ↦
-                let parts = and_parts (is_last a before p) (is_first b (before + slots_of a) q) over in
-                (wide_left before (slots_of a) (slots_of b) p (is_last-slot a before p parts.0), wide_right before (slots_of a) (slots_of b) q (is_first-slot b (before + slots_of a) q parts.1))
+                (wide_left before (slots_of a) (slots_of b) p (is_last-slot a before p over.0), wide_right before (slots_of a) (slots_of b) q (is_first-slot b (before + slots_of a) q over.1))
           ]
     ]
 follows-slots (Or a b) before p q h =
-    elim (or_cases (follows a before p q) (follows b (before + slots_of a) p q) h) [
+    elim ((follows_or a b before p q).0 h) [
       | inl first ↦
           let is = follows-slots a before p q first in
           (wide_left before (slots_of a) (slots_of b) p is.0, wide_left before (slots_of a) (slots_of b) q is.1)
@@ -151,51 +192,48 @@ follows-slots (Or a b) before p q h =
 
 -- a branch's chains are the tree's
 pub Chain-or_left : (a b : Tree) (before p : ℕ) (t : List ℕ) → Chain a before p t → Chain (Or a b) before p t
-Chain-or_left a b before p [] h = or_left (is_last a before p) (is_last b (before + slots_of a) p) h
-Chain-or_left a b before p (q ∷ t) h = (or_left (follows a before p q) (follows b (before + slots_of a) p q) h.0, Chain-or_left a b before q t h.1)
+Chain-or_left a b before p [] h = (last_or a b before p).1 (inl h)
+Chain-or_left a b before p (q ∷ t) h = ((follows_or a b before p q).1 (inl h.0), Chain-or_left a b before q t h.1)
 
 pub Chain-or_right : (a b : Tree) (before p : ℕ) (t : List ℕ) → Chain b (before + slots_of a) p t → Chain (Or a b) before p t
-Chain-or_right a b before p [] h = or_right (is_last a before p) (is_last b (before + slots_of a) p) h
-Chain-or_right a b before p (q ∷ t) h = (or_right (follows a before p q) (follows b (before + slots_of a) p q) h.0, Chain-or_right a b before q t h.1)
+Chain-or_right a b before p [] h = (last_or a b before p).1 (inr h)
+Chain-or_right a b before p (q ∷ t) h = ((follows_or a b before p q).1 (inr h.0), Chain-or_right a b before q t h.1)
 
 pub Chain-then_right : (a b : Tree) (before p : ℕ) (t : List ℕ) → Chain b (before + slots_of a) p t → Chain (Then a b) before p t
-Chain-then_right a b before p [] h = or_right (is_last a before p && is_nullable b) (is_last b (before + slots_of a) p) h
+Chain-then_right a b before p [] h = (last_then a b before p).1 (inr h)
 Chain-then_right a b before p (q ∷ t) h = (
-  or_right (follows a before p q) (follows b (before + slots_of a) p q || (is_last a before p && is_first b (before + slots_of a) q))
-      (or_left (follows b (before + slots_of a) p q) (is_last a before p && is_first b (before + slots_of a) q) h.0),
+  (follows_then a b before p q).1 (inr (inl h.0)),
   Chain-then_right a b before q t h.1,
 )
 
 -- a chain of the first branch, and then a list of the second
 pub Chain-then : (a b : Tree) (before p : ℕ) (u v : List ℕ) → Chain a before p u → IsLocal b (before + slots_of a) v → Chain (Then a b) before p (u ++ v)
-Chain-then a b before p [] [] h k = or_left (is_last a before p && is_nullable b) (is_last b (before + slots_of a) p) (and_from (is_last a before p) (is_nullable b) h k)
+Chain-then a b before p [] [] h k = (last_then a b before p).1 (inl (h, k))
 Chain-then a b before p [] (q ∷ v) h k = (
-  or_right (follows a before p q) (follows b (before + slots_of a) p q || (is_last a before p && is_first b (before + slots_of a) q))
-      (or_right (follows b (before + slots_of a) p q) (is_last a before p && is_first b (before + slots_of a) q)
-      (and_from (is_last a before p) (is_first b (before + slots_of a) q) h k.0)),
+  (follows_then a b before p q).1 (inr (inr (h, k.0))),
   Chain-then_right a b before q v k.1,
 )
 Chain-then a b before p (q ∷ u) v h k = (
-  or_left (follows a before p q) (follows b (before + slots_of a) p q || (is_last a before p && is_first b (before + slots_of a) q)) h.0,
+  (follows_then a b before p q).1 (inl h.0),
   Chain-then a b before q u v h.1 k,
 )
 
 -- the same for whole lists
 pub IsLocal-or_left : (a b : Tree) (before : ℕ) (t : List ℕ) → IsLocal a before t → IsLocal (Or a b) before t
-IsLocal-or_left a b before [] h = or_left (is_nullable a) (is_nullable b) h
-IsLocal-or_left a b before (q ∷ t) h = (or_left (is_first a before q) (is_first b (before + slots_of a) q) h.0, Chain-or_left a b before q t h.1)
+IsLocal-or_left a b before [] h = (either (is_nullable a) (is_nullable b)).1 (inl h)
+IsLocal-or_left a b before (q ∷ t) h = ((first_or a b before q).1 (inl h.0), Chain-or_left a b before q t h.1)
 
 pub IsLocal-or_right : (a b : Tree) (before : ℕ) (t : List ℕ) → IsLocal b (before + slots_of a) t → IsLocal (Or a b) before t
-IsLocal-or_right a b before [] h = or_right (is_nullable a) (is_nullable b) h
-IsLocal-or_right a b before (q ∷ t) h = (or_right (is_first a before q) (is_first b (before + slots_of a) q) h.0, Chain-or_right a b before q t h.1)
+IsLocal-or_right a b before [] h = (either (is_nullable a) (is_nullable b)).1 (inr h)
+IsLocal-or_right a b before (q ∷ t) h = ((first_or a b before q).1 (inr h.0), Chain-or_right a b before q t h.1)
 
 pub IsLocal-then : (a b : Tree) (before : ℕ) (u v : List ℕ) → IsLocal a before u → IsLocal b (before + slots_of a) v → IsLocal (Then a b) before (u ++ v)
-IsLocal-then a b before [] [] h k = and_from (is_nullable a) (is_nullable b) h k
+IsLocal-then a b before [] [] h k = (both (is_nullable a) (is_nullable b)).1 (h, k)
 IsLocal-then a b before [] (q ∷ v) h k = (
-  or_right (is_first a before q) (is_nullable a && is_first b (before + slots_of a) q) (and_from (is_nullable a) (is_first b (before + slots_of a) q) h k.0),
+  (first_then a b before q).1 (inr (h, k.0)),
   Chain-then_right a b before q v k.1,
 )
-IsLocal-then a b before (q ∷ u) v h k = (or_left (is_first a before q) (is_nullable a && is_first b (before + slots_of a) q) h.0, Chain-then a b before q u v h.1 k)
+IsLocal-then a b before (q ∷ u) v h k = ((first_then a b before q).1 (inl h.0), Chain-then a b before q u v h.1 k)
 
 -- the last slot of a gap with no greatest length follows itself, as often as there are bytes
 gap_stay : (min before k : ℕ) → Chain (Gap min None) before (before + min + 1) (replicate k (before + min + 1))
@@ -304,65 +342,61 @@ gap_chain_none min before p (q ∷ t) low h =
 -- a chain of the tree from a branch's slot stays there
 pub Chain-or_left_from : (a b : Tree) (before p : ℕ) (t : List ℕ) → p ≤ before + slots_of a → Chain (Or a b) before p t → Chain a before p t
 Chain-or_left_from a b before p [] low h =
-    elim (or_cases (is_last a before p) (is_last b (before + slots_of a) p) h) [
+    elim ((last_or a b before p).0 h) [
       | inl first ↦ first
       | inr second ↦ absurd (let is = is_last-slot b (before + slots_of a) p second in omega arith)
     ]
 Chain-or_left_from a b before p (q ∷ t) low h =
-    elim (or_cases (follows a before p q) (follows b (before + slots_of a) p q) h.0) [
+    elim ((follows_or a b before p q).0 h.0) [
       | inl first ↦ (first, Chain-or_left_from a b before q t (follows-slots a before p q first).1.1 h.1)
       | inr second ↦ absurd (let is = (follows-slots b (before + slots_of a) p q second).0 in omega arith)
     ]
 
 pub Chain-or_right_from : (a b : Tree) (before p : ℕ) (t : List ℕ) → before + slots_of a < p → Chain (Or a b) before p t → Chain b (before + slots_of a) p t
 Chain-or_right_from a b before p [] high h =
-    elim (or_cases (is_last a before p) (is_last b (before + slots_of a) p) h) [
+    elim ((last_or a b before p).0 h) [
       | inl first ↦ absurd (let is = is_last-slot a before p first in omega arith)
       | inr second ↦ second
     ]
 Chain-or_right_from a b before p (q ∷ t) high h =
-    elim (or_cases (follows a before p q) (follows b (before + slots_of a) p q) h.0) [
+    elim ((follows_or a b before p q).0 h.0) [
       | inl first ↦ absurd (let is = (follows-slots a before p q first).0 in omega arith)
       | inr second ↦ (second, Chain-or_right_from a b before q t (follows-slots b (before + slots_of a) p q second).1.0 h.1)
     ]
 
 pub Chain-then_right_from : (a b : Tree) (before p : ℕ) (t : List ℕ) → before + slots_of a < p → Chain (Then a b) before p t → Chain b (before + slots_of a) p t
 Chain-then_right_from a b before p [] high h =
-    elim (or_cases (is_last a before p && is_nullable b) (is_last b (before + slots_of a) p) h) [
-      | inl first ↦ absurd (let is = is_last-slot a before p (and_parts (is_last a before p) (is_nullable b) first).0 in omega arith)
+    elim ((last_then a b before p).0 h) [
+      | inl first ↦ absurd (let is = is_last-slot a before p first.0 in omega arith)
       | inr second ↦ second
     ]
 Chain-then_right_from a b before p (q ∷ t) high h =
-    elim (or_cases (follows a before p q) (follows b (before + slots_of a) p q || (is_last a before p && is_first b (before + slots_of a) q)) h.0) [
+    elim ((follows_then a b before p q).0 h.0) [
       | inl first ↦ absurd (let is = (follows-slots a before p q first).0 in omega arith)
       | inr more ↦
-          elim (or_cases (follows b (before + slots_of a) p q) (is_last a before p && is_first b (before + slots_of a) q) more) [
+          elim more [
             | inl second ↦ (second, Chain-then_right_from a b before q t (follows-slots b (before + slots_of a) p q second).1.0 h.1)
-            | inr over ↦ absurd (let is = is_last-slot a before p (and_parts (is_last a before p) (is_first b (before + slots_of a) q) over).0 in omega arith)
+            | inr over ↦ absurd (let is = is_last-slot a before p over.0 in omega arith)
           ]
     ]
 
 -- a chain from a slot of the first branch is one of that branch, and then a list of the second
 pub Chain-then_cut : (a b : Tree) (before p : ℕ) (t : List ℕ) → p ≤ before + slots_of a → Chain (Then a b) before p t → (u v : List ℕ) × (t ≡ u ++ v) × Chain a before p u × IsLocal b (before + slots_of a) v
 Chain-then_cut a b before p [] low h =
-    elim (or_cases (is_last a before p && is_nullable b) (is_last b (before + slots_of a) p) h) [
-      | inl first ↦
-          let parts = and_parts (is_last a before p) (is_nullable b) first in
-          ([], [], refl, parts.0, parts.1)
+    elim ((last_then a b before p).0 h) [
+      | inl first ↦ ([], [], refl, first.0, first.1)
       | inr second ↦ absurd (let is = is_last-slot b (before + slots_of a) p second in omega arith)
     ]
 Chain-then_cut a b before p (q ∷ t) low h =
-    elim (or_cases (follows a before p q) (follows b (before + slots_of a) p q || (is_last a before p && is_first b (before + slots_of a) q)) h.0) [
+    elim ((follows_then a b before p q).0 h.0) [
       | inl first ↦
           let more = Chain-then_cut a b before q t (follows-slots a before p q first).1.1 h.1 in
           (q ∷ more.0, more.1, ap (λ l. q ∷ l) more.2, (first, more.3), more.4)
       | inr other ↦
-          elim (or_cases (follows b (before + slots_of a) p q) (is_last a before p && is_first b (before + slots_of a) q) other) [
+          elim other [
             | inl second ↦ absurd (let is = (follows-slots b (before + slots_of a) p q second).0 in omega arith)
             | inr over ↦
-                let parts = and_parts (is_last a before p) (is_first b (before + slots_of a) q) over in
-                let begun : is_first b (before + slots_of a) q ≡ true = parts.1 in
-                ([], q ∷ t, refl, parts.0, (begun, Chain-then_right_from a b before q t (is_first-slot b (before + slots_of a) q begun).0 h.1))
+                ([], q ∷ t, refl, over.0, (over.1, Chain-then_right_from a b before q t (is_first-slot b (before + slots_of a) q over.1).0 h.1))
           ]
     ]
 
@@ -400,26 +434,24 @@ local_track (Gap min (Some max)) before (q ∷ t) h =
     let rest : t ≡ slots_from (before + 1 + 1) more.0 = more.3 ∙ ap (λ x. slots_from (x + 1) more.0) is in
     (suc more.0, omega arith, omega arith, cc)
 local_track (Then a b) before [] h =
-    let parts = and_parts (is_nullable a) (is_nullable b) h in
+    let parts = (both (is_nullable a) (is_nullable b)).0 h in
     ([], [], refl, local_track a before [] parts.0, local_track b (before + slots_of a) [] parts.1)
 local_track (Then a b) before (q ∷ t) h =
-    elim (or_cases (is_first a before q) (is_nullable a && is_first b (before + slots_of a) q) h.0) [
+    elim ((first_then a b before q).0 h.0) [
       | inl first ↦
           let cut = Chain-then_cut a b before q t (is_first-slot a before q first).1 h.1 in
           (q ∷ cut.0, cut.1, ap (λ l. q ∷ l) cut.2, local_track a before (q ∷ cut.0) (first, cut.3), local_track b (before + slots_of a) cut.1 cut.4)
       | inr second ↦
-          let parts = and_parts (is_nullable a) (is_first b (before + slots_of a) q) second in
-          let begun : is_first b (before + slots_of a) q ≡ true = parts.1 in
-          let chain : Chain b (before + slots_of a) q t = Chain-then_right_from a b before q t (is_first-slot b (before + slots_of a) q begun).0 h.1 in
-          ([], q ∷ t, refl, local_track a before [] parts.0, local_track b (before + slots_of a) (q ∷ t) (begun, chain))
+          let chain : Chain b (before + slots_of a) q t = Chain-then_right_from a b before q t (is_first-slot b (before + slots_of a) q second.1).0 h.1 in
+          ([], q ∷ t, refl, local_track a before [] second.0, local_track b (before + slots_of a) (q ∷ t) (second.1, chain))
     ]
 local_track (Or a b) before [] h =
-    elim (or_cases (is_nullable a) (is_nullable b) h) [
+    elim ((either (is_nullable a) (is_nullable b)).0 h) [
       | inl first ↦ inl (local_track a before [] first)
       | inr second ↦ inr (local_track b (before + slots_of a) [] second)
     ]
 local_track (Or a b) before (q ∷ t) h =
-    elim (or_cases (is_first a before q) (is_first b (before + slots_of a) q) h.0) [
+    elim ((first_or a b before q).0 h.0) [
       | inl first ↦ inl (local_track a before (q ∷ t) (first, Chain-or_left_from a b before q t (is_first-slot a before q first).1 h.1))
       | inr second ↦ inr (local_track b (before + slots_of a) (q ∷ t) (second, Chain-or_right_from a b before q t (is_first-slot b (before + slots_of a) q second).0 h.1))
     ]

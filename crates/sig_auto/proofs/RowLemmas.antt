@@ -1,8 +1,5 @@
 -- The words of the rows of a bracket: those before an end, after an end, and from one end to another.
-use Rattle.std.proofs.Common.{◌≡◌, ◌≢◌, ◌⊎◌, ◌↔◌, ℕ, ◌+◌, ◌-◌, ◌<◌, ◌≤◌, Bool, true, false, nat_lt, nat_eq, cond, List, [], ◌∷◌, ◌++◌, length, refl, sym, ap, subst, ◌∙◌, inl, inr, arith, nat_cmp, Less, Equal, Greater, eq-eqb, ne_eqb, tests, rules}
-use Rattle.std.specs.Cmp.{nat_cmp_is}
-use Rattle.std.specs.Cmp.Lexicographic.{slice_cmp}
-use Rattle.std.proofs.lemmas.Bool.{cases_lt}
+use Rattle.std.proofs.Common.{◌≡◌, ◌⊎◌, ◌↔◌, ℕ, ◌+◌, ◌-◌, ◌<◌, ◌≤◌, Bool, true, false, nat_lt, nat_eq, cond, List, [], ◌∷◌, ◌++◌, length, refl, sym, ap, ◌∙◌, inl, inr, arith, eq-eqb, ne_eqb, tests, rules}
 use Rattle.sig_auto.proofs.ByteLemmas.{IsBytes-nil, IsBytes-cons, IsBytes-head, IsBytes-tail}
 use Rattle.sig_auto.specs.declared.class.Class.{Class}
 use Rattle.sig_auto.specs.declared.class.Class.TheVariants.{Within}
@@ -11,88 +8,8 @@ use Rattle.sig_auto.specs.Rows.{above, behind, below, between, inner_at, lower_a
 use Rattle.sig_auto.specs.Trees.{row_tree, rows_tree}
 use Rattle.sig_auto.specs.Unfolded.{TreeWord}
 use Rattle.sig_bits.specs.Bytes.{IsBytes}
+use Rattle.sig_expr.proofs.LawLemmas.{IsBefore-cases, IsBefore-lower, IsBefore-same, IsUpTo-before, IsUpTo-behind, IsUpTo-cases, IsUpTo-first, IsUpTo-itself, IsUpTo-rest}
 use Rattle.sig_expr.specs.Words.{IsBefore, IsBytesOf, IsUpTo}
-
--- two numbers are in one order or the other, or the same
-pub three : (x y : ℕ) → (x < y) ⊎ ((x ≡ y) ⊎ (y < x))
-three x y = elim (cases_lt x y) [
-  | inl below ↦ inl below
-  | inr up ↦ elim (cases_lt y x) [ inl above ↦ inr (inr above) | inr down ↦ inr (inl (omega arith)) ]
-]
-
--- words by their first bytes
-cmp_lower : (x y : ℕ) (xs ys : List ℕ) → x < y → slice_cmp nat_cmp (x ∷ xs) (y ∷ ys) ≡ Less
-cmp_lower x y xs ys h = rw (← nat_cmp_is x y Less h) refl
-
-cmp_same : (x y : ℕ) (xs ys : List ℕ) → x ≡ y → slice_cmp nat_cmp (x ∷ xs) (y ∷ ys) ≡ slice_cmp nat_cmp xs ys
-cmp_same x y xs ys h = rw (← nat_cmp_is x y Equal h) refl
-
-cmp_upper : (x y : ℕ) (xs ys : List ℕ) → y < x → slice_cmp nat_cmp (x ∷ xs) (y ∷ ys) ≡ Greater
-cmp_upper x y xs ys h = rw (← nat_cmp_is x y Greater h) refl
-
-pub IsBefore-lower : (x y : ℕ) (xs ys : List ℕ) → x < y → IsBefore (x ∷ xs) (y ∷ ys)
-IsBefore-lower x y xs ys h = cmp_lower x y xs ys h
-
-pub IsBefore-same : (x y : ℕ) (xs ys : List ℕ) → x ≡ y → IsBefore xs ys → IsBefore (x ∷ xs) (y ∷ ys)
-IsBefore-same x y xs ys h k = cmp_same x y xs ys h ∙ k
-
-pub IsBefore-cases : (x y : ℕ) (xs ys : List ℕ) → IsBefore (x ∷ xs) (y ∷ ys) → (x < y) ⊎ ((x ≡ y) × IsBefore xs ys)
-IsBefore-cases x y xs ys h = elim (three x y) [
-  | inl lower ↦ inl lower
-  | inr more ↦ elim more [
-    | inl same ↦ inr (same, sym (cmp_same x y xs ys same) ∙ h)
-    | inr upper ↦ absurd (cc (cmp_upper x y xs ys upper, h))
-  ]
-]
-
--- up to a word: before it, or the word itself
-pub IsUpTo-before : (v w : List ℕ) → IsBefore v w → IsUpTo v w
-IsUpTo-before v w h = λ e. cc
-
-cmp_itself : (w : List ℕ) → slice_cmp nat_cmp w w ≡ Equal
-cmp_itself [] = refl
-cmp_itself (b ∷ w) = cmp_same b b w w refl ∙ cmp_itself w
-
-pub IsUpTo-itself : (w : List ℕ) → IsUpTo w w
-IsUpTo-itself w = λ e. cc (cmp_itself w, e)
-
-pub IsUpTo-same : (v w : List ℕ) → v ≡ w → IsUpTo v w
-IsUpTo-same v w h = subst (IsUpTo v) h (IsUpTo-itself v)
-
-pub IsUpTo-cases : (v w : List ℕ) → IsUpTo v w → IsBefore v w ⊎ (v ≡ w)
-IsUpTo-cases [] [] h = inr refl
-IsUpTo-cases [] (y ∷ w) h = inl refl
-IsUpTo-cases (x ∷ v) [] h = absurd (h refl)
-IsUpTo-cases (x ∷ v) (y ∷ w) h = elim (three x y) [
-  | inl lower ↦ inl (IsBefore-lower x y v w lower)
-  | inr more ↦ elim more [
-    | inl same ↦ elim (IsUpTo-cases v w (λ e. h (cmp_same x y v w same ∙ e))) [
-      | inl before ↦ inl (IsBefore-same x y v w same before)
-      | inr equal ↦ inr (cc)
-    ]
-    | inr upper ↦ absurd (h (cmp_upper x y v w upper))
-  ]
-]
-
--- words that are not the same are in one order or the other
-pub IsBefore-either : (v w : List ℕ) → v ≢ w → IsBefore v w ⊎ IsBefore w v
-IsBefore-either [] [] h = absurd (h refl)
-IsBefore-either [] (y ∷ w) h = inl refl
-IsBefore-either (x ∷ v) [] h = inr refl
-IsBefore-either (x ∷ v) (y ∷ w) h = elim (three x y) [
-  | inl lower ↦ inl (IsBefore-lower x y v w lower)
-  | inr more ↦ elim more [
-    | inl same ↦ elim (IsBefore-either v w (λ e. h (cc))) [
-      | inl before ↦ inl (IsBefore-same x y v w same before)
-      | inr after ↦ inr (IsBefore-same y x w v (sym same) after)
-    ]
-    | inr upper ↦ inr (IsBefore-lower y x w v upper)
-  ]
-]
-
--- no word is before itself
-pub not_before_itself : (v w : List ℕ) → IsBefore v w → v ≢ w
-not_before_itself v w h = λ e. (let same : slice_cmp nat_cmp v v ≡ Less = rw (← e) at h in cc (cmp_itself v, same))
 
 -- a word of a row: a byte of its first class, and a word of the others
 row_word : (c : Class) (cs : List Class) (b : ℕ) (v : List ℕ) → InClass c b → TreeWord (row_tree cs) v → TreeWord (row_tree (c ∷ cs)) (b ∷ v)
@@ -330,10 +247,10 @@ split_word x y b xs ys v same bytes low high =
     ]
 
 -- the ends agree at the first place, or differ there
-between_same : (x y : ℕ) (xs ys : List ℕ) → x ≡ y → between (x ∷ xs) (y ∷ ys) ≡ behind x (between xs ys)
+pub between_same : (x y : ℕ) (xs ys : List ℕ) → x ≡ y → between (x ∷ xs) (y ∷ ys) ≡ behind x (between xs ys)
 between_same x y xs ys h = rw (eq-eqb x y h) refl
 
-between_split : (x y : ℕ) (xs ys : List ℕ) → x < y → between (x ∷ xs) (y ∷ ys) ≡ split_rows x y xs ys
+pub between_split : (x y : ℕ) (xs ys : List ℕ) → x < y → between (x ∷ xs) (y ∷ ys) ≡ split_rows x y xs ys
 between_split x y xs ys h = let apart : nat_eq x y ≡ false = ne_eqb x y (λ e. omega arith) in rw apart refl
 
 of_between : (xs ys w : List ℕ) → length xs ≡ length ys → IsBefore xs ys → IsBytes xs → IsBytes ys → TreeWord (rows_tree (between xs ys)) w → IsBytesOf (length xs) w × IsUpTo xs w × IsUpTo w ys
@@ -346,8 +263,8 @@ of_between (x ∷ xs) (y ∷ ys) w same order a b h = elim (IsBefore-cases x y x
       let k = of_between xs ys r.0 (omega arith) level.1 (IsBytes-tail x xs a) (IsBytes-tail y ys b) r.2 in
       rw r.1 (
         longer x x r.0 xs (IsBytes-head x xs a) k.0,
-        λ e. k.1 (sym (cmp_same x x xs r.0 refl) ∙ e),
-        λ e. k.2 (sym (cmp_same x y r.0 ys level.0) ∙ e),
+        IsUpTo-behind x x xs r.0 refl k.1,
+        IsUpTo-behind x y r.0 ys level.0 k.2,
       )
 ]
 
@@ -362,16 +279,13 @@ between_word (x ∷ xs) (y ∷ ys) (b ∷ v) same order bytes low high = elim (I
       let here : x ≡ b = first_is x y b xs ys v level.0 low high in
       rw (between_same x y xs ys level.0, ← here) (behind_word x (between xs ys) v (
       between_word xs ys v (omega arith) level.1 (shorter b x v xs bytes)
-      (λ e. low (cmp_same x b xs v here ∙ e))
-      (λ e. high (cmp_same b y v ys (sym here ∙ level.0) ∙ e))
+      (IsUpTo-rest x b xs v here low)
+      (IsUpTo-rest b y v ys (sym here ∙ level.0) high)
       ))
 ]
   where
     first_is : (x y b : ℕ) (xs ys v : List ℕ) → x ≡ y → IsUpTo (x ∷ xs) (b ∷ v) → IsUpTo (b ∷ v) (y ∷ ys) → x ≡ b
-    first_is x y b xs ys v level low high = elim (three x b) [
-      | inl lower ↦ absurd (high (cmp_upper b y v ys (omega arith)))
-      | inr more ↦ elim more [ inl same ↦ same | inr upper ↦ absurd (low (cmp_upper x b xs v upper)) ]
-    ]
+    first_is x y b xs ys v level low high = let from = IsUpTo-first x b xs v low in let to = IsUpTo-first b y v ys high in omega arith
 
 -- the words from the first to the second
 pub between_is : (xs ys w : List ℕ) → length xs ≡ length ys → IsBefore xs ys → IsBytes xs → IsBytes ys → TreeWord (rows_tree (between xs ys)) w ↔ (IsBytesOf (length xs) w × IsUpTo xs w × IsUpTo w ys)

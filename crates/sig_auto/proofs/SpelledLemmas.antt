@@ -50,6 +50,22 @@ succeeded a b p q byte same h =
       λ x. h.1 (follows.1 x.0, takes.1 x.1),
     )
 
+-- the bytes on which some state follows, and what follows on two bytes next to each other
+pub lead_on : {P : Type 0} (a b : Tree) (p byte : ℕ) → IsSame a b → (P ↔ ((q : ℕ) × (Follows a p q × Takes a q byte))) → P ↔ ((q : ℕ) × Follows b p q × Takes b q byte)
+lead_on a b p byte same h = (
+  λ x. (let all = h.0 x in (all.0, (same_follows a b p all.0 same).0 all.1.0, (same_takes a b all.0 byte same).0 all.1.1)),
+  λ x. h.1 (x.0, ((same_follows a b p x.0 same).1 x.1, (same_takes a b x.0 byte same).1 x.2)),
+)
+
+pub cut_after : (a b : Tree) (p q byte : ℕ) → IsSame a b → ((Follows a p q × Takes a q byte) ↔ (Follows a p q × Takes a q (byte + 1))) → (Follows b p q × Takes b q byte) ↔ (Follows b p q × Takes b q (byte + 1))
+cut_after a b p q byte same h =
+    let follows = same_follows a b p q same in
+    let one = same_takes a b q byte same in
+    let two = same_takes a b q (byte + 1) same in (
+      λ x. (let next = h.0 (follows.1 x.0, one.1 x.1) in (follows.0 next.0, two.0 next.1)),
+      λ x. (let next = h.1 (follows.1 x.0, two.1 x.1) in (follows.0 next.0, one.0 next.1)),
+    )
+
 pub stepped : {P : Type 0} (a b : Tree) (from : List ℕ) (q byte : ℕ) → IsSame a b → (P ↔ ((p : ℕ) × HasBit from p × Follows a p q × Takes a q byte)) → P ↔ ((p : ℕ) × HasBit from p × Follows b p q × Takes b q byte)
 stepped a b from q byte same h =
     let takes = same_takes a b q byte same in (

@@ -1,19 +1,19 @@
 -- What a set of states does on a byte, from the branches of a tree to the tree.
-use Rattle.std.proofs.Common.{◌≡◌, ◌↔◌, ◌⊎◌, ℕ, ◌+◌, ◌-◌, ◌<◌, ◌≤◌, ◌==◌, ◌&&◌, ◌||◌, Bool, true, nat_lt, List, ◌++◌, get_or, replicate, Option, Some, None, IsTrue, subst, sym, ap, ◌∙◌, refl, inl, inr, arith}
-use Rattle.std.proofs.lemmas.Bool.{and_from, and_parts, cases_eq, cases_lt, eq-eqb, ne_eqb, eqb-true, false≢true, or_cases, or_left, or_right}
+use Rattle.std.proofs.Common.{◌≡◌, ◌↔◌, ◌⊎◌, ℕ, ◌+◌, ◌-◌, ◌<◌, ◌≤◌, ◌==◌, Bool, true, nat_lt, List, ◌++◌, get_or, replicate, Option, Some, None, IsTrue, subst, sym, ap, ◌∙◌, refl, inl, inr, arith}
+use Rattle.std.proofs.lemmas.Bool.{and_parts, cases_eq, cases_lt, eq-eqb, ne_eqb, eqb-true, false≢true}
 use Rattle.std.proofs.lemmas.List.{get_or_past, get_or-append_right, get_or-replicate, get_or_append_left, length-replicate}
 use Rattle.sig_auto.specs.Classes.{InClass, any}
-use Rattle.sig_auto.specs.Local.{is_first, is_last, follows, loops, is_nullable}
+use Rattle.sig_auto.specs.Local.{is_first, follows, loops}
 use Rattle.sig_auto.specs.Stepping.{IsNext, IsNextInGap, IsStepped, Leads}
 use Rattle.sig_auto.specs.Tracks.{Accepting, Follows}
 use Rattle.sig_auto.specs.Trees.{Tree, Gap, Then, Or}
 use Rattle.sig_auto.specs.TreeSlots.{Takes, classes_of, class_of, slots_of}
 use Rattle.sig_auto.specs.Trim.{IsTrim}
 use Rattle.sig_bits.specs.BitSets.{HasBit}
-use Rattle.sig_bits.proofs.BitLemmas.{no_bit_in_zeros}
+use Rattle.sig_bits.proofs.BitLaws.{zeros_have_no_bit}
 use Rattle.sig_table.specs.Slots.{gap_slots}
 use Rattle.sig_auto.proofs.TakenLemmas.{length_classes}
-use Rattle.sig_auto.proofs.LocalLemmas.{IsSlot, is_first-slot, is_last-slot, gap_begins, gap_goes_none, gap_goes_some, gap_next, gap_stays, follows-slots}
+use Rattle.sig_auto.proofs.LocalLemmas.{IsSlot, first_or, first_then, follows_or, follows_then, is_first-slot, is_last-slot, gap_begins, gap_goes_none, gap_goes_some, gap_next, gap_stays, follows-slots}
 use Rattle.sig_auto.proofs.RunLemmas.{accepting_shown, follows_shown}
 use Rattle.sig_auto.proofs.TrimLemmas.{accepting_exact, follows_exact}
 
@@ -50,51 +50,34 @@ next_then : (a b : Tree) (before : ℕ) (enter led : Bool) (from : List ℕ) (q 
 next_then a b before enter led from q leads = (
   λ h. elim h [
     | inl begun ↦
-        elim (or_cases (is_first a before q) (is_nullable a && is_first b (before + slots_of a) q) begun.1) [
+        elim ((first_then a b before q).0 begun.1) [
           | inl first ↦ inl (inl (begun.0, first))
-          | inr second ↦
-              let parts = and_parts (is_nullable a) (is_first b (before + slots_of a) q) second in
-              inr (inl (leads.1 (inl (begun.0, parts.0)), parts.1))
+          | inr second ↦ inr (inl (leads.1 (inl (begun.0, second.0)), second.1))
         ]
     | inr gone ↦
-        elim (or_cases (follows a before gone.0 q) (follows b (before + slots_of a) gone.0 q || (is_last a before gone.0 && is_first b (before + slots_of a) q)) gone.2) [
+        elim ((follows_then a b before gone.0 q).0 gone.2) [
           | inl first ↦ inl (inr (gone.0, gone.1, first))
           | inr more ↦
-              elim (or_cases (follows b (before + slots_of a) gone.0 q) (is_last a before gone.0 && is_first b (before + slots_of a) q) more) [
+              elim more [
                 | inl second ↦ inr (inr (gone.0, gone.1, second))
-                | inr over ↦
-                    let parts = and_parts (is_last a before gone.0) (is_first b (before + slots_of a) q) over in
-                    inr (inl (leads.1 (inr (gone.0, gone.1, parts.0)), parts.1))
+                | inr over ↦ inr (inl (leads.1 (inr (gone.0, gone.1, over.0)), over.1))
               ]
         ]
   ],
   λ h. elim h [
     | inl first ↦
         elim first [
-          | inl begun ↦ inl (begun.0, or_left (is_first a before q) (is_nullable a && is_first b (before + slots_of a) q) begun.1)
-          | inr gone ↦ inr (gone.0, gone.1, or_left (follows a before gone.0 q) (follows b (before + slots_of a) gone.0 q || (is_last a before gone.0 && is_first b (before + slots_of a) q)) gone.2)
+          | inl begun ↦ inl (begun.0, (first_then a b before q).1 (inl begun.1))
+          | inr gone ↦ inr (gone.0, gone.1, (follows_then a b before gone.0 q).1 (inl gone.2))
         ]
     | inr second ↦
         elim second [
           | inl begun ↦
               elim (leads.0 begun.0) [
-                | inl skipped ↦ inl (skipped.0, or_right (is_first a before q) (is_nullable a && is_first b (before + slots_of a) q) (and_from (is_nullable a) (is_first b (before + slots_of a) q) skipped.1 begun.1))
-                | inr ended ↦
-                    inr (
-                      ended.0,
-                      ended.1,
-                      or_right (follows a before ended.0 q) (follows b (before + slots_of a) ended.0 q || (is_last a before ended.0 && is_first b (before + slots_of a) q))
-                          (or_right (follows b (before + slots_of a) ended.0 q) (is_last a before ended.0 && is_first b (before + slots_of a) q)
-                          (and_from (is_last a before ended.0) (is_first b (before + slots_of a) q) ended.2 begun.1)),
-                    )
+                | inl skipped ↦ inl (skipped.0, (first_then a b before q).1 (inr (skipped.1, begun.1)))
+                | inr ended ↦ inr (ended.0, ended.1, (follows_then a b before ended.0 q).1 (inr (inr (ended.2, begun.1))))
               ]
-          | inr gone ↦
-              inr (
-                gone.0,
-                gone.1,
-                or_right (follows a before gone.0 q) (follows b (before + slots_of a) gone.0 q || (is_last a before gone.0 && is_first b (before + slots_of a) q))
-                    (or_left (follows b (before + slots_of a) gone.0 q) (is_last a before gone.0 && is_first b (before + slots_of a) q) gone.2),
-              )
+          | inr gone ↦ inr (gone.0, gone.1, (follows_then a b before gone.0 q).1 (inr (inl gone.2)))
         ]
   ],
 )
@@ -103,12 +86,12 @@ next_or : (a b : Tree) (before : ℕ) (enter : Bool) (from : List ℕ) (q : ℕ)
 next_or a b before enter from q = (
   λ h. elim h [
     | inl begun ↦
-        elim (or_cases (is_first a before q) (is_first b (before + slots_of a) q) begun.1) [
+        elim ((first_or a b before q).0 begun.1) [
           | inl first ↦ inl (inl (begun.0, first))
           | inr second ↦ inr (inl (begun.0, second))
         ]
     | inr gone ↦
-        elim (or_cases (follows a before gone.0 q) (follows b (before + slots_of a) gone.0 q) gone.2) [
+        elim ((follows_or a b before gone.0 q).0 gone.2) [
           | inl first ↦ inl (inr (gone.0, gone.1, first))
           | inr second ↦ inr (inr (gone.0, gone.1, second))
         ]
@@ -116,13 +99,13 @@ next_or a b before enter from q = (
   λ h. elim h [
     | inl first ↦
         elim first [
-          | inl begun ↦ inl (begun.0, or_left (is_first a before q) (is_first b (before + slots_of a) q) begun.1)
-          | inr gone ↦ inr (gone.0, gone.1, or_left (follows a before gone.0 q) (follows b (before + slots_of a) gone.0 q) gone.2)
+          | inl begun ↦ inl (begun.0, (first_or a b before q).1 (inl begun.1))
+          | inr gone ↦ inr (gone.0, gone.1, (follows_or a b before gone.0 q).1 (inl gone.2))
         ]
     | inr second ↦
         elim second [
-          | inl begun ↦ inl (begun.0, or_right (is_first a before q) (is_first b (before + slots_of a) q) begun.1)
-          | inr gone ↦ inr (gone.0, gone.1, or_right (follows a before gone.0 q) (follows b (before + slots_of a) gone.0 q) gone.2)
+          | inl begun ↦ inl (begun.0, (first_or a b before q).1 (inr begun.1))
+          | inr gone ↦ inr (gone.0, gone.1, (follows_or a b before gone.0 q).1 (inr gone.2))
         ]
   ],
 )
@@ -236,14 +219,14 @@ stepped_whole tree enter from byte q trim start =
 -- bits that are added to none
 pub added_to_none : {New Named Added : Type 0} (zeros : List ℕ) (n q : ℕ) → zeros ≡ replicate n 0 → (New ↔ (HasBit zeros q ⊎ Named)) → (Named ↔ Added) → New ↔ Added
 added_to_none zeros n q none is same = (
-  λ h. elim (is.0 h) [ inl old ↦ absurd (no_bit_in_zeros n q (subst (λ l. HasBit l q) none old)) | inr new ↦ same.0 new ],
+  λ h. elim (is.0 h) [ inl old ↦ absurd (zeros_have_no_bit n q (subst (λ l. HasBit l q) none old)) | inr new ↦ same.0 new ],
   λ h. is.1 (inr (same.1 h)),
 )
 
 -- one bit that is set in none
 pub alone : {New : Type 0} (zeros : List ℕ) (n q i : ℕ) → zeros ≡ replicate n 0 → (New ↔ ((q ≡ i) ⊎ HasBit zeros q)) → New ↔ (q ≡ i)
 alone zeros n q i none is = (
-  λ h. elim (is.0 h) [ inl same ↦ same | inr old ↦ absurd (no_bit_in_zeros n q (subst (λ l. HasBit l q) none old)) ],
+  λ h. elim (is.0 h) [ inl same ↦ same | inr old ↦ absurd (zeros_have_no_bit n q (subst (λ l. HasBit l q) none old)) ],
   λ same. is.1 (inl same),
 )
 

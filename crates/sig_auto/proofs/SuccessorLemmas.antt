@@ -1,5 +1,5 @@
 -- The slots that follow a state on a byte: the least in a tree from those of its branches, and all of them in order.
-use Rattle.std.proofs.Common.{◌≡◌, ◌↔◌, ◌⊎◌, ℕ, zero, suc, ◌+◌, ◌-◌, ◌<◌, ◌≤◌, ◌==◌, ◌&&◌, ◌||◌, if◌then◌else◌, nat_le, nat_lt, Bool, true, false, List, [], ◌∷◌, length, get_or, slice_index, Option, Some, None, IfSome, MatchOption, Contains, subst, sym, ap, ◌∙◌, refl, inl, inr, arith}
+use Rattle.std.proofs.Common.{◌≡◌, ◌↔◌, ◌⊎◌, ℕ, zero, suc, ◌+◌, ◌-◌, ◌<◌, ◌≤◌, ◌==◌, ◌||◌, if◌then◌else◌, nat_le, nat_lt, Bool, true, false, List, [], ◌∷◌, length, get_or, slice_index, Option, Some, None, IfSome, MatchOption, Contains, subst, sym, ap, ◌∙◌, refl, inl, inr, arith}
 use Rattle.std.specs.List.Sorted.{IsStrictlyIncreasing}
 use Rattle.std.proofs.lemmas.Bool.{and_from, and_parts, cases_Bool, cases_eq, eq-eqb, ne_eqb, false≢true, le-leb, leb-true, lt-ltb, ltb-true, or_cases, or_left, or_right}
 use Rattle.sig_auto.specs.declared.class.Class.{Class}
@@ -11,7 +11,7 @@ use Rattle.sig_auto.specs.Tracks.{Follows}
 use Rattle.sig_auto.specs.Trees.{Tree, Then, Or}
 use Rattle.sig_auto.specs.TreeSlots.{Takes, class_of, slots_of}
 use Rattle.sig_auto.specs.Trim.{IsTrim}
-use Rattle.sig_auto.proofs.LocalLemmas.{is_first-slot, is_last-slot, follows-slots}
+use Rattle.sig_auto.proofs.LocalLemmas.{first_or, first_then, follows_or, follows_then, is_first-slot, is_last-slot, follows-slots}
 use Rattle.sig_auto.proofs.StepLemmas.{class_joined}
 use Rattle.sig_auto.proofs.TrimLemmas.{follows_exact}
 
@@ -32,17 +32,8 @@ least_second above None P A B either none h = λ r more p. elim ((either r).0 p)
 least_second above (Some q) P A B either none h = (h.0, (either q).1 (inr h.1), λ r more less p. elim ((either r).0 p) [ inl a ↦ none r more a | inr b ↦ h.2 r more less b ])
 
 -- one branch after the other
-begins_then : (a b : Tree) (before byte q : ℕ) → BeginsOn (Then a b) before byte q ↔ (BeginsOn a before byte q ⊎ ((((is_nullable a ≡ true) × (is_first b (before + slots_of a) q ≡ true))) × InClass (class_of b (q - (before + slots_of a))) byte))
-begins_then a b before byte q = class_joined (Then a b) a b before byte q refl (is_first-slot a before q) (λ h. is_first-slot b (before + slots_of a) q h.1) (
-  λ h. elim (or_cases (is_first a before q) (is_nullable a && is_first b (before + slots_of a) q) h) [
-    | inl first ↦ inl first
-    | inr second ↦ inr (and_parts (is_nullable a) (is_first b (before + slots_of a) q) second)
-  ],
-  λ h. elim h [
-    | inl first ↦ or_left (is_first a before q) (is_nullable a && is_first b (before + slots_of a) q) first
-    | inr second ↦ or_right (is_first a before q) (is_nullable a && is_first b (before + slots_of a) q) (and_from (is_nullable a) (is_first b (before + slots_of a) q) second.0 second.1)
-  ],
-)
+pub begins_then : (a b : Tree) (before byte q : ℕ) → BeginsOn (Then a b) before byte q ↔ (BeginsOn a before byte q ⊎ ((((is_nullable a ≡ true) × (is_first b (before + slots_of a) q ≡ true))) × InClass (class_of b (q - (before + slots_of a))) byte))
+begins_then a b before byte q = class_joined (Then a b) a b before byte q refl (is_first-slot a before q) (λ h. is_first-slot b (before + slots_of a) q h.1) (first_then a b before q)
 
 pub begin_then_first : (tree a b x : Tree) (before byte above q : ℕ) → tree ≡ Then a b → x ≡ a → IsLeastAbove above (BeginsOn x before byte) (Some q) → IsLeastAbove above (BeginsOn tree before byte) (Some q)
 begin_then_first tree a b x before byte above q is one h =
@@ -64,15 +55,15 @@ begin_then_second tree a b x y n before byte above o is one two many skipped non
     ))
     first second)
 
+-- where the first may not be skipped
+pub begin_then_alone : (tree a b : Tree) (before byte above : ℕ) → tree ≡ Then a b → is_nullable a ≡ false → IsLeastAbove above (BeginsOn a before byte) None → IsLeastAbove above (BeginsOn tree before byte) None
+begin_then_alone tree a b before byte above is stays none =
+    subst (λ z. IsLeastAbove above (BeginsOn z before byte) None) (sym is)
+    (λ q more h. elim ((begins_then a b before byte q).0 h) [ inl first ↦ none q more first | inr second ↦ absurd (false≢true (sym stays ∙ second.0.0)) ])
+
 -- one of two branches
-begins_or : (a b : Tree) (before byte q : ℕ) → BeginsOn (Or a b) before byte q ↔ (BeginsOn a before byte q ⊎ BeginsOn b (before + slots_of a) byte q)
-begins_or a b before byte q = class_joined (Or a b) a b before byte q refl (is_first-slot a before q) (is_first-slot b (before + slots_of a) q) (
-  or_cases (is_first a before q) (is_first b (before + slots_of a) q),
-  λ h. elim h [
-    | inl first ↦ or_left (is_first a before q) (is_first b (before + slots_of a) q) first
-    | inr second ↦ or_right (is_first a before q) (is_first b (before + slots_of a) q) second
-  ],
-)
+pub begins_or : (a b : Tree) (before byte q : ℕ) → BeginsOn (Or a b) before byte q ↔ (BeginsOn a before byte q ⊎ BeginsOn b (before + slots_of a) byte q)
+begins_or a b before byte q = class_joined (Or a b) a b before byte q refl (is_first-slot a before q) (is_first-slot b (before + slots_of a) q) (first_or a b before q)
 
 pub begin_or_first : (tree a b x : Tree) (before byte above q : ℕ) → tree ≡ Or a b → x ≡ a → IsLeastAbove above (BeginsOn x before byte) (Some q) → IsLeastAbove above (BeginsOn tree before byte) (Some q)
 begin_or_first tree a b x before byte above q is one h =
@@ -90,26 +81,8 @@ begin_or_second tree a b x y n before byte above o is one two many none h =
     (least_second above o (BeginsOn (Or a b) before byte) (BeginsOn a before byte) (BeginsOn b (before + slots_of a) byte) (begins_or a b before byte) first second)
 
 -- behind a slot of one branch or the other
-goes_then : (a b : Tree) (before p byte q : ℕ) → GoesOn (Then a b) before p byte q ↔ (GoesOn a before p byte q ⊎ ((((follows b (before + slots_of a) p q ≡ true) ⊎ ((is_last a before p ≡ true) × (is_first b (before + slots_of a) q ≡ true)))) × InClass (class_of b (q - (before + slots_of a))) byte))
-goes_then a b before p byte q = class_joined (Then a b) a b before byte q refl (λ h. (follows-slots a before p q h).1) (λ h. elim h [ inl gone ↦ (follows-slots b (before + slots_of a) p q gone).1 | inr over ↦ is_first-slot b (before + slots_of a) q over.1 ]) (
-  λ h. elim (or_cases (follows a before p q) (follows b (before + slots_of a) p q || (is_last a before p && is_first b (before + slots_of a) q)) h) [
-    | inl first ↦ inl first
-    | inr more ↦
-        elim (or_cases (follows b (before + slots_of a) p q) (is_last a before p && is_first b (before + slots_of a) q) more) [
-          | inl second ↦ inr (inl second)
-          | inr over ↦ inr (inr (and_parts (is_last a before p) (is_first b (before + slots_of a) q) over))
-        ]
-  ],
-  λ h. elim h [
-    | inl first ↦ or_left (follows a before p q) (follows b (before + slots_of a) p q || (is_last a before p && is_first b (before + slots_of a) q)) first
-    | inr more ↦
-        or_right (follows a before p q) (follows b (before + slots_of a) p q || (is_last a before p && is_first b (before + slots_of a) q))
-        (elim more [
-          | inl second ↦ or_left (follows b (before + slots_of a) p q) (is_last a before p && is_first b (before + slots_of a) q) second
-          | inr over ↦ or_right (follows b (before + slots_of a) p q) (is_last a before p && is_first b (before + slots_of a) q) (and_from (is_last a before p) (is_first b (before + slots_of a) q) over.0 over.1)
-        ])
-  ],
-)
+pub goes_then : (a b : Tree) (before p byte q : ℕ) → GoesOn (Then a b) before p byte q ↔ (GoesOn a before p byte q ⊎ ((((follows b (before + slots_of a) p q ≡ true) ⊎ ((is_last a before p ≡ true) × (is_first b (before + slots_of a) q ≡ true)))) × InClass (class_of b (q - (before + slots_of a))) byte))
+goes_then a b before p byte q = class_joined (Then a b) a b before byte q refl (λ h. (follows-slots a before p q h).1) (λ h. elim h [ inl gone ↦ (follows-slots b (before + slots_of a) p q gone).1 | inr over ↦ is_first-slot b (before + slots_of a) q over.1 ]) (follows_then a b before p q)
 
 pub gone_then_first : (tree a b x : Tree) (before p byte above q : ℕ) → tree ≡ Then a b → x ≡ a → IsLeastAbove above (GoesOn x before p byte) (Some q) → IsLeastAbove above (GoesOn tree before p byte) (Some q)
 gone_then_first tree a b x before p byte above q is one h =
@@ -158,21 +131,8 @@ gone_then_second tree a b x y n before p byte above o is one two many goes_on no
     ))
     first second)
 
-goes_or : (a b : Tree) (before p byte q : ℕ) → GoesOn (Or a b) before p byte q ↔ (GoesOn a before p byte q ⊎ GoesOn b (before + slots_of a) p byte q)
-goes_or a b before p byte q = class_joined (Or a b) a b before byte q refl (λ h. (follows-slots a before p q h).1) (λ h. (follows-slots b (before + slots_of a) p q h).1) (
-  or_cases (follows a before p q) (follows b (before + slots_of a) p q),
-  λ h. elim h [
-    | inl first ↦ or_left (follows a before p q) (follows b (before + slots_of a) p q) first
-    | inr second ↦ or_right (follows a before p q) (follows b (before + slots_of a) p q) second
-  ],
-)
-
-pub gone_or_first : (tree a b x : Tree) (before p byte above q : ℕ) → tree ≡ Or a b → x ≡ a → IsLeastAbove above (GoesOn x before p byte) (Some q) → IsLeastAbove above (GoesOn tree before p byte) (Some q)
-gone_or_first tree a b x before p byte above q is one h =
-    let first : IsLeastAbove above (GoesOn a before p byte) (Some q) = subst (λ z. IsLeastAbove above (GoesOn z before p byte) (Some q)) one h in
-    subst (λ z. IsLeastAbove above (GoesOn z before p byte) (Some q)) (sym is)
-    (least_first above (before + slots_of a) q (GoesOn (Or a b) before p byte) (GoesOn a before p byte) (GoesOn b (before + slots_of a) p byte)
-    (goes_or a b before p byte) (λ r k. (follows-slots a before p r k.0).1.1) (λ r k. (follows-slots b (before + slots_of a) p r k.0).1.0) first)
+pub goes_or : (a b : Tree) (before p byte q : ℕ) → GoesOn (Or a b) before p byte q ↔ (GoesOn a before p byte q ⊎ GoesOn b (before + slots_of a) p byte q)
+goes_or a b before p byte q = class_joined (Or a b) a b before byte q refl (λ h. (follows-slots a before p q h).1) (λ h. (follows-slots b (before + slots_of a) p q h).1) (follows_or a b before p q)
 
 pub gone_or_second : (tree a b x y : Tree) (n before p byte above : ℕ) (o : Option ℕ) → tree ≡ Or a b → x ≡ a → y ≡ b → n ≡ slots_of a → IsLeastAbove above (GoesOn x before p byte) None → IsLeastAbove above (GoesOn y (before + n) p byte) o → IsLeastAbove above (GoesOn tree before p byte) o
 gone_or_second tree a b x y n before p byte above o is one two many none h =
@@ -181,6 +141,17 @@ gone_or_second tree a b x y n before p byte above o is one two many none h =
     let second : IsLeastAbove above (GoesOn b (before + slots_of a) p byte) o = subst (λ k. IsLeastAbove above (GoesOn b (before + k) p byte) o) many named in
     subst (λ z. IsLeastAbove above (GoesOn z before p byte) o) (sym is)
     (least_second above o (GoesOn (Or a b) before p byte) (GoesOn a before p byte) (GoesOn b (before + slots_of a) p byte) (goes_or a b before p byte) first second)
+
+pub gone_or_alone : (tree a b x : Tree) (n before p byte above : ℕ) (o : Option ℕ) → tree ≡ Or a b → x ≡ a → n ≡ slots_of a → p ≤ before + n → IsLeastAbove above (GoesOn x before p byte) o → IsLeastAbove above (GoesOn tree before p byte) o
+gone_or_alone tree a b x n before p byte above o is one many low h =
+    let first : IsLeastAbove above (GoesOn a before p byte) o = subst (λ z. IsLeastAbove above (GoesOn z before p byte) o) one h in
+    subst (λ z. IsLeastAbove above (GoesOn z before p byte) o) (sym is)
+    (least_second above o (GoesOn (Or a b) before p byte) (GoesOn b (before + slots_of a) p byte) (GoesOn a before p byte)
+    (λ r. (
+      λ k. elim ((goes_or a b before p byte r).0 k) [ inl at ↦ inr at | inr at ↦ inl at ],
+      λ k. (goes_or a b before p byte r).1 (elim k [ inl at ↦ inr at | inr at ↦ inl at ]),
+    ))
+    (λ q more k. let slot = (follows-slots b (before + slots_of a) p q k.0).0 in omega arith) first)
 
 -- the test of a class is whether the byte is in it
 in_class_exact : (c : Class) (byte : ℕ) → (in_class c byte ≡ true) ↔ InClass c byte

@@ -4,7 +4,7 @@ use Rattle.std.specs.Prelude.{⊤}
 use Rattle.std.proofs.lemmas.Bool.{cases_Bool}
 use Rattle.std.proofs.lemmas.List.Sums.{sum_by-cons}
 use Rattle.sig_auto.proofs.ByteLemmas.{IsBytes-head, IsBytes-tail}
-use Rattle.sig_auto.proofs.RowLemmas.{IsBefore-cases, less_is, split_rows}
+use Rattle.sig_auto.proofs.RowLemmas.{less_is, split_rows}
 use Rattle.sig_auto.specs.declared.class.Class.{Class}
 use Rattle.sig_auto.specs.declared.class.Class.TheVariants.{Within}
 use Rattle.sig_auto.specs.Rows.{above, behind, below, between, inner_at, lower_at, only_these, rest, upper_at}
@@ -12,7 +12,7 @@ use Rattle.sig_auto.specs.Trees.{Tree, Slot, alternatives_tree, atom_tree, atoms
 use Rattle.sig_auto.specs.TreeSlots.{slots_of}
 use Rattle.sig_auto.specs.Trim.{HasTrack, IsTrim}
 use Rattle.sig_bits.specs.Bytes.{IsBytes}
-use Rattle.sig_expr.proofs.LawLemmas.{leaves_no_all}
+use Rattle.sig_expr.proofs.LawLemmas.{IsBefore-cases, leaves_no_all}
 use Rattle.sig_expr.specs.declared.item.Atom.{Atom}
 use Rattle.sig_expr.specs.declared.item.Atom.TheVariants as atom
 use Rattle.sig_expr.specs.declared.item.Item.{Item}
@@ -23,15 +23,15 @@ use Rattle.sig_expr.specs.Words.{IsAtMost, IsBefore}
 use Rattle.sig_table.specs.declared.position.Position.{Position}
 use Rattle.sig_table.specs.declared.position.Position.TheVariants as position
 use Rattle.sig_table.specs.Views.{SequenceView}
-use Rattle.sig_table.specs.Slots.{above_rows, atom_slots, below_rows, between_rows, bracket_slots, inner_row, item_slots, place_slots, slot_count}
+use Rattle.sig_table.specs.Slots.{above_rows, atom_slots, below_rows, between_rows, bracket_slots, inner_row, item_slots, position_slots, slot_count}
 use Rattle.sig_table.specs.Tables.{InOrder, IsSequence}
 
 -- each row has so many classes
-abbrev Long : ℕ → List (List Class) → Type 0
+abbrev pub Long : ℕ → List (List Class) → Type 0
 Long n [] = ⊤
 Long n (r ∷ rs) = (length r ≡ n) × Long n rs
 
-Long-append : (n : ℕ) (rs ss : List (List Class)) → Long n rs → Long n ss → Long n (rs ++ ss)
+pub Long-append : (n : ℕ) (rs ss : List (List Class)) → Long n rs → Long n ss → Long n (rs ++ ss)
 Long-append n [] ss h k = k
 Long-append n (r ∷ rs) ss h k = (h.0, Long-append n rs ss h.1 k)
 
@@ -74,13 +74,13 @@ slots_rows n (r ∷ rs) h =
     omega arith
 
 -- the rows of the words before an end, after an end, and between two
-long_below : (xs : List ℕ) → Long (length xs) (below xs)
+pub long_below : (xs : List ℕ) → Long (length xs) (below xs)
 long_below [] = tt
 long_below (x ∷ xs) =
     let len = length_rest xs in
     Long-append (length (x ∷ xs)) (lower_at x xs) (behind x (below xs)) (Long-if (nat_lt 0 x) _ _ (omega arith)) (Long-behind x (length xs) _ (below xs) (omega arith) (long_below xs))
 
-long_above : (xs : List ℕ) → Long (length xs) (above xs)
+pub long_above : (xs : List ℕ) → Long (length xs) (above xs)
 long_above [] = tt
 long_above (x ∷ xs) =
     let len = length_rest xs in
@@ -139,7 +139,7 @@ length_by : (t : Bool) (rs ss : List (List Class)) (m n : ℕ) → length rs ≡
 length_by true rs ss m n h k = h
 length_by false rs ss m n h k = k
 
-long_between : (xs ys : List ℕ) → length xs ≡ length ys → Long (length xs) (between xs ys)
+pub long_between : (xs ys : List ℕ) → length xs ≡ length ys → Long (length xs) (between xs ys)
 long_between [] ys h = tt
 long_between (x ∷ xs) [] h = tt
 long_between (x ∷ xs) (y ∷ ys) h =
@@ -248,7 +248,7 @@ some_outside a b bytes true false low high h =
     omega arith
 some_outside a b bytes true true low high h = absurd (cc)
 
-some_between : (xs ys : List ℕ) → length xs ≡ length ys → IsBefore xs ys → 0 < length (between xs ys)
+pub some_between : (xs ys : List ℕ) → length xs ≡ length ys → IsBefore xs ys → 0 < length (between xs ys)
 some_between [] [] same order = absurd (cc)
 some_between [] (y ∷ ys) same order = absurd (omega arith)
 some_between (x ∷ xs) [] same order = absurd (cc)
@@ -357,7 +357,7 @@ back_sound (position.Bof min max) h = record { slots = refl; trim = tt; track = 
 back_sound (position.Eof min max) h = record { slots = refl; trim = h.0; track = h.0 }
 back_sound position.Variable h = record { slots = refl; trim = tt; track = tt }
 
-place_count : (p : Position) → slots_of (front_tree p) + slots_of (back_tree p) ≡ place_slots p
+place_count : (p : Position) → slots_of (front_tree p) + slots_of (back_tree p) ≡ position_slots p
 place_count (position.Bof min max) = refl
 place_count (position.Eof min max) = omega arith
 place_count position.Variable = refl

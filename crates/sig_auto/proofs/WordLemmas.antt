@@ -1,15 +1,17 @@
 -- The words of a sequence's tree are the files in which the sequence stands.
 use Rattle.std.proofs.Common.{◌≡◌, ◌≢◌, ◌⊎◌, ◌↔◌, ℕ, ◌<◌, ◌≤◌, Bool, true, false, nat_eq, cond, List, [], ◌∷◌, ◌++◌, length, refl, sym, ap, subst, ◌∙◌, inl, inr, arith, append_assoc, Contains, rules}
 use Rattle.std.specs.Prelude.{slice_index}
+use Rattle.std.proofs.lemmas.Bool.{cases_order}
 use Rattle.std.proofs.lemmas.List.Elements.{Contains-append_cases, Contains-append_left, Contains-append_right, Contains-push, Contains-push_cases}
 use Rattle.sig_auto.proofs.ByteLemmas.{IsBytes-nil, IsBytes-cons, IsBytes-head, IsBytes-left, IsBytes-right}
-use Rattle.sig_auto.proofs.RowLemmas.{above_is, below_is, between_is, IsBefore-cases, IsBefore-either, IsBefore-lower, IsUpTo-before, IsUpTo-cases, IsUpTo-same, not_before_itself, rows_append, three}
+use Rattle.sig_auto.proofs.RowLemmas.{above_is, below_is, between_is, rows_append}
 use Rattle.sig_auto.specs.declared.class.Class.{Class}
 use Rattle.sig_auto.specs.declared.class.Class.TheVariants.{Outside, Within}
 use Rattle.sig_auto.specs.Rows.{above, below, between}
 use Rattle.sig_auto.specs.Trees.{Tree, Slot, Then, alternatives_tree, atom_tree, atoms_tree, back_tree, bracket_tree, front_tree, item_tree, items_tree, rows_tree, whole_tree}
 use Rattle.sig_auto.specs.Unfolded.{TreeWord}
 use Rattle.sig_bits.specs.Bytes.{IsBytes}
+use Rattle.sig_expr.proofs.LawLemmas.{IsBefore-cases, IsBefore-either, IsBefore-lower, IsUpTo-before, IsUpTo-first, IsUpTo-same, not_before_itself}
 use Rattle.sig_expr.specs.declared.item.Atom.{Atom}
 use Rattle.sig_expr.specs.declared.item.Atom.TheVariants as atom
 use Rattle.sig_expr.specs.declared.item.Item.{Item}
@@ -27,19 +29,13 @@ one_before : (x y : ℕ) → IsBefore (x ∷ []) (y ∷ []) → x < y
 one_before x y h = elim (IsBefore-cases x y [] [] h) [ inl lower ↦ lower | inr same ↦ absurd (cc (same.1)) ]
 
 one_up_to : (x y : ℕ) → x ≤ y → IsUpTo (x ∷ []) (y ∷ [])
-one_up_to x y h = elim (three x y) [
-  | inl lower ↦ IsUpTo-before (x ∷ []) (y ∷ []) (IsBefore-lower x y [] [] lower)
-  | inr more ↦ elim more [
-    | inl same ↦ IsUpTo-same (x ∷ []) (y ∷ []) (ap (λ b. b ∷ []) same)
-    | inr upper ↦ absurd (omega arith)
-  ]
+one_up_to x y h = elim (cases_order x y) [
+  | inl same ↦ IsUpTo-same (x ∷ []) (y ∷ []) (ap (λ b. b ∷ []) same)
+  | inr differ ↦ elim differ [ inl lower ↦ IsUpTo-before (x ∷ []) (y ∷ []) (IsBefore-lower x y [] [] lower) | inr upper ↦ absurd (omega arith) ]
 ]
 
 of_one_up_to : (x y : ℕ) → IsUpTo (x ∷ []) (y ∷ []) → x ≤ y
-of_one_up_to x y h = elim (IsUpTo-cases (x ∷ []) (y ∷ []) h) [
-  | inl before ↦ let lower = one_before x y before in omega arith
-  | inr same ↦ let equal : x ≡ y = cc in omega arith
-]
+of_one_up_to x y h = IsUpTo-first x y [] [] h
 
 one_byte : (b : ℕ) → b < 256 → IsBytesOf 1 (b ∷ [])
 one_byte b h = (refl, IsBytes-cons b [] h IsBytes-nil)
@@ -78,10 +74,7 @@ one_not x w = (
         b.1,
         (
           b.2,
-          elim (three b.0 x) [
-            | inl lower ↦ inl lower
-            | inr more ↦ elim more [ inl same ↦ absurd (h.1 (b.1 ∙ ap (λ c. c ∷ []) same)) | inr upper ↦ inr upper ]
-          ],
+          elim (cases_order b.0 x) [ inl same ↦ absurd (h.1 (b.1 ∙ ap (λ c. c ∷ []) same)) | inr differ ↦ differ ],
         ),
       )
       ),

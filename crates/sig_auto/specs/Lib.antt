@@ -7,7 +7,9 @@ pub mod Tracks
 pub mod Runs
 pub mod Remaining
 -- These are words of the proofs.
+pub mod Begins
 pub mod Counted
+pub mod Cuts
 pub mod Local
 pub mod Same
 pub mod Seen

@@ -1,7 +1,7 @@
 -- Runs of the position automaton over a file.
-use Rattle.std.specs.Prelude.{◌≡◌, ◌↔◌, ℕ, List, [], ◌∷◌, ◌++◌, ⊤}
+use Rattle.std.specs.Prelude.{◌≡◌, ◌↔◌, ◌<◌, ◌≤◌, ℕ, List, [], ◌∷◌, ◌++◌, ⊤}
 use Rattle.sig_auto.specs.Trees.{Tree}
-use Rattle.sig_auto.specs.TreeSlots.{Takes}
+use Rattle.sig_auto.specs.TreeSlots.{Takes, slots_of}
 use Rattle.sig_auto.specs.Tracks.{Accepting, Follows}
 use Rattle.sig_bits.specs.BitSets.{HasBit}
 
@@ -32,3 +32,19 @@ pub record EndsIn (tree : Tree) (file : List ℕ) (q : ℕ) : Type 0 where
 -- the set has the states in which the runs of the file end, and no others
 abbrev pub IsSetOf : Tree → List ℕ → List ℕ → Type 0
 IsSetOf tree set file = (q : ℕ) → HasBit set q ↔ EndsIn tree file q
+
+-- q follows p and takes the byte
+abbrev pub FollowsOn : Tree → ℕ → ℕ → ℕ → Type 0
+FollowsOn tree p byte q = Follows tree p q × Takes tree q byte
+
+-- q follows a state of the set and takes the byte
+abbrev pub IsStepOf : Tree → List ℕ → ℕ → ℕ → Type 0
+IsStepOf tree set byte q = (p : ℕ) × HasBit set p × Follows tree p q × Takes tree q byte
+
+-- some state of the set is accepting
+abbrev pub HasAccepting : Tree → List ℕ → Type 0
+HasAccepting tree set = (p : ℕ) × HasBit set p × Accepting tree p
+
+-- each slot takes both bytes or neither
+abbrev pub TakesAlike : Tree → ℕ → ℕ → Type 0
+TakesAlike tree a b = (q : ℕ) → 0 < q → q ≤ slots_of tree → (Takes tree q a ↔ Takes tree q b)

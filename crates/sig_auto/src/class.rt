@@ -1,7 +1,8 @@
 //! The bytes that a slot takes.
 
-ghost use Rattle.std.specs.Prelude.{◌↔◌, ℕ, ◌<◌, IsTrue};
-ghost use Rattle.sig_auto.specs.Classes.{InClass};
+ghost use Rattle.std.specs.Prelude.{◌↔◌, ◌≢◌, ℕ, ◌+◌, ◌<◌, IsTrue};
+ghost use Rattle.sig_auto.specs.Classes.{InClass, IsSpelled};
+ghost use Rattle.sig_auto.specs.Sides.{SameSide};
 ghost use Rattle.sig_bits.specs.ByteClasses.{Holds};
 
 use sig_bits::ByteClass;
@@ -32,8 +33,40 @@ impl Class {
         ensures { (b : ℕ) → b < 256 → (Holds result b ↔ InClass self b) }
     {
         match self {
+            Class::Within(0, 255) => ByteClass::all(),
             Class::Within(first, last) => ByteClass::range(first, last),
             Class::Outside(first, last) => ByteClass::range(first, last).without(),
+        }
+    }
+
+    /// Adds its first byte and the byte behind its last: at any other, it has both that byte and the
+    /// one below, or neither.
+    pub fn add_cuts(self, cuts: &mut ByteClass)
+        ensures { (b : ℕ) → b + 1 < 256 → ¬ Holds cuts.new (b + 1) → (¬ Holds cuts.old (b + 1)) × SameSide self b (b + 1) }
+    {
+        let (first, last) = self.ends();
+        cuts.insert(first);
+        if last < 255 {
+            cuts.insert(last + 1);
+        }
+    }
+
+    /// Adds the one byte that it has, or lacks.
+    pub fn add_alone(self, alone: &mut ByteClass)
+        ensures { (a b : ℕ) → a < 256 → b < 256 → a ≢ b → SameSide self a b → Holds alone.new b → Holds alone.old b }
+    {
+        let (first, last) = self.ends();
+        if first == last {
+            alone.insert(first);
+        }
+    }
+
+    // The two bytes that it is spelled with.
+    fn ends(self) -> (u8, u8)
+        ensures { IsSpelled self result.0 result.1 }
+    {
+        match self {
+            Class::Within(first, last) | Class::Outside(first, last) => (first, last),
         }
     }
 }

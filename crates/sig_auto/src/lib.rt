@@ -4,10 +4,12 @@
 #![tactic(auto)]
 
 mod auto;
+mod behind;
 mod class;
 mod class_word;
 mod laws;
 mod node;
+mod start;
 mod step;
 mod successors;
 #[cfg(test)]
@@ -20,4 +22,5 @@ pub use laws::{
     accepts_by_an_end, runs_accept_what_stands, runs_begin, runs_go_on, slots_are_counted,
     states_are_slots,
 };
+pub use start::{accepts_empty, first_bytes};
 pub use successors::Successors;

@@ -139,9 +139,6 @@ impl Node {
         requires few { before + slots_of (seen self.now) ≤ 65535 }
         ensures { result ≡ is_last (seen self.now) before p }
     {
-        if !self.has_slot(before, p) {
-            return false;
-        }
         match self {
             Node::Never | Node::Empty => false,
             Node::Slot(_) => p == before + 1,
@@ -149,9 +146,21 @@ impl Node {
                 before < p && before as u64 + *min as u64 <= p as u64 && p <= before + self.slots()
             }
             Node::Then(a, b, _) => {
-                (a.is_last(before, p) && b.is_nullable()) || b.is_last(before + a.slots(), p)
+                let between = before + a.slots();
+                if p <= between {
+                    a.is_last(before, p) && b.is_nullable()
+                } else {
+                    b.is_last(between, p)
+                }
             }
-            Node::Or(a, b, _) => a.is_last(before, p) || b.is_last(before + a.slots(), p),
+            Node::Or(a, b, _) => {
+                let between = before + a.slots();
+                if p <= between {
+                    a.is_last(before, p)
+                } else {
+                    b.is_last(between, p)
+                }
+            }
         }
     }
 

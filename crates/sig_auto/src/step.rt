@@ -6,10 +6,10 @@
 
 ghost use Rattle.std.specs.Prelude.{◌≡◌, ◌+◌, ◌*◌, ◌<◌, ◌≤◌, ◌↔◌, ◌⊎◌, ℕ, IsTrue, length};
 ghost use Rattle.sig_auto.specs.Counted.{IsCounted};
+ghost use Rattle.sig_auto.specs.Runs.{HasAccepting, IsStepOf};
 ghost use Rattle.sig_auto.specs.Seen.{seen};
 ghost use Rattle.sig_auto.specs.Stepping.{IsNextInGap, IsStepped, Leads, LeadsInGap};
-ghost use Rattle.sig_auto.specs.Tracks.{Accepting, Follows};
-ghost use Rattle.sig_auto.specs.TreeSlots.{Takes, set_len, slots_of};
+ghost use Rattle.sig_auto.specs.TreeSlots.{set_len, slots_of};
 ghost use Rattle.sig_auto.specs.Trim.{IsTrim};
 ghost use Rattle.sig_bits.specs.BitSets.{HasBit};
 
@@ -24,7 +24,7 @@ impl Node {
         requires few { slots_of (seen self.now) ≤ 65535 }
         requires from_len { length from.now ≡ set_len (seen self.now) }
         requires to_len { length to.old ≡ set_len (seen self.now) }
-        ensures { (q : ℕ) → HasBit to.new q ↔ ((p : ℕ) × HasBit from.now p × Follows (seen self.now) p q × Takes (seen self.now) q byte) }
+        ensures { (q : ℕ) → HasBit to.new q ↔ IsStepOf (seen self.now) from.now byte q }
     {
         clear(to);
         self.step(0, get_bit(from, 0), byte, from, to);
@@ -36,7 +36,7 @@ impl Node {
         requires trim { IsTrim (seen self.now) }
         requires few { slots_of (seen self.now) ≤ 65535 }
         requires set_len { length set.now ≡ set_len (seen self.now) }
-        ensures { IsTrue result ↔ ((p : ℕ) × HasBit set.now p × Accepting (seen self.now) p) }
+        ensures { IsTrue result ↔ HasAccepting (seen self.now) set.now }
     {
         self.goes_on(0, get_bit(set, 0), set)
     }

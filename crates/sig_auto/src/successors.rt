@@ -6,10 +6,10 @@
 
 ghost use Rattle.std.specs.Prelude.{◌≡◌, ◌↔◌, ℕ, ◌+◌, ◌≤◌, [], ◌∷◌, Contains, IfSome, MatchOption};
 ghost use Rattle.sig_auto.specs.Counted.{IsCounted, IsCounted-prop};
+ghost use Rattle.sig_auto.specs.Runs.{FollowsOn};
 ghost use Rattle.sig_auto.specs.Seen.{seen};
 ghost use Rattle.sig_auto.specs.Successions.{BeginsOn, GoesOn, IsLeastAbove, successors_above};
-ghost use Rattle.sig_auto.specs.Tracks.{Follows};
-ghost use Rattle.sig_auto.specs.TreeSlots.{Takes, slots_of};
+ghost use Rattle.sig_auto.specs.TreeSlots.{slots_of};
 ghost use Rattle.sig_auto.specs.Trim.{IsTrim};
 
 use crate::node::Node;
@@ -34,7 +34,7 @@ impl<'a> Successors<'a> {
         requires counted { IsCounted root.now }
         requires trim { IsTrim (seen root.now) }
         requires few { slots_of (seen root.now) ≤ 65535 }
-        ensures members { (q : ℕ) → Contains (remaining_of result) q ↔ (Follows (seen root.now) state q × Takes (seen root.now) q byte) }
+        ensures members { (q : ℕ) → Contains (remaining_of result) q ↔ FollowsOn (seen root.now) state byte q }
         ensures rising { IsStrictlyIncreasing (remaining_of result) }
     {
         Successors {
@@ -103,9 +103,6 @@ impl Node {
         ensures least { IsLeastAbove above (BeginsOn (seen self.now) before byte) result }
         ensures within { IfSome result (λ q. q ≤ before + slots_of (seen self.now)) }
     {
-        if before + self.slots() <= above {
-            return None;
-        }
         match self {
             Node::Never | Node::Empty => None,
             Node::Slot(class) => {
@@ -122,20 +119,28 @@ impl Node {
                     None
                 }
             }
-            Node::Then(a, b, _) => match a.next_begin(before, byte, above) {
-                Some(q) => Some(q),
-                None => {
-                    if a.is_nullable() {
-                        b.next_begin(before + a.slots(), byte, above)
-                    } else {
-                        None
+            Node::Then(a, b, _) => {
+                let between = before + a.slots();
+                if above < between {
+                    if let Some(q) = a.next_begin(before, byte, above) {
+                        return Some(q);
                     }
                 }
-            },
-            Node::Or(a, b, _) => match a.next_begin(before, byte, above) {
-                Some(q) => Some(q),
-                None => b.next_begin(before + a.slots(), byte, above),
-            },
+                if a.is_nullable() {
+                    b.next_begin(between, byte, above)
+                } else {
+                    None
+                }
+            }
+            Node::Or(a, b, _) => {
+                let between = before + a.slots();
+                if above < between {
+                    if let Some(q) = a.next_begin(before, byte, above) {
+                        return Some(q);
+                    }
+                }
+                b.next_begin(between, byte, above)
+            }
         }
     }
 
@@ -146,9 +151,6 @@ impl Node {
         ensures least { IsLeastAbove above (GoesOn (seen self.now) before p byte) result }
         ensures within { IfSome result (λ q. q ≤ before + slots_of (seen self.now)) }
     {
-        if before + self.slots() <= above || !self.has_slot(before, p) {
-            return None;
-        }
         match self {
             Node::Never | Node::Empty | Node::Slot(_) => None,
             Node::Gap { max, .. } => {
@@ -161,21 +163,30 @@ impl Node {
                     None
                 }
             }
-            Node::Then(a, b, _) => match a.next_gone(before, p, byte, above) {
-                Some(q) => Some(q),
-                None => {
-                    let between = before + a.slots();
-                    if a.is_last(before, p) {
-                        b.next_begin(between, byte, above)
-                    } else {
-                        b.next_gone(between, p, byte, above)
+            Node::Then(a, b, _) => {
+                let between = before + a.slots();
+                if between < p {
+                    return b.next_gone(between, p, byte, above);
+                }
+                if above < between {
+                    if let Some(q) = a.next_gone(before, p, byte, above) {
+                        return Some(q);
                     }
                 }
-            },
-            Node::Or(a, b, _) => match a.next_gone(before, p, byte, above) {
-                Some(q) => Some(q),
-                None => b.next_gone(before + a.slots(), p, byte, above),
-            },
+                if a.is_last(before, p) {
+                    b.next_begin(between, byte, above)
+                } else {
+                    None
+                }
+            }
+            Node::Or(a, b, _) => {
+                let between = before + a.slots();
+                if between < p {
+                    b.next_gone(between, p, byte, above)
+                } else {
+                    a.next_gone(before, p, byte, above)
+                }
+            }
         }
     }
 }

@@ -1,5 +1,5 @@
 use super::*;
-use sig_bits::FromRead;
+use sig_bits::{ByteClass, FromRead};
 use sig_table::{SigId, Table};
 use std::alloc::Global;
 use std::test::Fail;
@@ -288,6 +288,36 @@ fn bytes_on_the_same_sides(rt: HostRuntime) -> Result<(), Fail> {
     Ok(())
 }
 
+// The class of these bytes.
+fn class_of(bytes: &[u8]) -> ByteClass {
+    let mut class = ByteClass::none();
+    for byte in bytes {
+        class.insert(*byte);
+    }
+    class
+}
+
+#[test]
+fn bytes_that_lead_on(rt: HostRuntime) -> Result<(), Fail> {
+    let auto = automaton(rt.alloc(), "BOF,0,,(41|[42:44])??46").expect(&rt, "loads");
+    let mut cuts = ByteClass::none();
+    assert_eq!(rt; auto.live_bytes(0, &mut cuts), ByteClass::range(0x41, 0x44));
+    assert_eq!(rt; cuts, class_of(&[0x41, 0x42, 0x45]));
+    let mut cuts = ByteClass::none();
+    assert_eq!(rt; auto.live_bytes(1, &mut cuts), ByteClass::all());
+    assert_eq!(rt; auto.live_bytes(3, &mut cuts), ByteClass::of_byte(0x46));
+    assert!(rt; cuts.contains(0x46) && cuts.contains(0x47) && !cuts.contains(0x41));
+    assert_eq!(rt; auto.live_bytes(4, &mut cuts), ByteClass::all());
+    let mut cuts = ByteClass::none();
+    auto.add_cuts(&mut cuts);
+    cuts.insert(0);
+    assert_eq!(rt; cuts, class_of(&[0, 0x41, 0x42, 0x45, 0x46, 0x47]));
+    let mut alone = ByteClass::none();
+    auto.add_alone(&mut alone);
+    assert_eq!(rt; alone, class_of(&[0x41, 0x46]));
+    Ok(())
+}
+
 #[test]
 fn a_copy_of_the_successors_has_the_same_to_come(rt: HostRuntime) -> Result<(), Fail> {
     let auto = automaton(rt.alloc(), "BOF,0,,41{1-2}42").expect(&rt, "loads");
@@ -326,6 +356,22 @@ fn a_long_expression(rt: HostRuntime) -> Result<(), Fail> {
 }
 
 #[test]
+fn the_successors_before_a_row_of_gaps_are_all_of_them(rt: HostRuntime) -> Result<(), Fail> {
+    let text = repeated(rt.alloc(), "BOF,0,,41", "*", 100).expect(&rt, "fits");
+    let auto = automaton(rt.alloc(), text.as_str()).expect(&rt, "loads");
+    assert_eq!(rt; auto.slots(), 102);
+    for (p, first) in [(1u32, 2u32), (2, 2), (50, 50), (102, 102)] {
+        let mut wanted = first;
+        for q in auto.successors(p, 0x41) {
+            assert_eq!(rt; q, wanted, "behind {p}");
+            wanted = wanted.wrapping_add(1);
+        }
+        assert_eq!(rt; wanted, 103, "behind {p}");
+    }
+    Ok(())
+}
+
+#[test]
 fn a_gap_of_many_slots_steps_as_one(rt: HostRuntime) -> Result<(), Fail> {
     let auto = automaton(rt.alloc(), "BOF,0,,41{0-60000}42").expect(&rt, "loads");
     assert_eq!(rt; auto.slots(), 60003);
@@ -335,4 +381,46 @@ fn a_gap_of_many_slots_steps_as_one(rt: HostRuntime) -> Result<(), Fail> {
     assert!(rt; has_successors(&auto, 60001, 0x42, &[60002]));
     assert!(rt; has_successors(&auto, 60001, 0x41, &[]));
     Ok(())
+}
+
+// The bytes with which the one sequence with this place and this expression begins, and whether it
+// stands in the empty file.
+fn begin_of(alloc: Global, placed: &str) -> Option<(ByteClass, bool)> {
+    let mut signatures = HEADER.to_vec(alloc).ok()?;
+    signatures.extend_from_slice(placed.as_bytes()).ok()?;
+    let table = Table::load(
+        alloc,
+        &mut FromRead::new(signatures.as_slice()),
+        &mut FromRead::new(b"higher,lower\n".as_slice()),
+    );
+    let table = table.ok()?;
+    if table.signature_count() == 0 {
+        return None;
+    }
+    let sequence = table.sequences_of(SigId(0)).first()?;
+    Some((first_bytes(sequence), accepts_empty(sequence)))
+}
+
+#[test]
+fn the_first_bytes_of_sequences(rt: HostRuntime) {
+    let rows: [(&str, u8, u8, bool); 9] = [
+        ("BOF,0,,4142", 0x41, 0x41, false),
+        ("BOF,0,1,4142", 0, 255, false),
+        ("BOF,0,,{0-3}41", 0, 255, false),
+        ("BOF,0,,(41|4243|42)", 0x41, 0x42, false),
+        ("BOF,0,,[4142:4300]", 0x41, 0x43, false),
+        ("EOF,0,,41", 0, 255, false),
+        ("Variable,,,41", 0, 255, false),
+        ("Variable,,,*", 0, 255, true),
+        ("BOF,1,2,*", 0, 255, false),
+    ];
+    for (placed, first, last, is_empty) in rows {
+        let begin = begin_of(rt.alloc(), placed).expect(&rt, "loads");
+        assert_eq!(rt; begin.0, ByteClass::range(first, last), "{placed}");
+        assert_eq!(rt; begin.1, is_empty, "{placed}");
+    }
+    let outside = begin_of(rt.alloc(), "BOF,0,,[!4100:42FF]").expect(&rt, "loads");
+    assert_eq!(rt; outside.0, ByteClass::range(0x41, 0x42).without());
+    let outside = begin_of(rt.alloc(), "BOF,0,,[!4101:42FE]").expect(&rt, "loads");
+    assert_eq!(rt; outside.0, ByteClass::all());
 }

@@ -3,7 +3,7 @@ use Rattle.std.proofs.Common.{◌≡◌, ◌≢◌, ◌↔◌, ◌⊎◌, inl, i
 use Rattle.std.specs.Int.{bit_at, bit_not, trailing_zeros}
 use Rattle.std.proofs.lemmas.List.{get_or_past, get_or-replicate, length-replicate}
 use Rattle.std.proofs.lemmas.Nat.{and_le_l}
-use Rattle.std.proofs.lemmas.Nat.Bits.{bit_at_and, bit_at_or, bit_at_not, bit_at-zero, bit_at-lt, bit_at-trailing_zeros, bit_at_set_same, bit_at_set_other}
+use Rattle.std.proofs.lemmas.Nat.Bits.{bit_at_and, bit_at_or, bit_at_not, bit_at-zero, bit_at-lt, bit_at-trailing_zeros, bit_at_ones, bit_at_set_same, bit_at_set_other}
 use Rattle.std.proofs.lemmas.Bool.{cases_eq, cases_lt}
 use Rattle.sig_bits.specs.BitSets.{HasBit}
 
@@ -40,6 +40,14 @@ bit_at_or-iff x y j =
     let second : bit_at y j < 2 = bit_at-lt y j in
     (λ h. ⊎_elim (λ e. inl e) (λ e. inr (omega arith)) (cases_eq (bit_at x j) 1), λ h. ⊎_elim (λ e. omega arith) (λ e. omega arith) h)
 
+-- a bit of both is a bit of what they have in common
+pub bit_at_and-iff : (x y j : ℕ) → (bit_at (bit_and x y) j ≡ 1) ↔ ((bit_at x j ≡ 1) × (bit_at y j ≡ 1))
+bit_at_and-iff x y j =
+    let both : bit_at (bit_and x y) j ≡ min (bit_at x j) (bit_at y j) = bit_at_and x y j in
+    let first : bit_at x j < 2 = bit_at-lt x j in
+    let second : bit_at y j < 2 = bit_at-lt y j in
+    (λ h. (omega arith, omega arith), λ h. let one = h.0 in let two = h.1 in omega arith)
+
 -- a bit of the turned byte is one that the byte lacks
 pub bit_at_not-iff : (y j : ℕ) → y < 256 → j < 8 → (bit_at (bit_not w8 y) j ≡ 1) ↔ (bit_at y j ≡ 1 → ⊥)
 bit_at_not-iff y j small within =
@@ -69,11 +77,17 @@ HasBit-within bits i h =
     ⊎_elim (λ within. omega arith) (λ past. absurd (let e = rw (get_or_past bits (i / 8) 0 past) at h in omega (arith, bit_at-zero (i % 8)))) (cases_lt (i / 8) (length bits))
 
 -- zeros have no bit
-pub no_bit_in_zeros : (n i : ℕ) → HasBit (replicate n 0) i → ⊥
+pub zeros_have_no_bit : (n i : ℕ) → HasBit (replicate n 0) i → ⊥
 unfolding HasBit
-no_bit_in_zeros n i h =
+zeros_have_no_bit n i h =
     let one = rw (get_or-zeros n (i / 8) 0 refl) at h in
     omega (arith, bit_at-zero (i % 8))
+
+-- a list of bytes with all bits has every one
+pub every_bit_in_ones : (n i : ℕ) → i < 8 * n → HasBit (replicate n 255) i
+unfolding HasBit
+every_bit_in_ones n i within =
+    rw (get_or-replicate {A = ℕ} n (i / 8) 255 0 (omega arith)) (bit_at_ones 8 (i % 8) (omega arith))
 
 -- bytes that are joined one by one have the bits of either
 pub HasBit-joined : (joined old src : List ℕ) → length joined ≡ length src → length old ≡ length src → ((k : ℕ) → k < length src → get_or joined k 0 ≡ bit_or (get_or old k 0) (get_or src k 0)) → (i : ℕ) → HasBit joined i ↔ (HasBit old i ⊎ HasBit src i)
@@ -82,6 +96,14 @@ HasBit-joined joined old src len len' each i =
     let read : get_or joined (i / 8) 0 ≡ bit_or (get_or old (i / 8) 0) (get_or src (i / 8) 0) =
     ⊎_elim (each (i / 8)) (λ past. rw (get_or_past joined (i / 8) 0 (omega arith), get_or_past old (i / 8) 0 (omega arith), get_or_past src (i / 8) 0 past) refl) (cases_lt (i / 8) (length src)) in
     rw read (bit_at_or-iff (get_or old (i / 8) 0) (get_or src (i / 8) 0) (i % 8))
+
+-- bytes of which the common bits are kept one by one have the bits of both
+pub HasBit-common : (common old src : List ℕ) → length common ≡ length src → length old ≡ length src → ((k : ℕ) → k < length src → get_or common k 0 ≡ bit_and (get_or old k 0) (get_or src k 0)) → (i : ℕ) → HasBit common i ↔ (HasBit old i × HasBit src i)
+unfolding HasBit
+HasBit-common common old src len len' each i =
+    let read : get_or common (i / 8) 0 ≡ bit_and (get_or old (i / 8) 0) (get_or src (i / 8) 0) =
+    ⊎_elim (each (i / 8)) (λ past. rw (get_or_past common (i / 8) 0 (omega arith), get_or_past old (i / 8) 0 (omega arith)) refl) (cases_lt (i / 8) (length src)) in
+    rw read (bit_at_and-iff (get_or old (i / 8) 0) (get_or src (i / 8) 0) (i % 8))
 
 -- bytes that are turned one by one have the bits that the list lacks
 pub HasBit-turned : (turned old : List ℕ) → ((k : ℕ) → k < length turned → get_or turned k 0 ≡ bit_not w8 (get_or old k 0)) → ((k : ℕ) → get_or old k 0 < 256) → (i : ℕ) → i < 8 * length turned → HasBit turned i ↔ (HasBit old i → ⊥)
@@ -136,6 +158,13 @@ unfolding HasBit
 every_bit_at_one_byte a b i small none h =
     let turned = bit_at_not-iff (get_or b (i / 8) 0) (i % 8) small (omega arith) in
     ⊎_elim (λ has. has) (λ lacks. absurd (no_common_bit (get_or a (i / 8) 0) _ (i % 8) none h (turned.1 lacks))) (cases_eq (bit_at (get_or b (i / 8) 0) (i % 8)) 1)
+
+-- a byte of zeros has no bit
+pub no_bit_at_zero : (bits : List ℕ) (i : ℕ) → get_or bits (i / 8) 0 ≡ 0 → HasBit bits i → ⊥
+unfolding HasBit
+no_bit_at_zero bits i none h =
+    let e = rw none at h in
+    omega (arith, bit_at-zero (i % 8))
 
 -- a list whose bits are all in another
 pub every_bit : (a b : List ℕ) → ((k : ℕ) → get_or b k 0 < 256) → ((k : ℕ) → k < length a → bit_and (get_or a k 0) (bit_not w8 (get_or b k 0)) ≡ 0) → (i : ℕ) → HasBit a i → HasBit b i

@@ -1,8 +1,8 @@
 -- Numbers that are joined one after the other.
-use Rattle.std.proofs.Common.{◌≡◌, ⊎_elim, ℕ, ◌+◌, ◌≤◌, refl, arith, bit_or}
+use Rattle.std.proofs.Common.{◌≡◌, ◌≢◌, ◌↔◌, ⊎_elim, ℕ, ◌+◌, ◌≤◌, Bool, true, false, not, eqb, eqb-true, IsTrue, refl, arith, bit_or}
 use Rattle.std.specs.Int.Bits.{or_zero_l}
 use Rattle.std.proofs.lemmas.Nat.{le_or_l, le_or_r}
-use Rattle.std.proofs.lemmas.Bool.{cases_eq}
+use Rattle.std.proofs.lemmas.Bool.{cases_eq, cases_lt, eqb-false, false≢true}
 use Rattle.sig_bits.specs.Joined.{IsJoined}
 
 -- nothing is joined yet
@@ -21,3 +21,25 @@ joined_more f from to joined order h = record {
       (λ some. let found = h.some some in (found.0, (found.1.0, omega arith, found.1.2)))
       (cases_eq joined 0);
 }
+
+-- what comes after zeros alone
+pub joined_on : (f : ℕ → ℕ) (from between to joined : ℕ) → from ≤ between → between ≤ to → IsJoined f from between 0 → IsJoined f between to joined → IsJoined f from to joined
+joined_on f from between to joined low high zeros later = record {
+  none = λ none k more less. ⊎_elim (λ before. zeros.none refl k more before) (λ behind. later.none none k behind less) (cases_lt k between);
+  some = λ ne. let found = later.some ne in (found.0, (omega arith, found.1.1, found.1.2));
+}
+
+-- the test whether what came out is 0
+pub is_zero : (n : ℕ) (P : Type 0) → (n ≡ 0 → P) → (n ≢ 0 → P → ⊥) → IsTrue (eqb n 0) ↔ P
+is_zero n P zero some = by_test (eqb n 0) refl
+  where
+    by_test : (t : Bool) → eqb n 0 ≡ t → IsTrue t ↔ P
+    by_test true e = (λ _. zero (eqb-true n 0 e), λ _. refl)
+    by_test false e = (λ t. absurd (false≢true t), λ p. absurd (some (eqb-false n 0 e) p))
+
+pub is_not_zero : (n : ℕ) (P : Type 0) → (n ≡ 0 → P → ⊥) → (n ≢ 0 → P) → IsTrue (not (eqb n 0)) ↔ P
+is_not_zero n P zero some = by_test (eqb n 0) refl
+  where
+    by_test : (t : Bool) → eqb n 0 ≡ t → IsTrue (not t) ↔ P
+    by_test true e = (λ t. absurd (false≢true t), λ p. absurd (zero (eqb-true n 0 e) p))
+    by_test false e = (λ _. some (eqb-false n 0 e), λ _. refl)

@@ -3,4 +3,5 @@ pub mod BitLaws
 pub mod BitLemmas
 pub mod DeviceLemmas
 pub mod JoinLemmas
+pub mod LaneLemmas
 pub mod RangeLemmas

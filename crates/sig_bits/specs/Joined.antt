@@ -1,5 +1,5 @@
 -- Numbers joined by their bits, one after the other.
-use Rattle.std.specs.Prelude.{◌≡◌, ◌≢◌, ℕ, ◌<◌, ◌≤◌, List, slice_index, bit_and}
+use Rattle.std.specs.Prelude.{◌≡◌, ◌≢◌, ℕ, ◌<◌, ◌≤◌, List, length, slice_index, bit_and}
 use Rattle.std.specs.Int.{bit_not, w8}
 
 -- what came out is 0 exactly where all of the numbers f k are, from the first k up to the second
@@ -13,3 +13,8 @@ common_at a b k = bit_and (slice_index a k) (slice_index b k)
 
 abbrev pub missing_at : List ℕ → List ℕ → ℕ → ℕ
 missing_at a b k = bit_and (slice_index a k) (bit_not w8 (slice_index b k))
+
+-- a vector of 32 bytes, of which byte k is f k
+pub record HasLanes (lanes : List ℕ) (f : ℕ → ℕ) : Type 0 where
+  pub len : length lanes ≡ 32
+  pub each : (k : ℕ) → k < 32 → slice_index lanes k ≡ f k

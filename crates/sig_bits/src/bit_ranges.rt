@@ -6,7 +6,7 @@ ghost use Rattle.sig_bits.specs.BitSets.{HasBit, HasBitBetween, IsShiftedBit};
 ghost use Rattle.sig_bits.specs.Joined.{IsJoined};
 
 use crate::bit_sets::{get_bit, set_bit};
-use crate::pieces::end_of_piece;
+use crate::lanes::{LANES, load, nonzero};
 
 /// Adds the successor of each number of `src` from `from` up to `to`, which is left out, to `dst`.
 ///
@@ -89,17 +89,16 @@ fn any_byte(bits: &[u8], first: usize, last: usize) -> bool
     ensures { IsTrue result ↔ HasBitBetween bits.now (8 * first) (8 * last) }
 {
     let mut from = first;
-    while from < last {
-        let to = end_of_piece(from, last);
-        if joined(bits, from, to) != 0 {
+    while from + LANES <= last {
+        if nonzero(load(bits, from)) != 0 {
             return true;
         }
-        from = to;
+        from += LANES;
     }
-    false
+    joined(bits, from, last) != 0
 }
 
-// The bytes of a piece joined into one.
+// The bytes joined into one.
 fn joined(bits: &[u8], from: usize, to: usize) -> u8
     requires order { from ≤ to }
     requires within { to ≤ length bits.now }

@@ -3,11 +3,11 @@
 //!
 //! The set of 0 and 9 over two bytes is `01 02`.
 
-ghost use Rattle.std.specs.Prelude.{◌≡◌, ℕ, ◌*◌, ◌<◌, ◌≤◌, ◌⊎◌, ◌↔◌, IsTrue, length, replicate};
+ghost use Rattle.std.specs.Prelude.{◌≡◌, ℕ, ◌+◌, ◌*◌, ◌<◌, ◌≤◌, ◌⊎◌, ◌↔◌, IsTrue, length, replicate};
 ghost use Rattle.sig_bits.specs.BitSets.{HasBit};
 ghost use Rattle.sig_bits.specs.Joined.{IsJoined, common_at, missing_at};
 
-use crate::pieces::end_of_piece;
+use crate::lanes::{LANES, load, nonzero};
 
 /// Adds the numbers of the set `src` to the set `dst`.
 pub fn or_into(dst: &mut [u8], src: &[u8])
@@ -21,20 +21,19 @@ pub fn or_into(dst: &mut [u8], src: &[u8])
 
 /// Whether the two sets have a number in common.
 ///
-/// The bytes are looked at in pieces of 64, so an early common number ends the search.
+/// 32 bytes are looked at at once, so an early common number ends the search.
 pub fn and_any(a: &[u8], b: &[u8]) -> bool
     requires { length a.now ≡ length b.now }
     ensures { IsTrue result ↔ ((i : ℕ) × (HasBit a.now i × HasBit b.now i)) }
 {
     let mut from = 0;
-    while from < a.len() {
-        let to = end_of_piece(from, a.len());
-        if joined_common(a, b, from, to) != 0 {
+    while from + LANES <= a.len() {
+        if common_lanes(a, b, from) != 0 {
             return true;
         }
-        from = to;
+        from += LANES;
     }
-    false
+    joined_common(a, b, from, a.len()) != 0
 }
 
 /// Whether the set `b` has all numbers of the set `a`.
@@ -43,17 +42,36 @@ pub fn subset(a: &[u8], b: &[u8]) -> bool
     ensures { IsTrue result ↔ ((i : ℕ) → HasBit a.now i → HasBit b.now i) }
 {
     let mut from = 0;
-    while from < a.len() {
-        let to = end_of_piece(from, a.len());
-        if joined_missing(a, b, from, to) != 0 {
+    while from + LANES <= a.len() {
+        if missing_lanes(a, b, from) != 0 {
             return false;
         }
-        from = to;
+        from += LANES;
     }
-    true
+    joined_missing(a, b, from, a.len()) == 0
 }
 
-// What is in both, the bytes of a piece joined into one.
+// A bit for each of the next lanes that have something in common.
+#[inline(always)]
+fn common_lanes(a: &[u8], b: &[u8], from: usize) -> u64
+    requires first { from + 32 ≤ length a.now }
+    requires second { from + 32 ≤ length b.now }
+    ensures { IsJoined (common_at a.now b.now) from (from + 32) result }
+{
+    nonzero(load(a, from) & load(b, from))
+}
+
+// A bit for each of the next lanes where `a` has what `b` lacks.
+#[inline(always)]
+fn missing_lanes(a: &[u8], b: &[u8], from: usize) -> u64
+    requires first { from + 32 ≤ length a.now }
+    requires second { from + 32 ≤ length b.now }
+    ensures { IsJoined (missing_at a.now b.now) from (from + 32) result }
+{
+    nonzero(load(a, from) & !load(b, from))
+}
+
+// What is in both, byte by byte, joined into one byte.
 fn joined_common(a: &[u8], b: &[u8], from: usize, to: usize) -> u8
     requires order { from ≤ to }
     requires first { to ≤ length a.now }
@@ -67,7 +85,7 @@ fn joined_common(a: &[u8], b: &[u8], from: usize, to: usize) -> u8
     joined
 }
 
-// What is in `a` alone, the bytes of a piece joined into one.
+// What is in `a` alone, byte by byte, joined into one byte.
 fn joined_missing(a: &[u8], b: &[u8], from: usize, to: usize) -> u8
     requires order { from ≤ to }
     requires first { to ≤ length a.now }

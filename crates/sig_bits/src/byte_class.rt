@@ -1,9 +1,9 @@
 //! Sets of bytes, one bit for each of the 256.
 
-ghost use Rattle.std.specs.Prelude.{◌≡◌, ℕ, ◌<◌, ◌≤◌, ◌↔◌, IsTrue};
+ghost use Rattle.std.specs.Prelude.{◌≡◌, ◌⊎◌, ℕ, ◌<◌, ◌≤◌, ◌↔◌, IsTrue, MatchOption};
 ghost use Rattle.sig_bits.specs.ByteClasses.{Holds};
 
-use crate::bit_sets::{get_bit, set_bit, subset};
+use crate::bit_sets::{get_bit, or_into, set_bit, subset};
 
 /// A set of bytes, as a slot of an automaton takes them.
 #[derive(Clone, Copy, Debug, PartialEq, Eq)]
@@ -12,6 +12,20 @@ pub struct ByteClass {
 }
 
 impl ByteClass {
+    /// No byte.
+    pub fn none() -> ByteClass
+        ensures { (b : ℕ) → ¬ Holds result b }
+    {
+        ByteClass { bits: [0; 32] }
+    }
+
+    /// All bytes.
+    pub fn all() -> ByteClass
+        ensures { (b : ℕ) → b < 256 → Holds result b }
+    {
+        ByteClass { bits: [255; 32] }
+    }
+
     /// This byte alone.
     pub fn of_byte(byte: u8) -> ByteClass
         ensures { (b : ℕ) → Holds result b ↔ (b ≡ byte) }
@@ -41,6 +55,57 @@ impl ByteClass {
             *byte = !*byte;
         }
         ByteClass { bits }
+    }
+
+    /// Adds the byte.
+    pub fn insert(&mut self, byte: u8)
+        ensures { (b : ℕ) → Holds self.new b ↔ ((b ≡ byte) ⊎ Holds self.old b) }
+    {
+        set_bit(&mut self.bits, byte as usize);
+    }
+
+    /// Adds the bytes of the other.
+    pub fn extend(&mut self, other: &ByteClass)
+        ensures { (b : ℕ) → Holds self.new b ↔ (Holds self.old b ⊎ Holds other.now b) }
+    {
+        or_into(&mut self.bits, &other.bits);
+    }
+
+    /// The bytes that are in one of the two.
+    pub fn union(self, other: ByteClass) -> ByteClass
+        ensures { (b : ℕ) → Holds result b ↔ (Holds self b ⊎ Holds other b) }
+    {
+        let mut bits = self.bits;
+        or_into(&mut bits, &other.bits);
+        ByteClass { bits }
+    }
+
+    /// The bytes that are in both.
+    pub fn intersection(self, other: ByteClass) -> ByteClass
+        ensures { (b : ℕ) → Holds result b ↔ (Holds self b × Holds other b) }
+    {
+        let mut bits = self.bits;
+        for (i, byte) in other.bits.iter().enumerate() {
+            bits[i] &= *byte;
+        }
+        ByteClass { bits }
+    }
+
+    /// The lowest byte in it that is not below this one.
+    pub fn lowest_from(&self, from: usize) -> Option<u8>
+        ensures { MatchOption result ((b : ℕ) → from ≤ b → ¬ Holds self.now b) (λ b. (from ≤ b) × Holds self.now b × ((a : ℕ) → from ≤ a → a < b → ¬ Holds self.now a)) }
+    {
+        let mut b = from;
+        while b < 256 {
+            if b % 8 == 0 && self.bits[b / 8] == 0 {
+                b += 8;
+            } else if get_bit(&self.bits, b) {
+                return Some(b as u8);
+            } else {
+                b += 1;
+            }
+        }
+        None
     }
 
     /// Whether the byte is in it.

@@ -10,9 +10,9 @@ mod bit_sets;
 mod byte_class;
 mod fault;
 mod input;
+mod lanes;
 pub mod laws;
 mod output;
-mod pieces;
 #[cfg(test)]
 mod tests;
 mod whole;

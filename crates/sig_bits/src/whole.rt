@@ -8,12 +8,18 @@ use crate::input::Input;
 use std::alloc::Global;
 
 // How much room a read has at least.
+const LEAST_ROOM: usize = 1 << 12;
+
+// How much room is made at first, and how much later at most.
+const FIRST_PIECE: usize = 1 << 14;
+
 const PIECE: usize = 1 << 16;
 
-/// Reads all that is still to come, in pieces of at least 64 KiB.
+/// Reads all that is still to come, in pieces that grow from 16 to 64 KiB.
 ///
 /// Each piece is read to its place, so no byte is copied again by this crate. The buffer's room
-/// doubles as it grows; less than two pieces of it are cleared ahead of a read.
+/// doubles as it grows; less than two pieces of it are cleared ahead of a read. So a small file
+/// costs a few pages.
 pub fn read_whole<R: Input>(alloc: Global, input: &mut R) -> Result<Vec<u8>, ReadWholeError>
     ensures whole { IfOk result (λ bytes. IfSome (R.to_come input.old) (λ all. bytes.items ≡ all)) }
     ensures at_end { OnOk result (IsAtEnd (R.to_come input.new)) }
@@ -42,14 +48,15 @@ pub fn read_whole<R: Input>(alloc: Global, input: &mut R) -> Result<Vec<u8>, Rea
 // Makes room for a piece behind the filled front, which stays.
 fn make_room(bytes: &mut Vec<u8>, filled: usize) -> Result<(), ReadWholeError>
     requires { filled ≤ vec_len bytes.old }
-    ensures room { OnOk result (filled + 65536 ≤ vec_len bytes.new) }
+    ensures room { OnOk result (filled + 4096 ≤ vec_len bytes.new) }
     ensures front { OnOk result (take filled bytes.new.items ≡ take filled bytes.old.items) }
     ensures memory { IfErr result (λ e. e ≡ ReadWholeError.OutOfMemory) }
 {
-    if bytes.len() - filled >= PIECE {
+    if bytes.len() - filled >= LEAST_ROOM {
         return Ok(());
     }
-    let Some(len) = bytes.len().checked_add(PIECE) else {
+    let piece = bytes.len().clamp(FIRST_PIECE, PIECE);
+    let Some(len) = bytes.len().checked_add(piece) else {
         return Err(ReadWholeError::OutOfMemory);
     };
     bytes

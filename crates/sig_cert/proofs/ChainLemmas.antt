@@ -1,5 +1,5 @@
 -- Steps that are judged one after another: the tables of a pair, and the pairs.
-use Rattle.std.proofs.Common.{◌≡◌, ◌⊎◌, ℕ, zero, suc, ◌+◌, ◌-◌, ◌*◌, ◌/◌, ◌<◌, ◌≤◌, ◌==◌, Bool, true, false, if◌then◌else◌, List, [], ◌∷◌, ◌++◌, length, map, refl, sym, ap, ◌∙◌, subst, arith, inl, inr, length-append, Ok, Err}
+use Rattle.std.proofs.Common.{◌≡◌, ◌⊎◌, ℕ, suc, ◌+◌, ◌-◌, ◌*◌, ◌<◌, ◌≤◌, ◌==◌, Bool, true, false, if◌then◌else◌, List, [], ◌∷◌, ◌++◌, length, map, refl, sym, ap, ◌∙◌, subst, arith, inl, inr, length-append, Ok, Err}
 use Rattle.std.specs.Prelude.{All, flat_map}
 use Rattle.std.specs.List.{range_with_len}
 use Rattle.std.proofs.Math.Nat.{suc-mul, mul-le-mul}
@@ -117,3 +117,12 @@ pub pairs_stop : (version : Version) (table : TableView) (n : ℕ) (first : ℕ 
 pairs_stop version table n first all later left bytes fault Whole is (inl memory) chain = inl memory
 pairs_stop version table n first all later left bytes fault Whole is (inr judged) chain =
     inr (chain (Err fault) (subst (λ xs. PairsJudged version table n xs left (Err fault)) (sym is) (inl (fault, judged, refl))))
+
+-- a list with a first element has some
+pub some_ahead : (all later : List SigId) (first : SigId) → all ≡ first ∷ later → 0 < length all
+some_ahead all later first is = let long : length all ≡ length (first ∷ later) = ap length is in omega arith
+
+-- and so have the numbers of its elements
+pub some_numbers : (all : List SigId) → 0 < length all → 0 < length (map (λ s. s.0) all)
+some_numbers [] some = some
+some_numbers (first ∷ later) some = omega arith

@@ -1,35 +1,38 @@
 -- The lemmas of this crate.
 mod AcceptedLemmas
+mod AloneLemmas
 mod BadLemmas
 mod BlockerLemmas
-mod ChainLemmas
+pub mod ChainLemmas
 mod ClosedJudgedLemmas
-mod ClosedLemmas
+pub mod ClosedLemmas
 mod CountLemmas
-mod CoverLemmas
-mod DecidedLemmas
+pub mod CoverLemmas
+pub mod DecidedLemmas
 mod DecidesLemmas
-mod FileRowLemmas
+pub mod FileRowLemmas
+mod GrowingLemmas
 mod HasRowLemmas
 mod JudgeLemmas
 mod KindLemmas
-mod LeftLemmas
+pub mod LeftLemmas
 mod MatchedLemmas
-mod MemberLemmas
+pub mod MemberLemmas
 mod MissingLemmas
-mod NumberLemmas
+pub mod NumberLemmas
 mod OneVerdictLemmas
-mod PairLemmas
-mod ProductLemmas
-mod ReachedLemmas
+pub mod PairLemmas
+pub mod ProductLemmas
+pub mod ReachedLemmas
 mod ReadLemmas
 mod RowFaultLemmas
 mod RowsLemmas
 mod RowsWideLemmas
-mod SomeBits
+pub mod SomeBits
 mod StepLemmas
 mod SuccessorFaultLemmas
 mod TableJudgedLemmas
 mod TableReadLemmas
 mod WidthLemmas
-mod ZipLemmas
+mod WitnessLemmas
+pub mod ZipLemmas

@@ -4,6 +4,7 @@ pub mod Pairs
 pub mod Layouts
 pub mod Closed
 pub mod Verdicts
+pub mod Growing
 -- The vocabulary of proofs.
 pub mod Blockers
 pub mod Chains

@@ -2,10 +2,11 @@
 //!
 //! Each function judges what one step of `specs/Verdicts.antt` judges, and moves the view behind it.
 
-ghost use Rattle.std.specs.Prelude.{◌≡◌, ◌⊎◌, ◌↔◌, ◌≤◌, if◌then◌else◌, IsErrOf, IsTrue, MatchOption, MatchResult, OnOk, length, []};
+ghost use Rattle.std.specs.Prelude.{◌≡◌, ◌⊎◌, ◌↔◌, ◌<◌, ◌≤◌, if◌then◌else◌, IsErrOf, IsTrue, MatchOption, MatchResult, OnOk, length, []};
 ghost use Rattle.sig_cert.specs.Deciding.{Decided};
 ghost use Rattle.sig_cert.specs.Layouts.{version_byte};
-ghost use Rattle.sig_cert.specs.Pairs.{AreRelated, format_pairs, signature_pairs};
+ghost use Rattle.sig_cert.specs.Growing.{CountPassed, HasOpenPair, IsOpenPair, MayGrow, VersionPassed};
+ghost use Rattle.sig_cert.specs.Pairs.{AreRelated, format_pairs, signature_pairs, signatures_of};
 ghost use Rattle.sig_cert.specs.Verdicts.{CertificateJudged, CountJudged, EntryJudged, Judges, PairJudged, PairsJudged, TablesJudged, Verdict, VersionJudged};
 
 use crate::error::CheckError;
@@ -21,6 +22,7 @@ use std::alloc::Global;
 /// judging (`docs/FORMATS.md`).
 pub fn check(alloc: Global, table: &Table, certificate: &[u8]) -> Result<(), CheckError>
     ensures first_fault { IsErrOf result CheckError.OutOfMemory ⊎ Verdict table.now certificate.now result }
+    ensures memory { IsErrOf result CheckError.OutOfMemory → MayGrow table.now certificate.now }
     ensures decided { OnOk result (Decided table.now) }
 {
     // Called for its clause: a table is within its limits.
@@ -34,6 +36,7 @@ fn judge_certificate(
     view: &mut CertView<'_>,
 ) -> Result<(), CheckError>
     ensures judged { Judges (CertificateJudged table.now) view.old view.new result }
+    ensures memory { IsErrOf result CheckError.OutOfMemory → MayGrow table.now view.old }
     ensures at_end { MatchResult result (λ done. view.new ≡ []) (λ e. Unit {0}) }
 {
     let magic = field(view, 4)?;
@@ -45,6 +48,7 @@ fn judge_certificate(
 
 fn judge_version(alloc: Global, table: &Table, view: &mut CertView<'_>) -> Result<(), CheckError>
     ensures judged { Judges (VersionJudged table.now) view.old view.new result }
+    ensures memory { IsErrOf result CheckError.OutOfMemory → VersionPassed table.now view.old × HasOpenPair table.now }
     ensures at_end { MatchResult result (λ done. view.new ≡ []) (λ e. Unit {0}) }
 {
     let field = field(view, 1)?;
@@ -69,6 +73,7 @@ fn judge_count(
     view: &mut CertView<'_>,
 ) -> Result<(), CheckError>
     ensures judged { Judges (CountJudged version table.now) view.old view.new result }
+    ensures memory { IsErrOf result CheckError.OutOfMemory → CountPassed table.now view.old × HasOpenPair table.now }
     ensures at_end { MatchResult result (λ done. view.new ≡ []) (λ e. Unit {0}) }
 {
     let count = number_of_four(view)?;
@@ -93,6 +98,7 @@ fn judge_pairs(
     view: &mut CertView<'_>,
 ) -> Result<(), CheckError>
     ensures judged { Judges (PairsJudged version table.now 0 (format_pairs (length table.now.formats))) view.old view.new result }
+    ensures memory { IsErrOf result CheckError.OutOfMemory → HasOpenPair table.now }
     ensures at_end { MatchResult result (λ done. view.new ≡ []) (λ e. Unit {0}) }
 {
     let mut pair = 0;
@@ -120,7 +126,8 @@ fn judge_pair(
     view: &mut CertView<'_>,
 ) -> Result<(), CheckError>
     requires { length table.now.signatures ≤ 4000 }
-    ensures { Judges (PairJudged version table.now pair (a.0, b.0)) view.old view.new result }
+    ensures judged { Judges (PairJudged version table.now pair (a.0, b.0)) view.old view.new result }
+    ensures memory { IsErrOf result CheckError.OutOfMemory → IsOpenPair table.now (a.0, b.0) }
 {
     let related = are_related(table, a, b);
     let kind = field(view, 1)?;
@@ -157,7 +164,9 @@ fn judge_tables(
     view: &mut CertView<'_>,
 ) -> Result<(), CheckError>
     requires { length table.now.signatures ≤ 4000 }
-    ensures { Judges (TablesJudged version table.now pair 0 (signature_pairs table.now (a.0, b.0))) view.old view.new result }
+    ensures judged { Judges (TablesJudged version table.now pair 0 (signature_pairs table.now (a.0, b.0))) view.old view.new result }
+    ensures first { IsErrOf result CheckError.OutOfMemory → 0 < length (signatures_of table.now a.0) }
+    ensures second { IsErrOf result CheckError.OutOfMemory → 0 < length (signatures_of table.now b.0) }
 {
     let mut at = Site { pair, table: 0 };
     for s in table.signatures_of(a) {

@@ -1,4 +1,5 @@
-//! Certificates that a table of signatures never leaves two formats for one file, and their checker.
+//! Certificates that a table of signatures never leaves two formats for one file, and their checker;
+//! and files that leave two.
 //!
 //! A certificate has, for each two signatures of unrelated formats, a closed set of rows of their
 //! product. What an accepted certificate means is `specs/Deciding.antt`; when a certificate is
@@ -18,6 +19,7 @@ mod tables;
 mod tests;
 mod version;
 mod view;
+mod witness;
 
 pub use checker::check;
 pub use error::CheckError;
@@ -25,4 +27,6 @@ pub use laws::{
     accepted_is_closed, closed_covers_reached, closed_decides, closed_is_accepted,
     ends_are_reached, reached_rows_are_of_their_file, two_lines_never, verdict_is_one,
 };
+pub use version::Version;
 pub use view::CertView;
+pub use witness::check_witness;

@@ -1,6 +1,6 @@
-/// How a row is looked for among those of a table.
+/// The version of a certificate: how a row is looked for among those of a table.
 #[derive(Clone, Copy, Debug, PartialEq, Eq)]
-pub(crate) enum Version {
+pub enum Version {
     /// As it is: version 1.
     Exact,
     /// A row that covers it will do: version 2.

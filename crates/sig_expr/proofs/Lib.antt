@@ -1,4 +1,5 @@
 -- The lemmas of this crate.
+pub mod BeforeLemmas
 pub mod CanonLemmas
 pub mod EndLemmas
 pub mod FaultLemmas
@@ -14,5 +15,6 @@ pub mod ScanLemmas
 pub mod Scans
 pub mod ShortestLemmas
 pub mod UniqueLemmas
+pub mod WholePairLemmas
 pub mod WritingLemmas
 pub mod DigitLemmas

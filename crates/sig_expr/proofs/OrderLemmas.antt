@@ -1,36 +1,13 @@
--- Which word is before another, and whether some word is outside a range.
-use Rattle.std.proofs.Common.{◌≡◌, ◌⊎◌, ℕ, ◌<◌, Bool, true, false, nat_eq, List, [], ◌∷◌, length, refl, sym, ◌∙◌, inl, inr, rules, arith}
+-- Whether some word is outside a range.
+use Rattle.std.proofs.Common.{◌≡◌, ℕ, ◌<◌, true, false, nat_eq, List, [], ◌∷◌, length, refl, sym, ◌∙◌, inl, inr, rules, arith}
 use Rattle.std.specs.Prelude.{◌&&◌}
-use Rattle.std.specs.Ordering.{nat_cmp}
-use Rattle.std.specs.Cmp.{nat_cmp_is}
-use Rattle.std.specs.Cmp.Lexicographic.{slice_cmp}
-use Rattle.std.specs.declared.cmp.Ordering.TheVariants.{Less, Equal, Greater}
-use Rattle.std.proofs.lemmas.Bool.{cases_Bool, cases_lt}
+use Rattle.std.proofs.lemmas.Bool.{cases_Bool}
 use Rattle.std.proofs.lemmas.List.Elements.{All-nil, All-cons, All-head, All-tail}
 use Rattle.sig_bits.specs.Bytes.{IsBytes}
+use Rattle.sig_expr.proofs.BeforeLemmas.{IsBefore-cases, IsBefore-lower, IsBefore-same}
 use Rattle.sig_expr.specs.Faults.{are_all}
 use Rattle.sig_expr.specs.Profile.{LeavesWord}
 use Rattle.sig_expr.specs.Words.{IsBefore, IsBytesOf}
-
--- words by their first bytes
-cmp_lower : (x y : ℕ) (xs ys : List ℕ) → x < y → slice_cmp nat_cmp (x ∷ xs) (y ∷ ys) ≡ Less
-cmp_lower x y xs ys h = rw (← nat_cmp_is x y Less h) refl
-
-cmp_same : (x y : ℕ) (xs ys : List ℕ) → x ≡ y → slice_cmp nat_cmp (x ∷ xs) (y ∷ ys) ≡ slice_cmp nat_cmp xs ys
-cmp_same x y xs ys h = rw (← nat_cmp_is x y Equal h) refl
-
-cmp_upper : (x y : ℕ) (xs ys : List ℕ) → y < x → slice_cmp nat_cmp (x ∷ xs) (y ∷ ys) ≡ Greater
-cmp_upper x y xs ys h = rw (← nat_cmp_is x y Greater h) refl
-
--- behind a lower byte a word is before another, and behind the same byte as the rest is
-before_cases : (x y : ℕ) (xs ys : List ℕ) → IsBefore (x ∷ xs) (y ∷ ys) → (x < y) ⊎ ((x ≡ y) × IsBefore xs ys)
-before_cases x y xs ys h = elim (cases_lt x y) [
-  | inl lower ↦ inl lower
-  | inr up ↦ elim (cases_lt y x) [
-    | inl upper ↦ absurd (cc (cmp_upper x y xs ys upper, h))
-    | inr down ↦ let same : x ≡ y = omega arith in inr (same, sym (cmp_same x y xs ys same) ∙ h)
-  ]
-]
 
 same_number : (n k : ℕ) → nat_eq n k ≡ true → n ≡ k
 same_number n k e = search rules
@@ -50,11 +27,11 @@ some_before [] h = absurd (cc)
 some_before (x ∷ a) h = elim (cases_Bool (nat_eq x 0)) [
   | inl same ↦
       let w = some_before a (rw same at h) in
-      (0 ∷ w.0, (omega (arith, w.1.0), All-cons IsByte 0 w.0 (omega arith) w.1.1), cmp_same 0 x w.0 a (sym (same_number x 0 same)) ∙ w.2)
+      (0 ∷ w.0, (omega (arith, w.1.0), All-cons IsByte 0 w.0 (omega arith) w.1.1), IsBefore-same 0 x w.0 a (sym (same_number x 0 same)) w.2)
   | inr differs ↦
       let w = zeros a in
       let low : 0 < x = above_zero x differs in
-      (0 ∷ w.0, (omega (arith, w.1.0), All-cons IsByte 0 w.0 (omega arith) w.1.1), cmp_lower 0 x w.0 a low)
+      (0 ∷ w.0, (omega (arith, w.1.0), All-cons IsByte 0 w.0 (omega arith) w.1.1), IsBefore-lower 0 x w.0 a low)
 ]
   where
     above_zero : (x : ℕ) → nat_eq x 0 ≡ false → 0 < x
@@ -67,11 +44,11 @@ some_behind [] bytes h = absurd (cc)
 some_behind (x ∷ b) bytes h = elim (cases_Bool (nat_eq x 255)) [
   | inl same ↦
       let w = some_behind b (All-tail IsByte x b bytes) (rw same at h) in
-      (255 ∷ w.0, (omega (arith, w.1.0), All-cons IsByte 255 w.0 (omega arith) w.1.1), cmp_same x 255 b w.0 (same_number x 255 same) ∙ w.2)
+      (255 ∷ w.0, (omega (arith, w.1.0), All-cons IsByte 255 w.0 (omega arith) w.1.1), IsBefore-same x 255 b w.0 (same_number x 255 same) w.2)
   | inr differs ↦
       let w = zeros b in
       let high : x < 255 = below_most x (All-head IsByte x b bytes) differs in
-      (255 ∷ w.0, (omega (arith, w.1.0), All-cons IsByte 255 w.0 (omega arith) w.1.1), cmp_lower x 255 b w.0 high)
+      (255 ∷ w.0, (omega (arith, w.1.0), All-cons IsByte 255 w.0 (omega arith) w.1.1), IsBefore-lower x 255 b w.0 high)
 ]
   where
     below_most : (x : ℕ) → x < 256 → nat_eq x 255 ≡ false → x < 255
@@ -86,7 +63,7 @@ none_before (x ∷ a) [] len all h = omega arith
 none_before (x ∷ a) (y ∷ w) len all h = elim (cases_Bool (nat_eq x 0)) [
   | inl same ↦
       let zero = same_number x 0 same in
-      elim (before_cases y x w a h) [ inl lower ↦ omega arith | inr level ↦ none_before a w (omega arith) (rw same at all) level.1 ]
+      elim (IsBefore-cases y x w a h) [ inl lower ↦ omega arith | inr level ↦ none_before a w (omega arith) (rw same at all) level.1 ]
   | inr differs ↦ absurd (cc (rw differs at all))
 ]
 
@@ -99,7 +76,7 @@ none_behind (x ∷ b) (y ∷ w) bytes len all h = elim (cases_Bool (nat_eq x 255
   | inl same ↦
       let most = same_number x 255 same in
       let byte = All-head IsByte y w bytes in
-      elim (before_cases x y b w h) [ inl lower ↦ omega arith | inr level ↦ none_behind b w (All-tail IsByte y w bytes) (omega arith) (rw same at all) level.1 ]
+      elim (IsBefore-cases x y b w h) [ inl lower ↦ omega arith | inr level ↦ none_behind b w (All-tail IsByte y w bytes) (omega arith) (rw same at all) level.1 ]
   | inr differs ↦ absurd (cc (rw differs at all))
 ]
 

@@ -73,7 +73,7 @@ not_digit h x k e n = not_eq (nat_eq h k) refl
     not_eq false q = refl
     not_eq true q = let same : h ≡ k = search rules in cc
 
-begin_digit : (c : Context) (h x : ℕ) → hex_digit_value h ≡ Some x → begin_of c h ≡ step.More (token.Half x)
+pub begin_digit : (c : Context) (h x : ℕ) → hex_digit_value h ≡ Some x → begin_of c h ≡ step.More (token.Half x)
 unfolding begin_of item_start_of list_start_of part_of
 begin_digit context.Start h x e = rw (not_digit h x 63 e refl, not_digit h x 42 e refl, not_digit h x 123 e refl, not_digit h x 40 e refl, e) refl
 begin_digit context.After h x e = rw (not_digit h x 63 e refl, not_digit h x 42 e refl, not_digit h x 123 e refl, not_digit h x 40 e refl, e) refl

@@ -1,5 +1,5 @@
 -- Canonical texts spell their expressions, and none is longer than another spelling.
-use Rattle.std.proofs.Common.{◌≡◌, inl, inr, ℕ, ◌/◌, ◌%◌, ◌<◌, ◌≤◌, Bool, true, false, cond, List, [], ◌∷◌, ◌++◌, length, decimal, Option, Some, None, Ok, refl, rules, arith, nat_eq, length-append}
+use Rattle.std.proofs.Common.{◌≡◌, inl, inr, ℕ, ◌≤◌, Bool, true, false, cond, List, [], ◌∷◌, ◌++◌, length, decimal, Option, Some, None, Ok, refl, rules, arith, nat_eq, length-append}
 use Rattle.std.proofs.lemmas.Bool.Decides.{nat_tests}
 use Rattle.hex.specs.Hex.{encode_upper, encode_with}
 use Rattle.sig_expr.specs.declared.item.Item.{Item}

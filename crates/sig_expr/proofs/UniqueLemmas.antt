@@ -1,5 +1,5 @@
 -- A text spells one list of items alone: what is spelled at the front of a text, and what is behind it, is known by the text.
-use Rattle.std.proofs.Common.{◌≡◌, ◌⊎◌, inl, inr, ℕ, ◌+◌, ◌*◌, ◌%◌, ◌^◌, ◌<◌, ◌≤◌, Bool, true, false, nat_eq, if◌then◌else◌, List, [], ◌∷◌, ◌++◌, length, decimal, Option, Some, None, refl, sym, ◌∙◌, ap, arith, append_assoc, append-nil}
+use Rattle.std.proofs.Common.{◌≡◌, inl, inr, ℕ, ◌+◌, ◌%◌, ◌<◌, ◌≤◌, true, false, nat_eq, if◌then◌else◌, List, [], ◌∷◌, ◌++◌, length, decimal, Option, Some, None, refl, sym, ◌∙◌, ap, arith, append_assoc}
 use Rattle.std.specs.Prelude.{⊤}
 use Rattle.std.proofs.lemmas.Fmt.{decimal_by_steps, decimal_injective, decimal_nonempty}
 use Rattle.hex.specs.Hex.{hex_digit_value}

@@ -1,5 +1,5 @@
 -- Writes one after the other.
-use Rattle.std.proofs.Common.{◌≡◌, ℕ, ◌+◌, ◌<◌, Bool, false, List, [], ◌∷◌, ◌++◌, length, Option, Some, None, Result, Ok, Err, OnOk, OnErr, IsErr, IsTrue, is_err, true, refl, sym, ◌∙◌, ap, arith, length-append, append_assoc, append-nil}
+use Rattle.std.proofs.Common.{◌≡◌, ℕ, ◌+◌, ◌<◌, Bool, false, List, [], ◌∷◌, ◌++◌, length, Option, Some, None, Result, Ok, Err, OnOk, IsErr, IsTrue, is_err, refl, sym, ◌∙◌, ap, arith, length-append, append_assoc, append-nil}
 use Rattle.sig_bits.specs.Device.{Adds}
 use Rattle.sig_expr.specs.Writing.{Sink, Wrote, Printed}
 

@@ -1,5 +1,5 @@
 -- What is read of a text, byte by byte.
-use Rattle.std.specs.Prelude.{ℕ, ◌+◌, ◌-◌, ◌*◌, ◌%◌, ◌&&◌, nat_eq, nat_le, nat_lt, Bool, true, false, if◌then◌else◌, Option, Some, None}
+use Rattle.std.specs.Prelude.{ℕ, ◌+◌, ◌-◌, ◌*◌, ◌%◌, ◌&&◌, nat_eq, nat_le, nat_lt, Bool, true, false, if◌then◌else◌, List, [], ◌∷◌, Option, Some, None}
 use Rattle.hex.specs.Hex.{hex_digit_value}
 use Rattle.sig_expr.specs.declared.end.End.{End}
 use Rattle.sig_expr.specs.declared.lexer.Context.{Context}
@@ -20,6 +20,18 @@ decimal_of b = if nat_le 48 b && nat_le b 57 then Some (b - 48) else None
 -- the byte of two digits
 abbrev pub pair_of : ℕ → ℕ → ℕ
 pair_of high low = high % 16 * 16 + low % 16
+
+-- the byte of two digits, where both have values
+abbrev pub byte_of : Option ℕ → Option ℕ → Option ℕ
+byte_of None low = None
+byte_of (Some high) None = None
+byte_of (Some high) (Some low) = Some (pair_of high low)
+
+-- the byte of the two digits in front, where both are there
+abbrev pub pair_in_front : List ℕ → Option ℕ
+pair_in_front [] = None
+pair_in_front (high ∷ []) = None
+pair_in_front (high ∷ low ∷ later) = byte_of (hex_digit_value high) (hex_digit_value low)
 
 -- what a digit's value does, and what another byte does
 abbrev pub with_digit : Option ℕ → (ℕ → Step) → Step → Step

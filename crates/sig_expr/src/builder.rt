@@ -1,6 +1,7 @@
 //! The items of a text from its pieces.
 
-ghost use Rattle.std.specs.Prelude.{◌≡◌, OnOk, List, []};
+ghost use Rattle.std.specs.Prelude.{◌≡◌, IfOk, OnOk, List, []};
+ghost use Rattle.sig_expr.specs.declared.lexer.Piece.TheVariants as piece;
 ghost use Rattle.sig_expr.specs.Built.{Built, built, fresh, with_bar, with_close, with_part, with_item, built_of, atom_of, item_of};
 
 use crate::item::{Alternatives, Atom, Item};
@@ -46,16 +47,16 @@ fn item(piece: Piece) -> Option<Item>
 }
 
 impl Builder {
-    /// Nothing is built.
-    pub(crate) fn new(alloc: Global) -> Builder
-        ensures { built result ≡ fresh }
+    /// Nothing is built, and there is room for so many items.
+    pub(crate) fn with_capacity(alloc: Global, items: usize) -> Result<Builder, AllocError>
+        ensures { IfOk result (λ b. built b ≡ fresh) }
     {
-        Builder {
-            items: Vec::new(alloc),
+        Ok(Builder {
+            items: Vec::with_capacity(alloc, items)?,
             alternatives: Vec::new(alloc),
             alternative: Vec::new(alloc),
             inside: false,
-        }
+        })
     }
 
     // The alternative that is read ends.
@@ -89,6 +90,18 @@ impl Builder {
             }
         } else if let Some(item) = item(piece) {
             self.items.push(item)?;
+        }
+        Ok(())
+    }
+
+    /// A byte more.
+    pub(crate) fn add_byte(&mut self, byte: u8) -> Result<(), AllocError>
+        ensures { OnOk result (built self.new ≡ built_of (built self.old) (piece.Byte byte)) }
+    {
+        if self.inside {
+            self.alternative.push(Atom::Byte(byte))?;
+        } else {
+            self.items.push(Item::Byte(byte))?;
         }
         Ok(())
     }

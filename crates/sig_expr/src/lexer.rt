@@ -4,9 +4,9 @@
 //! refused, is inside a piece, or ends one. Each state of a reading can be completed to a text, so
 //! the first refused byte is the place of a `Syntax` refusal.
 
-ghost use Rattle.std.specs.Prelude.{◌≡◌, ◌+◌, ◌*◌, ◌%◌};
+ghost use Rattle.std.specs.Prelude.{◌≡◌, ◌≤◌, ◌+◌, ◌*◌, ◌%◌, IfSome, length};
 ghost use Rattle.hex.specs.Hex.{hex_digit_value};
-ghost use Rattle.sig_expr.specs.Reading.{pair_of, decimal_of, part_of, item_start_of, list_start_of, begin_of, number_of, star_of, closed_gap_of, closed_bracket_of, end_of, go_on_of, feed_of, context_of, next_of, is_end_of};
+ghost use Rattle.sig_expr.specs.Reading.{pair_of, decimal_of, part_of, item_start_of, list_start_of, begin_of, number_of, star_of, closed_gap_of, closed_bracket_of, end_of, go_on_of, feed_of, context_of, next_of, is_between, is_end_of, pair_in_front};
 
 use crate::end::End;
 
@@ -122,6 +122,19 @@ fn pair(high: u8, low: u8) -> u8
     ensures { result ≡ pair_of high low }
 {
     high % 16 * 16 + low % 16
+}
+
+/// The byte of the two digits in front, where both are there.
+///
+/// Most of a usual text is such pairs. Between two pieces, one that is read whole costs a fraction of
+/// two bytes that are fed.
+pub(crate) fn pair_in_front(rest: &[u8]) -> Option<u8>
+    ensures byte { result ≡ pair_in_front rest.now }
+    ensures within { IfSome result (λ _. 2 ≤ length rest.now) }
+{
+    let (high, later) = rest.split_first()?;
+    let (low, _) = later.split_first()?;
+    Some(pair(digit(*high)?, digit(*low)?))
 }
 
 // The first byte of a byte or a bracket.
@@ -335,11 +348,18 @@ impl State {
         }
     }
 
+    /// Whether a piece may begin there.
+    pub(crate) fn is_between(self) -> bool
+        ensures { result ≡ is_between self.token }
+    {
+        matches!(self.token, Token::Between)
+    }
+
     /// Whether a text may end there.
     pub(crate) fn is_end(self) -> bool
         ensures { result ≡ is_end_of self }
     {
-        matches!(self.context, Context::After) && matches!(self.token, Token::Between)
+        matches!(self.context, Context::After) && self.is_between()
     }
 }
 

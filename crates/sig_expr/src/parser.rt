@@ -16,7 +16,7 @@ use crate::error::ExprError;
 use crate::expr::Expr;
 use crate::faults::judge;
 use crate::item::Item;
-use crate::lexer::{State, Step, Token};
+use crate::lexer::{Piece, State, Step, pair_in_front};
 use std::alloc::{AllocError, Global};
 
 /// The greatest length of a text.
@@ -28,12 +28,21 @@ fn syntax_place(text: &[u8]) -> Option<usize>
     ensures { result ≡ stop_of text.now }
 {
     let mut state = State::START;
-    for (place, byte) in text.iter().enumerate() {
-        let step = state.feed(*byte);
+    let mut place = 0;
+    'text: while place < text.len() {
+        if state.is_between()
+            && let Some(byte) = pair_in_front(&text[place..])
+        {
+            state = state.next(Step::Whole(Piece::Byte(byte)));
+            place += 2;
+            continue;
+        }
+        let step = state.feed(text[place]);
         if matches!(step, Step::Refused) {
             return Some(place);
         }
         state = state.next(step);
+        place += 1;
     }
     if state.is_end() {
         None
@@ -49,17 +58,24 @@ fn first_fault(text: &[u8]) -> Option<ExprError>
 {
     let mut state = State::START;
     let mut opened = 0;
-    for (place, byte) in text.iter().enumerate() {
-        if matches!(state.token, Token::Between) {
+    let mut place = 0;
+    'text: while place < text.len() {
+        if state.is_between() {
+            if let Some(byte) = pair_in_front(&text[place..]) {
+                state = state.next(Step::Whole(Piece::Byte(byte)));
+                place += 2;
+                continue;
+            }
             opened = place;
         }
-        let step = state.feed(*byte);
+        let step = state.feed(text[place]);
         if let Step::Whole(piece) = step
             && let Some(fault) = judge(piece, opened)
         {
             return Some(fault);
         }
         state = state.next(step);
+        place += 1;
     }
     None
 }
@@ -74,17 +90,27 @@ fn build(builder: &mut Builder, alloc: Global, step: Step) -> Result<(), AllocEr
     }
 }
 
-// The items of a text.
+// The items of a text. Most texts have one for each two bytes.
 #[tactic(auto, unfolding(crate::specs::Passes::built_from))]
 fn build_items(alloc: Global, text: &[u8]) -> Result<Vec<Item>, AllocError>
     ensures { IfOk result (λ v. v.items ≡ items_of text.now) }
 {
-    let mut builder = Builder::new(alloc);
+    let mut builder = Builder::with_capacity(alloc, text.len() / 2)?;
     let mut state = State::START;
-    for byte in text {
-        let step = state.feed(*byte);
+    let mut place = 0;
+    'text: while place < text.len() {
+        if state.is_between()
+            && let Some(byte) = pair_in_front(&text[place..])
+        {
+            builder.add_byte(byte)?;
+            state = state.next(Step::Whole(Piece::Byte(byte)));
+            place += 2;
+            continue;
+        }
+        let step = state.feed(text[place]);
         build(&mut builder, alloc, step)?;
         state = state.next(step);
+        place += 1;
     }
     Ok(builder.items)
 }

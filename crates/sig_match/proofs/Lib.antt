@@ -1,6 +1,7 @@
 -- Lemmas of this crate.
 pub mod FrontierLemmas
 pub mod GapLemmas
+pub mod HitLaws
 pub mod HitLemmas
 pub mod ItemLemmas
 pub mod LangLemmas
@@ -11,4 +12,5 @@ pub mod OneListLemmas
 pub mod PartLemmas
 pub mod ReachLemmas
 pub mod RunLemmas
+pub mod ScanLemmas
 pub mod StandLemmas

@@ -1,3 +1,6 @@
+ghost use Rattle.std.specs.Prelude.{◌≡◌};
+
+use std::alloc::AllocError;
 use thiserror::Error;
 
 /// Why a file was not matched. The core is as it was.
@@ -9,4 +12,14 @@ pub enum CoreError {
     /// A growth was refused.
     #[error("out of memory")]
     OutOfMemory,
+}
+
+impl From<AllocError> for CoreError {
+    ghost use Rattle.sig_match.specs.declared.error.CoreError.{CoreError};
+
+    ghost from_gives = { λ _ e. e ≡ CoreError.OutOfMemory };
+
+    fn from(_: AllocError) -> CoreError {
+        CoreError::OutOfMemory
+    }
 }

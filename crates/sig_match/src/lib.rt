@@ -2,7 +2,8 @@
 //!
 //! The hit formats and those left after priorities are in `specs/Hits.antt`. What every matcher
 //! shares stands at the top: the list of hits (`hits`), what priorities take out of it (`removal`)
-//! and what a matcher is (`droid_core`). `whole` is the matcher that keeps the file in memory.
+//! and what a matcher is (`droid_core`). `whole` is the matcher that keeps the file in memory. `scan`
+//! passes over a file once and keeps no byte of it, and `stream` is the matcher that reads so.
 #![tactic(auto)]
 
 mod droid_core;
@@ -11,6 +12,8 @@ mod hits;
 mod laws;
 mod removal;
 mod results;
+mod scan;
+mod stream;
 #[cfg(test)]
 mod tests;
 mod whole;
@@ -21,4 +24,6 @@ pub use laws::{
     hit_formats_are_one_list, left_is_not_outranked, left_is_one_list, some_hit_is_left,
 };
 pub use results::{Hit, Results};
+pub use scan::Scan;
+pub use stream::StreamCore;
 pub use whole::{WholeCore, left_in, signature_hits};

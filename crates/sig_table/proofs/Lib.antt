@@ -13,6 +13,7 @@ pub mod PairsAgainLemmas
 pub mod PlainLemmas
 pub mod PriorityLemmas
 pub mod PriorityRowLemmas
+pub mod PriorityTextLemmas
 pub mod PublicLemmas
 pub mod PuidLemmas
 pub mod RankingLemmas

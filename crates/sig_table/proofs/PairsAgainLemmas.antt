@@ -13,7 +13,7 @@ use Rattle.sig_table.proofs.RankingLemmas.{is_above-Decides, wider}
 use Rattle.sig_table.specs.Canonical.{pair_record, priority_header}
 use Rattle.sig_table.specs.declared.puid.Puid.{Puid}
 use Rattle.sig_table.specs.Judging.{judged}
-use Rattle.sig_table.specs.Loading.{is_listed, pair_fault, pair_of, pairs_from, pairs_of, place_in, with_pair}
+use Rattle.sig_table.specs.Loading.{is_listed, pair_fault, pair_of, pairs_from, pairs_of, index_in, with_pair}
 use Rattle.sig_table.specs.Puids.{puid_eq}
 use Rattle.sig_table.specs.Ranking.{is_above}
 use Rattle.sig_table.specs.Tables.{AllDifferent, ArePriorities, IsNumber}
@@ -25,8 +25,8 @@ not_before (y ∷ done) later x d (zero, lt, same) = d.0 (subst (Contains (done 
 not_before (y ∷ done) later x d (suc k, lt, same) = not_before done later x d.1 (k, omega arith, same)
 
 -- a format is found by its PUID
-place-found : (formats : List Puid) (f : ℕ) (p : Puid) → AllDifferent formats → f < length formats → slice_get formats f ≡ Some p → place_in formats p ≡ Some f
-place-found formats f p different within at =
+pub index-found : (formats : List Puid) (f : ℕ) (p : Puid) → AllDifferent formats → f < length formats → slice_get formats f ≡ Some p → index_in formats p ≡ Some f
+index-found formats f p different within at =
     let place : position_or_len (puid_eq p) formats ≡ f = rw (take_all (length formats) formats (omega arith)) at (position-first formats (length formats) f p different at (omega arith)) in
     rw (place, lt-ltb f (length formats) within) refl
 
@@ -44,8 +44,8 @@ module _ (formats : List Puid) (puids : All (λ p. IsNumber p.number) formats) (
         l.1,
         puid_of-puid_text h.0.registry h.0.number h_is.0 h_is.1,
         puid_of-puid_text l.0.registry l.0.number l_is.0 l_is.1,
-        place-found formats pair.0 h.0 different higher h.1,
-        place-found formats pair.1 l.0 different lower l.1,
+        index-found formats pair.0 h.0 different higher h.1,
+        index-found formats pair.1 l.0 different lower l.1,
         other,
       ) refl
 

@@ -15,7 +15,7 @@ use Rattle.sig_table.specs.declared.error.TableError.TheVariants as error
 use Rattle.sig_table.specs.declared.error.TableFile.TheVariants.{Priorities}
 use Rattle.sig_table.specs.declared.puid.Puid.{Puid}
 use Rattle.sig_table.specs.Judging.{WriteAll}
-use Rattle.sig_table.specs.Loading.{is_listed, is_priority_header, pair_fault, pair_of, pair_of_two, pairs_of, place_in, with_pair}
+use Rattle.sig_table.specs.Loading.{is_listed, is_priority_header, pair_fault, pair_of, pair_of_two, pairs_of, index_in, with_pair}
 use Rattle.sig_table.specs.PriorityRows.{ArePairsOf, BeginsWithPairHeader, HasCycle, HasFirstPairFault, IsFaultOfPair, IsPairFault, IsPriorityFaultOf, WritesPair}
 use Rattle.sig_table.specs.Puids.{puid_eq, puid_of}
 use Rattle.sig_table.specs.Ranking.{is_above}
@@ -42,9 +42,9 @@ pair_of-fits formats n fields pair is = elim (cases_Bool (nat_eq (length fields)
     | inl none ↦ absurd (cc (rw (t, none) at is))
     | inr h ↦ elim (there_or_not (puid_of (text_at fields 1))) [
       | inl none ↦ absurd (cc (rw (t, h.1, none) at is))
-      | inr l ↦ elim (there_or_not (place_in formats h.0)) [
+      | inr l ↦ elim (there_or_not (index_in formats h.0)) [
         | inl none ↦ absurd (cc (rw (t, h.1, l.1, none) at is))
-        | inr above ↦ elim (there_or_not (place_in formats l.0)) [
+        | inr above ↦ elim (there_or_not (index_in formats l.0)) [
           | inl none ↦ absurd (cc (rw (t, h.1, l.1, above.1, none) at is))
           | inr below ↦
               let first = position-Some (puid_eq h.0) formats above.0 h.0 above.1 in

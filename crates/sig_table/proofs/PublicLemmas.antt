@@ -4,6 +4,7 @@ use Rattle.std.proofs.lemmas.Bool.{cases_Bool, false≢true}
 use Rattle.std.proofs.lemmas.Bool.Decides.{Decides-and, Decides-eqb}
 use Rattle.std.proofs.lemmas.List.Elements.{Contains-append_cases, Contains-append_right}
 use Rattle.std.proofs.lemmas.List.Folds.{Any-from_list_any, list_any-from_Any}
+pub use Rattle.sig_table.proofs.FormatsAgainLemmas.{Contains-cons_cases}
 use Rattle.sig_table.proofs.RankingLemmas.{above-trans, is_above-Decides}
 use Rattle.sig_table.specs.Ranking.{IsAbove, NoCycle, Outranks, is_above, ranks}
 

@@ -13,7 +13,7 @@ use Rattle.sig_expr.specs.Texts.{expr_of}
 use Rattle.sig_expr.specs.declared.item.Item.{Item}
 use Rattle.sig_table.proofs.NumberLemmas.{by_test}
 use Rattle.sig_table.proofs.PuidLemmas.{positive_of-decimal, puid_of-puid_text}
-use Rattle.sig_table.specs.Canonical.{place_fields, sequence_record}
+use Rattle.sig_table.specs.Canonical.{position_fields, sequence_record}
 use Rattle.sig_table.specs.Views.{SequenceView}
 use Rattle.sig_table.specs.Numbers.{number_of}
 use Rattle.sig_table.specs.Puids.{puid_text}
@@ -71,7 +71,7 @@ abbrev pub row_for : Puid → ℕ → SequenceView → Row
 row_for puid number sequence = record { puid = puid; number = number; sequence = sequence }
 
 again : (row : ℕ) (puid : Puid) (number : ℕ) (p : Position) (items : List Item) → IsNumber puid.number → IsNumber number → InOrder p → IsExpression items
-    → row_of row (puid_text puid ∷ decimal number ∷ (place_fields p ++ canon items ∷ [])) ≡ Ok (row_for puid number (record { position = p; items = items }))
+    → row_of row (puid_text puid ∷ decimal number ∷ (position_fields p ++ canon items ∷ [])) ≡ Ok (row_for puid number (record { position = p; items = items }))
 unfolding row_of field_at position_of
 again row puid number (position.Bof min max) items is_puid is_number order h =
     rw (puid_of-puid_text puid.registry puid.number is_puid.0 is_puid.1, positive_of-decimal number is_number.0 is_number.1, offsets_of-decimal row min max order.0 order.1, expr_of-canon items h) refl

@@ -33,26 +33,49 @@ from_true a b h = search (rules, tests)
 from_false : (a b : ℕ) → nat_lt a b ≡ false → b ≤ a
 from_false a b h = search (rules, tests)
 
--- the offsets alone take too many
-pub too_many-place : (p s : ℕ) → minus 65535 p ≡ None → true ≡ nat_lt 65535 (p + s)
-too_many-place p s h = elim (cases_Bool (nat_lt 65535 p)) [
-  | inl t ↦ let above = from_true 65535 p t in sym (less_true 65535 (p + s) (omega arith))
-  | inr f ↦ absurd (cc (rw f at h))
+-- what a budget says of what is taken off it
+enough : (budget n left : ℕ) → minus budget n ≡ Some left → (n ≤ budget) × (left ≡ budget - n)
+enough budget n left h = elim (cases_Bool (nat_lt budget n)) [
+  | inl t ↦ absurd (cc (rw t at h))
+  | inr f ↦ (from_false budget n f, cc (rw f at h))
 ]
 
-by_items : (m s : ℕ) (b : Bool) → is_some (minus m s) ≡ not b → b ≡ nat_lt m s
-by_items m s true h = elim (cases_Bool (nat_lt m s)) [ inl t ↦ sym t | inr f ↦ absurd (cc (rw f at h)) ]
-by_items m s false h = elim (cases_Bool (nat_lt m s)) [ inl t ↦ absurd (cc (rw t at h)) | inr f ↦ sym f ]
+too_few : (budget n : ℕ) → minus budget n ≡ None → budget < n
+too_few budget n h = elim (cases_Bool (nat_lt budget n)) [ inl t ↦ from_true budget n t | inr f ↦ absurd (cc (rw f at h)) ]
+
+-- the offsets alone take too many
+pub past-position : (p s : ℕ) → minus 65535 p ≡ None → 65536 ≡ min (p + s) 65536
+past-position p s h = let above = too_few 65535 p h in omega arith
 
 -- or the items take too many of what they leave
-pub too_many-items : (p s left : ℕ) (r : Option ℕ) (b : Bool) → minus 65535 p ≡ Some left → r ≡ minus left s → is_some r ≡ not b → b ≡ nat_lt 65535 (p + s)
-too_many-items p s left r b h at is = elim (cases_Bool (nat_lt 65535 p)) [
-  | inl t ↦ absurd (cc (rw t at h))
-  | inr f ↦
-      let within = from_false 65535 p f in
-      let rest : 65535 - p ≡ left = cc (rw f at h) in
-      by_items left s b (rw at at is) ∙ elim (cases_Bool (nat_lt left s)) [
-        | inl t ↦ let more = from_true left s t in t ∙ sym (less_true 65535 (p + s) (omega arith))
-        | inr g ↦ let few = from_false left s g in g ∙ sym (less_false 65535 (p + s) (omega arith))
-      ]
+pub past-items : (p s budget : ℕ) → minus 65535 p ≡ Some budget → minus budget s ≡ None → 65536 ≡ min (p + s) 65536
+past-items p s budget h k =
+    let first = enough 65535 p budget h in
+    let above = too_few budget s k in
+    let within = first.0 in
+    let is = first.1 in
+    omega arith
+
+-- or some of the budget is left
+pub within-items : (p s budget left : ℕ) → minus 65535 p ≡ Some budget → minus budget s ≡ Some left → 65535 - left ≡ min (p + s) 65536
+within-items p s budget left h k =
+    let first = enough 65535 p budget h in
+    let second = enough budget s left k in
+    let within = first.0 in
+    let is = first.1 in
+    let more = second.0 in
+    let last = second.1 in
+    omega arith
+
+pub left-within : (p budget left s : ℕ) → minus 65535 p ≡ Some budget → minus budget s ≡ Some left → left ≤ 65535
+left-within p budget left s h k =
+    let is = (enough 65535 p budget h).1 in
+    let last = (enough budget s left k).1 in
+    omega arith
+
+-- a count that ends one past the limit tells whether it is past it
+pub too_many-counted : (n counted : ℕ) → counted ≡ min n 65536 → nat_lt 65535 counted ≡ nat_lt 65535 n
+too_many-counted n counted is = elim (cases_Bool (nat_lt 65535 n)) [
+  | inl t ↦ let above = from_true 65535 n t in less_true 65535 counted (omega arith) ∙ sym t
+  | inr f ↦ let within = from_false 65535 n f in less_false 65535 counted (omega arith) ∙ sym f
 ]

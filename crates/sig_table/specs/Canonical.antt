@@ -9,11 +9,11 @@ use Rattle.sig_table.specs.declared.puid.Puid.{Puid}
 use Rattle.sig_table.specs.Views.{SequenceView, SignatureView, TableView}
 use Rattle.sig_table.specs.Puids.{puid_text}
 
--- the fields of a place: its word, the offset and the greatest offset, which is always written
-abbrev pub place_fields : Position → List (List ℕ)
-place_fields (position.Bof min max) = codes "BOF" ∷ decimal min ∷ decimal max ∷ []
-place_fields (position.Eof min max) = codes "EOF" ∷ decimal min ∷ decimal max ∷ []
-place_fields position.Variable = codes "Variable" ∷ [] ∷ [] ∷ []
+-- the fields of a position: its word, the offset and the greatest offset, which is always written
+abbrev pub position_fields : Position → List (List ℕ)
+position_fields (position.Bof min max) = codes "BOF" ∷ decimal min ∷ decimal max ∷ []
+position_fields (position.Eof min max) = codes "EOF" ∷ decimal min ∷ decimal max ∷ []
+position_fields position.Variable = codes "Variable" ∷ [] ∷ [] ∷ []
 
 -- a PUID's text, where it is there
 abbrev pub named : Option Puid → List ℕ
@@ -26,7 +26,7 @@ name_of formats format = named (slice_get formats format)
 
 -- the record of a sequence, of the signature of this number and of the format of this name
 abbrev pub sequence_record : List ℕ → ℕ → SequenceView → List (List ℕ)
-sequence_record name number sequence = name ∷ decimal number ∷ (place_fields sequence.position ++ canon sequence.items ∷ [])
+sequence_record name number sequence = name ∷ decimal number ∷ (position_fields sequence.position ++ canon sequence.items ∷ [])
 
 -- the records of a signature: one for each sequence
 abbrev pub records_of_signature : List Puid → SignatureView → List (List (List ℕ))

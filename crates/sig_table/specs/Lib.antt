@@ -7,6 +7,7 @@ pub mod Numbers
 pub mod Places
 pub mod PriorityRows
 pub mod Puids
+pub mod PuidViews
 pub mod Ranking
 pub mod Removal
 pub mod Rows

@@ -108,9 +108,9 @@ unfoldable pub signatures_of : List (List (List ℕ)) → Result TableView Table
 signatures_of [] = Err (error.Header Signatures)
 signatures_of (header ∷ rows) = if is_signature_header header then table_from 1 empty_table rows else Err (error.Header Signatures)
 
--- the format's place, where the PUID is among the formats
-abbrev pub place_in : List Puid → Puid → Option ℕ
-place_in formats puid = position (puid_eq puid) formats
+-- the format's index, where the PUID is among the formats
+abbrev pub index_in : List Puid → Puid → Option ℕ
+index_in formats puid = position (puid_eq puid) formats
 
 -- the pair, where its formats are two
 abbrev pub pair_of_two : ℕ → ℕ → ℕ → Result (ℕ × ℕ) TableError
@@ -121,11 +121,11 @@ abbrev pub pair_with : List Puid → ℕ → List ℕ → List ℕ → Result (�
 pair_with formats n higher lower = do
   h ← ok_or (puid_of higher) (error.Puid Priorities n)
   l ← ok_or (puid_of lower) (error.Puid Priorities n)
-  above ← ok_or (place_in formats h) (error.PriorityUnknown n)
-  below ← ok_or (place_in formats l) (error.PriorityUnknown n)
+  above ← ok_or (index_in formats h) (error.PriorityUnknown n)
+  below ← ok_or (index_in formats l) (error.PriorityUnknown n)
   pair_of_two n above below
 
--- the pair that the fields write, by the places of its formats, or its first fault
+-- the pair that the fields write, by the indexes of its formats, or its first fault
 unfoldable pub pair_of : List Puid → ℕ → List (List ℕ) → Result (ℕ × ℕ) TableError
 pair_of formats n fields = if length fields == 2 then pair_with formats n (text_at fields 0) (text_at fields 1) else Err (error.Fields Priorities n)
 

@@ -1,9 +1,10 @@
--- What the fields of a row are, in plain words.
-use Rattle.std.specs.Prelude.{◌≡◌, ◌⊎◌, ℕ, List, [], ◌∷◌, codes, Ok}
+-- What the fields of a row are in either file, in plain words.
+use Rattle.std.specs.Prelude.{◌≡◌, ◌≢◌, ◌⊎◌, ℕ, List, [], ◌∷◌, codes, slice_get, Some, Ok}
 use Rattle.std.specs.Fmt.{decimal}
 use Rattle.sig_expr.specs.Texts.{expr_of}
 use Rattle.sig_table.specs.declared.position.Position.{Position}
 use Rattle.sig_table.specs.declared.position.Position.TheVariants as position
+use Rattle.sig_table.specs.declared.puid.Puid.{Puid}
 use Rattle.sig_table.specs.declared.row.Row.{Row}
 use Rattle.sig_table.specs.Puids.{puid_text}
 use Rattle.sig_table.specs.Tables.{InOrder, IsNumber}
@@ -30,3 +31,12 @@ pub record RowText (fields : List (List ℕ)) (row : Row) : Type 0 where
   pub position : PositionTexts row.sequence.position word offset greatest
   pub offsets : InOrder row.sequence.position
   pub items : expr_of expression ≡ Ok row.sequence.items
+
+-- two fields: the PUIDs of the pair's formats, which are two
+pub record PriorityText (formats : List Puid) (fields : List (List ℕ)) (pair : ℕ × ℕ) : Type 0 where
+  pub higher : Puid
+  pub lower : Puid
+  pub cut : fields ≡ puid_text higher ∷ puid_text lower ∷ []
+  pub is_higher : slice_get formats pair.0 ≡ Some higher
+  pub is_lower : slice_get formats pair.1 ≡ Some lower
+  pub two : pair.0 ≢ pair.1

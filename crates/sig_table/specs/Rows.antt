@@ -49,7 +49,7 @@ up_to (Some min) max = if length max == 0 then Some (min, min) else in_order min
 abbrev pub offsets_of : ℕ → List ℕ → List ℕ → Result (ℕ × ℕ) TableError
 offsets_of row offset max = ok_or (up_to (offset_of offset) max) (error.Offset row)
 
--- the place that a word and the texts of the offsets write
+-- the position that a word and the texts of the offsets write
 unfoldable pub position_of : ℕ → List ℕ → List ℕ → List ℕ → Result Position TableError
 position_of row word offset max =
     if is_word word (codes "BOF") then offsets_of row offset max >>= (λ p. Ok (position.Bof p.0 p.1))

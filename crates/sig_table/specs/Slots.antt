@@ -53,11 +53,11 @@ item_slots (item.Not a) = atom_slots (atom.Not a)
 item_slots (item.NotRange a b) = atom_slots (atom.NotRange a b)
 
 -- the slots of the gaps before and behind the expression
-abbrev pub place_slots : Position → ℕ
-place_slots (position.Bof min max) = max + 1
-place_slots (position.Eof min max) = max + 1
-place_slots position.Variable = 2
+abbrev pub position_slots : Position → ℕ
+position_slots (position.Bof min max) = max + 1
+position_slots (position.Eof min max) = max + 1
+position_slots position.Variable = 2
 
 -- the slots of a sequence
 unfoldable pub slot_count : SequenceView → ℕ
-slot_count sequence = place_slots sequence.position + sum_by item_slots sequence.items
+slot_count sequence = position_slots sequence.position + sum_by item_slots sequence.items

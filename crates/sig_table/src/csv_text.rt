@@ -8,10 +8,11 @@ use csv::{ByteRecord, Writer};
 use std::alloc::{AllocError, Global};
 use std::marker::Model;
 
-// The text of the records so far, as `csv` writes them by default.
+// The text of the records so far, as `csv` writes them by default. The text moves from line to line,
+// and the buffer in a writer has 8 KiB, so the writer stands on the heap.
 #[derive(Drop)]
 pub(crate) struct CsvText {
-    writer: Writer<Vec<u8>>,
+    writer: Box<Writer<Vec<u8>>>,
 }
 
 impl Model for CsvText {
@@ -21,19 +22,18 @@ impl Model for CsvText {
 
     ghost Value = { List ℕ };
 
-    ghost view = { λ l. (writer_under l.writer).items ++ writer_pending l.writer };
+    ghost view = { λ l. (writer_under l.writer.value).items ++ writer_pending l.writer.value };
 
-    ghost invariant = { λ l. IsAtStart l.writer };
+    ghost invariant = { λ l. IsAtStart l.writer.value };
 }
 
 impl CsvText {
     // No record yet.
-    pub(crate) fn new(alloc: Global) -> CsvText
-        ensures { result ≡ [] }
+    pub(crate) fn new(alloc: Global) -> Result<CsvText, AllocError>
+        ensures { IfOk result (λ lines. lines ≡ []) }
     {
-        CsvText {
-            writer: Writer::from_writer(Vec::new(alloc)),
-        }
+        let writer = Box::new(alloc, Writer::from_writer(Vec::new(alloc)))?;
+        Ok(CsvText { writer })
     }
 
     // The lines with one more record, which has as many fields as the others.
@@ -49,6 +49,6 @@ impl CsvText {
         ensures { IfOk result (λ text. text.items ≡ self) }
     {
         let CsvText { writer } = self;
-        writer.into_inner().map_err(|_| AllocError)
+        Box::into_inner(writer).into_inner().map_err(|_| AllocError)
     }
 }

@@ -5,10 +5,10 @@
 ghost use Rattle.std.specs.Prelude.{◌≡◌, ◌<◌, ◌≤◌, ◌∷◌, ◌++◌, ℕ, [], false, length, nat_eq, not, OnOk, MatchResult, None, Some, Ok, IfOk, IfErr, IfSome};
 ghost use Rattle.std.specs.List.{list_any, position_or_len};
 ghost use Rattle.sig_table.specs.Judging.{unless};
-ghost use Rattle.sig_table.specs.Loading.{empty_table, fault_at, fault_in, grown, place_in, with_number, with_row};
+ghost use Rattle.sig_table.specs.Loading.{empty_table, fault_at, fault_in, grown, index_in, with_number, with_row};
 ghost use Rattle.sig_table.specs.Judging.{IsFault, is_read};
 ghost use Rattle.sig_table.specs.Rows.{IsRow};
-ghost use Rattle.sig_table.specs.Tables.{ArePriorities, HasAllSignatures};
+ghost use Rattle.sig_table.specs.Tables.{ArePriorities, HasAllSignatures, IsTable};
 
 use crate::row::Row;
 use crate::slots::has_too_many_slots;
@@ -159,12 +159,12 @@ impl Draft {
     }
 
     // The index of the format of this name.
-    pub(crate) fn place_of(&self, puid: &Puid) -> Option<u16>
-        ensures place { result ≡ place_in self.now.formats puid.now }
-        ensures within { IfSome result (λ place. place < length self.now.formats) }
+    pub(crate) fn index_of(&self, puid: &Puid) -> Option<u16>
+        ensures index { result ≡ index_in self.now.formats puid.now }
+        ensures within { IfSome result (λ index. index < length self.now.formats) }
     {
-        let place = self.puids.get_index_of(puid)?;
-        Some(place as u16)
+        let index = self.puids.get_index_of(puid)?;
+        Some(index as u16)
     }
 
     pub(crate) fn format_count(&self) -> usize
@@ -182,6 +182,7 @@ impl Draft {
     ) -> Result<Table, TableError>
         requires { ArePriorities (length self.formats) priorities.keys }
         ensures table { IfOk result (λ table. table ≡ record self { priorities = priorities.keys }) }
+        ensures limits { IfOk result (λ table. IsTable table) }
         ensures whole { IfOk result (λ table. HasAllSignatures table) }
         ensures memory { IfErr result (λ e. e ≡ TableError.OutOfMemory) }
     {
@@ -209,7 +210,7 @@ fn push_new_signature(
     ensures { OnOk result (signatures.new.items ≡ with_number signatures.old.items number format.0) }
 {
     if is_new {
-        signatures.push(Signature::new(alloc, format, number))?;
+        signatures.push(Signature::new(alloc, format, number)?)?;
     }
     Ok(())
 }

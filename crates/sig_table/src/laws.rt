@@ -1,18 +1,18 @@
 //! Laws of tables and their texts.
 
-ghost use Rattle.std.specs.Prelude.{◌≡◌, ◌↔◌, ℕ, ◌<◌, List, [], Contains, length, Err, Ok};
+ghost use Rattle.std.specs.Prelude.{◌≡◌, ◌↔◌, ℕ, ◌<◌, List, [], All, Contains, length, Err, Ok};
 ghost use Rattle.sig_table.specs.declared.error.TableError.{TableError};
 ghost use Rattle.sig_table.specs.declared.puid.Puid.{Puid};
 ghost use Rattle.sig_table.specs.declared.row.Row.{Row};
 ghost use Rattle.sig_table.specs.Rows.{row_of};
-ghost use Rattle.sig_table.specs.RowTexts.{RowText};
+ghost use Rattle.sig_table.specs.RowTexts.{PriorityText, RowText};
 ghost use Rattle.sig_table.specs.Canonical.{priority_csv, signature_csv};
 ghost use Rattle.sig_table.specs.Gathered.{IsFaultOf, IsTableOf};
 ghost use Rattle.sig_table.specs.Views.{TableView};
-ghost use Rattle.sig_table.specs.Loading.{pairs_of, records_of, signatures_of, table_of};
+ghost use Rattle.sig_table.specs.Loading.{pair_of, pairs_of, records_of, signatures_of, table_of};
 ghost use Rattle.sig_table.specs.PriorityRows.{ArePairsOf, IsPriorityFaultOf};
 ghost use Rattle.sig_table.specs.Ranking.{NoCycle, Outranks};
-ghost use Rattle.sig_table.specs.Tables.{HasAllSignatures, IsTable};
+ghost use Rattle.sig_table.specs.Tables.{AllDifferent, HasAllSignatures, IsNumber, IsTable};
 
 /// The table of a signature file is that of its rows: the different PUIDs and numbers in order of
 /// first row, and for each number its rows' sequences in row order. No row has a fault. And each
@@ -30,6 +30,13 @@ pub fn first_fault_is_told()
 /// A record gives a row exactly where its fields are the texts of the row's parts.
 pub fn rows_are_spelled()
     ensures { (row_number : ℕ) (fields : List (List ℕ)) (row : Row) → row_of row_number fields ≡ Ok row ↔ RowText fields row }
+{}
+
+/// A record of the priority file gives a pair exactly where its fields are the PUIDs of the pair's
+/// two formats, in a table's formats.
+pub fn pairs_are_spelled()
+    ensures { (formats : List Puid) → All (λ p. IsNumber p.number) formats → AllDifferent formats
+        → (row_number : ℕ) (fields : List (List ℕ)) (pair : ℕ × ℕ) → pair_of formats row_number fields ≡ Ok pair ↔ PriorityText formats fields pair }
 {}
 
 /// The pairs of a priority file are those of its rows, in their order: none stands twice, and they

@@ -28,11 +28,11 @@ mod writer;
 pub use error::{OutError, TableError, TableFile};
 pub use ids::{FormatId, SigId};
 pub use laws::{
-    first_fault_is_told, first_priority_fault_is_told, pairs_are_listed, rows_are_gathered,
-    rows_are_spelled, some_is_not_outranked, written_is_loaded,
+    first_fault_is_told, first_priority_fault_is_told, pairs_are_listed, pairs_are_spelled,
+    rows_are_gathered, rows_are_spelled, some_is_not_outranked, written_is_loaded,
 };
 pub use position::Position;
-pub use puid::{Puid, Registry};
+pub use puid::{Puid, Registry, printed_is_read};
 pub use sequence::Sequence;
 pub use signatures_of::SignaturesOf;
 pub use table::Table;

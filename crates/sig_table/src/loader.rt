@@ -3,9 +3,9 @@
 ghost use Rattle.std.specs.Prelude.{◌≡◌, ◌<◌, ◌⊎◌, [], List, ℕ, length, Some, true, false, Ok, Err, OnOk, IfOk, IfErr, IfSome, IsErr, IsErrOf, IsTrue, MatchResult};
 ghost use Rattle.csv.specs.Records.{fields_of};
 ghost use Rattle.sig_bits.specs.Device.{IsAtEnd};
-ghost use Rattle.sig_table.specs.Loading.{is_of_signatures, is_priority_header, is_signature_header, empty_table, pair_of, pairs_from, pairs_of, place_in, records_of, signatures_of, table_from, table_of, with_pair, with_record};
+ghost use Rattle.sig_table.specs.Loading.{is_of_signatures, is_priority_header, is_signature_header, empty_table, pair_of, pairs_from, pairs_of, index_in, records_of, signatures_of, table_from, table_of, with_pair, with_record};
 ghost use Rattle.sig_table.specs.Judging.{IsFault, Exact, is_judged, is_read};
-ghost use Rattle.sig_table.specs.Tables.{ArePriorities, HasAllSignatures};
+ghost use Rattle.sig_table.specs.Tables.{ArePriorities, HasAllSignatures, IsTable};
 ghost use Rattle.std.specs.Option.{ok_or};
 ghost use Rattle.sig_table.specs.declared.row.Row.{Row};
 ghost use Rattle.sig_table.specs.declared.error.TableError.{TableError};
@@ -33,7 +33,8 @@ impl Table {
         ensures exact { (s p : List ℕ) → A.to_come signatures.old ≡ Some s → B.to_come priorities.old ≡ Some p
             → Exact result (table_of (records_of s) (records_of p)) }
 
-        // Each format has a signature.
+        // A table is within its limits, and each format has a signature.
+        ensures limits { IfOk result (λ table. IsTable table) }
         ensures whole { IfOk result (λ table. HasAllSignatures table) }
 
         // A fault of the signature file is found in that file alone, and leaves the other as it was.
@@ -80,7 +81,9 @@ fn read_text<R: Input>(alloc: Global, input: &mut R, file: TableFile) -> Result<
     }
 }
 
-// The formats and signatures of the signature file.
+// The formats and signatures of the signature file. A reader of `csv` is 16 KiB, so each file is
+// judged in a frame of its own.
+#[inline(never)]
 #[tactic(auto, unfolding(crate::specs::Loading::signatures_of))]
 fn read_signatures(alloc: Global, text: &[u8]) -> Result<Draft, TableError>
     ensures { MatchResult result
@@ -91,7 +94,7 @@ fn read_signatures(alloc: Global, text: &[u8]) -> Result<Draft, TableError>
     let mut header = ByteRecord::new(alloc);
     let found = records.read(&mut header)?;
     if found && is_signature_header(&header) {
-        return read_rows(alloc, records);
+        return read_rows(alloc, &mut records);
     }
     Err(TableError::Header {
         file: TableFile::Signatures,
@@ -99,10 +102,10 @@ fn read_signatures(alloc: Global, text: &[u8]) -> Result<Draft, TableError>
 }
 
 // The rows in turn, each judged after those before it. No memory holds more of them than a number.
-fn read_rows(alloc: Global, mut records: Records) -> Result<Draft, TableError>
+fn read_rows(alloc: Global, records: &mut Records) -> Result<Draft, TableError>
     ensures { MatchResult result
-        (λ draft. table_from 1 empty_table records.entry ≡ Ok draft)
-        (λ e. IsFault (table_from 1 empty_table records.entry) e) }
+        (λ draft. table_from 1 empty_table records.old ≡ Ok draft)
+        (λ e. IsFault (table_from 1 empty_table records.old) e) }
 {
     let mut draft = Draft::new(alloc);
     let mut record = ByteRecord::new(alloc);
@@ -145,6 +148,7 @@ fn is_signature_header(line: &ByteRecord) -> bool
 }
 
 // The pairs of the priority file.
+#[inline(never)]
 #[tactic(auto, unfolding(crate::specs::Loading::pairs_of))]
 fn read_priorities(
     alloc: Global,
@@ -160,7 +164,7 @@ fn read_priorities(
     let mut header = ByteRecord::new(alloc);
     let found = records.read(&mut header)?;
     if found && is_priority_header(&header) {
-        return read_pairs(alloc, draft, records);
+        return read_pairs(alloc, draft, &mut records);
     }
     Err(TableError::Header {
         file: TableFile::Priorities,
@@ -171,11 +175,11 @@ fn read_priorities(
 fn read_pairs(
     alloc: Global,
     draft: &Draft,
-    mut records: Records,
+    records: &mut Records,
 ) -> Result<IndexSet<(u16, u16)>, TableError>
     ensures pairs { MatchResult result
-        (λ pairs. pairs_from draft.now.formats 1 [] records.entry ≡ Ok pairs.keys)
-        (λ e. (is_of_signatures e ≡ false) × IsFault (pairs_from draft.now.formats 1 [] records.entry) e) }
+        (λ pairs. pairs_from draft.now.formats 1 [] records.old ≡ Ok pairs.keys)
+        (λ e. (is_of_signatures e ≡ false) × IsFault (pairs_from draft.now.formats 1 [] records.old) e) }
     ensures limits { IfOk result (λ pairs. ArePriorities (length draft.now.formats) pairs.keys) }
 {
     let Ok(mut ranking) = Ranking::new(alloc, draft.format_count()) else {
@@ -211,8 +215,8 @@ fn add_pair(
 
 // The pair that the record writes.
 #[tactic(auto, unfolding(crate::specs::Loading::pair_of))]
-fn read_pair(draft: &Draft, line: &ByteRecord, row: usize) -> Result<(u16, u16), TableError>
-    ensures pair { result ≡ pair_of draft.now.formats row (fields_of line.now) }
+fn read_pair(draft: &Draft, line: &ByteRecord, row_number: usize) -> Result<(u16, u16), TableError>
+    ensures pair { result ≡ pair_of draft.now.formats row_number (fields_of line.now) }
     ensures later { IfErr result (λ e. (is_of_signatures e ≡ false) × (is_read e ≡ false)) }
     ensures higher { IfOk result (λ pair. pair.0 < length draft.now.formats) }
     ensures lower { IfOk result (λ pair. pair.1 < length draft.now.formats) }
@@ -220,27 +224,29 @@ fn read_pair(draft: &Draft, line: &ByteRecord, row: usize) -> Result<(u16, u16),
 {
     let file = TableFile::Priorities;
     if line.len() != 2 {
-        return Err(TableError::Fields { file, row });
+        return Err(TableError::Fields {
+            file,
+            row: row_number,
+        });
     }
-    let higher = read_puid(field(line, 0), file, row)?;
-    let lower = read_puid(field(line, 1), file, row)?;
-    let higher = read_format(draft, &higher, row)?;
-    let lower = read_format(draft, &lower, row)?;
+    let higher = read_puid(field(line, 0), file, row_number)?;
+    let lower = read_puid(field(line, 1), file, row_number)?;
+    let higher = read_format(draft, &higher, row_number)?;
+    let lower = read_format(draft, &lower, row_number)?;
     if higher == lower {
-        return Err(TableError::PrioritySelf { row });
+        return Err(TableError::PrioritySelf { row: row_number });
     }
     Ok((higher, lower))
 }
 
 // The format of this name.
-fn read_format(draft: &Draft, puid: &Puid, row: usize) -> Result<u16, TableError>
-    ensures format { result ≡ ok_or (place_in draft.now.formats puid.now) (TableError.PriorityUnknown row) }
+fn read_format(draft: &Draft, puid: &Puid, row_number: usize) -> Result<u16, TableError>
+    ensures format { result ≡ ok_or (index_in draft.now.formats puid.now) (TableError.PriorityUnknown row_number) }
     ensures within { IfOk result (λ format. format < length draft.now.formats) }
 {
-    let Some(format) = draft.place_of(puid) else {
-        return Err(TableError::PriorityUnknown { row });
-    };
-    Ok(format)
+    draft
+        .index_of(puid)
+        .ok_or(TableError::PriorityUnknown { row: row_number })
 }
 
 // Whether the record is the header of a priority file.

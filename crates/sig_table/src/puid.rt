@@ -6,6 +6,7 @@ ghost use Rattle.sig_table.specs.declared.puid.Puid.{Puid};
 
 use crate::numbers::read_positive;
 use std::fmt;
+use std::marker::Model;
 
 /// The two registries that name formats.
 #[derive(Clone, Copy, Debug, PartialEq, Eq, Hash)]
@@ -23,6 +24,20 @@ pub struct Puid {
     number: u32,
 }
 
+impl Model for Puid {
+    ghost use Rattle.sig_table.specs.PuidViews.{PuidView};
+
+    ghost Value = { PuidView };
+
+    ghost use Rattle.sig_table.specs.Tables.{IsNumber};
+
+    ghost view = { λ p. record { registry = p.registry; number = p.number } };
+
+    ghost invariant = { λ p. IsNumber p.number };
+
+    ghost inverse = { λ v. record { registry = v.registry; number = v.number } };
+}
+
 impl Puid {
     /// Reads `fmt/` or `x-fmt/` and a number of one to nine digits, the first not 0.
     pub fn parse(text: &[u8]) -> Option<Puid>
@@ -34,6 +49,13 @@ impl Puid {
     {
         read_puid(text)
     }
+}
+
+/// What a PUID prints is read as that PUID.
+pub fn printed_is_read(puid: &Puid)
+    ensures { puid_of (puid_text puid.now) ≡ Some puid.now }
+{
+    let _ = &puid.number;
 }
 
 // The PUID that the text is of.

@@ -61,10 +61,7 @@ impl Ranking {
         if let Some(fault) = self.fault(pair, row_number) {
             return Err(fault);
         }
-        match self.insert(pair) {
-            Ok(ranking) => Ok(ranking),
-            Err(AllocError) => Err(TableError::OutOfMemory),
-        }
+        self.insert(pair).map_err(|_| TableError::OutOfMemory)
     }
 
     #[tactic(auto, unfolding(crate::specs::Loading::pair_fault))]

@@ -19,7 +19,7 @@ use std::alloc::Global;
 // The greatest offset.
 const MOST_OFFSET: u32 = 65535;
 
-// What a row says: a format, a signature of it, and the expression of a sequence at its place.
+// What a row says: a format, a signature of it, and the expression of a sequence at its position.
 #[derive(Debug, Drop)]
 pub(crate) struct Row {
     pub(crate) puid: Puid,
@@ -29,19 +29,23 @@ pub(crate) struct Row {
 
 // The row that the record writes.
 #[tactic(auto, unfolding(crate::specs::Rows::row_of))]
-pub(crate) fn read_row(alloc: Global, line: &ByteRecord, row: usize) -> Result<Row, TableError>
-    ensures { Judges result (row_of row (fields_of line.now)) }
+pub(crate) fn read_row(
+    alloc: Global,
+    line: &ByteRecord,
+    row_number: usize,
+) -> Result<Row, TableError>
+    ensures { Judges result (row_of row_number (fields_of line.now)) }
 {
     if line.len() != 6 {
         return Err(TableError::Fields {
             file: TableFile::Signatures,
-            row,
+            row: row_number,
         });
     }
-    let puid = read_puid(field(line, 0), TableFile::Signatures, row)?;
-    let number = read_signature_number(field(line, 1), row)?;
-    let position = read_position(field(line, 2), field(line, 3), field(line, 4), row)?;
-    let expr = read_expr(alloc, field(line, 5), row)?;
+    let puid = read_puid(field(line, 0), TableFile::Signatures, row_number)?;
+    let number = read_signature_number(field(line, 1), row_number)?;
+    let position = read_position(field(line, 2), field(line, 3), field(line, 4), row_number)?;
+    let expr = read_expr(alloc, field(line, 5), row_number)?;
     Ok(Row {
         puid,
         number,
@@ -60,50 +64,55 @@ pub(crate) fn field(line: &ByteRecord, place: usize) -> &[u8]
 }
 
 // The PUID that the text writes.
-pub(crate) fn read_puid(text: &[u8], file: TableFile, row: usize) -> Result<Puid, TableError>
-    ensures { result ≡ ok_or (puid_of text.now) (TableError.Puid file row) }
+pub(crate) fn read_puid(text: &[u8], file: TableFile, row_number: usize) -> Result<Puid, TableError>
+    ensures { result ≡ ok_or (puid_of text.now) (TableError.Puid file row_number) }
 {
-    Puid::parse(text).ok_or(TableError::Puid { file, row })
+    Puid::parse(text).ok_or(TableError::Puid {
+        file,
+        row: row_number,
+    })
 }
 
 // The signature number that the text writes.
-fn read_signature_number(text: &[u8], row: usize) -> Result<u32, TableError>
-    ensures { result ≡ ok_or (positive_of text.now) (TableError.SignatureNumber row) }
+fn read_signature_number(text: &[u8], row_number: usize) -> Result<u32, TableError>
+    ensures { result ≡ ok_or (positive_of text.now) (TableError.SignatureNumber row_number) }
 {
-    read_positive(text).ok_or(TableError::SignatureNumber { row })
+    read_positive(text).ok_or(TableError::SignatureNumber { row: row_number })
 }
 
-// The place that the three texts write.
+// The position that the three texts write.
 #[tactic(auto, unfolding(crate::specs::Rows::position_of))]
-fn read_position(word: &[u8], offset: &[u8], max: &[u8], row: usize) -> Result<Position, TableError>
-    ensures { Judges result (position_of row word.now offset.now max.now) }
+fn read_position(
+    word: &[u8],
+    offset: &[u8],
+    max: &[u8],
+    row_number: usize,
+) -> Result<Position, TableError>
+    ensures { Judges result (position_of row_number word.now offset.now max.now) }
 {
     if word == b"BOF".as_slice() {
-        let (min, max) = read_offsets(offset, max, row)?;
+        let (min, max) = read_offsets(offset, max, row_number)?;
         return Ok(Position::Bof { min, max });
     }
     if word == b"EOF".as_slice() {
-        let (min, max) = read_offsets(offset, max, row)?;
+        let (min, max) = read_offsets(offset, max, row_number)?;
         return Ok(Position::Eof { min, max });
     }
     if word != b"Variable".as_slice() {
-        return Err(TableError::Position { row });
+        return Err(TableError::Position { row: row_number });
     }
     if offset.is_empty() && max.is_empty() {
         Ok(Position::Variable)
     } else {
-        Err(TableError::Offset { row })
+        Err(TableError::Offset { row: row_number })
     }
 }
 
 // The two offsets that the texts write.
-fn read_offsets(offset: &[u8], max: &[u8], row: usize) -> Result<(u16, u16), TableError>
-    ensures { Judges result (offsets_of row offset.now max.now) }
+fn read_offsets(offset: &[u8], max: &[u8], row_number: usize) -> Result<(u16, u16), TableError>
+    ensures { Judges result (offsets_of row_number offset.now max.now) }
 {
-    let Some(range) = read_range(offset, max) else {
-        return Err(TableError::Offset { row });
-    };
-    Ok(range)
+    read_range(offset, max).ok_or(TableError::Offset { row: row_number })
 }
 
 // The least offset and the greatest one, which equals it where its text is empty.
@@ -130,12 +139,15 @@ fn read_offset(text: &[u8]) -> Option<u16>
 }
 
 // The expression that the text spells.
-fn read_expr(alloc: Global, text: &[u8], row: usize) -> Result<Expr, TableError>
-    ensures { Judges result (items_in row (expr_of text.now)) }
+fn read_expr(alloc: Global, text: &[u8], row_number: usize) -> Result<Expr, TableError>
+    ensures { Judges result (items_in row_number (expr_of text.now)) }
 {
     match parse(alloc, text) {
         Ok(expr) => Ok(expr),
         Err(ExprError::OutOfMemory) => Err(TableError::OutOfMemory),
-        Err(error) => Err(TableError::Expression { row, error }),
+        Err(error) => Err(TableError::Expression {
+            row: row_number,
+            error,
+        }),
     }
 }

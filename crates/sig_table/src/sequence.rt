@@ -1,9 +1,11 @@
 //! An expression at its place.
 
-ghost use Rattle.std.specs.Prelude.{◌≡◌};
+ghost use Rattle.std.specs.Prelude.{◌≡◌, ◌≤◌};
+ghost use Rattle.sig_table.specs.Slots.{slot_count};
 ghost use Rattle.sig_table.specs.Tables.{IsSequence};
 
 use crate::Position;
+use crate::slots::count_slots;
 use sig_expr::Expr;
 use std::marker::Model;
 
@@ -63,5 +65,14 @@ impl Sequence {
         ensures sequence { IsSequence self.now }
     {
         &self.expr
+    }
+
+    /// How many slots it takes: the states of its automaton beside the start.
+    pub fn slots(&self) -> u32
+        ensures slots { result ≡ slot_count self.now }
+        ensures few { result ≤ 65535 }
+        ensures sequence { IsSequence self.now }
+    {
+        count_slots(self.position, self.expr.items()) as u32
     }
 }

@@ -2,9 +2,9 @@
 //!
 //! Slots are taken off a budget, so that no sum overflows.
 
-ghost use Rattle.std.specs.Prelude.{◌≡◌, ◌≤◌, ◌+◌, nat_lt, length, map, sum_by};
+ghost use Rattle.std.specs.Prelude.{◌≡◌, ◌≤◌, ◌+◌, nat_lt, length, map, min, sum_by};
 ghost use Rattle.sig_table.specs.Budgets.{minus};
-ghost use Rattle.sig_table.specs.Slots.{above_rows, atom_slots, below_rows, between_rows, bracket_slots, item_slots, place_slots, slot_count};
+ghost use Rattle.sig_table.specs.Slots.{above_rows, atom_slots, below_rows, between_rows, bracket_slots, item_slots, position_slots, slot_count};
 
 use crate::Position;
 use crate::sequence::Placed;
@@ -17,15 +17,25 @@ const MOST: usize = 65535;
 pub(crate) fn has_too_many_slots(sequence: &Placed) -> bool
     ensures { result ≡ nat_lt 65535 (slot_count sequence.now) }
 {
-    let Some(budget) = minus(MOST, place_slots(sequence.position)) else {
-        return true;
+    count_slots(sequence.position, sequence.expr.items()) > MOST
+}
+
+// How many slots the sequence has, up to one past the limit.
+pub(crate) fn count_slots(position: Position, items: &[Item]) -> usize
+    ensures { result ≡ min (slot_count (record { position = position; items = items.now })) 65536 }
+{
+    let Some(budget) = minus(MOST, position_slots(position)) else {
+        return MOST + 1;
     };
-    budget_after_items(budget, sequence.expr.items()).is_none()
+    match budget_after_items(budget, items) {
+        Some(left) => MOST - left,
+        None => MOST + 1,
+    }
 }
 
 // How many slots the offsets take.
-fn place_slots(position: Position) -> usize
-    ensures { result ≡ place_slots position }
+fn position_slots(position: Position) -> usize
+    ensures { result ≡ position_slots position }
 {
     match position {
         Position::Bof { max, .. } | Position::Eof { max, .. } => max as usize + 1,

@@ -1,6 +1,6 @@
 //! A table, and the calls that read it.
 
-ghost use Rattle.std.specs.Prelude.{◌≡◌, ◌<◌, ◌≤◌, ◌↔◌, [], ◌∷◌, ◌++◌, false, IsTrue, OnOk, Some, Contains, length, option_map, position, slice_get};
+ghost use Rattle.std.specs.Prelude.{◌≡◌, ◌<◌, ◌≤◌, ◌↔◌, [], ◌∷◌, ◌++◌, false, IsTrue, IfOk, OnOk, Some, Contains, length, option_map, position, slice_get};
 ghost use Rattle.sig_table.specs.Puids.{puid_eq};
 
 use crate::{FormatId, Puid, Sequence, SigId, SignaturesOf};
@@ -44,15 +44,15 @@ impl Model for Table {
 }
 
 impl Signature {
-    // A signature of the format, with no sequence yet.
-    pub(crate) fn new(alloc: Global, format: FormatId, number: u32) -> Signature
-        ensures { result ≡ record { format = format.0; number = number; sequences = [] } }
+    // A signature of the format, with room for a sequence: most have one.
+    pub(crate) fn new(alloc: Global, format: FormatId, number: u32) -> Result<Signature, AllocError>
+        ensures { IfOk result (λ s. s ≡ record { format = format.0; number = number; sequences = [] }) }
     {
-        Signature {
+        Ok(Signature {
             format,
             number,
-            sequences: Vec::new(alloc),
-        }
+            sequences: Vec::with_capacity(alloc, 1)?,
+        })
     }
 
     pub(crate) fn format(&self) -> FormatId
@@ -92,7 +92,8 @@ impl Table {
         priorities: IndexSet<(u16, u16)>,
     ) -> Table
         requires { IsTable (record { formats = formats.items; signatures = signatures.items; priorities = priorities.keys }) }
-        ensures { result ≡ record { formats = formats.items; signatures = signatures.items; priorities = priorities.keys } }
+        ensures lists { result ≡ record { formats = formats.items; signatures = signatures.items; priorities = priorities.keys } }
+        ensures limits { IsTable result }
     {
         Table {
             formats,

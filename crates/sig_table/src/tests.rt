@@ -70,9 +70,12 @@ fn formats_and_signatures_stand_in_the_order_of_their_first_rows(
     assert_eq!(rt; sequences[0].position(), Position::Bof { min: 0, max: 0 });
     assert_eq!(rt; sequences[1].position(), Position::Variable);
     assert_eq!(rt; sequences[2].position(), Position::Bof { min: 0, max: 0 });
+    assert_eq!(rt; sequences[0].slots(), 2);
+    assert_eq!(rt; sequences[1].slots(), 3);
     let sequences = table.sequences_of(SigId(1));
     assert_eq!(rt; sequences.len(), 1);
     assert_eq!(rt; sequences[0].position(), Position::Eof { min: 1, max: 2 });
+    assert_eq!(rt; sequences[0].slots(), 5);
     Ok(())
 }
 

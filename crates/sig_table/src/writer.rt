@@ -7,7 +7,7 @@ ghost use Rattle.csv.specs.Records.{fields_of, partial_of};
 ghost use Rattle.csv.specs.Writing.{default_writer, row_text};
 ghost use Rattle.sig_bits.specs.Device.{Adds, AddsFront};
 ghost use Rattle.sig_expr.specs.Canon.{canon};
-ghost use Rattle.sig_table.specs.Canonical.{name_of, pair_record, place_fields, priority_csv, records_of_signature, sequence_record, signature_csv, signature_header};
+ghost use Rattle.sig_table.specs.Canonical.{name_of, pair_record, position_fields, priority_csv, records_of_signature, sequence_record, signature_csv, signature_header};
 
 use crate::csv_text::CsvText;
 use crate::table::Signature;
@@ -59,7 +59,8 @@ impl Table {
 fn signature_text(alloc: Global, table: &Table) -> Result<Vec<u8>, AllocError>
     ensures { IfOk result (λ text. text.items ≡ signature_csv table.now) }
 {
-    let mut lines = CsvText::new(alloc).with(&signature_header(alloc)?)?;
+    let start = CsvText::new(alloc)?;
+    let mut lines = start.with(&signature_header(alloc)?)?;
     for signature in table.signatures() {
         lines = with_signature(alloc, lines, table.formats(), signature)?;
     }
@@ -110,15 +111,15 @@ fn sequence_record(
     let mut row = ByteRecord::new(alloc);
     row.push_field(name.as_bytes())?;
     push_number(alloc, &mut row, number)?;
-    push_place(alloc, &mut row, sequence.position())?;
+    push_position(alloc, &mut row, sequence.position())?;
     row.push_field(&expression_text(alloc, sequence.expr())?)?;
     Ok(row)
 }
 
 // Adds the fields of the position.
-fn push_place(alloc: Global, row: &mut ByteRecord, position: Position) -> Result<(), AllocError>
+fn push_position(alloc: Global, row: &mut ByteRecord, position: Position) -> Result<(), AllocError>
     requires { partial_of row.old ≡ [] }
-    ensures fields { OnOk result (fields_of row.new ≡ fields_of row.old ++ place_fields position) }
+    ensures fields { OnOk result (fields_of row.new ≡ fields_of row.old ++ position_fields position) }
     ensures partial { OnOk result (partial_of row.new ≡ []) }
 {
     match position {
@@ -173,7 +174,8 @@ fn priority_text(alloc: Global, table: &Table) -> Result<Vec<u8>, AllocError>
     ensures { IfOk result (λ text. text.items ≡ priority_csv table.now) }
 {
     let header = ByteRecord::from_fields(alloc, &[b"higher", b"lower"])?;
-    let mut lines = CsvText::new(alloc).with(&header)?;
+    let start = CsvText::new(alloc)?;
+    let mut lines = start.with(&header)?;
     for pair in table.priorities() {
         lines = lines.with(&pair_record(alloc, table.formats(), *pair)?)?;
     }

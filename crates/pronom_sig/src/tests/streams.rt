@@ -8,36 +8,44 @@ use crate::match_engine::run_match;
 use crate::show_engine::run_show;
 use crate::tests::{PRIORITIES, SIGNATURES, folder, owned_words, put, put_table};
 use sig_bits::{DeviceFault, FromRead, FromWrite, Input, Output};
-use sig_match::{CoreError, DroidCore, Hit, WholeCore};
+use sig_match::{CoreError, DroidCore, Hit, StreamCore, WholeCore};
 use sig_table::{FormatId, Puid, SigId, Table};
 use std::fs;
 use std::test::Fail;
 
-// An input that gives one byte at a time, and at its end may fail.
+// An input that gives a few bytes at a time, and at its end may fail.
 #[derive(Drop)]
 pub(crate) struct Pieces<'a> {
     bytes: &'a [u8],
     at: usize,
+    most: usize,
     fails: bool,
     failed: bool,
 }
 
 impl<'a> Pieces<'a> {
-    // The bytes, and then the end.
+    // The bytes one by one, and then the end.
     pub(crate) fn of(bytes: &'a [u8]) -> Pieces<'a> {
+        Pieces::cut(bytes, 1)
+    }
+
+    // The bytes in pieces of at most so many, and then the end.
+    pub(crate) fn cut(bytes: &'a [u8], most: usize) -> Pieces<'a> {
         Pieces {
             bytes,
             at: 0,
+            most,
             fails: false,
             failed: false,
         }
     }
 
-    // The bytes, and then a fault.
+    // The bytes one by one, and then a fault.
     pub(crate) fn failing(bytes: &'a [u8]) -> Pieces<'a> {
         Pieces {
             bytes,
             at: 0,
+            most: 1,
             fails: true,
             failed: false,
         }
@@ -52,10 +60,12 @@ impl Input for Pieces<'_> {
     ghost to_come = { λ _. None };
 
     fn read(&mut self, buf: &mut [u8]) -> Result<usize, DeviceFault> {
-        if self.at < self.bytes.len() && !buf.is_empty() && !self.failed {
-            buf[0] = self.bytes[self.at];
-            self.at += 1;
-            return Ok(1);
+        let left = self.bytes.len().saturating_sub(self.at);
+        let count = left.min(self.most).min(buf.len());
+        if count > 0 && !self.failed {
+            buf[..count].copy_from_slice(&self.bytes[self.at..self.at + count]);
+            self.at += count;
+            return Ok(count);
         }
         if self.fails || self.failed {
             self.failed = true;
@@ -67,8 +77,14 @@ impl Input for Pieces<'_> {
 
 // An output whose every write fails.
 #[derive(Drop)]
-struct Broken {
+pub(crate) struct Broken {
     failed: bool,
+}
+
+impl Broken {
+    pub(crate) fn new() -> Broken {
+        Broken { failed: false }
+    }
 }
 
 impl Output for Broken {
@@ -93,24 +109,36 @@ fn table_of_one(rt: &HostRuntime) -> Result<Table, Fail> {
     Ok(table)
 }
 
-// The core of that table.
+// The cores of that table.
 fn core_of_one(rt: &HostRuntime) -> Result<WholeCore, Fail> {
     Ok(WholeCore::new(rt.alloc(), table_of_one(rt)?))
 }
 
+fn stream_core_of_one(rt: &HostRuntime) -> Result<StreamCore, Fail> {
+    Ok(StreamCore::new(rt.alloc(), table_of_one(rt)?))
+}
+
+// What `match` answers where the last read fails, and how many bytes it writes.
+fn unread_answer<K: DroidCore>(
+    rt: &HostRuntime,
+    core: &K,
+) -> Result<(Result<(), RunError>, usize), Fail> {
+    let mut out = FromWrite::new(Vec::new(rt.alloc()));
+    let mut file = Pieces::failing(b"AB");
+    let answer = run_match(rt.alloc(), core, false, &mut file, &mut out);
+    Ok((answer, out.into_inner().len()))
+}
+
 #[test]
 fn writes_nothing_before_the_last_read(rt: HostRuntime) -> Result<(), Fail> {
-    let core = core_of_one(&rt)?;
-    let mut out = FromWrite::new(Vec::new(rt.alloc()));
-    let answer = run_match(
-        rt.alloc(),
-        &core,
-        false,
-        &mut Pieces::failing(b"AB"),
-        &mut out,
-    );
-    assert_eq!(rt; answer, Err(RunError::Read));
-    assert_eq!(rt; out.into_inner().len(), 0);
+    let answers = [
+        unread_answer(&rt, &core_of_one(&rt)?)?,
+        unread_answer(&rt, &stream_core_of_one(&rt)?)?,
+    ];
+    for (answer, written) in answers {
+        assert_eq!(rt; answer, Err(RunError::Read));
+        assert_eq!(rt; written, 0);
+    }
     Ok(())
 }
 
@@ -118,11 +146,11 @@ fn writes_nothing_before_the_last_read(rt: HostRuntime) -> Result<(), Fail> {
 fn reports_a_failed_write(rt: HostRuntime) -> Result<(), Fail> {
     let core = core_of_one(&rt)?;
     let mut file = FromRead::new(b"AB".as_slice());
-    let mut out = Broken { failed: false };
+    let mut out = Broken::new();
     let answer = run_match(rt.alloc(), &core, false, &mut file, &mut out);
     assert_eq!(rt; answer, Err(RunError::Write));
     let table = table_of_one(&rt)?;
-    let mut out = Broken { failed: false };
+    let mut out = Broken::new();
     let answer = run_show(rt.alloc(), &table, &mut out);
     assert_eq!(rt; answer, Err(RunError::Write));
     Ok(())
@@ -131,7 +159,7 @@ fn reports_a_failed_write(rt: HostRuntime) -> Result<(), Fail> {
 // Runs the program with a broken output, and gives the status and what is reported.
 fn run_unwritten(rt: &HostRuntime, words: &[&str]) -> Result<(u8, String), Fail> {
     let words = owned_words(rt, words)?;
-    let mut out = Broken { failed: false };
+    let mut out = Broken::new();
     let mut err = FromWrite::new(Vec::new(rt.alloc()));
     let status = command(rt, words.as_slice(), &mut out, &mut err);
     Ok((status, String::from_utf8(err.into_inner())?))
@@ -141,7 +169,7 @@ fn run_unwritten(rt: &HostRuntime, words: &[&str]) -> Result<(u8, String), Fail>
 fn run_unreported(rt: &HostRuntime, words: &[&str]) -> Result<u8, Fail> {
     let words = owned_words(rt, words)?;
     let mut out = FromWrite::new(Vec::new(rt.alloc()));
-    let mut err = Broken { failed: false };
+    let mut err = Broken::new();
     Ok(command(rt, words.as_slice(), &mut out, &mut err))
 }
 
@@ -182,33 +210,55 @@ fn keeps_the_status_of_a_fault_that_is_not_reported(rt: HostRuntime) -> Result<(
     Ok(())
 }
 
-#[test]
-fn a_core_matches_on_after_a_failed_read(rt: HostRuntime) -> Result<(), Fail> {
-    let core = core_of_one(&rt)?;
+// Whether the core calls a failed read one, and then finds its hit in a file that can be read.
+fn matches_on<K: DroidCore>(core: &K) -> Result<bool, Fail> {
     let mut broken = Pieces::failing(b"AB");
-    match core.match_binary_signatures(&mut broken) {
-        Ok(_) => assert!(rt; false, "a failed read is no end"),
-        Err(error) => assert_eq!(rt; error, CoreError::Read),
-    }
+    let unread = core.match_binary_signatures(&mut broken);
     let mut whole = Pieces::of(b"AB");
     let results = core.match_binary_signatures(&mut whole)?;
     let hit = Hit {
         format: FormatId(0),
         signature: SigId(0),
     };
-    assert_eq!(rt; results.hits(), [hit].as_slice());
+    Ok(matches!(&unread, Err(CoreError::Read)) && results.hits() == [hit].as_slice())
+}
+
+#[test]
+fn a_core_matches_on_after_a_failed_read(rt: HostRuntime) -> Result<(), Fail> {
+    assert!(rt; matches_on(&core_of_one(&rt)?)?);
+    assert!(rt; matches_on(&stream_core_of_one(&rt)?)?);
     Ok(())
+}
+
+// How many hits the core finds.
+fn hit_count<K: DroidCore>(core: &K) -> Result<usize, Fail> {
+    let results = core.match_binary_signatures(&mut Pieces::of(b"AB"))?;
+    Ok(results.hits().len())
+}
+
+// Whether the core hits its one format no more once it is removed, and no other removal counts.
+fn removes<K: DroidCore>(core: &mut K) -> Result<bool, Fail> {
+    let other = Puid::parse(b"fmt/9").ok_or("the text is a PUID")?;
+    let first = Puid::parse(b"fmt/1").ok_or("the text is a PUID")?;
+    let kept = !core.remove_signature_for_puid(&other) && hit_count(core)? == 1;
+    let removed = core.remove_signature_for_puid(&first) && hit_count(core)? == 0;
+    Ok(kept && removed && core.table().format_count() == 1)
 }
 
 #[test]
 fn a_removed_format_is_hit_no_more(rt: HostRuntime) -> Result<(), Fail> {
-    let mut core = core_of_one(&rt)?;
-    let other = Puid::parse(b"fmt/9").ok_or("the text is a PUID")?;
-    assert!(rt; !core.remove_signature_for_puid(&other));
-    assert_eq!(rt; core.match_bytes(b"AB")?.hits().len(), 1);
-    let first = Puid::parse(b"fmt/1").ok_or("the text is a PUID")?;
-    assert!(rt; core.remove_signature_for_puid(&first));
-    assert_eq!(rt; core.table().format_count(), 1);
-    assert_eq!(rt; core.match_bytes(b"AB")?.hits().len(), 0);
+    assert!(rt; removes(&mut core_of_one(&rt)?)?);
+    assert!(rt; removes(&mut stream_core_of_one(&rt)?)?);
+    Ok(())
+}
+
+#[test]
+fn a_lent_file_is_matched_as_one_that_is_read(rt: HostRuntime) -> Result<(), Fail> {
+    let whole = core_of_one(&rt)?;
+    let stream = stream_core_of_one(&rt)?;
+    for (file, hits) in [(b"AB".as_slice(), 1), (b"BA".as_slice(), 0)] {
+        assert_eq!(rt; whole.match_bytes(file)?.hits().len(), hits);
+        assert_eq!(rt; stream.match_bytes(file)?.hits().len(), hits);
+    }
     Ok(())
 }

@@ -5,7 +5,7 @@ use std::test::Fail;
 
 #[test]
 fn shows_help_and_the_version(rt: HostRuntime) -> Result<(), Fail> {
-    let texts: [(&[&str], &str); 7] = [
+    let texts: [(&[&str], &str); 9] = [
         (&["--help"], "Match files against tables of signatures\n"),
         (&["-h"], "Match files against tables of signatures\n"),
         (&["help"], "Match files against tables of signatures\n"),
@@ -14,7 +14,15 @@ fn shows_help_and_the_version(rt: HostRuntime) -> Result<(), Fail> {
             "Print the canonical files of a table\n",
         ),
         (&["match", "--help"], "Print the formats left for a file\n"),
+        (
+            &["find", "--help"],
+            "Find a certificate of a table, or a file that leaves two of its formats\n",
+        ),
         (&["check", "--help"], "Judge a certificate of a table\n"),
+        (
+            &["witness", "--help"],
+            "Tell whether a file leaves two formats of a table\n",
+        ),
         (&["--version"], "pronom_sig 0.1.0\n"),
     ];
     for (words, begin) in texts {
@@ -38,7 +46,7 @@ fn shows_help_and_the_version(rt: HostRuntime) -> Result<(), Fail> {
 
 #[test]
 fn refuses_wrong_words(rt: HostRuntime) -> Result<(), Fail> {
-    let faults: [(&[&str], &str); 8] = [
+    let faults: [(&[&str], &str); 9] = [
         (&[], "error: 'pronom_sig' requires a subcommand"),
         (&["look"], "error: unrecognized subcommand 'look'"),
         (
@@ -58,6 +66,10 @@ fn refuses_wrong_words(rt: HostRuntime) -> Result<(), Fail> {
             "error: the following required arguments were not provided:",
         ),
         (
+            &["witness", "a", "b"],
+            "error: the following required arguments were not provided:",
+        ),
+        (
             &["match", "a", "b", "c", "d"],
             "error: unexpected argument 'd' found",
         ),
@@ -69,6 +81,43 @@ fn refuses_wrong_words(rt: HostRuntime) -> Result<(), Fail> {
     for (words, begin) in faults {
         let shown = run_program(&rt, words)?;
         assert!(rt; shown.err.as_str().starts_with(begin), "{words:?}");
+        assert_eq!(rt; shown.out.as_str(), "", "{words:?}");
+        assert_eq!(rt; shown.status, 2, "{words:?}");
+    }
+    Ok(())
+}
+
+#[test]
+fn wants_a_budget_and_a_name(rt: HostRuntime) -> Result<(), Fail> {
+    let faults: [(&[&str], &str); 6] = [
+        (
+            &["find", "--out", "o", "a", "b"],
+            "error: the following required arguments were not provided:\n  --budget <N>\n",
+        ),
+        (
+            &["find", "--budget", "100", "a", "b"],
+            "error: the following required arguments were not provided:\n  --out <OUT>\n",
+        ),
+        (
+            &["find", "--budget", "0", "--out", "o", "a", "b"],
+            "error: invalid value '0' for '--budget <N>': 0 is not in 1..=4294967295\n",
+        ),
+        (
+            &["find", "--budget", "4294967296", "--out", "o", "a", "b"],
+            "error: invalid value '4294967296' for '--budget <N>': 4294967296 is not in 1..=4294967295\n",
+        ),
+        (
+            &["find", "--budget", "many", "--out", "o", "a", "b"],
+            "error: invalid value 'many' for '--budget <N>': invalid digit found in string\n",
+        ),
+        (
+            &["find", "--budget", "100", "--out", "o", "a"],
+            "error: the following required arguments were not provided:\n  <PRIOS>\n",
+        ),
+    ];
+    for (words, begin) in faults {
+        let shown = run_program(&rt, words)?;
+        assert!(rt; shown.err.as_str().starts_with(begin), "{shown:?}");
         assert_eq!(rt; shown.out.as_str(), "", "{words:?}");
         assert_eq!(rt; shown.status, 2, "{words:?}");
     }

@@ -1,11 +1,11 @@
 //! The worked rows: tables and files with their answers, worked out by hand. Every core answers each
-//! of them, from an input that gives one byte a read.
+//! of them, however the file is cut into pieces.
 
 use crate::match_engine::run_match;
 use crate::tests::streams::Pieces;
 use crate::tests::{PRIORITIES, SIGNATURES};
 use sig_bits::{FromRead, FromWrite};
-use sig_match::{DroidCore, WholeCore};
+use sig_match::{DroidCore, StreamCore, WholeCore};
 use sig_table::Table;
 use std::test::Fail;
 
@@ -126,6 +126,9 @@ const TABLES: [WorkedRow; 9] = [
     ),
 ];
 
+// How many bytes a read gives at most.
+const CUTS: [usize; 5] = [1, 2, 3, 7, usize::MAX];
+
 fn table_of(rt: &HostRuntime, rows: &str, pairs: &str) -> Result<Table, Fail> {
     let signatures = format!(in rt.alloc(); "{SIGNATURES}{rows}")?;
     let priorities = format!(in rt.alloc(); "{PRIORITIES}{pairs}")?;
@@ -135,14 +138,15 @@ fn table_of(rt: &HostRuntime, rows: &str, pairs: &str) -> Result<Table, Fail> {
     Ok(table)
 }
 
-// What `match` writes of a file.
+// What `match` writes of a file that comes in pieces of at most so many bytes.
 fn lines_of<K: DroidCore>(
     rt: &HostRuntime,
     core: &K,
     all: bool,
     file: &[u8],
+    most: usize,
 ) -> Result<String, Fail> {
-    let mut file = Pieces::of(file);
+    let mut file = Pieces::cut(file, most);
     let mut out = FromWrite::new(Vec::new(rt.alloc()));
     run_match(rt.alloc(), core, all, &mut file, &mut out)?;
     let lines = String::from_utf8(out.into_inner())?;
@@ -157,9 +161,14 @@ fn answers<K: DroidCore>(
     all: &str,
     left: &str,
 ) -> Result<bool, Fail> {
-    let hits = lines_of(rt, core, true, file)?;
-    let kept = lines_of(rt, core, false, file)?;
-    Ok(hits.as_str() == all && kept.as_str() == left)
+    for most in CUTS {
+        let hits = lines_of(rt, core, true, file, most)?;
+        let kept = lines_of(rt, core, false, file, most)?;
+        if hits.as_str() != all || kept.as_str() != left {
+            return Ok(false);
+        }
+    }
+    Ok(true)
 }
 
 #[test]
@@ -172,6 +181,21 @@ fn the_whole_core_answers_the_worked_rows(rt: HostRuntime) -> Result<(), Fail> {
     }
     for WorkedRow(rows, pairs, file, all, left) in TABLES {
         let core = WholeCore::new(rt.alloc(), table_of(&rt, rows, pairs)?);
+        assert!(rt; answers(&rt, &core, file, all, left)?, "{rows}{file:?}");
+    }
+    Ok(())
+}
+
+#[test]
+fn the_stream_core_answers_the_worked_rows(rt: HostRuntime) -> Result<(), Fail> {
+    for (sequences, file, hits) in ONE_SIGNATURE {
+        let rows = format!(in rt.alloc(); "fmt/1,1,{sequences}")?;
+        let core = StreamCore::new(rt.alloc(), table_of(&rt, rows.as_str(), "")?);
+        let lines = if hits { "fmt/1 1\n" } else { "" };
+        assert!(rt; answers(&rt, &core, file, lines, lines)?, "{rows}{file:?}");
+    }
+    for WorkedRow(rows, pairs, file, all, left) in TABLES {
+        let core = StreamCore::new(rt.alloc(), table_of(&rt, rows, pairs)?);
         assert!(rt; answers(&rt, &core, file, all, left)?, "{rows}{file:?}");
     }
     Ok(())

@@ -2,7 +2,7 @@
 
 use crate::bit_ranges::{any_between, shift_into};
 use crate::bit_sets::{and_any, clear, get_bit, or_into, set_bit, subset};
-use std::test::Fail;
+use std::alloc::Global;
 
 #[test]
 fn the_set_of_0_and_9_is_01_02(rt: HostRuntime) {
@@ -33,7 +33,7 @@ fn sets_are_joined_and_compared(rt: HostRuntime) {
     }
 }
 
-// 200 bits with no pattern that a byte, or a piece of 64 of them, would hide.
+// 200 bits with no pattern that a byte, or 32 of them, would hide.
 const BITS: [u8; 25] = [
     0x81, 0x00, 0xff, 0x12, 0x00, 0x00, 0x80, 0x01, 0x7e, 0x00, 0xc3, 0x5a, 0x00, 0x00, 0x00, 0x00,
     0x00, 0x10, 0x08, 0x00, 0x00, 0x00, 0x00, 0x00, 0x80,
@@ -83,33 +83,79 @@ fn a_range_has_a_bit_where_one_of_its_bits_is_set(rt: HostRuntime) {
     }
 }
 
-#[test]
-fn one_number_is_found_in_sets_of_every_length(rt: HostRuntime) -> Result<(), Fail> {
-    for len in [1, 15, 16, 17, 31, 32, 33, 63, 64, 65, 8_191, 8_192] {
-        for place in [0, len / 2, len - 1] {
-            let none = vec![in rt.alloc(); 0u8; len]?;
-            let mut some = vec![in rt.alloc(); 0u8; len]?;
-            if let Some(byte) = some.as_mut_slice().get_mut(place) {
-                *byte = 0x10;
-            }
-            assert_eq!(rt; some.len(), none.len());
-            assert!(rt; !and_any(some.as_slice(), none.as_slice()));
-            assert!(rt; and_any(some.as_slice(), some.as_slice()));
-            assert!(rt; subset(none.as_slice(), some.as_slice()));
-            assert!(rt; !subset(some.as_slice(), none.as_slice()));
-            let mut joined = vec![in rt.alloc(); 0u8; len]?;
-            assert_eq!(rt; joined.len(), some.len());
-            or_into(joined.as_mut_slice(), some.as_slice());
-            assert_eq!(rt; joined.as_slice(), some.as_slice());
+// What the kernels answer, byte by byte.
+fn have_common(a: &[u8], b: &[u8]) -> bool {
+    a.iter().zip(b).any(|(x, y)| *x & *y != 0)
+}
+
+fn is_within(a: &[u8], b: &[u8]) -> bool {
+    a.iter().zip(b).all(|(x, y)| *x & !*y == 0)
+}
+
+fn is_joined(joined: &[u8], a: &[u8], b: &[u8]) -> bool {
+    a.iter()
+        .zip(b)
+        .map(|(x, y)| *x | *y)
+        .eq(joined.iter().copied())
+}
+
+// Whether the kernels answer so of the two sets.
+fn kernels_agree(alloc: Global, a: &[u8], b: &[u8]) -> Option<bool> {
+    let mut joined = a.to_vec(alloc).ok()?;
+    if a.len() != b.len() || joined.len() != b.len() {
+        return None;
+    }
+    or_into(joined.as_mut_slice(), b);
+    Some(
+        and_any(a, b) == have_common(a, b)
+            && subset(a, b) == is_within(a, b)
+            && is_joined(joined.as_slice(), a, b),
+    )
+}
+
+// Whether they do where one set has one bit, in this byte, and the other has none, the same, another
+// one of that byte, or all.
+fn one_bit_agrees(alloc: Global, len: usize, place: usize) -> Option<bool> {
+    let none = vec![in alloc; 0x00; len].ok()?;
+    let all = vec![in alloc; 0xff; len].ok()?;
+    let mut one = vec![in alloc; 0x00; len].ok()?;
+    let mut other = vec![in alloc; 0x00; len].ok()?;
+    *one.as_mut_slice().get_mut(place)? = 0x10;
+    *other.as_mut_slice().get_mut(place)? = 0x80;
+    let (one, other) = (one.as_slice(), other.as_slice());
+    for set in [none.as_slice(), all.as_slice(), one, other] {
+        if !kernels_agree(alloc, one, set)? || !kernels_agree(alloc, set, one)? {
+            return Some(false);
         }
     }
-    assert!(rt; !and_any(&[], &[]));
-    assert!(rt; subset(&[], &[]));
-    Ok(())
+    Some(true)
 }
 
 #[test]
-fn sets_longer_than_a_piece_are_compared_to_their_end(rt: HostRuntime) {
+fn one_bit_is_found_in_each_byte_of_short_sets(rt: HostRuntime) {
+    for len in [1, 15, 16, 17, 31, 32, 33] {
+        for place in 0..len {
+            let agrees = one_bit_agrees(rt.alloc(), len, place);
+            assert_eq!(rt; agrees, Some(true), "{len} at {place}");
+        }
+    }
+    assert_eq!(rt; kernels_agree(rt.alloc(), &[], &[]), Some(true));
+    assert!(rt; !and_any(&[], &[]));
+    assert!(rt; subset(&[], &[]));
+}
+
+#[test]
+fn one_bit_is_found_in_long_sets(rt: HostRuntime) {
+    for len in [8_191, 8_192] {
+        for place in [0, len / 2 - 1, len / 2, len - 33, len - 32, len - 1] {
+            let agrees = one_bit_agrees(rt.alloc(), len, place);
+            assert_eq!(rt; agrees, Some(true), "{len} at {place}");
+        }
+    }
+}
+
+#[test]
+fn sets_longer_than_the_lanes_are_compared_to_their_end(rt: HostRuntime) {
     let mut last = [0x00; 200];
     set_bit(&mut last, 1599);
     let none = [0x00; 200];

@@ -1,10 +1,10 @@
-use Rattle.std.proofs.Common.{◌≡◌, ℕ, ◌-◌, ◌<◌, ◌≤◌, length}
-use Rattle.sig_bits.specs.Joined.{common_at}
+use Rattle.std.proofs.Common.{◌-◌, ◌≤◌, length}
+use Rattle.sig_bits.specs.Joined.{IsJoined, common_at}
 use Rattle.sig_bits.proofs.bit_sets.and_any.Given as goal
 
--- no byte so far has a bit in both
+-- nothing was found so far
 abbrev pub invariant-loop-from : goal.invariant-loop-from
-invariant-loop-from l = (l.from ≤ length l.a) × ((k : ℕ) → k < l.from → common_at l.a l.b k ≡ 0)
+invariant-loop-from l = (l.from ≤ length l.a) × IsJoined (common_at l.a l.b) 0 l.from 0
 
 abbrev pub decreases-loop-from : goal.decreases-loop-from
 decreases-loop-from l = length l.a - l.from

@@ -11,7 +11,7 @@ false_from_not b never = elim (cases_Bool b) [ inl t ↦ absurd (never t) | inr 
 pub pieces-preserved : goal.pieces-preserved
 pieces-preserved g c =
     let len : length c.deref_mut.result.now ≡ c.make_room.new.bytes.len = c.deref_mut.ensures.len in
-    let room : c.pieces.filled + 65536 ≤ c.make_room.new.bytes.len = c.in_ok-make_room.ensures.room in
+    let room : c.pieces.filled + 4096 ≤ c.make_room.new.bytes.len = c.in_ok-make_room.ensures.room in
     let at : length (take c.pieces.filled c.deref_mut.result.now) ≡ c.pieces.filled = length-take-le c.pieces.filled c.deref_mut.result.now (omega arith) in
     let front : take c.pieces.filled c.deref_mut.result.now ≡ take c.pieces.filled c.pieces.bytes.items = rw c.deref_mut.ensures.value c.in_ok-make_room.ensures.front in
     let within : c.in-Ok.n ≤ length c.read.new.buf = c.in-Ok.ensures.within in

@@ -1,4 +1,4 @@
-use Rattle.std.proofs.Common.{rules, ◌≡◌, ◌⊎◌, ℕ, ◌+◌, ◌<◌, ◌≤◌, List, [], ◌∷◌, ◌++◌, length, map, refl, sym, ap, ◌∙◌, subst, arith}
+use Rattle.std.proofs.Common.{◌≡◌, ℕ, ◌+◌, ◌<◌, ◌≤◌, List, ◌++◌, length, refl, sym, ap, ◌∙◌, subst, arith}
 use Rattle.std.specs.Prelude.{All}
 use Rattle.std.proofs.lemmas.List.Elements.{All-head, All-tail}
 use Rattle.std.proofs.lemmas.Result.{err_from_is_err_and}
@@ -7,8 +7,8 @@ use Rattle.sig_table.specs.Remaining.{remaining_of}
 use Rattle.sig_table.specs.declared.ids.SigId.{SigId}
 use Rattle.sig_cert.specs.Chains.{Chained, signatures_left, signatures_with}
 use Rattle.sig_cert.specs.Pairs.{signature_pairs}
-use Rattle.sig_cert.specs.Verdicts.{Judges, TablesJudged}
-use Rattle.sig_cert.proofs.ChainLemmas.{few_pairs, signatures_known, signatures_left-cons, signatures_with-cons, signatures_with-none, tables_go_on, tables_stop}
+use Rattle.sig_cert.specs.Verdicts.{TablesJudged}
+use Rattle.sig_cert.proofs.ChainLemmas.{few_pairs, signatures_known, signatures_left-cons, signatures_with-cons, signatures_with-none, some_ahead, some_numbers, tables_go_on, tables_stop}
 use Rattle.sig_cert.proofs.checker.judge_tables.Goals as goal
 
 pub loop-s-init : goal.loop-s-init
@@ -20,6 +20,7 @@ loop-s-init c =
       pair = refl;
       few = (let few = few_pairs table c.args.a.0 c.args.b.0 c.requires in omega (arith, few));
       known = signatures_known table c.args.a.0;
+      first = some_numbers (places_of c.args.a.0 0 table.signatures);
     })
 
 pub loop-t-init : goal.loop-t-init
@@ -32,6 +33,8 @@ loop-t-init c =
       pair = c.loop-s.invariant.pair;
       few = subst (λ (pairs : List (ℕ × ℕ)). c.loop-s.at.table + length pairs ≤ 16000000) is c.loop-s.invariant.few;
       known = subst (All (λ s. s.0 < length table.signatures)) (sym all) (signatures_known table c.args.b.0);
+      first = c.loop-s.invariant.first (some_ahead (remaining_of c.loop-s.s-iterator) (remaining_of c.next.new.self) c.in-Some.s c.in-Some.ensures.steps);
+      second = λ some. some_numbers (places_of c.args.b.0 0 table.signatures) (subst (λ (l : List SigId). 0 < length l) all some);
     }
 
 pub loop-s-preserved : goal.loop-s-preserved
@@ -44,6 +47,7 @@ loop-s-preserved c =
       pair = c.loop-t.invariant.pair;
       few = subst (λ (pairs : List (ℕ × ℕ)). c.loop-t.at.table + length pairs ≤ 16000000) is c.loop-t.invariant.few;
       known = All-tail (λ s. s.0 < length table.signatures) c.in-Some.s (remaining_of c.next.new.self) (subst (All (λ s. s.0 < length table.signatures)) c.in-Some.ensures.steps c.loop-s.invariant.known);
+      first = λ some. c.loop-t.invariant.first;
     }
 
 pub judge_table-requires-clause-first : goal.judge_table-requires-clause-first
@@ -54,8 +58,8 @@ pub judge_table-requires-clause-second : goal.judge_table-requires-clause-second
 judge_table-requires-clause-second c =
     All-head (λ s. s.0 < length c.args.table.now.signatures) c.in-Some-t.t (remaining_of c.next-in-loop-t.new.self) (subst (All (λ s. s.0 < length c.args.table.now.signatures)) c.in-Some-t.ensures.steps c.loop-t.invariant.known)
 
-pub returns-in_err-judge_table : goal.returns-in_err-judge_table
-returns-in_err-judge_table c =
+pub returns-in_err-judge_table-clause-judged : goal.returns-in_err-judge_table-clause-judged
+returns-in_err-judge_table-clause-judged c =
     let table = c.args.table.now in
     let left = signatures_left table c.args.b.0 (remaining_of c.next.new.self) in
     let is = signatures_with-cons c.in-Some.s.0 (remaining_of c.loop-t.t-iterator) (remaining_of c.next-in-loop-t.new.self) left c.in-Some-t.t c.in-Some-t.ensures.steps in
@@ -73,4 +77,12 @@ loop-t-preserved c =
       pair = c.loop-t.invariant.pair;
       few = (let long : length (signatures_with c.in-Some.s.0 (remaining_of c.loop-t.t-iterator) ++ left) ≡ length rest + 1 = ap length is ∙ omega arith in let few = c.loop-t.invariant.few in omega (arith, long, few));
       known = All-tail (λ s. s.0 < length table.signatures) c.in-Some-t.t (remaining_of c.next-in-loop-t.new.self) (subst (All (λ s. s.0 < length table.signatures)) c.in-Some-t.ensures.steps c.loop-t.invariant.known);
+      first = c.loop-t.invariant.first;
+      second = λ some. c.loop-t.invariant.second (some_ahead (remaining_of c.loop-t.t-iterator) (remaining_of c.next-in-loop-t.new.self) c.in-Some-t.t c.in-Some-t.ensures.steps);
     }
+
+pub returns-in_err-judge_table-clause-first : goal.returns-in_err-judge_table-clause-first
+returns-in_err-judge_table-clause-first c short = c.loop-t.invariant.first
+
+pub returns-in_err-judge_table-clause-second : goal.returns-in_err-judge_table-clause-second
+returns-in_err-judge_table-clause-second c short = c.loop-t.invariant.second (some_ahead (remaining_of c.loop-t.t-iterator) (remaining_of c.next-in-loop-t.new.self) c.in-Some-t.t c.in-Some-t.ensures.steps)

@@ -1,8 +1,8 @@
-use Rattle.std.proofs.Common.{◌≡◌, ℕ, ◌+◌, ◌<◌, ◌≤◌, ◌++◌, length, map}
+use Rattle.std.proofs.Common.{◌≡◌, ◌+◌, ◌<◌, ◌≤◌, ◌++◌, length}
 use Rattle.std.specs.Prelude.{All}
 use Rattle.sig_table.specs.Remaining.{remaining_of}
 use Rattle.sig_cert.specs.Chains.{signatures_with, signatures_left, Chained}
-use Rattle.sig_cert.specs.Pairs.{signature_pairs}
+use Rattle.sig_cert.specs.Pairs.{signature_pairs, signatures_of}
 use Rattle.sig_cert.specs.Verdicts.{TablesJudged}
 use Rattle.sig_cert.proofs.checker.judge_tables.Given as goal
 
@@ -12,6 +12,7 @@ invariant-loop-s l = record {
   pair : l.at.pair ≡ l.pair;
   few : l.at.table + length (signatures_left l.table l.b.0 (remaining_of l.s-iterator)) ≤ 16000000;
   known : All (λ s. s.0 < length l.table.signatures) (remaining_of l.s-iterator);
+  first : 0 < length (remaining_of l.s-iterator) → 0 < length (signatures_of l.table l.fn.a.0);
 }
 
 abbrev pub invariant-loop-t : goal.invariant-loop-t
@@ -20,4 +21,6 @@ invariant-loop-t l = record {
   pair : l.at.pair ≡ l.pair;
   few : l.at.table + length (signatures_with l.s.0 (remaining_of l.t-iterator) ++ signatures_left l.table l.b.0 (remaining_of l.s-iterator)) ≤ 16000000;
   known : All (λ s. s.0 < length l.table.signatures) (remaining_of l.t-iterator);
+  first : 0 < length (signatures_of l.table l.fn.a.0);
+  second : 0 < length (remaining_of l.t-iterator) → 0 < length (signatures_of l.table l.b.0);
 }

@@ -36,5 +36,5 @@ loop-pair-preserved c = grows _ _ _ _ c.loop-pair.pair-index _ _ _ _ _ c.priorit
 pub returns : goal.returns
 returns c =
     let all : c.loop-pair.lines ≡ priority_csv c.args.table.now =
-    whole c.args.table.now c.loop-pair.pair-index _ _ _ c.loop-pair.lines (omega (arith, ap length c.priorities-pair-items.ensures)) c.new.ensures c.in_ok-header.ensures.fields c.in_ok-lines.ensures c.loop-pair.invariant in
+    whole c.args.table.now c.loop-pair.pair-index _ _ _ c.loop-pair.lines (omega (arith, ap length c.priorities-pair-items.ensures)) c.in_ok-start.ensures c.in_ok-header.ensures.fields c.in_ok-lines.ensures c.loop-pair.invariant in
     rw (← all) c.into_text.ensures

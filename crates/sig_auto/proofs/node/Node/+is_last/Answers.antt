@@ -1,8 +1,39 @@
-use Rattle.std.proofs.Common.{sym, ◌∙◌}
-use Rattle.std.proofs.lemmas.Bool.{false≢true}
+use Rattle.std.proofs.Common.{◌≡◌, ◌+◌, ◌&&◌, true, false, subst, sym, ap, ◌∙◌}
+use Rattle.sig_auto.specs.Local.{is_last, is_nullable}
 use Rattle.sig_auto.specs.Seen.{seen}
-use Rattle.sig_auto.proofs.PruneLemmas.{ends_out}
+use Rattle.sig_auto.specs.TreeSlots.{slots_of}
+use Rattle.sig_auto.proofs.PruneLemmas.{or_ends_first, or_ends_second, then_ends_first, then_ends_second}
 use Rattle.sig_auto.proofs.node.Node.+is_last.Goals as goal
 
-pub returns-then-not-has_slot : goal.returns-then-not-has_slot
-returns-then-not-has_slot t c = ends_out (seen c.args.self.now) c.args.before c.args.p (λ slot. let yes = c.has_slot.ensures.1 slot in absurd (false≢true (sym c.if-not-has_slot.true ∙ yes)))
+pub returns-then-is_last : goal.returns-then-is_last
+returns-then-is_last t c =
+    let many : c.slots-in-Then.result ≡ slots_of (seen c.in-Then.a.value) = c.slots-in-Then.ensures ∙ ap (λ node. slots_of (seen node)) c.deref.ensures in
+    let ended : is_last (seen c.in-Then.a.value) c.args.before c.args.p ≡ true = sym (c.is_last.ensures ∙ ap (λ node. is_last (seen node) c.args.before c.args.p) c.deref-then-p-between.ensures) ∙ c.if-is_last.true in
+    let skipped : c.is_nullable.result ≡ is_nullable (seen c.in-Then.b.value) = c.is_nullable.ensures ∙ ap (λ node. is_nullable (seen node)) c.deref-then-is_last.ensures in
+    skipped ∙ subst (λ x. (x && is_nullable (seen c.in-Then.b.value)) ≡ is_last (seen c.args.self.now) c.args.before c.args.p) ended
+    (then_ends_first (seen c.args.self.now) (seen c.in-Then.a.value) (seen c.in-Then.b.value) c.args.before c.slots-in-Then.result c.args.p (ap seen c.in-Then.is) many c.if-p-between.true)
+
+pub returns-else-is_last : goal.returns-else-is_last
+returns-else-is_last t c =
+    let many : c.slots-in-Then.result ≡ slots_of (seen c.in-Then.a.value) = c.slots-in-Then.ensures ∙ ap (λ node. slots_of (seen node)) c.deref.ensures in
+    let stays : is_last (seen c.in-Then.a.value) c.args.before c.args.p ≡ false = sym (c.is_last.ensures ∙ ap (λ node. is_last (seen node) c.args.before c.args.p) c.deref-then-p-between.ensures) ∙ c.if-is_last.false in
+    c.if-is_last.false ∙ subst (λ x. (x && is_nullable (seen c.in-Then.b.value)) ≡ is_last (seen c.args.self.now) c.args.before c.args.p) stays
+    (then_ends_first (seen c.args.self.now) (seen c.in-Then.a.value) (seen c.in-Then.b.value) c.args.before c.slots-in-Then.result c.args.p (ap seen c.in-Then.is) many c.if-p-between.true)
+
+pub returns-else-p-between : goal.returns-else-p-between
+returns-else-p-between t c =
+    let many : c.slots-in-Then.result ≡ slots_of (seen c.in-Then.a.value) = c.slots-in-Then.ensures ∙ ap (λ node. slots_of (seen node)) c.deref.ensures in
+    c.is_last-else-p-between.ensures ∙ ap (λ node. is_last (seen node) (c.args.before + c.slots-in-Then.result) c.args.p) c.deref-else-p-between.ensures
+    ∙ then_ends_second (seen c.args.self.now) (seen c.in-Then.a.value) (seen c.in-Then.b.value) c.args.before c.slots-in-Then.result c.args.p (ap seen c.in-Then.is) many c.if-p-between.false
+
+pub returns-then-p-between-2 : goal.returns-then-p-between-2
+returns-then-p-between-2 t c =
+    let many : c.slots-in-Or.result ≡ slots_of (seen c.in-Or.a.value) = c.slots-in-Or.ensures ∙ ap (λ node. slots_of (seen node)) c.deref-in-Or.ensures in
+    c.is_last-then-p-between-2.ensures ∙ ap (λ node. is_last (seen node) c.args.before c.args.p) c.deref-then-p-between-2.ensures
+    ∙ or_ends_first (seen c.args.self.now) (seen c.in-Or.a.value) (seen c.in-Or.b.value) c.args.before c.slots-in-Or.result c.args.p (ap seen c.in-Or.is) many c.if-p-between-2.true
+
+pub returns-else-p-between-2 : goal.returns-else-p-between-2
+returns-else-p-between-2 t c =
+    let many : c.slots-in-Or.result ≡ slots_of (seen c.in-Or.a.value) = c.slots-in-Or.ensures ∙ ap (λ node. slots_of (seen node)) c.deref-in-Or.ensures in
+    c.is_last-else-p-between-2.ensures ∙ ap (λ node. is_last (seen node) (c.args.before + c.slots-in-Or.result) c.args.p) c.deref-else-p-between-2.ensures
+    ∙ or_ends_second (seen c.args.self.now) (seen c.in-Or.a.value) (seen c.in-Or.b.value) c.args.before c.slots-in-Or.result c.args.p (ap seen c.in-Or.is) many c.if-p-between-2.false

@@ -1,13 +1,13 @@
 use Rattle.std.proofs.Common.{◌≡◌, ◌<◌, ◌≤◌, refl, arith, inl, inr, ⊎_elim}
 use Rattle.std.proofs.lemmas.Bool.{cases_eq}
 use Rattle.sig_bits.specs.ByteClasses.{Holds}
-use Rattle.sig_bits.proofs.BitLemmas.{no_bit_in_zeros}
+use Rattle.sig_bits.proofs.BitLemmas.{zeros_have_no_bit}
 use Rattle.sig_bits.proofs.byte_class.ByteClass.range.Goals as goal
 
 pub loop-b-init : goal.loop-b-init
 loop-b-init c = record {
   room = refl;
-  set = λ j. (λ h. absurd (no_bit_in_zeros 32 j h), λ (h : (c.args.first ≤ j) × (j < c.args.first) × (j ≤ c.args.last)). absurd (omega arith));
+  set = λ j. (λ h. absurd (zeros_have_no_bit 32 j h), λ (h : (c.args.first ≤ j) × (j < c.args.first) × (j ≤ c.args.last)). absurd (omega arith));
 }
 
 pub returns : goal.returns

@@ -1,0 +1,17 @@
+-- The lemmas of this crate.
+mod AllBlockerLemmas
+mod ByteLemmas
+mod ExpandLemmas
+mod FoundLemmas
+mod FrontierLemmas
+mod HitLemmas
+mod KeptLemmas
+mod KeyLemmas
+mod LeavingLemmas
+mod OrderLemmas
+mod PlaceLemmas
+mod ProjectionLemmas
+mod RisingLemmas
+mod RoundLemmas
+mod SearchLemmas
+mod WrittenLemmas

@@ -1,0 +1,11 @@
+-- What a reader must trust: what the finder answers of a table, and of the rows of one product.
+pub mod Finding
+pub mod Searches
+pub mod Unblocked
+pub mod Answers
+-- The vocabulary of proofs.
+pub mod Kept
+pub mod Frontiers
+pub mod Judgements
+pub mod Rounds
+pub mod Written

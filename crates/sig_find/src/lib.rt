@@ -1,0 +1,27 @@
+//! The finder: a certificate that a table never leaves two formats for one file, or a shortest file
+//! for which it does.
+//!
+//! What it answers is `specs/Finding.antt`; what a search over the rows of one product finds,
+//! `specs/Searches.antt`.
+#![tactic(auto)]
+
+mod decision;
+mod finder;
+mod found;
+mod frontier;
+mod kept;
+mod laws;
+mod search;
+#[cfg(test)]
+mod search_tests;
+#[cfg(test)]
+mod tests;
+mod writer;
+
+pub use decision::{Decision, decide_product};
+pub use finder::find;
+pub use found::Found;
+pub use laws::{
+    bad_rows_are_unblocked, formats_left_leave_pair, pair_left_leaves_formats,
+    rows_over_some_are_over_all, unblocked_files_lead_to_bad_rows,
+};

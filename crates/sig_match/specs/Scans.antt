@@ -1,0 +1,31 @@
+-- Scans: the states of each sequence of a table after the bytes so far.
+use Rattle.std.specs.Prelude.{◌≡◌, ℕ, List}
+use Rattle.std.specs.List.{AllZip}
+use Rattle.sig_auto.specs.Runs.{IsSetOf}
+use Rattle.sig_auto.specs.Trees.{whole_tree}
+use Rattle.sig_bits.specs.Bytes.{IsBytes}
+use Rattle.sig_table.specs.Views.{SequenceView, SignatureView, TableView}
+
+-- a sequence, and its current set of states
+pub record SequenceScanView : Type 0 where
+  pub sequence : SequenceView
+  pub set : List ℕ
+
+-- a table, and for each of its signatures its sequences with their current sets
+pub record ScanView : Type 0 where
+  pub table : TableView
+  pub signatures : List (List SequenceScanView)
+
+-- the current set of the sequence is that of the states in which runs of the file end
+pub record IsSequenceScanOf (file : List ℕ) (sequence : SequenceView) (scan : SequenceScanView) : Type 0 where
+  pub sequence_is : scan.sequence ≡ sequence
+  pub set_is : IsSetOf (whole_tree sequence) scan.set file
+
+-- so for each sequence of the signature
+abbrev pub IsSignatureScanOf : List ℕ → SignatureView → List SequenceScanView → Type 0
+IsSignatureScanOf file signature scans = AllZip (IsSequenceScanOf file) signature.sequences scans
+
+-- the scan is of the file: the current set of each sequence of its table is that of the states in which runs of the file end
+pub record IsScanOf (scan : ScanView) (file : List ℕ) : Type 0 where
+  pub bytes : IsBytes file
+  pub each : AllZip (IsSignatureScanOf file) scan.table.signatures scan.signatures

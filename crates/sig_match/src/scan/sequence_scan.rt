@@ -1,0 +1,92 @@
+//! One sequence of a scan: its automaton, and the states that it can be in.
+
+ghost use Rattle.std.specs.Prelude.{◌≡◌, ◌↔◌, ◌++◌, ℕ, [], List, IfOk, IsTrue};
+ghost use Rattle.sig_bits.specs.BitSets.{HasBit};
+ghost use Rattle.sig_bits.specs.Bytes.{IsBytes};
+ghost use Rattle.sig_match.specs.Scans.{IsSequenceScanOf};
+ghost use Rattle.sig_table.specs.Standing.{Stands};
+ghost use Rattle.sig_table.specs.Tables.{IsSequence};
+ghost use Rattle.sig_table.specs.Views.{SequenceView};
+
+use sig_auto::Auto;
+use sig_bits::and_any;
+use sig_table::Sequence;
+use std::alloc::{AllocError, Global};
+use std::marker::Model;
+use std::mem;
+
+// After how many bytes it is asked whether a state is left.
+const BLOCK: usize = 64;
+
+// The second set has the room of the next one.
+#[derive(Debug, Drop)]
+pub(crate) struct SequenceScan {
+    auto: Auto,
+    set: Vec<u8>,
+    next: Vec<u8>,
+}
+
+impl Model for SequenceScan {
+    ghost use Rattle.std.specs.Prelude.{◌≡◌, length};
+    ghost use Rattle.sig_auto.specs.Trees.{whole_tree};
+    ghost use Rattle.sig_auto.specs.TreeSlots.{set_len};
+    ghost use Rattle.sig_match.specs.Scans.{SequenceScanView};
+
+    ghost Value = { SequenceScanView };
+
+    ghost view = { λ s. record { sequence = s.auto; set = s.set.items } };
+
+    ghost invariant = { λ s. (length s.set.items ≡ set_len (whole_tree s.auto)) × (length s.next.items ≡ set_len (whole_tree s.auto)) };
+}
+
+impl SequenceScan {
+    // At the start of a file.
+    pub(crate) fn of(alloc: Global, sequence: &Sequence) -> Result<SequenceScan, AllocError>
+        ensures { IfOk result (IsSequenceScanOf [] sequence.now) }
+    {
+        let auto = Auto::of(alloc, sequence)?;
+        let mut set = vec![in alloc; 0; auto.set_len()]?;
+        let next = vec![in alloc; 0; auto.set_len()]?;
+        auto.start_set(&mut set);
+        Ok(SequenceScan { auto, set, next })
+    }
+
+    // Goes on by the piece. Once no state is left, the rest of it is passed over.
+    pub(crate) fn feed(&mut self, piece: &[u8])
+        ensures { (file : List ℕ) (s : SequenceView) → IsSequenceScanOf file s self.old → IsSequenceScanOf (file ++ piece.now) s self.new }
+    {
+        let mut from = 0;
+        while from < piece.len() {
+            if self.is_dead() {
+                return;
+            }
+            let to = from + BLOCK.min(piece.len() - from);
+            self.step_all(&piece[from..to]);
+            from = to;
+        }
+    }
+
+    // Whether no state is left. None comes back then, whatever follows.
+    fn is_dead(&self) -> bool
+        ensures { IsTrue result ↔ ((q : ℕ) → ¬ HasBit self.now.set q) }
+    {
+        !and_any(&self.set, &self.set)
+    }
+
+    // Goes on byte by byte.
+    fn step_all(&mut self, bytes: &[u8])
+        ensures { (file : List ℕ) (s : SequenceView) → IsSequenceScanOf file s self.old → IsSequenceScanOf (file ++ bytes.now) s self.new }
+    {
+        for byte in bytes {
+            self.auto.step_set(&self.set, *byte, &mut self.next);
+            mem::swap(&mut self.set, &mut self.next);
+        }
+    }
+
+    // Whether the sequence stands in the file, if it ends here.
+    pub(crate) fn stands(&self) -> bool
+        ensures { (file : List ℕ) (s : SequenceView) → IsSequence s → IsBytes file → IsSequenceScanOf file s self.now → (IsTrue result ↔ Stands s file) }
+    {
+        self.auto.any_accepting(&self.set)
+    }
+}
