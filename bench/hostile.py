@@ -1,0 +1,513 @@
+#!/usr/bin/env python3
+"""Hostile certificates, tables, files and words, against the built program.
+
+    python3 bench/hostile.py PROGRAM [SECONDS] [SEED]
+
+First come certificates that were made by hand, each with the line that it must get; then cases from a
+fixed seed, until SECONDS (60) are over: certificates, tables and files that are changed, cut, joined and
+grown, and command lines that are mixed up. Each case starts the program anew. It finds an end by a
+signal, a run without end, a status above 3, a fault that is not one line on standard error with nothing
+on standard output, other output that the page on formats does not know, and verdicts, formats left and
+results of a search that differ from those of `plain_check.py`, `page_check.py` and `plain_find.py`.
+
+It prints counts. At the first failure it says what failed and where its files are, and ends with 1.
+"""
+import os
+import random
+import re
+import shutil
+import subprocess
+import sys
+import tempfile
+import time
+
+sys.dont_write_bytecode = True
+sys.path.insert(0, os.path.dirname(os.path.abspath(__file__)))
+
+import page_check
+import plain_check
+import plain_find
+from compare import changes, guessed, random_rows
+from tables import HEADER
+
+TABLE_FILES = ("signatures.csv", "priorities.csv")
+EXAMPLES = os.path.join(os.path.dirname(os.path.abspath(__file__)), "..", "examples")
+PAIRS = "higher,lower\n"
+LONGEST = 60  # seconds that a run may take
+PUID = r"(x-)?fmt/[1-9]\d{0,8}"
+# What each subcommand may print, by its status.
+SAID = {
+    "match": {0: rf"({PUID} [1-9]\d*\n)*"},
+    "show": {0: rf"{HEADER}(.*\n)*\n{PAIRS}({PUID},{PUID}\n)*"},
+    "witness": {0: rf"ambiguous {PUID} {PUID}\n", 1: r"not ambiguous\n"},
+    "check": {0: r"accepted\n", 1: r"refused C([1-9]|1[0-2]) [^\n]+\n"},
+    "find": {0: rf"(decided|witness {PUID} {PUID})\n([0-9a-f]*\n)?", 1: r"gave up [1-9]\d* [1-9]\d*\n"},
+}
+FAULTS = {
+    2: r"signatures: L2 header\n|priorities: L2 header\n|(signatures|priorities) row [1-9]\d*: L([3-9]|1[0-57]) [^\n]+\n",
+    3: r"cannot open [^\n]*\n|read failed\n",
+}
+
+
+# ---- certificates made by hand
+
+TWO = (HEADER + "fmt/1,1,BOF,0,,4142\nfmt/2,2,BOF,0,,4143\n", PAIRS)
+BLOCKED = (HEADER + "fmt/1,1,BOF,0,,41??\nfmt/2,2,BOF,0,,??42\nfmt/3,3,BOF,0,,4142\n", PAIRS + "fmt/3,fmt/1\nfmt/3,fmt/2\n")
+ONE_PAIR, THREE_PAIRS = "50534143 01 00000001 ", "50534143 01 00000003 "
+OF_TWO = ONE_PAIR + "01 0000 00000002 00000000 00010001"
+ROWS = "0000000001 0001000102 0002000204 0003000308 "
+OF_BLOCKED = THREE_PAIRS + "01 0001 00000002 00000004 " + ROWS + "00 00"
+EMPTY_SETS = "01 0001 00000002 00000003 0000000000 0001000100 0002000200 00 00"
+TABLE = "pair 0 table 0"
+
+BY_HAND = [
+    # the two certificates that the others are made of
+    (TWO, OF_TWO, "accepted"),
+    (BLOCKED, OF_BLOCKED, "accepted"),
+    # row counts whose product with the width is past 32 bits, or a small number of them
+    (TWO, ONE_PAIR + "01 0000 40000000 00000000 00010001", "refused C12 truncated"),
+    (TWO, ONE_PAIR + "01 0000 80000001 00000000 00010001", "refused C12 truncated"),
+    (BLOCKED, THREE_PAIRS + "01 0001 00000002 33333334 " + ROWS + "00 00", "refused C12 truncated"),
+    (BLOCKED, THREE_PAIRS + "01 0001 00000002 FFFFFFFF " + ROWS + "00 00", "refused C12 truncated"),
+    # fewer rows than there are: the rest is judged as what follows
+    (TWO, ONE_PAIR + "01 0000 00000000 00000000 00010001", f"refused C8 no start {TABLE}"),
+    (BLOCKED, THREE_PAIRS + "01 0001 00000002 00000001 " + ROWS + "00 00", f"refused C10 not closed {TABLE} row 0 byte 41"),
+    # blockers: no signature, twice the same, falling, over neither, more than there are
+    (BLOCKED, THREE_PAIRS + "01 0001 FFFFFFFF 00000004 " + ROWS + "00 00", f"refused C5 blockers {TABLE}"),
+    (BLOCKED, THREE_PAIRS + "01 0001 00000003 00000004 " + ROWS + "00 00", f"refused C5 blockers {TABLE}"),
+    (BLOCKED, THREE_PAIRS + "01 0002 00000002 00000002 00000004 " + ROWS, f"refused C5 blockers {TABLE}"),
+    (BLOCKED, THREE_PAIRS + "01 0002 00000002 00000001 00000004 " + ROWS, f"refused C5 blockers {TABLE}"),
+    (BLOCKED, THREE_PAIRS + "01 0001 00000000 00000004 " + ROWS + "00 00", f"refused C5 blockers {TABLE}"),
+    (BLOCKED, THREE_PAIRS + "01 0040 00000002 00000004 " + ROWS + "00 00", f"refused C5 blockers {TABLE}"),
+    (BLOCKED, THREE_PAIRS + "01 FFFF 00000002 00000004 " + ROWS + "00 00", f"refused C5 blockers {TABLE}"),
+    (BLOCKED, THREE_PAIRS + "01 0040 00000002", "refused C12 truncated"),
+    # kinds: no kind, and the wrong one of each pair
+    (TWO, ONE_PAIR + "02 0000 00000002 00000000 00010001", "refused C4 kind pair 0"),
+    (TWO, ONE_PAIR + "00", "refused C4 kind pair 0"),
+    (BLOCKED, THREE_PAIRS + "00 00 00", "refused C4 kind pair 0"),
+    (BLOCKED, THREE_PAIRS + "01 0001 00000002 00000004 " + ROWS + "01 00", "refused C4 kind pair 1"),
+    (BLOCKED, THREE_PAIRS + "01 0001 00000002 00000004 " + ROWS + "00 FF", "refused C4 kind pair 2"),
+    # counts of pairs
+    (TWO, "50534143 01 FFFFFFFF", "refused C3 pair count"),
+    (TWO, "50534143 02 00000000", "refused C3 pair count"),
+    (BLOCKED, OF_TWO, "refused C3 pair count"),
+    # two faults: the first in the order of judging is told
+    (TWO, "50534144 03 00000002", "refused C1 magic"),
+    (TWO, "50534143 03 000000", "refused C2 version"),
+    (TWO, ONE_PAIR + "01 0000 00000003 00010001 00000000 00040000", f"refused C6 row form {TABLE} row 2"),
+    (TWO, ONE_PAIR + "01 0000 00000002 00020002 00010001", f"refused C7 row order {TABLE} row 1"),
+    (TWO, ONE_PAIR + "01 0000 00000001 00020002", f"refused C8 no start {TABLE}"),
+    (TWO, ONE_PAIR + "01 0000 00000002 00000000 00020002", f"refused C9 bad {TABLE} row 1"),
+    (TWO, ONE_PAIR + "01 0000 00000001 00000000 00", f"refused C10 not closed {TABLE} row 0 byte 41"),
+    # rows of other forms
+    (TWO, ONE_PAIR + "01 0000 00000002 00000000 0000FFFF", f"refused C6 row form {TABLE} row 1"),
+    (BLOCKED, THREE_PAIRS + "01 0001 00000002 00000004 0000000001 0001000102 0002000204 0003000318 00 00", f"refused C6 row form {TABLE} row 3"),
+    # sets that are too small cover the start, and do not block
+    (BLOCKED, THREE_PAIRS.replace(" 01 ", " 02 ") + EMPTY_SETS, f"refused C9 bad {TABLE} row 2"),
+    (BLOCKED, THREE_PAIRS + EMPTY_SETS, f"refused C8 no start {TABLE}"),
+    # two certificates, less than a field, nothing
+    (BLOCKED, OF_BLOCKED + OF_BLOCKED, "refused C11 trailing"),
+    (TWO, OF_TWO + "00" * 4096, "refused C11 trailing"),
+    (TWO, "50534143", "refused C12 truncated"),
+    (TWO, "505341", "refused C12 truncated"),
+    (TWO, "41424344", "refused C1 magic"),
+    (TWO, "", "refused C12 truncated"),
+]
+
+
+# ---- what cases are made of
+
+# Pieces that mean something in a table, in a certificate, or on the command line.
+WORDS = [b"*", b"??", b"{1}", b"{0-1}", b"{3-*}", b"{0-65535}", b"{65536}", b"{65534}", b"{2-1}", b"{0}", b"[41:5A]",
+         b"[!41]", b"[4142:4241]", b"[!0000:FFFE]", b"[!00:FF]", b"[42:41]", b"[41:4142]", b"(41|4142)", b"(41|[43:44]45)",
+         b"(41)", b"41", b"4", b"G", b",", b",,", b"\n", b"\r", b"\r\n", b"\"", b"\"\"", b"|", b"0", b"1", b"65535", b"65536",
+         b"BOF", b"EOF", b"Variable", b"bof", b"fmt/1", b"fmt/2", b"x-fmt/1", b"fmt/0", b"fmt/9999999999", b"fmt/1,fmt/2\n",
+         b"fmt/2,fmt/1\n", b"fmt/1,1,BOF,0,,41\n", b"fmt/9,9,Variable,,,4142\n", b"\xef\xbb\xbf", b"\0", b"\xff", b" ", b"#"]
+NUMBERS = [bytes(4), b"\0\0\0\1", b"\0\0\0\2", b"\xff" * 4, b"\x7f\xff\xff\xff", b"\x80\0\0\0", b"\0\1", b"\0\x40", b"\0\x41",
+           b"\xff\xff", b"\0", b"\1", b"\2", b"PSAC"]
+
+
+def piece(chance, data):
+    """Some part of the bytes."""
+    length = min(len(data), chance.choice([1, 1, 2, 4, 5, 8, 16, 64]))
+    at = chance.randrange(len(data) - length + 1)
+    return data[at:at + length]
+
+
+def changed(chance, data, words, others):
+    """The bytes with one change: a byte, a bit, a cut, a part out, twice, often, a word in, joined with others."""
+    at, part, kind = chance.randrange(len(data) + 1), piece(chance, data), chance.randrange(10)
+    if kind == 0:
+        return data[:at] + bytes([chance.randrange(256)]) + data[at + 1:]
+    if kind == 1 and at < len(data):
+        return data[:at] + bytes([data[at] ^ 1 << chance.randrange(8)]) + data[at + 1:]
+    if kind == 2:
+        return data[:at] if chance.random() < 0.5 else data[at:]
+    if kind == 3:
+        return data[:at] + data[at + len(part):]
+    if kind == 4:
+        return data[:at] + part + data[at:]
+    if kind == 5:
+        return data[:at] + part * chance.choice([2, 3, 9, 65, 300]) + data[at:]
+    if kind == 6:
+        return data[:at] + chance.choice(others) + data[at:]
+    if kind == 7:
+        word = chance.choice(words)
+        return data[:at] + word + data[at + len(word):]
+    return data[:at] + chance.choice(words) + data[at:]
+
+
+def many(chance, data, words, others):
+    """One to four changes."""
+    for _ in range(chance.choice([1, 1, 1, 2, 4])):
+        data = changed(chance, data, words, others)
+    return data
+
+
+def changed_row(chance, text, others):
+    """The table file with one change within one of its fields, so that most tables load still."""
+    lines = text.split(b"\n")
+    at = chance.randrange(1, len(lines)) if len(lines) > 2 else 0
+    fields = lines[at].split(b",")
+    place = chance.randrange(len(fields))
+    fields[place] = changed(chance, fields[place], WORDS, others)
+    return b"\n".join(lines[:at] + [b",".join(fields)] + lines[at + 1:])
+
+
+class Seed:
+    """A table that loads, and certificates for it or of its form."""
+
+    def __init__(self, signatures, priorities):
+        self.signatures, self.priorities = signatures.encode(), priorities.encode()
+        rows, pairs = ([line.split(",") for line in text.splitlines()[1:]] for text in (signatures, priorities))
+        self.table = plain_check.table_of(rows, pairs)
+        found = [plain_find.find(self.table, 300, version) for version in (1, 2)]
+        self.certificates = [data for said, data in found if said == "decided"] or [guessed(self.table)]
+
+
+def random_seed(chance):
+    rows, pairs = random_rows(chance)
+    return Seed(HEADER + "".join(",".join(row) + "\n" for row in rows), PAIRS + "".join(",".join(pair) + "\n" for pair in pairs))
+
+
+def example(name, signatures="signatures.csv", priorities="priorities.csv"):
+    def text(file):
+        with open(os.path.join(EXAMPLES, name, file)) as f:
+            return f.read()
+    return Seed(text(signatures), text(priorities))
+
+
+def common():
+    """The two files of the large example, as bytes."""
+    for file in TABLE_FILES:
+        with open(os.path.join(EXAMPLES, "common", file), "rb") as f:
+            yield f.read()
+
+
+def samples():
+    folder = os.path.join(EXAMPLES, "common", "samples")
+    for name in sorted(os.listdir(folder)):
+        with open(os.path.join(folder, name), "rb") as f:
+            yield f.read()
+
+
+# ---- runs
+
+class Failed(Exception):
+    """What the program did and must not do."""
+
+
+class Runs:
+    def __init__(self, program, folder):
+        self.program, self.folder, self.counts, self.runs, self.slowest = program, folder, {}, 0, (0, "")
+
+    def put(self, name, data):
+        with open(os.path.join(self.folder, name), "wb") as f:
+            f.write(data)
+
+    def read(self, name):
+        with open(os.path.join(self.folder, name), "rb") as f:
+            return f.read()
+
+    def clear(self, name):
+        if os.path.exists(os.path.join(self.folder, name)):
+            os.remove(os.path.join(self.folder, name))
+
+    def run(self, *words):
+        """The status, the output and the error output, once they are found to be of a specified form."""
+        begin = time.monotonic()
+        try:
+            done = subprocess.run([self.program, *words], cwd=self.folder, capture_output=True, timeout=LONGEST)
+        except subprocess.TimeoutExpired:
+            raise Failed(f"{words}: no end in {LONGEST} seconds")
+        self.runs += 1
+        self.slowest = max(self.slowest, (time.monotonic() - begin, " ".join(map(str, words))))
+        answer = done.returncode, done.stdout.decode("latin-1"), done.stderr.decode("latin-1")
+        broken = broken_rule(words, *answer)
+        if broken:
+            raise Failed(f"{words}: {broken}: {answer}")
+        return answer
+
+    def count(self, kind, said):
+        self.counts[kind, said] = self.counts.get((kind, said), 0) + 1
+
+
+def broken_rule(words, status, out, err):
+    """The rule that an answer breaks, or None."""
+    if status < 0:
+        return f"ended by the signal {-status}"
+    if status > 3:
+        return "a status that is not specified"
+    said = SAID.get(words[0], {}).get(status) if words else None
+    if err == "" and said and re.fullmatch(said, out):
+        return None
+    if out != "":
+        return "an output that is not specified"
+    if status in FAULTS and re.fullmatch(FAULTS[status], err):
+        return None
+    return "a fault that is not one line of a specified form"
+
+
+def named(answer):
+    """What an answer is counted as."""
+    status, out, err = answer
+    words = (out or err).split()
+    if status in (2, 3):
+        return re.sub(r" row \d+", "", err).split("\n")[0][:28] if "L" in err else " ".join(words[:2])
+    return " ".join(words[:2]) if words and words[0] in ("refused", "not", "gave") else (words or ["nothing"])[0].split("/")[0]
+
+
+# ---- cases
+
+def is_plain(signatures):
+    """Whether the plain programs can be asked of the table: it is small, and so are its gaps."""
+    return len(signatures) < 3000 and not re.search(rb"\d{4}", re.sub(rb"[0-9A-Fa-f]{2}(?=[0-9A-Fa-f:|)\]\n])", b"", signatures))
+
+
+def judged(runs, kind, signatures, priorities, certificate):
+    """`check`; where the table loads, the plain checkers have the same verdict."""
+    runs.put("certificate", certificate)
+    answer = runs.run("check", *TABLE_FILES, "certificate")
+    runs.count(kind, named(answer))
+    if answer[0] < 2 and is_plain(signatures) and len(certificate) < 20_000:
+        paths = [os.path.join(runs.folder, name) for name in TABLE_FILES]
+        plain = plain_check.check(plain_check.read_table(*paths), certificate)
+        page = page_check.verdict(signatures, priorities, certificate)
+        if not answer[1] == plain + "\n" == page + "\n":
+            raise Failed(f"check says {answer[1]!r}, the plain checkers {plain!r} and {page!r}")
+        runs.count("verdicts of three checkers that agree", "")
+
+
+def matched(runs, kind, signatures, file, wants_plain=True):
+    """`match`, `match --all` and `witness` agree, and with the plain formats left."""
+    runs.put("file", file)
+    left = runs.run("match", *TABLE_FILES, "file")
+    every = runs.run("match", "--all", *TABLE_FILES, "file")
+    asked = runs.run("witness", *TABLE_FILES, "file")
+    runs.count(kind, named(left))
+    if left[0] > 1:
+        if not left == every == asked:
+            raise Failed(f"three faults of one table: {left} {every} {asked}")
+        return
+    lines = left[1].splitlines()
+    wanted = "ambiguous " + " ".join(line.split()[0] for line in lines[:2]) if len(lines) > 1 else "not ambiguous"
+    if asked[1] != wanted + "\n" or not set(lines) <= set(every[1].splitlines()) or bool(every[1]) != bool(lines):
+        raise Failed(f"match, match --all and witness differ: {left} {every} {asked}")
+    if wants_plain and is_plain(signatures) and len(file) < 300:
+        table = plain_check.read_table(*(os.path.join(runs.folder, name) for name in TABLE_FILES))
+        plain = [table.puids[i] for i in plain_find.left(table, file)]
+        if [line.split()[0] for line in lines] != plain:
+            raise Failed(f"match leaves {lines}, the plain formats left are {plain}")
+        runs.count("formats left that agree with the plain ones", "")
+
+
+def searched(runs, kind, signatures, budget):
+    """`find`; what it writes is a closed certificate, or a file that leaves the two formats."""
+    runs.clear("out")
+    answer = runs.run("find", "--budget", str(budget), "--out", "out", *TABLE_FILES)
+    runs.count(kind, named(answer))
+    if answer[0] > 0:
+        if os.path.exists(os.path.join(runs.folder, "out")):
+            raise Failed(f"find wrote OUT with {answer}")
+        return
+    if answer[1] == "decided\n":
+        if runs.run("check", *TABLE_FILES, "out")[1] != "accepted\n":
+            raise Failed("check refuses what find wrote")
+        if is_plain(signatures):
+            judged(runs, "certificates that find wrote", signatures, runs.read("priorities.csv"), runs.read("out"))
+        return
+    lines = runs.run("match", *TABLE_FILES, "out")[1].splitlines()
+    if not set(answer[1].split()[1:]) <= {line.split()[0] for line in lines}:
+        raise Failed(f"find says {answer[1]!r}, and match leaves {lines}")
+
+
+def shown(runs, kind):
+    """`show`, and what it shows is a table that is shown as itself."""
+    answer = runs.run("show", *TABLE_FILES)
+    runs.count(kind, named(answer))
+    if answer[0] == 0:
+        halves = answer[1].split("\n\n")
+        runs.put("shown.csv", halves[0].encode() + b"\n")
+        runs.put("shown_pairs.csv", halves[1].encode())
+        if runs.run("show", "shown.csv", "shown_pairs.csv") != answer:
+            raise Failed("what is shown is shown otherwise")
+
+
+def words_case(runs, chance):
+    """A command line that is mixed up. A usage fault has some lines, and each other answer its form."""
+    words = [chance.choice(["match", "show", "check", "witness", "find", "--all", "--out", "--budget", "--hex", "0", "1",
+                            "4294967296", "-1", "--", "-", "", "none", "signatures.csv", "priorities.csv", "certificate",
+                            "--al", "match=1", "/", "n\u00e4me", "a\x1bb"]) for _ in range(chance.randrange(7))]
+    words = [word.encode() if chance.random() < 0.9 else word.encode() + b"\xff" for word in words]
+    runs.clear("out")
+    done = subprocess.run([runs.program, *words], cwd=runs.folder, capture_output=True, timeout=LONGEST)
+    runs.runs += 1
+    runs.count("command lines", f"status {done.returncode}")
+    is_fault = done.returncode in (2, 3) and done.stdout == b"" and done.stderr.endswith(b"\n")
+    is_line = done.stderr.count(b"\n") == 1 or done.stderr.startswith(b"error: ") or done.stderr.startswith(b"Usage")
+    if not (is_fault and is_line or done.returncode in (0, 1) and done.stdout != b"" and done.stderr == b""):
+        if not (done.returncode == 0 and b"match" in words):
+            raise Failed(f"{words}: {done.returncode} {done.stdout} {done.stderr}")
+
+
+class Cases:
+    """One case after the other, all from one seed."""
+
+    def __init__(self, runs, chance):
+        self.runs, self.chance = runs, chance
+        self.seeds = [Seed(*TWO), Seed(*BLOCKED), Seed(HEADER, PAIRS), example("first"), example("one_blocker"), example("seven_formats"),
+                      example("seven_formats", "loose.csv", "none.csv")] + [random_seed(chance) for _ in range(40)]
+        self.texts = [seed.signatures for seed in self.seeds] + [seed.priorities for seed in self.seeds]
+        self.certificates = [data for seed in self.seeds for data in seed.certificates if len(data) < 4000]
+        self.files = list(samples()) + [b"", b"A", b"AB", b"ABC", b"AAAABBBB", b"\0" * 300]
+
+    def put_table(self, signatures, priorities):
+        self.runs.put("signatures.csv", signatures)
+        self.runs.put("priorities.csv", priorities)
+
+    def changed_table(self, seed):
+        """The table with a change in one of its files; with most, the changed file loads still."""
+        chance, files = self.chance, [seed.signatures, seed.priorities]
+        which = chance.choice([0, 0, 0, 1])
+        if chance.random() < 0.6:
+            files[which] = changed_row(chance, files[which], [b"41", b"*"])
+        else:
+            files[which] = many(chance, files[which], WORDS, self.texts)
+        return files
+
+    def file(self):
+        """A file: letters that the tables ask for, or a sample that was changed."""
+        chance = self.chance
+        if chance.random() < 0.5:
+            return bytes(chance.choice(b"ABCD\0") for _ in range(chance.randrange(12)))
+        return many(chance, chance.choice(self.files), WORDS, self.files)
+
+    def certificate(self):
+        seed = self.chance.choice(self.seeds)
+        self.put_table(seed.signatures, seed.priorities)
+        data = self.chance.choice(seed.certificates)
+        if self.chance.random() < 0.4:
+            data = list(changes(self.chance, data, 1))[1]
+        else:
+            data = many(self.chance, data, NUMBERS, self.certificates)
+        judged(self.runs, "certificates", seed.signatures, seed.priorities, data)
+
+    def table(self):
+        chance, seed = self.chance, self.chance.choice(self.seeds)
+        signatures, priorities = self.changed_table(seed)
+        self.put_table(signatures, priorities)
+        kind = chance.randrange(4)
+        if kind == 0:
+            matched(self.runs, "tables, match", signatures, self.file())
+        elif kind == 1:
+            shown(self.runs, "tables, show")
+        elif kind == 2:
+            judged(self.runs, "tables, check", signatures, priorities, chance.choice(seed.certificates))
+        else:
+            searched(self.runs, "tables, find", signatures, chance.choice([1, 2, 10, 300]))
+
+    def matching(self):
+        seed = self.chance.choice(self.seeds)
+        self.put_table(seed.signatures, seed.priorities)
+        matched(self.runs, "files", seed.signatures, self.file())
+
+    def search(self):
+        seed = random_seed(self.chance)
+        self.put_table(seed.signatures, seed.priorities)
+        searched(self.runs, "searches", seed.signatures, self.chance.choice([1, 3, 10, 50, 300, 2000]))
+
+    def words(self):
+        words_case(self.runs, self.chance)
+
+    def large(self):
+        """A large table, a large file, or a large certificate; the plain programs are not asked."""
+        chance, seed, kind = self.chance, self.chance.choice(self.seeds), self.chance.randrange(5)
+        self.put_table(seed.signatures, seed.priorities)
+        if kind == 0:
+            matched(self.runs, "large files", seed.signatures, piece(chance, chance.choice(self.files) or b"A") * 20_000, False)
+        elif kind == 1:
+            grown = piece(chance, chance.choice(seed.certificates)) * chance.choice([100, 5000, 50_000])
+            data = chance.choice(seed.certificates)
+            at = chance.randrange(len(data) + 1)
+            judged(self.runs, "large certificates", seed.signatures, seed.priorities, data[:at] + grown + data[at:])
+        elif kind == 2:
+            rows = "".join(f"fmt/{chance.randrange(1, 1100)},{n},BOF,{chance.randrange(9)},,{chance.randrange(256):02X}\n" for n in range(1, 900))
+            self.put_table(HEADER.encode() + rows.encode(), b"higher,lower\n")
+            matched(self.runs, "large tables", rows.encode(), self.file(), False)
+        elif kind == 3:
+            signatures, priorities = common()
+            signatures = changed_row(chance, signatures, [b"41", b"*"])
+            self.put_table(signatures, priorities)
+            matched(self.runs, "common formats, changed, match", signatures, self.file(), False)
+            searched(self.runs, "common formats, changed, find", signatures, 300)
+        else:
+            item = chance.choice(["{0-2000}", "*41", "(41|42|4343)", "[4142:5152]", "??", "41{0-50}"])
+            place = chance.choice(["Variable,,", "EOF,0,60000", "BOF,0,"])
+            row = f"fmt/1,1,{place},{item * chance.randrange(1, 40)}\n"
+            self.put_table(HEADER.encode() + row.encode(), b"higher,lower\n")
+            matched(self.runs, "long expressions", row.encode(), self.file() * 50, False)
+
+    def next(self):
+        kinds = [self.certificate] * 50 + [self.table] * 28 + [self.matching] * 10 + [self.search] * 3 + [self.words] * 5 + [self.large]
+        self.chance.choice(kinds)()
+
+
+def by_hand(runs):
+    for (signatures, priorities), text, line in BY_HAND:
+        runs.put("signatures.csv", signatures.encode())
+        runs.put("priorities.csv", priorities.encode())
+        judged(runs, "certificates made by hand", signatures.encode(), priorities.encode(), bytes.fromhex(text))
+        said = runs.run("check", *TABLE_FILES, "certificate")[1]
+        if said != line + "\n":
+            raise Failed(f"{text}: {said!r}, and by hand {line!r}")
+
+
+def main():
+    if len(sys.argv) not in (2, 3, 4):
+        sys.exit(__doc__)
+    program = os.path.abspath(sys.argv[1])
+    seconds, seed = (int(word) for word in (sys.argv[2:] + ["60", "1"][len(sys.argv) - 2:]))
+    # files in memory, where the system has such: most of the time would go into making them
+    within = "/dev/shm" if os.access("/dev/shm", os.W_OK) else None
+    begin, folder = time.monotonic(), tempfile.mkdtemp(prefix="hostile-", dir=within)
+    runs, done = Runs(program, folder), 0
+    try:
+        by_hand(runs)
+        cases = Cases(runs, random.Random(seed))
+        while time.monotonic() - begin < seconds:
+            cases.next()
+            done += 1
+    except Exception as failure:
+        print(f"hostile: case {done} of seed {seed}, files in {folder}: {failure}", file=sys.stderr)
+        if not isinstance(failure, Failed):
+            raise
+        sys.exit(1)
+    shutil.rmtree(folder)
+    for (kind, said), count in sorted(runs.counts.items()):
+        print(f"  {count:6} {kind}{': ' if said else ''}{said}")
+    print(f"hostile: {len(BY_HAND)} certificates made by hand and {done} cases of seed {seed}, {runs.runs} runs, none fails; "
+          f"the slowest took {runs.slowest[0]:.2f} s: {runs.slowest[1]}")
+
+
+if __name__ == "__main__":
+    main()
