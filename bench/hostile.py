@@ -328,7 +328,7 @@ def judged(runs, kind, signatures, priorities, certificate):
     if answer[0] < 2 and is_plain(signatures) and len(certificate) < 20_000:
         paths = [os.path.join(runs.folder, name) for name in TABLE_FILES]
         plain = plain_check.check(plain_check.read_table(*paths), certificate)
-        page = page_check.verdict(signatures, priorities, certificate)
+        page = page_check.verdict(*(data.removeprefix(b"\xef\xbb\xbf") for data in (signatures, priorities)), certificate)
         if not answer[1] == plain + "\n" == page + "\n":
             raise Failed(f"check says {answer[1]!r}, the plain checkers {plain!r} and {page!r}")
         runs.count("verdicts of three checkers that agree", "")

@@ -141,7 +141,8 @@ def slots_of(text):
 # ---- tables
 
 def records(data, header, file):
-    """The rows behind the header."""
+    """The rows behind the header. One byte order mark is taken off, as `csv` does."""
+    data = data.removeprefix(b"\xef\xbb\xbf")
     found = [record for record in csv.reader(io.StringIO(data.decode("latin-1"), newline="")) if record]
     if not found or found[0] != header:
         raise Refused(f"{file}: L2 header")

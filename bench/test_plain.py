@@ -328,6 +328,7 @@ class Refusals(unittest.TestCase):
         ]:
             self.assertEqual(self.refused(rows, pairs), line)
         self.assertEqual(refusal(b"", b""), "signatures: L2 header")
+        self.assertEqual(refusal(b"\xef\xbb\xbf", b""), "signatures: L2 header")
         self.assertEqual(refusal(a.encode(), b""), "signatures: L2 header")
 
     def test_slots(self):
