@@ -425,6 +425,8 @@ class Cases:
             files[which] = changed_row(chance, files[which], [b"41", b"*"])
         else:
             files[which] = many(chance, files[which], WORDS, self.texts)
+        if chance.random() < 0.02:
+            files[which] = b"\xef\xbb\xbf" + files[which]
         return files
 
     def file(self):
