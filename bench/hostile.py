@@ -7,11 +7,12 @@ First come certificates that were made by hand, each with the line that it must 
 fixed seed, until SECONDS (60) are over: certificates, tables and files that are changed, cut, joined and
 grown, and command lines that are mixed up. Each case starts the program anew. It finds an end by a
 signal, a run without end, a status above 3, a fault that is not one line on standard error with nothing
-on standard output, other output that the page on formats does not know, and verdicts, formats left and
-results of a search that differ from those of `plain_check.py`, `page_check.py` and `plain_find.py`.
+on standard output, other output that the page on formats does not know, and refusals of tables, verdicts, formats left and results
+of a search that differ from those of `plain_load.py`, `plain_check.py`, `page_check.py` and `plain_find.py`.
 
 It prints counts. At the first failure it says what failed and where its files are, and ends with 1.
 """
+import functools
 import os
 import random
 import re
@@ -27,6 +28,7 @@ sys.path.insert(0, os.path.dirname(os.path.abspath(__file__)))
 import page_check
 import plain_check
 import plain_find
+import plain_load
 from compare import changes, guessed, random_rows
 from tables import HEADER
 
@@ -122,7 +124,11 @@ WORDS = [b"*", b"??", b"{1}", b"{0-1}", b"{3-*}", b"{0-65535}", b"{65536}", b"{6
          b"[!41]", b"[4142:4241]", b"[!0000:FFFE]", b"[!00:FF]", b"[42:41]", b"[41:4142]", b"(41|4142)", b"(41|[43:44]45)",
          b"(41)", b"41", b"4", b"G", b",", b",,", b"\n", b"\r", b"\r\n", b"\"", b"\"\"", b"|", b"0", b"1", b"65535", b"65536",
          b"BOF", b"EOF", b"Variable", b"bof", b"fmt/1", b"fmt/2", b"x-fmt/1", b"fmt/0", b"fmt/9999999999", b"fmt/1,fmt/2\n",
-         b"fmt/2,fmt/1\n", b"fmt/1,1,BOF,0,,41\n", b"fmt/9,9,Variable,,,4142\n", b"\xef\xbb\xbf", b"\0", b"\xff", b" ", b"#"]
+         b"fmt/2,fmt/1\n", b"fmt/1,fmt/1\n", b"fmt/1,1,BOF,0,,41\n", b"fmt/9,9,Variable,,,4142\n", b"\xef\xbb\xbf", b"\0", b"\xff", b" ", b"#"]
+# Items of expressions, some of them faulty.
+ITEMS = [b"*", b"??", b"41", b"4a", b"{1}", b"{0-1}", b"{3-*}", b"{0-2}", b"{0-400}", b"[41:5A]", b"[!41]", b"[4142:4241]", b"[!41:42]",
+         b"[!0000:FFFE]", b"(41|4142)", b"(41|[43:44]45|[!42])", b"{65535}", b"{65536}", b"{0}", b"{2-1}", b"[42:41]", b"[!00:FF]",
+         b"[41:4142]", b"[!010203040506070809]", b"(41)", b"{01}", b"[41]", b"4", b"( 41|42)"]
 NUMBERS = [bytes(4), b"\0\0\0\1", b"\0\0\0\2", b"\xff" * 4, b"\x7f\xff\xff\xff", b"\x80\0\0\0", b"\0\1", b"\0\x40", b"\0\x41",
            b"\xff\xff", b"\0", b"\1", b"\2", b"PSAC"]
 
@@ -164,13 +170,29 @@ def many(chance, data, words, others):
     return data
 
 
+def changed_items(chance, text):
+    """The expression with one item put in, put in the place of another, or taken out."""
+    items = re.findall(rb"\*|\?\?|\{[^}]*\}|\[[^\]]*\]|\([^)]*\)|..|.", text)
+    at = chance.randrange(len(items) + 1)
+    new = [] if chance.random() < 0.2 else [chance.choice(ITEMS)]
+    return b"".join(items[:at] + new + items[at + chance.randrange(2):])
+
+
 def changed_row(chance, text, others):
-    """The table file with one change within one of its fields, so that most tables load still."""
+    """The table file with one change within one of its rows, so that many tables load still."""
     lines = text.split(b"\n")
     at = chance.randrange(1, len(lines)) if len(lines) > 2 else 0
-    fields = lines[at].split(b",")
-    place = chance.randrange(len(fields))
-    fields[place] = changed(chance, fields[place], WORDS, others)
+    fields, kind = lines[at].split(b","), chance.randrange(8)
+    if kind < 4 and len(fields) == 6:
+        fields[5] = changed_items(chance, fields[5])
+    elif kind == 4:
+        return b"\n".join(lines[:at] + [lines[at]] * chance.choice([2, 7, 8, 9]) + lines[at + 1:])
+    elif kind == 5:
+        other = chance.choice(lines[1:]).split(b",")
+        fields[0] = other[chance.randrange(len(other))]
+    else:
+        place = chance.randrange(len(fields))
+        fields[place] = changed(chance, fields[place], WORDS, others)
     return b"\n".join(lines[:at] + [b",".join(fields)] + lines[at + 1:])
 
 
@@ -220,10 +242,17 @@ class Failed(Exception):
 class Runs:
     def __init__(self, program, folder):
         self.program, self.folder, self.counts, self.runs, self.slowest = program, folder, {}, 0, (0, "")
+        self.refusal = None
 
     def put(self, name, data):
         with open(os.path.join(self.folder, name), "wb") as f:
             f.write(data)
+
+    def put_table(self, signatures, priorities):
+        """Writes the table that the next runs are of; the plain judge says whether it loads."""
+        self.put("signatures.csv", signatures)
+        self.put("priorities.csv", priorities)
+        self.refusal = refusal(signatures, priorities)
 
     def read(self, name):
         with open(os.path.join(self.folder, name), "rb") as f:
@@ -246,10 +275,17 @@ class Runs:
         broken = broken_rule(words, *answer)
         if broken:
             raise Failed(f"{words}: {broken}: {answer}")
+        if TABLE_FILES[0] in words and answer[2] != (self.refusal + "\n" if self.refusal else ""):
+            raise Failed(f"{words}: {answer}, and the plain judge of tables says {self.refusal}")
         return answer
 
     def count(self, kind, said):
         self.counts[kind, said] = self.counts.get((kind, said), 0) + 1
+
+
+@functools.lru_cache(256)
+def refusal(signatures, priorities):
+    return plain_load.refusal(signatures, priorities)
 
 
 def broken_rule(words, status, out, err):
@@ -273,7 +309,7 @@ def named(answer):
     status, out, err = answer
     words = (out or err).split()
     if status in (2, 3):
-        return re.sub(r" row \d+", "", err).split("\n")[0][:28] if "L" in err else " ".join(words[:2])
+        return re.sub(r" row \d+", "", err).split(" at ")[0].strip() if "L" in err else " ".join(words[:2])
     return " ".join(words[:2]) if words and words[0] in ("refused", "not", "gave") else (words or ["nothing"])[0].split("/")[0]
 
 
@@ -292,7 +328,7 @@ def judged(runs, kind, signatures, priorities, certificate):
     if answer[0] < 2 and is_plain(signatures) and len(certificate) < 20_000:
         paths = [os.path.join(runs.folder, name) for name in TABLE_FILES]
         plain = plain_check.check(plain_check.read_table(*paths), certificate)
-        page = page_check.verdict(signatures, priorities, certificate)
+        page = page_check.verdict(*(data.removeprefix(b"\xef\xbb\xbf") for data in (signatures, priorities)), certificate)
         if not answer[1] == plain + "\n" == page + "\n":
             raise Failed(f"check says {answer[1]!r}, the plain checkers {plain!r} and {page!r}")
         runs.count("verdicts of three checkers that agree", "")
@@ -381,18 +417,16 @@ class Cases:
         self.certificates = [data for seed in self.seeds for data in seed.certificates if len(data) < 4000]
         self.files = list(samples()) + [b"", b"A", b"AB", b"ABC", b"AAAABBBB", b"\0" * 300]
 
-    def put_table(self, signatures, priorities):
-        self.runs.put("signatures.csv", signatures)
-        self.runs.put("priorities.csv", priorities)
-
     def changed_table(self, seed):
         """The table with a change in one of its files; with most, the changed file loads still."""
         chance, files = self.chance, [seed.signatures, seed.priorities]
         which = chance.choice([0, 0, 0, 1])
-        if chance.random() < 0.6:
+        if chance.random() < 0.75:
             files[which] = changed_row(chance, files[which], [b"41", b"*"])
         else:
             files[which] = many(chance, files[which], WORDS, self.texts)
+        if chance.random() < 0.02:
+            files[which] = b"\xef\xbb\xbf" + files[which]
         return files
 
     def file(self):
@@ -404,7 +438,7 @@ class Cases:
 
     def certificate(self):
         seed = self.chance.choice(self.seeds)
-        self.put_table(seed.signatures, seed.priorities)
+        self.runs.put_table(seed.signatures, seed.priorities)
         data = self.chance.choice(seed.certificates)
         if self.chance.random() < 0.4:
             data = list(changes(self.chance, data, 1))[1]
@@ -415,7 +449,7 @@ class Cases:
     def table(self):
         chance, seed = self.chance, self.chance.choice(self.seeds)
         signatures, priorities = self.changed_table(seed)
-        self.put_table(signatures, priorities)
+        self.runs.put_table(signatures, priorities)
         kind = chance.randrange(4)
         if kind == 0:
             matched(self.runs, "tables, match", signatures, self.file())
@@ -428,12 +462,12 @@ class Cases:
 
     def matching(self):
         seed = self.chance.choice(self.seeds)
-        self.put_table(seed.signatures, seed.priorities)
+        self.runs.put_table(seed.signatures, seed.priorities)
         matched(self.runs, "files", seed.signatures, self.file())
 
     def search(self):
         seed = random_seed(self.chance)
-        self.put_table(seed.signatures, seed.priorities)
+        self.runs.put_table(seed.signatures, seed.priorities)
         searched(self.runs, "searches", seed.signatures, self.chance.choice([1, 3, 10, 50, 300, 2000]))
 
     def words(self):
@@ -442,7 +476,7 @@ class Cases:
     def large(self):
         """A large table, a large file, or a large certificate; the plain programs are not asked."""
         chance, seed, kind = self.chance, self.chance.choice(self.seeds), self.chance.randrange(5)
-        self.put_table(seed.signatures, seed.priorities)
+        self.runs.put_table(seed.signatures, seed.priorities)
         if kind == 0:
             matched(self.runs, "large files", seed.signatures, piece(chance, chance.choice(self.files) or b"A") * 20_000, False)
         elif kind == 1:
@@ -451,20 +485,21 @@ class Cases:
             at = chance.randrange(len(data) + 1)
             judged(self.runs, "large certificates", seed.signatures, seed.priorities, data[:at] + grown + data[at:])
         elif kind == 2:
-            rows = "".join(f"fmt/{chance.randrange(1, 1100)},{n},BOF,{chance.randrange(9)},,{chance.randrange(256):02X}\n" for n in range(1, 900))
-            self.put_table(HEADER.encode() + rows.encode(), b"higher,lower\n")
+            most, count = chance.choice([(1100, 900), (900, 3900), (900, 4100), (9000, 1500)])
+            rows = "".join(f"fmt/{chance.randrange(1, most)},{n},BOF,{chance.randrange(9)},,{chance.randrange(256):02X}\n" for n in range(1, count))
+            self.runs.put_table(HEADER.encode() + rows.encode(), b"higher,lower\n")
             matched(self.runs, "large tables", rows.encode(), self.file(), False)
         elif kind == 3:
             signatures, priorities = common()
             signatures = changed_row(chance, signatures, [b"41", b"*"])
-            self.put_table(signatures, priorities)
+            self.runs.put_table(signatures, priorities)
             matched(self.runs, "common formats, changed, match", signatures, self.file(), False)
             searched(self.runs, "common formats, changed, find", signatures, 300)
         else:
             item = chance.choice(["{0-2000}", "*41", "(41|42|4343)", "[4142:5152]", "??", "41{0-50}"])
             place = chance.choice(["Variable,,", "EOF,0,60000", "BOF,0,"])
             row = f"fmt/1,1,{place},{item * chance.randrange(1, 40)}\n"
-            self.put_table(HEADER.encode() + row.encode(), b"higher,lower\n")
+            self.runs.put_table(HEADER.encode() + row.encode(), b"higher,lower\n")
             matched(self.runs, "long expressions", row.encode(), self.file() * 50, False)
 
     def next(self):
@@ -474,8 +509,7 @@ class Cases:
 
 def by_hand(runs):
     for (signatures, priorities), text, line in BY_HAND:
-        runs.put("signatures.csv", signatures.encode())
-        runs.put("priorities.csv", priorities.encode())
+        runs.put_table(signatures.encode(), priorities.encode())
         judged(runs, "certificates made by hand", signatures.encode(), priorities.encode(), bytes.fromhex(text))
         said = runs.run("check", *TABLE_FILES, "certificate")[1]
         if said != line + "\n":

@@ -1,5 +1,5 @@
 #!/usr/bin/env python3
-"""Tests of the plain checker and the plain finder.
+"""Tests of the plain checker, the plain finder and the plain judge of tables.
 
     python3 bench/test_plain.py
 
@@ -19,6 +19,7 @@ sys.path.insert(0, os.path.dirname(os.path.abspath(__file__)))
 import tables
 from plain_check import ALL_BYTES, Automaton, Product, check, items_of, read_table, table_of
 from plain_find import find, hits, witness_line
+from plain_load import refusal
 
 HEAD = "50534143 01 00000001 01 0000 "
 ONE_PAIR = HEAD + "00000002 00000000 00010001"
@@ -283,6 +284,59 @@ class Witnesses(unittest.TestCase):
 class Texts(unittest.TestCase):
     def test_two_spellings_are_one(self):
         self.assertEqual(items_of("4a{3-3}{0-*}(0d0a|[!0a])"), items_of("4A{3}*(0D0A|[!0A])"))
+
+
+class Refusals(unittest.TestCase):
+    def refused(self, rows, pairs=""):
+        head = "puid,signature,position,offset,max_offset,expression\n"
+        return refusal((head + rows).encode(), ("higher,lower\n" + pairs).encode())
+
+    def test_expressions(self):
+        for text, fault in [
+            ("", "E2 at 0"), ("41 42", "E2 at 2"), ("4", "E2 at 1"), ("{1-}", "E2 at 3"), ("[41]", "E2 at 3"),
+            ("{05}", "E2 at 2"), ("(41)", "E2 at 3"), ("{100000}", "E2 at 6"), ("(41|??)", "E2 at 4"),
+            ("{65536}", "E3 at 0"), ("41{65536}[42:41]", "E3 at 2"), ("{0}", "E4 at 0"), ("{5-0}", "E4 at 0"),
+            ("{5-2}", "E5 at 0"), ("41[42:41]", "E6 at 2"), ("[42:42]", "E6 at 0"), ("(41|[42:41])", "E6 at 4"),
+            ("[4142:4142]", "E6 at 0"), ("[!00:FF]", "E7 at 0"), ("[!0000:FFFF]", "E7 at 0"), ("[41:4142]", "E9 at 0"),
+            ("[42:4141]", "E9 at 0"), ("41[!010203040506070809]", "E10 at 2"), ("41" * 4097, "E1"),
+        ]:
+            self.assertEqual(self.refused(f"fmt/1,1,BOF,0,,{text}\n"), f"signatures row 1: L8 expression {fault}", text)
+
+    def test_rows(self):
+        for row, rule in [
+            ("fmt/1,1,BOF,0,41", "L3 fields"), ("fmt/0,1,BOF,0,,41", "L4 puid"), ("fmt/1,01,BOF,0,,41", "L5 signature number"),
+            ("fmt/1,1,bof,0,,41", "L6 position"), ("fmt/1,1,BOF,,,41", "L7 offset"), ("fmt/1,1,BOF,2,1,41", "L7 offset"),
+            ("fmt/1,1,Variable,0,,41", "L7 offset"), ("fmt/1,1,BOF,65536,,41", "L7 offset"),
+            ("fmt/1,1,Variable,,,{65534}", "L11 too many slots"), ("fmt/1,1,BOF,0,,{65535}", "L11 too many slots"),
+            ("fmt/1,1,BOF,0,65534,41", "L11 too many slots"),
+        ]:
+            self.assertEqual(self.refused(row + "\n"), f"signatures row 1: {rule}", row)
+        for row in ["fmt/1,1,Variable,,,{65533}", "fmt/1,1,BOF,0,,{65534}", "fmt/1,1,BOF,0,65533,41", "x-fmt/263,2,EOF,18,65530,504B0506"]:
+            self.assertIsNone(self.refused(row + "\n"), row)
+
+    def test_several_rows(self):
+        a, b, c = (f"fmt/{n},{n},BOF,0,,41\n" for n in (1, 2, 3))
+        for rows, pairs, line in [
+            ("fmt/1,1,BOF,0,,4142\nfmt/2,1,BOF,0,,4143\n", "", "signatures row 2: L9 signature of two formats"),
+            (a * 9, "", "signatures row 9: L10 too many sequences"),
+            ("".join(f"fmt/{n},{n},BOF,0,,41\n" for n in range(1, 1002)), "", "signatures row 1001: L12 too many formats"),
+            (a + b, "fmt/1,fmt/3\n", "priorities row 1: L13 unknown format"),
+            (a + b, "fmt/1,fmt/1\n", "priorities row 1: L14 format over itself"),
+            (a + b, "fmt/1,fmt/2\nfmt/1,fmt/2\n", "priorities row 2: L15 pair twice"),
+            (a + b + c, "fmt/1,fmt/2\nfmt/2,fmt/3\nfmt/3,fmt/1\n", "priorities row 3: L17 cycle of priorities"),
+            (a + b + c, "fmt/1,fmt/2\nfmt/2,fmt/3\nfmt/1,fmt/3\n", None),
+        ]:
+            self.assertEqual(self.refused(rows, pairs), line)
+        self.assertEqual(refusal(b"", b""), "signatures: L2 header")
+        self.assertEqual(refusal(b"\xef\xbb\xbf", b""), "signatures: L2 header")
+        self.assertEqual(refusal(a.encode(), b""), "signatures: L2 header")
+
+    def test_slots(self):
+        """The greatest gap beside a bracket tells its slots: 65,535 in all, with the place's 1 and the gap's."""
+        for text, slots in [("[4142:4241]", 8), ("[!4142]", 8), ("[!0000:FFFE]", 2), ("(41|[43:44]45)", 3), ("{3-9}", 9), ("{3-*}", 4), ("*", 1)]:
+            rest = 65535 - 1 - slots
+            self.assertIsNone(self.refused(f"fmt/1,1,BOF,0,,{text}{{{rest}}}\n"), text)
+            self.assertEqual(self.refused(f"fmt/1,1,BOF,0,,{text}{{{rest + 1}}}\n"), "signatures row 1: L11 too many slots", text)
 
 
 if __name__ == "__main__":
