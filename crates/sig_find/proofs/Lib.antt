@@ -1,5 +1,6 @@
 -- The lemmas of this crate.
 mod AllBlockerLemmas
+mod AloneLemmas
 mod ByteLemmas
 mod ExpandLemmas
 mod FoundLemmas

@@ -26,5 +26,6 @@ pub mod RowTextLemmas
 pub mod SignatureFaultLemmas
 pub mod SignatureRowLemmas
 pub mod SlotLemmas
+pub mod SpanLemmas
 pub mod TableAgainLemmas
 pub mod TableLemmas

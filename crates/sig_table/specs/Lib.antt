@@ -24,6 +24,7 @@ pub mod FormatSets
 pub mod RankingViews
 pub mod Records
 pub mod Remaining
+pub mod Spans
 -- The definitions of the crates below that clauses cite.
 pub use Rattle.sig_bits.specs.BitSets
 pub use Rattle.sig_bits.specs.Bytes

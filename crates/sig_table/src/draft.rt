@@ -12,6 +12,7 @@ ghost use Rattle.sig_table.specs.Tables.{ArePriorities, HasAllSignatures, IsTabl
 
 use crate::row::Row;
 use crate::slots::has_too_many_slots;
+use crate::spans::Span;
 use crate::table::Signature;
 use crate::{FormatId, Puid, Sequence, Table, TableError};
 use indexmap::IndexSet;
@@ -194,7 +195,10 @@ impl Draft {
         let Ok(formats) = puids.iter().copied().collect(alloc) else {
             return Err(TableError::OutOfMemory);
         };
-        Ok(Table::new(formats, signatures, priorities))
+        let Ok(spans) = vec![in alloc; Span::NONE; puids.len()] else {
+            return Err(TableError::OutOfMemory);
+        };
+        Ok(Table::new(formats, signatures, priorities, spans))
     }
 }
 

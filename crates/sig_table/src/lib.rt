@@ -20,6 +20,7 @@ mod row;
 mod sequence;
 mod signatures_of;
 mod slots;
+mod spans;
 mod table;
 #[cfg(test)]
 mod tests;

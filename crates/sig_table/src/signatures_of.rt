@@ -7,7 +7,7 @@ use crate::{FormatId, SigId};
 
 /// An iterator over the signatures of a format, rising.
 ///
-/// Each step goes on to the format's next signature in the table.
+/// Each step goes on to the format's next signature in the table, up to its last one.
 #[derive(Debug, Drop)]
 pub struct SignaturesOf<'a> {
     later: &'a [Signature],
@@ -17,15 +17,16 @@ pub struct SignaturesOf<'a> {
 }
 
 impl<'a> SignaturesOf<'a> {
-    pub(crate) fn new(signatures: &'a [Signature], format: FormatId) -> SignaturesOf<'a>
-        requires { length signatures.now ≤ 4000 }
+    // Those of the format among these signatures, of which the first stands at this place.
+    pub(crate) fn new(signatures: &'a [Signature], place: u16, format: FormatId) -> SignaturesOf<'a>
+        requires { place + length signatures.now ≤ 4000 }
         ensures later { result.later.now ≡ signatures.now }
-        ensures place { result.place ≡ 0 }
+        ensures place { result.place ≡ place }
         ensures format { result.format ≡ format }
     {
         SignaturesOf {
             later: signatures,
-            place: 0,
+            place,
             format,
         }
     }

@@ -3,6 +3,7 @@
 ghost use Rattle.std.specs.Prelude.{◌≡◌, ◌<◌, ◌≤◌, ◌↔◌, [], ◌∷◌, ◌++◌, false, IsTrue, IfOk, OnOk, Some, Contains, length, option_map, position, slice_get};
 ghost use Rattle.sig_table.specs.Puids.{puid_eq};
 
+use crate::spans::{Span, mark_spans};
 use crate::{FormatId, Puid, Sequence, SigId, SignaturesOf};
 use indexmap::IndexSet;
 use std::alloc::{AllocError, Global};
@@ -30,9 +31,13 @@ pub struct Table {
     formats: Vec<Puid>,
     signatures: Vec<Signature>,
     priorities: IndexSet<(u16, u16)>,
+    // For each format the span of its signatures.
+    spans: Vec<Span>,
 }
 
 impl Model for Table {
+    ghost use Rattle.std.specs.Prelude.{◌≡◌, length};
+    ghost use Rattle.sig_table.specs.Spans.{AreSpans};
     ghost use Rattle.sig_table.specs.Views.{TableView};
     ghost use Rattle.sig_table.specs.Tables.{IsTable};
 
@@ -40,7 +45,8 @@ impl Model for Table {
 
     ghost view = { λ t. record { formats = t.formats.items; signatures = t.signatures.items; priorities = t.priorities.keys } };
 
-    ghost invariant = { λ t. IsTable (record { formats = t.formats.items; signatures = t.signatures.items; priorities = t.priorities.keys }) };
+    ghost invariant = { λ t. IsTable (record { formats = t.formats.items; signatures = t.signatures.items; priorities = t.priorities.keys })
+        × (length t.spans.items ≡ length t.formats.items) × AreSpans t.signatures.items t.spans.items };
 }
 
 impl Signature {
@@ -83,22 +89,27 @@ impl Table {
     ghost use Rattle.sig_table.specs.Ranking.{Outranks, ranks};
     ghost use Rattle.sig_table.specs.Views.{SignatureView};
     ghost use Rattle.sig_table.specs.Removal.{place_of, without};
+    ghost use Rattle.sig_table.specs.Spans.{IsSpan};
     ghost use Rattle.sig_table.specs.Tables.{IsNumber, IsTable};
 
-    // The table of these lists.
+    // The table of these lists, with room for a span for each format.
     pub(crate) fn new(
         formats: Vec<Puid>,
         signatures: Vec<Signature>,
         priorities: IndexSet<(u16, u16)>,
+        mut spans: Vec<Span>,
     ) -> Table
-        requires { IsTable (record { formats = formats.items; signatures = signatures.items; priorities = priorities.keys }) }
+        requires table { IsTable (record { formats = formats.items; signatures = signatures.items; priorities = priorities.keys }) }
+        requires spans { length spans.items ≡ length formats.items }
         ensures lists { result ≡ record { formats = formats.items; signatures = signatures.items; priorities = priorities.keys } }
         ensures limits { IsTable result }
     {
+        mark_spans(&mut spans, &signatures);
         Table {
             formats,
             signatures,
             priorities,
+            spans,
         }
     }
 
@@ -149,11 +160,24 @@ impl Table {
         signature.number
     }
 
-    /// The format's signatures, rising.
+    /// The format's signatures, rising. It costs a step for each signature from the format's first to
+    /// its last one.
     pub fn signatures_of(&self, format: FormatId) -> SignaturesOf<'_>
         ensures { remaining_of result ≡ places_of format.0 0 self.now.signatures }
     {
-        SignaturesOf::new(self.signatures.as_slice(), format)
+        let Span { first, end } = self.span_of(format);
+        let signatures = &self.signatures.as_slice()[first as usize..end as usize];
+        SignaturesOf::new(signatures, first, format)
+    }
+
+    fn span_of(&self, format: FormatId) -> Span
+        ensures span { IsSpan self.now.signatures format.0 result }
+        ensures few { length self.now.signatures ≤ 4000 }
+    {
+        match self.spans.get(format.0 as usize) {
+            Some(span) => *span,
+            None => Span::NONE,
+        }
     }
 
     /// Lends the signature's sequences, in row order: one to eight.
@@ -190,6 +214,7 @@ impl Table {
         };
         self.signatures
             .retain(|signature| signature.format().0 as usize != place);
+        mark_spans(&mut self.spans, &self.signatures);
         true
     }
 
