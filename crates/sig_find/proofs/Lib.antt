@@ -1,4 +1,4 @@
--- The lemmas of this crate.
+-- The lemmas of this crate; those that other crates may use are in PairLaws.
 mod AllBlockerLemmas
 mod AloneLemmas
 mod ByteLemmas
@@ -10,9 +10,11 @@ mod KeptLemmas
 mod KeyLemmas
 mod LeavingLemmas
 mod OrderLemmas
+pub mod PairLaws
 mod PlaceLemmas
 mod ProjectionLemmas
 mod RisingLemmas
 mod RoundLemmas
 mod SearchLemmas
+mod TriedLemmas
 mod WrittenLemmas

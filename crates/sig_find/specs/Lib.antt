@@ -3,9 +3,11 @@ pub mod Finding
 pub mod Searches
 pub mod Unblocked
 pub mod Answers
+pub mod FormatPairs
 -- The vocabulary of proofs.
 pub mod Kept
 pub mod Frontiers
 pub mod Judgements
 pub mod Rounds
+pub mod Tries
 pub mod Written

@@ -1,8 +1,8 @@
 //! The finder: a certificate that a table never leaves two formats for one file, or a shortest file
 //! for which it does.
 //!
-//! What it answers is `specs/Finding.antt`; what a search over the rows of one product finds,
-//! `specs/Searches.antt`.
+//! What it answers is `specs/Finding.antt`; what it answers of two formats,
+//! `specs/FormatPairs.antt`; what a search over the rows of one product finds, `specs/Searches.antt`.
 #![tactic(auto)]
 
 mod decision;
@@ -11,6 +11,9 @@ mod found;
 mod frontier;
 mod kept;
 mod laws;
+mod pair;
+#[cfg(test)]
+mod pair_tests;
 mod search;
 #[cfg(test)]
 mod search_tests;
@@ -22,6 +25,8 @@ pub use decision::{Decision, decide_product};
 pub use finder::find;
 pub use found::Found;
 pub use laws::{
-    bad_rows_are_unblocked, formats_left_leave_pair, pair_left_leaves_formats,
-    rows_over_some_are_over_all, unblocked_files_lead_to_bad_rows,
+    bad_rows_are_unblocked, closed_products_leave_none, decided_pairs_decide,
+    formats_left_leave_pair, pair_left_leaves_formats, rows_over_some_are_over_all,
+    unblocked_files_lead_to_bad_rows,
 };
+pub use pair::{PairDecision, decide_pair};
