@@ -4,6 +4,7 @@ pub mod ByteLemmas
 pub mod ClassLemmas
 pub mod CutLemmas
 pub mod EndLemmas
+pub mod EndOrNotLemmas
 pub mod LocalLemmas
 pub mod PruneLemmas
 pub mod RowLemmas

@@ -1,6 +1,6 @@
 -- The laws of the automaton, for proofs of other crates.
-use Rattle.std.proofs.Common.{◌≡◌, ◌↔◌, ℕ, ◌<◌, ◌≤◌, List, [], ◌∷◌, ◌++◌, arith}
-use Rattle.sig_auto.specs.Runs.{Accepts, EndsIn}
+use Rattle.std.proofs.Common.{◌≡◌, ◌↔◌, ◌⊎◌, ℕ, ◌<◌, ◌≤◌, List, [], ◌∷◌, ◌++◌, arith}
+use Rattle.sig_auto.specs.Runs.{Accepts, EndsIn, IsStepOf}
 use Rattle.sig_auto.specs.Tracks.{Accepting, Follows}
 use Rattle.sig_auto.specs.Trees.{Tree, whole_tree}
 use Rattle.sig_auto.specs.TreeSlots.{Takes, slots_of}
@@ -10,9 +10,10 @@ use Rattle.sig_table.specs.Standing.{Stands}
 use Rattle.sig_table.specs.Tables.{IsSequence}
 use Rattle.sig_table.specs.Views.{SequenceView}
 use Rattle.sig_auto.proofs.EndLemmas.{begin_only, ends_before, ends_further, last_is_slot, next_is_slot}
+use Rattle.sig_auto.proofs.EndOrNotLemmas.{ends_or_not, step_or_not}
 use Rattle.sig_auto.proofs.RunLemmas.{accepts_is_taken, run_states}
 use Rattle.sig_auto.proofs.TakenLemmas.{taken_is_word}
-use Rattle.sig_auto.proofs.WholeLemmas.{whole_slots}
+use Rattle.sig_auto.proofs.WholeLemmas.{whole_is_trim, whole_slots}
 use Rattle.sig_auto.proofs.WordLemmas.{word_is_unfolded}
 
 -- some run of a file accepts exactly where the sequence stands in the file
@@ -54,3 +55,11 @@ follows_to_a_slot tree p q follows = let slot = next_is_slot tree p q follows in
 
 pub follows_above_the_start : (tree : Tree) (p q : ℕ) → Follows tree p q → 0 < q
 follows_above_the_start tree p q follows = (next_is_slot tree p q follows).0
+
+-- a file has a run that ends in the state, or it has none
+pub runs_end_or_not : (s : SequenceView) (file : List ℕ) (q : ℕ) → IsSequence s → EndsIn (whole_tree s) file q ⊎ ¬ EndsIn (whole_tree s) file q
+runs_end_or_not s file q is = ends_or_not (whole_tree s) file (whole_is_trim s is) q
+
+-- some state of a set leads on, or none does
+pub sets_lead_or_not : (s : SequenceView) (set : List ℕ) (b q : ℕ) → IsSequence s → IsStepOf (whole_tree s) set b q ⊎ ¬ IsStepOf (whole_tree s) set b q
+sets_lead_or_not s set b q is = step_or_not (whole_tree s) set b q (whole_is_trim s is)

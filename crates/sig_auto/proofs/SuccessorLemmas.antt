@@ -166,7 +166,7 @@ in_class_exact (Outside first last) byte = (
       (elim h.1 [ inl low ↦ or_left (nat_lt byte first) (nat_lt last byte) (lt-ltb byte first low) | inr high ↦ or_right (nat_lt byte first) (nat_lt last byte) (lt-ltb last byte high) ]),
 )
 
-follows_and_takes : (tree : Tree) (p byte q : ℕ) (P : Type 0) → ((if p == 0 then is_first tree 0 q else follows tree 0 p q) ≡ true) ↔ P → (succeeds tree p byte q ≡ true) ↔ (P × InClass (class_of tree q) byte)
+pub follows_and_takes : (tree : Tree) (p byte q : ℕ) (P : Type 0) → ((if p == 0 then is_first tree 0 q else follows tree 0 p q) ≡ true) ↔ P → (succeeds tree p byte q ≡ true) ↔ (P × InClass (class_of tree q) byte)
 follows_and_takes tree p byte q P is = (
   λ h. let parts = and_parts (if p == 0 then is_first tree 0 q else follows tree 0 p q) (in_class (class_of tree q) byte) h in
       (is.0 parts.0, (in_class_exact (class_of tree q) byte).0 parts.1),

@@ -1,7 +1,7 @@
 //! Laws of the automaton.
 
-ghost use Rattle.std.specs.Prelude.{◌≡◌, ◌↔◌, ◌<◌, ◌≤◌, ℕ, List, [], ◌∷◌, ◌++◌};
-ghost use Rattle.sig_auto.specs.Runs.{Accepts, EndsIn};
+ghost use Rattle.std.specs.Prelude.{◌≡◌, ◌↔◌, ◌⊎◌, ◌<◌, ◌≤◌, ℕ, List, [], ◌∷◌, ◌++◌};
+ghost use Rattle.sig_auto.specs.Runs.{Accepts, EndsIn, IsStepOf};
 ghost use Rattle.sig_auto.specs.Tracks.{Accepting, Follows};
 ghost use Rattle.sig_auto.specs.Trees.{Tree, whole_tree};
 ghost use Rattle.sig_auto.specs.TreeSlots.{Takes, slots_of};
@@ -41,4 +41,11 @@ pub fn states_are_slots()
     ensures ends { (tree : Tree) (file : List ℕ) (q : ℕ) → EndsIn tree file q → q ≤ slots_of tree }
     ensures follows { (tree : Tree) (p q : ℕ) → Follows tree p q → q ≤ slots_of tree }
     ensures above { (tree : Tree) (p q : ℕ) → Follows tree p q → 0 < q }
+{}
+
+/// For a sequence of a table it can be told whether some run of a file ends in a state, and whether a state of a set leads
+/// to it on a byte.
+pub fn runs_are_decided()
+    ensures ends { (s : SequenceView) (file : List ℕ) (q : ℕ) → IsSequence s → EndsIn (whole_tree s) file q ⊎ ¬ EndsIn (whole_tree s) file q }
+    ensures steps { (s : SequenceView) (set : List ℕ) (b q : ℕ) → IsSequence s → IsStepOf (whole_tree s) set b q ⊎ ¬ IsStepOf (whole_tree s) set b q }
 {}

@@ -19,8 +19,8 @@ mod unroll;
 pub use auto::Auto;
 use class::Class;
 pub use laws::{
-    accepts_by_an_end, runs_accept_what_stands, runs_begin, runs_go_on, slots_are_counted,
-    states_are_slots,
+    accepts_by_an_end, runs_accept_what_stands, runs_are_decided, runs_begin, runs_go_on,
+    slots_are_counted, states_are_slots,
 };
 pub use start::{accepts_empty, first_bytes};
 pub use successors::Successors;

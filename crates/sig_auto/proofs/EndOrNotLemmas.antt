@@ -1,0 +1,114 @@
+-- A file has a run that ends in a state, or it has none: which of the two is told by a search over the states before.
+use Rattle.std.proofs.Common.{◌⊎◌, ℕ, zero, suc, ◌+◌, ◌/◌, ◌%◌, ◌<◌, ◌≤◌, List, [], ◌∷◌, ◌++◌, slice_index, append_assoc, subst, sym, ◌∙◌, inl, inr, arith}
+use Rattle.std.specs.Int.{bit_at}
+use Rattle.std.proofs.lemmas.Bool.{cases_Bool, cases_eq, false≢true, ne_eqb}
+use Rattle.std.proofs.lemmas.List.{append-nil}
+use Rattle.sig_auto.specs.Runs.{EndsIn, FollowsOn, IsStepOf}
+use Rattle.sig_auto.specs.Successions.{succeeds}
+use Rattle.sig_auto.specs.Tracks.{Follows}
+use Rattle.sig_auto.specs.Trees.{Tree}
+use Rattle.sig_auto.specs.TreeSlots.{Takes, slots_of}
+use Rattle.sig_auto.specs.Trim.{IsTrim}
+use Rattle.sig_auto.proofs.EndLemmas.{begin_only, ends_before, ends_further}
+use Rattle.sig_auto.proofs.LocalLemmas.{follows-slots}
+use Rattle.sig_auto.proofs.RunLemmas.{follows_shown}
+use Rattle.sig_auto.proofs.SuccessorLemmas.{follows_and_takes}
+use Rattle.sig_auto.proofs.TrimLemmas.{follows_exact}
+use Rattle.sig_bits.specs.BitSets.{HasBit}
+
+-- ---- a search over numbers
+
+-- some number below the bound has the property
+record SomeBelow (P : ℕ → Type 0) (bound : ℕ) : Type 0 where
+  number : ℕ
+  within : number < bound
+  holds : P number
+
+one_more : (P : ℕ → Type 0) (n : ℕ) → SomeBelow P n → SomeBelow P (suc n)
+one_more P n found = let within = found.within in record { number = found.number; within = omega arith; holds = found.holds }
+
+none_more : (P : ℕ → Type 0) (n : ℕ) → ¬ P n → ¬ SomeBelow P n → ¬ SomeBelow P (suc n)
+none_more P n fails none found = elim (cases_eq found.number n) [
+  | inl same ↦ fails (subst P same found.holds)
+  | inr other ↦ none (let within = found.within in record { number = found.number; within = omega arith; holds = found.holds })
+]
+
+some_or_none : (P : ℕ → Type 0) → ((k : ℕ) → P k ⊎ ¬ P k) → (n : ℕ) → SomeBelow P n ⊎ ¬ SomeBelow P n
+some_or_none P each zero = inr (λ found. let within = found.within in omega arith)
+some_or_none P each (suc n) = elim (each n) [
+  | inl holds ↦ inl (record { number = n; within = omega arith; holds = holds })
+  | inr fails ↦ elim (some_or_none P each n) [
+    | inl found ↦ inl (one_more P n found)
+    | inr none ↦ inr (none_more P n fails none)
+  ]
+]
+
+-- ---- a state with a property leads to another on a byte, or none does
+
+-- the state has the property, and the other follows it and takes the byte
+abbrev Leads : Tree → (ℕ → Type 0) → ℕ → ℕ → ℕ → Type 0
+Leads tree P b q p = P p × Follows tree p q × Takes tree q b
+
+follows_or_not : (tree : Tree) (p b q : ℕ) → IsTrim tree → FollowsOn tree p b q ⊎ ¬ FollowsOn tree p b q
+follows_or_not tree p b q trim =
+    let exact = follows_and_takes tree p b q (Follows tree p q) (follows_exact tree trim p q) in
+    elim (cases_Bool (succeeds tree p b q)) [
+      | inl passes ↦ inl (exact.0 passes)
+      | inr fails ↦ inr (λ step. false≢true (sym fails ∙ exact.1 step))
+    ]
+
+leads_or_not : (tree : Tree) (P : ℕ → Type 0) (b q p : ℕ) → IsTrim tree → P p ⊎ ¬ P p → Leads tree P b q p ⊎ ¬ Leads tree P b q p
+leads_or_not tree P b q p trim own = elim own [
+  | inr fails ↦ inr (λ h. fails h.0)
+  | inl holds ↦ elim (follows_or_not tree p b q trim) [
+    | inl step ↦ inl (holds, step.0, step.1)
+    | inr none ↦ inr (λ h. none (h.1, h.2))
+  ]
+]
+
+-- only the start and slots are followed
+followed_is_state : (tree : Tree) (p q : ℕ) → Follows tree p q → p ≤ slots_of tree
+followed_is_state tree p q f = elim (cases_eq p 0) [
+  | inl start ↦ omega arith
+  | inr other ↦ let slot = (follows-slots tree 0 p q (rw (ne_eqb p 0 other) at (follows_shown tree p q f))).0 in omega arith
+]
+
+some_leads_or_not : (tree : Tree) (P : ℕ → Type 0) (b q : ℕ) → IsTrim tree → ((p : ℕ) → P p ⊎ ¬ P p) → ((p : ℕ) × P p × Follows tree p q × Takes tree q b) ⊎ ¬ ((p : ℕ) × P p × Follows tree p q × Takes tree q b)
+some_leads_or_not tree P b q trim each = elim (some_or_none (Leads tree P b q) (λ p. leads_or_not tree P b q p trim (each p)) (slots_of tree + 1)) [
+  | inl found ↦ inl (found.number, found.holds.0, found.holds.1, found.holds.2)
+  | inr none ↦ inr (λ h. none (let state = followed_is_state tree h.0 q h.2 in record { number = h.0; within = omega arith; holds = (h.1, h.2, h.3) }))
+]
+
+-- ---- so a set leads to a state or does not
+
+bit_or_not : (set : List ℕ) (p : ℕ) → HasBit set p ⊎ ¬ HasBit set p
+unfolding HasBit
+bit_or_not set p = cases_eq (bit_at (slice_index set (p / 8)) (p % 8)) 1
+
+pub step_or_not : (tree : Tree) (set : List ℕ) (b q : ℕ) → IsTrim tree → IsStepOf tree set b q ⊎ ¬ IsStepOf tree set b q
+step_or_not tree set b q trim = some_leads_or_not tree (HasBit set) b q trim (bit_or_not set)
+
+-- ---- and a run of a file ends in it or none does
+
+abbrev EndOrNot : Tree → List ℕ → Type 0
+EndOrNot tree file = (q : ℕ) → EndsIn tree file q ⊎ ¬ EndsIn tree file q
+
+begin_or_not : (tree : Tree) → EndOrNot tree []
+begin_or_not tree q = elim (cases_eq q 0) [
+  | inl start ↦ inl (record { front = []; run = (start, tt) })
+  | inr other ↦ inr (λ ends. other (begin_only tree q ends.front ends.run))
+]
+
+go_on_or_not : (tree : Tree) (file : List ℕ) (b : ℕ) → IsTrim tree → EndOrNot tree file → EndOrNot tree (file ++ b ∷ [])
+go_on_or_not tree file b trim each q = elim (some_leads_or_not tree (EndsIn tree file) b q trim each) [
+  | inl led ↦ inl (ends_further tree file led.0 b q led.1 led.2 led.3)
+  | inr none ↦ inr (λ ends. none (ends_before tree file b q ends))
+]
+
+end_behind_or_not : (tree : Tree) (front bytes : List ℕ) → IsTrim tree → EndOrNot tree front → EndOrNot tree (front ++ bytes)
+end_behind_or_not tree front [] trim each = subst (EndOrNot tree) (sym (append-nil front)) each
+end_behind_or_not tree front (b ∷ bytes) trim each =
+    subst (EndOrNot tree) (append_assoc front (b ∷ []) bytes) (end_behind_or_not tree (front ++ b ∷ []) bytes trim (go_on_or_not tree front b trim each))
+
+pub ends_or_not : (tree : Tree) (file : List ℕ) → IsTrim tree → EndOrNot tree file
+ends_or_not tree file trim = end_behind_or_not tree [] file trim (begin_or_not tree)
