@@ -116,7 +116,7 @@ int open(const char *name, int flags, ...) {
 GROWTH, READ, WRITE, OPEN, KINDS = range(5)
 NONE = (GROWTH, 0, 0, 0)
 PAIRS = "higher,lower\n"
-ROW_1 = (HEADER + "fmt/1,1,BOF,0,,4142\n", PAIRS)
+ONE_FORMAT = (HEADER + "fmt/1,1,BOF,0,,4142\n", PAIRS)
 BOTH_ENDS = (HEADER + "fmt/1,1,BOF,0,,41\nfmt/2,2,EOF,0,,41\n", PAIRS)
 # Each file that the first two hit is hit by the third or by the fourth, and these two have no file in common.
 TWO_BLOCKERS = (HEADER + "fmt/1,1,BOF,0,,[4142:4241]{0-1}43\nfmt/2,2,BOF,0,,[4142:4241](43|44)*\nfmt/3,3,BOF,0,,????43\nfmt/4,4,BOF,0,,????44\n",
@@ -128,27 +128,27 @@ FIND = ["find", "--budget", "100", "--out", "out"]
 
 # A name, a table, a file, the words before the table, and what is answered: status, output, error output.
 CASES = [
-    ("row 1", ROW_1, b"AB", ["match"], (0, "fmt/1 1\n", "")),
-    ("row 1", ROW_1, b"AB", ["match", "--all"], (0, "fmt/1 1\n", "")),
-    ("row 1", ROW_1, b"AB", ["witness"], (1, "not ambiguous\n", "")),
-    ("row 1", ROW_1, None, ["show"], (0, HEADER + "fmt/1,1,BOF,0,0,4142\n\n" + PAIRS, "")),
-    ("row 1", ROW_1, bytes.fromhex("50534143 01 00000000"), ["check"], (0, "accepted\n", "")),
-    ("row 1", ROW_1, None, FIND, (0, "decided\n", "")),
-    ("row 11", TWO, b"AB", ["match"], (0, "fmt/1 1\n", "")),
-    ("row 11", TWO, bytes.fromhex(OF_TWO), ["check"], (0, "accepted\n", "")),
-    ("row 11", TWO, bytes.fromhex(ONE_PAIR + "01 0000 00000001 00000000"), ["check"],
+    ("one format", ONE_FORMAT, b"AB", ["match"], (0, "fmt/1 1\n", "")),
+    ("one format", ONE_FORMAT, b"AB", ["match", "--all"], (0, "fmt/1 1\n", "")),
+    ("one format", ONE_FORMAT, b"AB", ["witness"], (1, "not ambiguous\n", "")),
+    ("one format", ONE_FORMAT, None, ["show"], (0, HEADER + "fmt/1,1,BOF,0,0,4142\n\n" + PAIRS, "")),
+    ("one format", ONE_FORMAT, bytes.fromhex("50534143 01 00000000"), ["check"], (0, "accepted\n", "")),
+    ("one format", ONE_FORMAT, None, FIND, (0, "decided\n", "")),
+    ("two words", TWO, b"AB", ["match"], (0, "fmt/1 1\n", "")),
+    ("two words", TWO, bytes.fromhex(OF_TWO), ["check"], (0, "accepted\n", "")),
+    ("two words", TWO, bytes.fromhex(ONE_PAIR + "01 0000 00000001 00000000"), ["check"],
      (1, "refused C10 not closed pair 0 table 0 row 0 byte 41\n", "")),
-    ("row 11", TWO, None, FIND, (0, "decided\n", "")),
-    ("row 14", BOTH_ENDS, b"A", ["match"], (0, "fmt/1 1\nfmt/2 2\n", "")),
-    ("row 14", BOTH_ENDS, b"A", ["witness"], (0, "ambiguous fmt/1 fmt/2\n", "")),
-    ("row 14", BOTH_ENDS, b"AB", ["witness"], (1, "not ambiguous\n", "")),
-    ("row 14", BOTH_ENDS, None, [*FIND, "--hex"], (0, "witness fmt/1 fmt/2\n41\n", "")),
-    ("row 14", BOTH_ENDS, None, ["find", "--budget", "1", "--out", "out"], (1, "gave up 1 2\n", "")),
-    ("row 15", BLOCKED, b"AB", ["match"], (0, "fmt/3 3\n", "")),
-    ("row 15", BLOCKED, b"AB", ["match", "--all"], (0, "fmt/1 1\nfmt/2 2\nfmt/3 3\n", "")),
-    ("row 15", BLOCKED, bytes.fromhex(OF_BLOCKED), ["check"], (0, "accepted\n", "")),
-    ("row 15", BLOCKED, bytes.fromhex(VERSION_2), ["check"], (0, "accepted\n", "")),
-    ("row 15", BLOCKED, None, FIND, (0, "decided\n", "")),
+    ("two words", TWO, None, FIND, (0, "decided\n", "")),
+    ("both ends", BOTH_ENDS, b"A", ["match"], (0, "fmt/1 1\nfmt/2 2\n", "")),
+    ("both ends", BOTH_ENDS, b"A", ["witness"], (0, "ambiguous fmt/1 fmt/2\n", "")),
+    ("both ends", BOTH_ENDS, b"AB", ["witness"], (1, "not ambiguous\n", "")),
+    ("both ends", BOTH_ENDS, None, [*FIND, "--hex"], (0, "witness fmt/1 fmt/2\n41\n", "")),
+    ("both ends", BOTH_ENDS, None, ["find", "--budget", "1", "--out", "out"], (1, "gave up 1 2\n", "")),
+    ("one blocker", BLOCKED, b"AB", ["match"], (0, "fmt/3 3\n", "")),
+    ("one blocker", BLOCKED, b"AB", ["match", "--all"], (0, "fmt/1 1\nfmt/2 2\nfmt/3 3\n", "")),
+    ("one blocker", BLOCKED, bytes.fromhex(OF_BLOCKED), ["check"], (0, "accepted\n", "")),
+    ("one blocker", BLOCKED, bytes.fromhex(VERSION_2), ["check"], (0, "accepted\n", "")),
+    ("one blocker", BLOCKED, None, FIND, (0, "decided\n", "")),
     ("two blockers", TWO_BLOCKERS, b"ABC", ["match"], (0, "fmt/3 3\n", "")),
     ("two blockers", TWO_BLOCKERS, b"ABC", ["match", "--all"], (0, "fmt/1 1\nfmt/2 2\nfmt/3 3\n", "")),
     ("two blockers", TWO_BLOCKERS, b"AB\0C", ["witness"], (1, "not ambiguous\n", "")),
@@ -157,7 +157,7 @@ CASES = [
     ("two blockers", TWO_BLOCKERS, 2, ["check"], (0, "accepted\n", "")),
     ("two blockers", TWO_BLOCKERS, None, FIND, (0, "decided\n", "")),
     ("a refused text", REFUSED, None, ["show"], (2, "", "signatures row 1: L8 expression E2 at 2\n")),
-    ("a long file", ROW_1, b"AB" + b"\0" * 100_000, ["match"], (0, "fmt/1 1\n", "")),
+    ("a long file", ONE_FORMAT, b"AB" + b"\0" * 100_000, ["match"], (0, "fmt/1 1\n", "")),
 ]
 
 # Command lines that open nothing, or nothing that is there, with their status.
