@@ -148,7 +148,7 @@ impl Node {
             Node::Then(a, b, _) => {
                 let between = before + a.slots();
                 if p <= between {
-                    a.is_last(before, p) && b.is_nullable()
+                    b.is_nullable() && a.is_last(before, p)
                 } else {
                     b.is_last(between, p)
                 }

@@ -1,23 +1,31 @@
-use Rattle.std.proofs.Common.{◌≡◌, ◌+◌, ◌&&◌, true, false, subst, sym, ap, ◌∙◌}
+use Rattle.std.proofs.Common.{◌≡◌, ◌+◌, ◌&&◌, Bool, true, false, refl, subst, sym, ap, ◌∙◌}
 use Rattle.sig_auto.specs.Local.{is_last, is_nullable}
 use Rattle.sig_auto.specs.Seen.{seen}
 use Rattle.sig_auto.specs.TreeSlots.{slots_of}
 use Rattle.sig_auto.proofs.PruneLemmas.{or_ends_first, or_ends_second, then_ends_first, then_ends_second}
 use Rattle.sig_auto.proofs.node.Node.+is_last.Goals as goal
 
-pub returns-then-is_last : goal.returns-then-is_last
-returns-then-is_last t c =
+and_true : (a : Bool) → (a && true) ≡ a
+and_true true = refl
+and_true false = refl
+
+and_false : (a : Bool) → (a && false) ≡ false
+and_false true = refl
+and_false false = refl
+
+pub returns-then-is_nullable : goal.returns-then-is_nullable
+returns-then-is_nullable t c =
     let many : c.slots-in-Then.result ≡ slots_of (seen c.in-Then.a.value) = c.slots-in-Then.ensures ∙ ap (λ node. slots_of (seen node)) c.deref.ensures in
-    let ended : is_last (seen c.in-Then.a.value) c.args.before c.args.p ≡ true = sym (c.is_last.ensures ∙ ap (λ node. is_last (seen node) c.args.before c.args.p) c.deref-then-p-between.ensures) ∙ c.if-is_last.true in
-    let skipped : c.is_nullable.result ≡ is_nullable (seen c.in-Then.b.value) = c.is_nullable.ensures ∙ ap (λ node. is_nullable (seen node)) c.deref-then-is_last.ensures in
-    skipped ∙ subst (λ x. (x && is_nullable (seen c.in-Then.b.value)) ≡ is_last (seen c.args.self.now) c.args.before c.args.p) ended
+    let ended : c.is_last.result ≡ is_last (seen c.in-Then.a.value) c.args.before c.args.p = c.is_last.ensures ∙ ap (λ node. is_last (seen node) c.args.before c.args.p) c.deref-then-is_nullable.ensures in
+    let skipped : is_nullable (seen c.in-Then.b.value) ≡ true = sym (c.is_nullable.ensures ∙ ap (λ node. is_nullable (seen node)) c.deref-then-p-between.ensures) ∙ c.if-is_nullable.true in
+    ended ∙ sym (and_true (is_last (seen c.in-Then.a.value) c.args.before c.args.p)) ∙ subst (λ x. (is_last (seen c.in-Then.a.value) c.args.before c.args.p && x) ≡ is_last (seen c.args.self.now) c.args.before c.args.p) skipped
     (then_ends_first (seen c.args.self.now) (seen c.in-Then.a.value) (seen c.in-Then.b.value) c.args.before c.slots-in-Then.result c.args.p (ap seen c.in-Then.is) many c.if-p-between.true)
 
-pub returns-else-is_last : goal.returns-else-is_last
-returns-else-is_last t c =
+pub returns-else-is_nullable : goal.returns-else-is_nullable
+returns-else-is_nullable t c =
     let many : c.slots-in-Then.result ≡ slots_of (seen c.in-Then.a.value) = c.slots-in-Then.ensures ∙ ap (λ node. slots_of (seen node)) c.deref.ensures in
-    let stays : is_last (seen c.in-Then.a.value) c.args.before c.args.p ≡ false = sym (c.is_last.ensures ∙ ap (λ node. is_last (seen node) c.args.before c.args.p) c.deref-then-p-between.ensures) ∙ c.if-is_last.false in
-    c.if-is_last.false ∙ subst (λ x. (x && is_nullable (seen c.in-Then.b.value)) ≡ is_last (seen c.args.self.now) c.args.before c.args.p) stays
+    let stays : is_nullable (seen c.in-Then.b.value) ≡ false = sym (c.is_nullable.ensures ∙ ap (λ node. is_nullable (seen node)) c.deref-then-p-between.ensures) ∙ c.if-is_nullable.false in
+    c.if-is_nullable.false ∙ sym (and_false (is_last (seen c.in-Then.a.value) c.args.before c.args.p)) ∙ subst (λ x. (is_last (seen c.in-Then.a.value) c.args.before c.args.p && x) ≡ is_last (seen c.args.self.now) c.args.before c.args.p) stays
     (then_ends_first (seen c.args.self.now) (seen c.in-Then.a.value) (seen c.in-Then.b.value) c.args.before c.slots-in-Then.result c.args.p (ap seen c.in-Then.is) many c.if-p-between.true)
 
 pub returns-else-p-between : goal.returns-else-p-between
