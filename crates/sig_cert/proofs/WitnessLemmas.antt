@@ -7,7 +7,7 @@ use Rattle.sig_match.proofs.HitLaws.{left_is_one_list}
 use Rattle.sig_table.specs.Tables.{IsTable}
 use Rattle.sig_table.specs.Views.{TableView}
 use Rattle.sig_cert.specs.Deciding.{Ambiguous}
-use Rattle.sig_cert.proofs.DecidedLemmas.{signature_at}
+use Rattle.sig_cert.proofs.ProductLemmas.{signature_at}
 
 -- of an ambiguous file every list of what is left has two members
 pub two_are_left : (table : TableView) (file : List ℕ) (left : List Hit) → Left table file left → Ambiguous table file → 2 ≤ length left

@@ -1,14 +1,10 @@
 -- What holds at each place of two or three lists.
 use Rattle.std.proofs.Common.{List, [], ◌∷◌, All}
 use Rattle.std.specs.List.{AllZip}
-use Rattle.std.proofs.lemmas.List.Elements.{All-cons, All-head, All-nil, All-tail}
+use Rattle.std.proofs.lemmas.List.Elements.{All-cons, All-head, All-nil, All-tail, All-weaker}
 use Rattle.sig_product.specs.Rows.{AllTriples}
 
 -- a partner for each member
-pub gather : {A B : Type 0} (R : A → B → Type 0) (xs : List A) → ((x : A) → ¬ ¬ ((y : B) × R x y)) → ¬ ¬ ((ys : List B) × AllZip R xs ys)
-gather R [] some none = none ([], tt)
-gather R (x ∷ xs) some none = some x (λ one. gather R xs some (λ more. none (one.0 ∷ more.0, (one.1, more.1))))
-
 pub choose : {A B : Type 0} (R : A → B → Type 0) (xs : List A) → All (λ x. (y : B) × R x y) xs → (ys : List B) × AllZip R xs ys
 choose R [] some = ([], tt)
 choose {A} {B} R (x ∷ xs) some =
@@ -16,6 +12,9 @@ choose {A} {B} R (x ∷ xs) some =
     let one : P x = All-head P x xs some in
     let more = choose R xs (All-tail P x xs some) in
     (one.0 ∷ more.0, (one.1, more.1))
+
+pub gather : {A B : Type 0} (P : A → Type 0) (R : A → B → Type 0) → ((x : A) → P x → (y : B) × R x y) → (xs : List A) → All P xs → (ys : List B) × AllZip R xs ys
+gather {A} {B} P R some xs all = choose R xs (All-weaker P (λ x. (y : B) × R x y) some xs all)
 
 -- what holds of two places, each place alone
 pub zip_weaker : {A B : Type 0} (R S : A → B → Type 0) → ((x : A) (y : B) → R x y → S x y) → (xs : List A) (ys : List B) → AllZip R xs ys → AllZip S xs ys
