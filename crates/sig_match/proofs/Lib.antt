@@ -11,6 +11,7 @@ pub mod MarkLemmas
 pub mod OneListLemmas
 pub mod PartLemmas
 pub mod ReachLemmas
+pub mod RestLemmas
 pub mod RunLemmas
 pub mod ScanLemmas
 pub mod StandLemmas

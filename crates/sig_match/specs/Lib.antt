@@ -17,5 +17,6 @@ pub mod Frontiers
 pub mod Gaps
 pub mod Hitting
 pub mod Parts
+pub mod Rests
 pub mod Runs
 pub use Rattle.memchr.specs.Find

@@ -22,10 +22,12 @@ use sig_table::{SigId, Table};
 use std::alloc::{AllocError, Global};
 use std::marker::Model;
 
+mod rest;
 mod sequence_scan;
 mod signature_scan;
 #[cfg(test)]
 mod tests;
+mod way;
 
 use signature_scan::SignatureScan;
 

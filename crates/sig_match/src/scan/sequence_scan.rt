@@ -1,42 +1,61 @@
 //! One sequence of a scan: its automaton, and the states that it can be in.
 
-ghost use Rattle.std.specs.Prelude.{◌≡◌, ◌↔◌, ◌++◌, ℕ, [], List, IfOk, IsTrue};
+ghost use Rattle.std.specs.Prelude.{◌≡◌, ◌↔◌, ◌++◌, ℕ, ◌≤◌, [], List, IfOk, IsTrue, drop, length};
+ghost use Rattle.sig_auto.specs.Runs.{IsStepOf};
+ghost use Rattle.sig_auto.specs.Trees.{whole_tree};
+ghost use Rattle.sig_auto.specs.TreeSlots.{set_len};
 ghost use Rattle.sig_bits.specs.BitSets.{HasBit};
 ghost use Rattle.sig_bits.specs.Bytes.{IsBytes};
+ghost use Rattle.sig_match.specs.Rests.{IsReached};
 ghost use Rattle.sig_match.specs.Scans.{IsSequenceScanOf};
 ghost use Rattle.sig_table.specs.Standing.{Stands};
 ghost use Rattle.sig_table.specs.Tables.{IsSequence};
 ghost use Rattle.sig_table.specs.Views.{SequenceView};
 
+use crate::scan::rest::way_of;
+use crate::scan::way::Way;
 use sig_auto::Auto;
-use sig_bits::and_any;
 use sig_table::Sequence;
 use std::alloc::{AllocError, Global};
 use std::marker::Model;
 use std::mem;
 
-// After how many bytes it is asked whether a state is left.
-const BLOCK: usize = 64;
+// How many bytes are stepped before a way out of a set is looked for again: that takes many steps.
+const PAUSE: usize = 64;
 
-// The second set has the room of the next one.
+// So many bytes of two sets may be compared for each byte that is stepped.
+const COMPARED: usize = 64;
+
+// The set, the room of the next one, and the set in which the sequence rested last, with the way out
+// of it. At first that is the empty set, which is never left. `resting` tells that it is in that set
+// now, and `pause` how many bytes are stepped before that is asked again.
 #[derive(Debug, Drop)]
 pub(crate) struct SequenceScan {
     auto: Auto,
     set: Vec<u8>,
     next: Vec<u8>,
+    rest: Vec<u8>,
+    way: Way,
+    resting: bool,
+    pause: usize,
 }
 
 impl Model for SequenceScan {
-    ghost use Rattle.std.specs.Prelude.{◌≡◌, length};
+    ghost use Rattle.std.specs.Prelude.{◌≡◌, true, length, take};
     ghost use Rattle.sig_auto.specs.Trees.{whole_tree};
     ghost use Rattle.sig_auto.specs.TreeSlots.{set_len};
+    ghost use Rattle.sig_match.specs.Rests.{IsRest};
     ghost use Rattle.sig_match.specs.Scans.{SequenceScanView};
 
     ghost Value = { SequenceScanView };
 
     ghost view = { λ s. record { sequence = s.auto; set = s.set.items } };
 
-    ghost invariant = { λ s. (length s.set.items ≡ set_len (whole_tree s.auto)) × (length s.next.items ≡ set_len (whole_tree s.auto)) };
+    ghost invariant = { λ s. (length s.set.items ≡ set_len (whole_tree s.auto))
+        × (length s.next.items ≡ set_len (whole_tree s.auto))
+        × (length s.rest.items ≡ set_len (whole_tree s.auto))
+        × IsRest (whole_tree s.auto) s.rest.items s.way.exits (take s.way.len s.way.front)
+        × (s.resting ≡ true → s.set.items ≡ s.rest.items) };
 }
 
 impl SequenceScan {
@@ -45,41 +64,82 @@ impl SequenceScan {
         ensures { IfOk result (IsSequenceScanOf [] sequence.now) }
     {
         let auto = Auto::of(alloc, sequence)?;
-        let mut set = vec![in alloc; 0; auto.set_len()]?;
-        let next = vec![in alloc; 0; auto.set_len()]?;
+        let mut set = empty_set(alloc, &auto)?;
+        let next = empty_set(alloc, &auto)?;
+        let rest = empty_set(alloc, &auto)?;
         auto.start_set(&mut set);
-        Ok(SequenceScan { auto, set, next })
+        let way = Way::none();
+        Ok(SequenceScan {
+            auto,
+            set,
+            next,
+            rest,
+            way,
+            resting: false,
+            pause: 0,
+        })
     }
 
-    // Goes on by the piece. Once no state is left, the rest of it is passed over.
+    // Goes on by the piece.
     pub(crate) fn feed(&mut self, piece: &[u8])
         ensures { (file : List ℕ) (s : SequenceView) → IsSequenceScanOf file s self.old → IsSequenceScanOf (file ++ piece.now) s self.new }
     {
-        let mut from = 0;
+        let mut from = self.passed(piece);
         while from < piece.len() {
-            if self.is_dead() {
-                return;
-            }
-            let to = from + BLOCK.min(piece.len() - from);
-            self.step_all(&piece[from..to]);
-            from = to;
+            self.step(piece[from]);
+            self.settle();
+            from += 1;
+            from += self.passed(&piece[from..]);
         }
     }
 
-    // Whether no state is left. None comes back then, whatever follows.
-    fn is_dead(&self) -> bool
-        ensures { IsTrue result ↔ ((q : ℕ) → ¬ HasBit self.now.set q) }
+    // How many of the bytes leave the set as it is, as far as the others then show.
+    fn passed(&self, bytes: &[u8]) -> usize
+        ensures within { result ≤ length bytes.now }
+        ensures same { (q : ℕ) → IsReached (whole_tree self.now.sequence) self.now.set bytes.now q ↔ IsReached (whole_tree self.now.sequence) self.now.set (drop result bytes.now) q }
     {
-        !and_any(&self.set, &self.set)
+        if self.resting {
+            self.way.next(bytes)
+        } else {
+            0
+        }
     }
 
-    // Goes on byte by byte.
-    fn step_all(&mut self, bytes: &[u8])
-        ensures { (file : List ℕ) (s : SequenceView) → IsSequenceScanOf file s self.old → IsSequenceScanOf (file ++ bytes.now) s self.new }
+    // Goes on by one byte.
+    fn step(&mut self, byte: u8)
+        ensures sequence { self.new.sequence ≡ self.old.sequence }
+        ensures set { (q : ℕ) → HasBit self.new.set q ↔ IsStepOf (whole_tree self.old.sequence) self.old.set byte q }
     {
-        for byte in bytes {
-            self.auto.step_set(&self.set, *byte, &mut self.next);
-            mem::swap(&mut self.set, &mut self.next);
+        self.auto.step_set(&self.set, byte, &mut self.next);
+        mem::swap(&mut self.set, &mut self.next);
+        self.resting = false;
+    }
+
+    // Finds out whether the set is one to rest in: the last one, or one that the last byte left as it
+    // was.
+    fn settle(&mut self)
+        ensures { self.new ≡ self.old }
+    {
+        if self.pause > 0 {
+            self.pause -= 1;
+            return;
+        }
+        self.pause = self.set.len() / COMPARED;
+        self.resting = same_bytes(&self.set, &self.rest);
+        if !self.resting && same_bytes(&self.set, &self.next) {
+            self.find_way();
+        }
+    }
+
+    // Remembers the set and the way out of it, if the sequence can rest in it.
+    fn find_way(&mut self)
+        ensures { self.new ≡ self.old }
+    {
+        self.pause = PAUSE;
+        if let Some(way) = way_of(&self.auto, &self.set, &mut self.next) {
+            self.rest.copy_from_slice(&self.set);
+            self.way = way;
+            self.resting = true;
         }
     }
 
@@ -89,4 +149,19 @@ impl SequenceScan {
     {
         self.auto.any_accepting(&self.set)
     }
+}
+
+// A set of no state.
+fn empty_set(alloc: Global, auto: &Auto) -> Result<Vec<u8>, AllocError>
+    ensures len { IfOk result (λ set. length set.items ≡ set_len (whole_tree auto.now)) }
+    ensures none { IfOk result (λ set. (q : ℕ) → ¬ HasBit set.items q) }
+{
+    let bits = vec![in alloc; 0; auto.set_len()]?;
+    Ok(bits)
+}
+
+fn same_bytes(a: &[u8], b: &[u8]) -> bool
+    ensures { IsTrue result → a.now ≡ b.now }
+{
+    a == b
 }

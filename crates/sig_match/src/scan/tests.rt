@@ -80,3 +80,96 @@ fn a_scan_may_end_anywhere(rt: HostRuntime) -> Result<(), Fail> {
     }
     Ok(())
 }
+
+// Whether the one signature of this position and expression hits what is fed in these pieces.
+fn one_hits(alloc: Global, sequence: &str, pieces: &[&[u8]]) -> Result<bool, Fail> {
+    let table = table_of(alloc, sequence)?;
+    hits(alloc, &table, pieces)
+}
+
+#[test]
+fn a_front_is_cut_anywhere(rt: HostRuntime) -> Result<(), Fail> {
+    let word = "Variable,,,414243444546";
+    assert!(rt; one_hits(rt.alloc(), word, &[b"\x00\x00\x00\x00ABC", b"DEF\x00"])?);
+    assert!(rt; one_hits(rt.alloc(), word, &[b"\x00\x00\x00\x00ABCABC", b"DEF"])?);
+    assert!(rt;
+        one_hits(
+            rt.alloc(),
+            word,
+            &[b"\x00\x00\x00\x00A", b"B", b"C", b"D", b"E", b"F"]
+        )?
+    );
+    assert!(rt; !one_hits(rt.alloc(), word, &[b"\x00\x00\x00\x00ABC", b"DE"])?);
+    assert!(rt; !one_hits(rt.alloc(), word, &[b"\x00\x00\x00\x00ABC", b"ABDEF"])?);
+    Ok(())
+}
+
+#[test]
+fn a_front_overlaps_itself(rt: HostRuntime) -> Result<(), Fail> {
+    let word = "Variable,,,414142";
+    assert!(rt; one_hits(rt.alloc(), word, &[b"\x00\x00\x00AA", b"AB"])?);
+    assert!(rt; one_hits(rt.alloc(), word, &[b"\x00\x00\x00AAAAB"])?);
+    assert!(rt; !one_hits(rt.alloc(), word, &[b"\x00\x00\x00AA\x00AB"])?);
+    Ok(())
+}
+
+#[test]
+fn a_way_out_has_several_first_bytes(rt: HostRuntime) -> Result<(), Fail> {
+    let word = "Variable,,,[41:42]43";
+    assert!(rt; one_hits(rt.alloc(), word, &[b"\x00\x00\x00B", b"C"])?);
+    assert!(rt; one_hits(rt.alloc(), word, &[b"\x00\x00\x00\x00BAC\x00\x00\x00"])?);
+    assert!(rt; !one_hits(rt.alloc(), word, &[b"\x00\x00\x00D", b"C"])?);
+    Ok(())
+}
+
+#[test]
+fn what_has_hit_goes_on_to_hit(rt: HostRuntime) -> Result<(), Fail> {
+    assert!(rt;
+        one_hits(
+            rt.alloc(),
+            "BOF,0,,4142",
+            &[b"AB", b"\x00\x00\x00\x00", b"A"]
+        )?
+    );
+    assert!(rt;
+        one_hits(
+            rt.alloc(),
+            "Variable,,,4142",
+            &[b"AB\x00\x00\x00\x00", b"\x00\x00"]
+        )?
+    );
+    assert!(rt;
+        !one_hits(
+            rt.alloc(),
+            "BOF,0,,4142",
+            &[b"AC", b"\x00\x00\x00\x00", b"AB"]
+        )?
+    );
+    Ok(())
+}
+
+#[test]
+fn the_end_decides_at_eof(rt: HostRuntime) -> Result<(), Fail> {
+    let word = "EOF,0,1,4142";
+    assert!(rt; one_hits(rt.alloc(), word, &[b"\x00\x00\x00\x00A", b"B"])?);
+    assert!(rt; one_hits(rt.alloc(), word, &[b"\x00\x00\x00\x00AB", b"\x00"])?);
+    assert!(rt; one_hits(rt.alloc(), word, &[b"AB\x00\x00\x00\x00AB\x00"])?);
+    assert!(rt; !one_hits(rt.alloc(), word, &[b"\x00\x00\x00\x00AB\x00", b"\x00"])?);
+    Ok(())
+}
+
+#[test]
+fn an_open_gap_is_waited_in(rt: HostRuntime) -> Result<(), Fail> {
+    let word = "BOF,0,,41*4243";
+    assert!(rt; one_hits(rt.alloc(), word, &[b"A\x00\x00\x00\x00B", b"C"])?);
+    assert!(rt;
+        one_hits(
+            rt.alloc(),
+            word,
+            &[b"A", b"\x00\x00", b"\x00\x00BBC", b"\x00\x00"]
+        )?
+    );
+    assert!(rt; !one_hits(rt.alloc(), word, &[b"A\x00\x00\x00\x00B", b"\x00C"])?);
+    assert!(rt; !one_hits(rt.alloc(), word, &[b"\x00A\x00\x00\x00B", b"C"])?);
+    Ok(())
+}

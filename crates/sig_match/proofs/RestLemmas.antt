@@ -1,0 +1,384 @@
+-- Bytes that leave a set of states as it is.
+use Rattle.std.proofs.Common.{◌≡◌, ◌≢◌, ◌↔◌, ◌⊎◌, ⊎_elim, ℕ, zero, suc, ◌+◌, ◌-◌, ◌<◌, ◌≤◌, List, [], ◌∷◌, ◌++◌, length, get_or, take, drop, append_assoc, subst, sym, ap, refl, ◌∙◌, arith, Bool, true, false, Option, Some, None, inl, inr, length-drop, add-one, drop-cons}
+use Rattle.std.specs.Prelude.{Contains, IfSome, IsTrue, MatchOption, is_some, not}
+use Rattle.std.proofs.lemmas.Bool.{cases_eq, false≢true}
+use Rattle.std.proofs.lemmas.List.{append-nil, get_or-drop, take_rest}
+use Rattle.std.proofs.lemmas.List.Elements.{All-head, All-tail}
+use Rattle.memchr.specs.Find.{FindsNeedle, OccursAt}
+use Rattle.sig_auto.specs.Runs.{EndsIn, FollowsOn, IsSetOf, IsStepOf}
+use Rattle.sig_auto.specs.Tracks.{Follows}
+use Rattle.sig_auto.specs.Trees.{Tree, whole_tree}
+use Rattle.sig_auto.specs.TreeSlots.{Takes, slots_of}
+use Rattle.sig_auto.proofs.RunLaws.{follows_above_the_start, follows_to_a_slot, runs_go_on}
+use Rattle.sig_bits.specs.BitSets.{HasBit}
+use Rattle.sig_bits.specs.Bytes.{IsBytes}
+use Rattle.sig_bits.specs.ByteClasses.{Holds}
+use Rattle.sig_bits.specs.declared.byte_class.ByteClass.{ByteClass}
+use Rattle.sig_table.specs.Views.{SequenceView}
+use Rattle.sig_match.specs.Scans.{IsSequenceScanOf, SequenceScanView}
+use Rattle.sig_match.specs.Rests.{GoesBy, IsLeftOn, IsPassed, IsReached, IsRest, Misses, Opens, Reaches}
+
+-- what misses the front is not a way on
+goes_not : (tree : Tree) (front bytes : List ℕ) (p q : ℕ) → IsBytes bytes → GoesBy tree p front → Misses front bytes → Reaches tree p bytes q → ⊥
+goes_not tree [] bytes p q are goes misses reaches = misses
+goes_not tree (f ∷ front) [] p q are goes misses reaches = misses
+goes_not tree (f ∷ front) (b ∷ bytes) p q are goes misses reaches =
+    let on = goes reaches.0 b (All-head (λ x. x < 256) b bytes are) reaches.1 reaches.2 in
+    ⊎_elim
+    (λ differs. differs on.0)
+    (λ later. goes_not tree front bytes reaches.0 q (All-tail (λ x. x < 256) b bytes are) on.1 later reaches.3)
+    misses
+
+-- nor a way out
+opens_not : (tree : Tree) (front bytes : List ℕ) (b r q : ℕ) → IsBytes bytes → Opens tree r b front → Misses front (b ∷ bytes) → Reaches tree r bytes q → ⊥
+opens_not tree [] bytes b r q are opens misses reaches = misses
+opens_not tree (f ∷ front) bytes b r q are opens misses reaches =
+    ⊎_elim (λ differs. differs opens.0) (λ later. goes_not tree front bytes r q are opens.1 later reaches) misses
+
+-- bytes that are passed over lead nowhere else
+pub passed_forward : (tree : Tree) (set : List ℕ) (exits : ByteClass) (front : List ℕ) (n : ℕ) (bytes : List ℕ) (q : ℕ) → IsRest tree set exits front → IsBytes bytes → ((x : ℕ) → x < n → IsPassed exits front (drop x bytes)) → IsReached tree set bytes q → IsReached tree set (drop n bytes) q
+passed_forward tree set exits front zero bytes q rest are passed reached = reached
+passed_forward tree set exits front (suc n) [] q rest are passed reached = reached
+passed_forward tree set exits front (suc n) (b ∷ bytes) q rest are passed reached =
+    let byte : b < 256 = All-head (λ x. x < 256) b bytes are in
+    let later = All-tail (λ x. x < 256) b bytes are in
+    let on = reached.2 in
+    ⊎_elim
+    (λ inside. passed_forward tree set exits front n bytes q rest later (λ x below. passed (suc x) (omega arith)) (on.0, inside, on.3))
+    (λ out. absurd (⊎_elim (λ never. never out.0) (λ misses. opens_not tree front bytes b on.0 q later out.1 misses on.3) (passed 0 (omega arith))))
+    (rest.leaves reached.0 on.0 b byte reached.1 on.1 on.2)
+
+-- and the set is there again behind them
+pub passed_back : (tree : Tree) (set : List ℕ) (exits : ByteClass) (front : List ℕ) (n : ℕ) (bytes : List ℕ) (q : ℕ) → IsRest tree set exits front → IsBytes bytes → IsReached tree set (drop n bytes) q → IsReached tree set bytes q
+passed_back tree set exits front zero bytes q rest are reached = reached
+passed_back tree set exits front (suc n) [] q rest are reached = reached
+passed_back tree set exits front (suc n) (b ∷ bytes) q rest are reached =
+    let more = passed_back tree set exits front n bytes q rest (All-tail (λ x. x < 256) b bytes are) reached in
+    let before = rest.stays more.0 b (All-head (λ x. x < 256) b bytes are) more.1 in
+    (before.0, before.1, (more.0, before.2, before.3, more.2))
+
+-- the runs of a longer file go on from those of its front
+pub ends_further : (tree : Tree) (file bytes : List ℕ) (q : ℕ) → EndsIn tree (file ++ bytes) q ↔ ((p : ℕ) × EndsIn tree file p × Reaches tree p bytes q)
+ends_further tree file [] q =
+    let P : List ℕ → Type 0 = λ l. EndsIn tree l q in (
+      λ ends. (q, subst P (append-nil file) ends, refl),
+      λ h. subst P (sym (append-nil file)) (subst (λ r. EndsIn tree file r) h.2 h.1),
+    )
+ends_further tree file (b ∷ bytes) q =
+    let P : List ℕ → Type 0 = λ l. EndsIn tree l q in
+    let longer = append_assoc file (b ∷ []) bytes in
+    let more = ends_further tree (file ++ b ∷ []) bytes q in (
+      λ ends.
+          let h = more.0 (subst P (sym longer) ends) in
+          let one = (runs_go_on tree file b h.0).0 h.1 in
+          (one.0, one.1, (h.0, one.2, one.3, h.2)),
+      λ h.
+          let on = h.2 in
+          subst P longer (more.1 (on.0, (runs_go_on tree file b on.0).1 (h.0, h.1, on.1, on.2), on.3)),
+    )
+
+-- the set, stepped by what is left of the piece, is that of the file behind it
+abbrev pub IsDue : Tree → List ℕ → List ℕ → List ℕ → Type 0
+IsDue tree set file left = (q : ℕ) → EndsIn tree file q ↔ IsReached tree set left q
+
+-- so at the piece's begin
+pub due_begins : (tree : Tree) (set file piece : List ℕ) → IsSetOf tree set file → IsDue tree set (file ++ piece) piece
+due_begins tree set file piece is q =
+    let further = ends_further tree file piece q in (
+      λ ends. let h = further.0 ends in (h.0, (is h.0).1 h.1, h.2),
+      λ h. further.1 (h.0, (is h.0).0 h.1, h.2),
+    )
+
+-- at its end it is the set of the file
+pub due_ends : (tree : Tree) (set file : List ℕ) → IsDue tree set file [] → IsSetOf tree set file
+due_ends tree set file due q = (
+  λ bit. (due q).1 (q, bit, refl),
+  λ ends. let h = (due q).0 ends in subst (λ r. HasBit set r) h.2 h.1,
+)
+
+-- one byte
+pub due_stepped : (tree : Tree) (set next file left : List ℕ) (b : ℕ) → ((q : ℕ) → HasBit next q ↔ IsStepOf tree set b q) → IsDue tree set file (b ∷ left) → IsDue tree next file left
+due_stepped tree set next file left b step due q = (
+  λ ends.
+      let h = (due q).0 ends in
+      let on = h.2 in
+      (on.0, (step on.0).1 (h.0, h.1, on.1, on.2), on.3),
+  λ h.
+      let before = (step h.0).0 h.1 in
+      (due q).1 (before.0, before.1, (h.0, before.2, before.3, h.2)),
+)
+
+-- bytes that are passed over
+pub due_passed : (tree : Tree) (set file left : List ℕ) (n : ℕ) → ((q : ℕ) → IsReached tree set left q ↔ IsReached tree set (drop n left) q) → IsDue tree set file left → IsDue tree set file (drop n left)
+due_passed tree set file left n same due q = (λ ends. (same q).0 ((due q).0 ends), λ reached. (due q).1 ((same q).1 reached))
+
+fits_more : (f b : ℕ) (front bytes : List ℕ) → b ≡ f → ((j : ℕ) → j < length front → j < length bytes → get_or bytes j 0 ≡ get_or front j 0) → (j : ℕ) → j < length (f ∷ front) → j < length (b ∷ bytes) → get_or (b ∷ bytes) j 0 ≡ get_or (f ∷ front) j 0
+fits_more f b front bytes same fits zero below within = same
+fits_more f b front bytes same fits (suc j) below within = fits j (omega arith) (omega arith)
+
+-- the bytes differ from the front, or they agree as far as both go
+pub misses_or_fits : (front bytes : List ℕ) → Misses front bytes ⊎ ((j : ℕ) → j < length front → j < length bytes → get_or bytes j 0 ≡ get_or front j 0)
+misses_or_fits [] bytes = inr (λ j below within. absurd (omega arith))
+misses_or_fits (f ∷ front) [] = inr (λ j below within. absurd (omega arith))
+misses_or_fits (f ∷ front) (b ∷ bytes) =
+    ⊎_elim
+    (λ same. ⊎_elim (λ later. inl (inr later)) (λ fits. inr (fits_more f b front bytes same fits)) (misses_or_fits front bytes))
+    (λ differs. inl (inl differs))
+    (cases_eq b f)
+
+-- how a byte leaves a set, by two tests
+pub left_by_test : (tree : Tree) (set next : List ℕ) (b : ℕ) (within back : Bool) → within ≡ true → ((q : ℕ) → HasBit next q ↔ IsStepOf tree set b q) → (IsTrue within ↔ ((q : ℕ) → HasBit set q → HasBit next q)) → (IsTrue back ↔ ((q : ℕ) → HasBit next q → HasBit set q)) → IsLeftOn tree set b (not back)
+left_by_test tree set next b within true kept step inside outside = record {
+  stays = λ q bit. (step q).0 (inside.0 kept q bit);
+  within = λ _ p q bit follows takes. outside.0 refl q ((step q).1 (p, bit, follows, takes));
+}
+left_by_test tree set next b within false kept step inside outside = record {
+  stays = λ q bit. (step q).0 (inside.0 kept q bit);
+  within = λ never. absurd (false≢true (sym never));
+}
+
+-- so does the next byte, where each slot takes both or neither
+pub left_alike : (tree : Tree) (set : List ℕ) (b : ℕ) (leaves : Bool) → ((q : ℕ) → 0 < q → q ≤ slots_of tree → Takes tree q b ↔ Takes tree q (b + 1)) → IsLeftOn tree set b leaves → IsLeftOn tree set (b + 1) leaves
+left_alike tree set b leaves alike left = record {
+  stays = λ q bit.
+      let before = left.stays q bit in
+      (before.0, before.1, before.2, (alike q (follows_above_the_start tree before.0 q before.2) (follows_to_a_slot tree before.0 q before.2)).0 before.3);
+  within = λ none p q bit follows takes. left.within none p q bit follows ((alike q (follows_above_the_start tree p q follows) (follows_to_a_slot tree p q follows)).1 takes);
+}
+
+-- the exits among the first bytes are known, and how the last of them leaves the set
+pub record ExitsBelow (tree : Tree) (set : List ℕ) (exits : ByteClass) (leaves : Bool) (n : ℕ) : Type 0 where
+  pub stays : (q b : ℕ) → b < n → HasBit set q → IsStepOf tree set b q
+  pub leave : (p q b : ℕ) → b < n → HasBit set p → Follows tree p q → Takes tree q b → HasBit set q ⊎ Holds exits b
+  pub last : (b : ℕ) → b + 1 ≡ n → IsLeftOn tree set b leaves
+
+-- no byte is tried yet
+pub ExitsBelow-none : (tree : Tree) (set : List ℕ) (exits : ByteClass) (leaves : Bool) → ExitsBelow tree set exits leaves 0
+ExitsBelow-none tree set exits leaves = record {
+  stays = λ q b below. absurd (omega arith);
+  leave = λ p q b below. absurd (omega arith);
+  last = λ b end. absurd (omega arith);
+}
+
+leave_here : (tree : Tree) (set : List ℕ) (new : ByteClass) (next : Bool) (n b : ℕ) → b ≡ n → IsLeftOn tree set n next → (next ≡ true → Holds new n) → (p q : ℕ) → HasBit set p → Follows tree p q → Takes tree q b → HasBit set q ⊎ Holds new b
+leave_here tree set new true n b same left here p q bit follows takes = inr (subst (λ a. Holds new a) (sym same) (here refl))
+leave_here tree set new false n b same left here p q bit follows takes = inl (left.within refl p q bit follows (subst (λ a. Takes tree q a) same takes))
+
+-- the next one is tried
+pub ExitsBelow-more : (tree : Tree) (set : List ℕ) (exits new : ByteClass) (leaves next : Bool) (n : ℕ) → IsLeftOn tree set n next → ((b : ℕ) → Holds exits b → Holds new b) → (next ≡ true → Holds new n) → ExitsBelow tree set exits leaves n → ExitsBelow tree set new next (n + 1)
+ExitsBelow-more tree set exits new leaves next n left kept here before = record {
+  stays = λ q b below bit. ⊎_elim (λ (same : b ≡ n). subst (λ a. IsStepOf tree set a q) (sym same) (left.stays q bit)) (λ other. before.stays q b (omega arith) bit) (cases_eq b n);
+  leave = λ p q b below bit follows takes.
+      ⊎_elim
+      (λ (same : b ≡ n). leave_here tree set new next n b same left here p q bit follows takes)
+      (λ other. ⊎_elim (λ inside. inl inside) (λ exit. inr (kept b exit)) (before.leave p q b (omega arith) bit follows takes))
+      (cases_eq b n);
+  last = λ b end. let same : b ≡ n = omega arith in subst (λ a. IsLeftOn tree set a next) (sym same) left;
+}
+
+-- a byte at no cut is left as the one below
+pub left_uncut : (tree : Tree) (set : List ℕ) (none cuts exits : ByteClass) (leaves : Bool) (n : ℕ) → ((b : ℕ) → b + 1 < 256 → ¬ Holds cuts (b + 1) → (¬ Holds none (b + 1)) × ((q : ℕ) → 0 < q → q ≤ slots_of tree → (Takes tree q b ↔ Takes tree q (b + 1)))) → n < 256 → n ≢ 0 → ¬ Holds cuts n → ExitsBelow tree set exits leaves n → IsLeftOn tree set n leaves
+left_uncut tree set none cuts exits leaves n uncut byte some no_cut before =
+    let m : ℕ = n - 1 in
+    let is : m + 1 ≡ n = omega arith in
+    let at : ¬ Holds cuts (m + 1) = λ holds. no_cut (subst (λ a. Holds cuts a) is holds) in
+    let alike = (uncut m (omega arith) at).1 in
+    subst (λ a. IsLeftOn tree set a leaves) is (left_alike tree set m leaves alike (before.last m is))
+
+-- the byte is added
+pub exits_with : (exits new : ByteClass) (n : ℕ) (next : Bool) → ((b : ℕ) → Holds new b ↔ ((b ≡ n) ⊎ Holds exits b)) → ((b : ℕ) → Holds exits b → Holds new b) × (next ≡ true → Holds new n)
+exits_with exits new n next added = (λ b holds. (added b).1 (inr holds), λ _. (added n).1 (inl refl))
+
+-- or is none
+pub exits_without : (exits : ByteClass) (n : ℕ) (next : Bool) → next ≡ false → ((b : ℕ) → Holds exits b → Holds exits b) × (next ≡ true → Holds exits n)
+exits_without exits n next none = (λ b holds. holds, λ leaves. absurd (false≢true (sym none ∙ leaves)))
+
+-- all bytes are tried
+pub IsRest-from_exits : (tree : Tree) (set : List ℕ) (exits : ByteClass) (leaves : Bool) (n : ℕ) → 256 ≤ n → ExitsBelow tree set exits leaves n → IsRest tree set exits []
+IsRest-from_exits tree set exits leaves n all found = record {
+  stays = λ q b byte bit. found.stays q b (omega arith) bit;
+  leaves = λ p q b byte bit follows takes. ⊎_elim (λ inside. inl inside) (λ exit. inr (exit, tt)) (found.leave p q b (omega arith) bit follows takes);
+}
+
+-- among the first states the second set has none that the first has not, or this one alone
+abbrev pub IsLoneBelow : List ℕ → List ℕ → ℕ → Option ℕ → Type 0
+IsLoneBelow set next n None = (q : ℕ) → q < n → HasBit next q → HasBit set q
+IsLoneBelow set next n (Some s) = (q : ℕ) → q < n → HasBit next q → HasBit set q ⊎ (q ≡ s)
+
+-- no state is looked at yet
+pub IsLoneBelow-none : (set next : List ℕ) → IsLoneBelow set next 0 None
+IsLoneBelow-none set next = λ q below bit. absurd (omega arith)
+
+-- one more state that is not new
+pub IsLoneBelow-old : (set next : List ℕ) (n : ℕ) (found : Option ℕ) → (HasBit next n → HasBit set n) → IsLoneBelow set next n found → IsLoneBelow set next (n + 1) found
+IsLoneBelow-old set next n None old before = λ q below bit. ⊎_elim (λ (same : q ≡ n). subst (λ a. HasBit set a) (sym same) (old (subst (λ a. HasBit next a) same bit))) (λ other. before q (omega arith) bit) (cases_eq q n)
+IsLoneBelow-old set next n (Some s) old before = λ q below bit. ⊎_elim (λ (same : q ≡ n). inl (subst (λ a. HasBit set a) (sym same) (old (subst (λ a. HasBit next a) same bit)))) (λ other. before q (omega arith) bit) (cases_eq q n)
+
+-- the first that is new
+pub IsLoneBelow-new : (set next : List ℕ) (n : ℕ) (found : Option ℕ) → is_some found ≡ false → IsLoneBelow set next n found → IsLoneBelow set next (n + 1) (Some n)
+IsLoneBelow-new set next n None first before = λ q below bit. ⊎_elim (λ same. inr same) (λ other. inl (before q (omega arith) bit)) (cases_eq q n)
+IsLoneBelow-new set next n (Some s) first before = λ q below bit. absurd (false≢true (sym first))
+
+-- all states are looked at
+pub IsLoneBelow-all : (set next : List ℕ) (slots n : ℕ) (found : Option ℕ) → slots < n → IsLoneBelow set next n found → IfSome found (λ s. (q : ℕ) → q ≤ slots → HasBit next q → HasBit set q ⊎ (q ≡ s))
+IsLoneBelow-all set next slots n None all below = tt
+IsLoneBelow-all set next slots n (Some s) all below = λ q within bit. below q (omega arith) bit
+
+-- a state that the first set has, or that the second has not
+pub old_by_both : (set next : List ℕ) (n : ℕ) (has : Bool) → has ≡ true → (IsTrue has ↔ HasBit set n) → HasBit next n → HasBit set n
+old_by_both set next n has is means bit = means.0 is
+
+pub old_by_none : (set next : List ℕ) (n : ℕ) (has : Bool) → has ≡ false → (IsTrue has ↔ HasBit next n) → HasBit next n → HasBit set n
+old_by_none set next n has none means bit = absurd (false≢true (sym none ∙ means.1 bit))
+
+lone_item : (x y k : ℕ) → k < 1 → get_or (x ∷ []) k y ≡ y → y ≡ x
+lone_item x y zero within is = sym is
+lone_item x y (suc k) within is = absurd (omega arith)
+
+lone_of : (ways one two : List ℕ) (way q : ℕ) (r : Option ℕ) → ways ≡ way ∷ one → MatchOption r ((one ≡ []) × (two ≡ [])) (λ x. one ≡ x ∷ two) → is_some r ≡ false → Contains ways q → q ≡ way
+lone_of ways one two way q None is rest none has =
+    let one_is : ways ≡ way ∷ [] = is ∙ ap (λ l. way ∷ l) rest.0 in
+    let at : Contains (way ∷ []) q = subst (λ l. Contains l q) one_is has in
+    lone_item way q at.0 at.1 at.2
+lone_of ways one two way q (Some x) is rest none has = absurd (false≢true (sym none))
+
+-- the way on that is found is the only one
+pub only_way_by : (tree : Tree) (live : ByteClass) (state byte way : ℕ) (ways one two : List ℕ) (r : Option ℕ) → ((b : ℕ) → b < 256 → (Holds live b ↔ ((q : ℕ) × Follows tree state q × Takes tree q b))) → ((a : ℕ) → Holds live a → a ≡ byte) → ((q : ℕ) → Contains ways q ↔ FollowsOn tree state byte q) → ways ≡ way ∷ one → MatchOption r ((one ≡ []) × (two ≡ [])) (λ x. one ≡ x ∷ two) → is_some r ≡ false → (q b : ℕ) → b < 256 → Follows tree state q → Takes tree q b → (b ≡ byte) × (q ≡ way)
+only_way_by tree live state byte way ways one two r lives lone members first second none q b small follows takes =
+    let same : b ≡ byte = lone b ((lives b small).1 (q, follows, takes)) in
+    (same, lone_of ways one two way q r first second none ((members q).1 (follows, subst (λ a. Takes tree q a) same takes)))
+
+-- a byte that is no exit is passed over
+pub passed_by_byte : (exits : ByteClass) (front bytes : List ℕ) (x : ℕ) → ¬ Holds exits (get_or bytes x 0) → IsPassed exits front (drop x bytes)
+passed_by_byte exits front [] zero none = tt
+passed_by_byte exits front [] (suc x) none = tt
+passed_by_byte exits front (b ∷ bytes) zero none = inl none
+passed_by_byte exits front (b ∷ bytes) (suc x) none = passed_by_byte exits front bytes x none
+
+-- so are bytes that miss the front
+pub passed_by_miss : (exits : ByteClass) (front bytes : List ℕ) → Misses front bytes → IsPassed exits front bytes
+passed_by_miss exits front [] misses = tt
+passed_by_miss exits front (b ∷ bytes) misses = inr misses
+
+-- where the front does not occur within the bytes, they miss it
+pub missed_by_none : (bytes front : List ℕ) (x : ℕ) → x + length front ≤ length bytes → (OccursAt bytes front x → ⊥) → Misses front (drop x bytes)
+missed_by_none bytes front x within none =
+    let long = length-drop x bytes in
+    ⊎_elim
+    (λ misses. misses)
+    (λ fits.
+    absurd (none (record {
+      fits = within;
+      reads = λ j below. sym (get_or-drop x bytes j 0) ∙ fits j below (omega arith);
+    })))
+    (misses_or_fits front (drop x bytes))
+
+-- before its first occurrence
+pub missed_before : (bytes front : List ℕ) (n x : ℕ) → FindsNeedle bytes front 0 (Some n) → x < n → Misses front (drop x bytes)
+missed_before bytes front n x finds below =
+    let fits = finds.1.fits in
+    missed_by_none bytes front x (omega arith) (finds.0.before x (omega arith) below)
+
+-- where there is none, as far as it could stand whole
+pub missed_whole : (bytes front : List ℕ) (n x : ℕ) → FindsNeedle bytes front 0 None → n ≡ length bytes + 1 - length front → 0 < length front → x < n → Misses front (drop x bytes)
+missed_whole bytes front n x none end some below = missed_by_none bytes front x (omega arith) (none x (omega arith) (omega arith))
+
+-- the bytes of the front are known
+pub front_known : (tree : Tree) (set next : List ℕ) (exits : ByteClass) (byte state : ℕ) (front : List ℕ) → ((a : ℕ) → Holds exits a → a ≡ byte) → ((q : ℕ) → HasBit next q ↔ IsStepOf tree set byte q) → ((q : ℕ) → q ≤ slots_of tree → HasBit next q → HasBit set q ⊎ (q ≡ state)) → Opens tree state byte front → IsRest tree set exits [] → IsRest tree set exits front
+front_known tree set next exits byte state front lone step new opens rest = record {
+  stays = rest.stays;
+  leaves = λ p q b small bit follows takes.
+      ⊎_elim
+      (λ inside. inl inside)
+      (λ out.
+      let same : b ≡ byte = lone b out.0 in
+      let stepped : HasBit next q = (step q).1 (p, bit, follows, subst (λ a. Takes tree q a) same takes) in
+      ⊎_elim
+      (λ inside. inl inside)
+      (λ (is : q ≡ state). inr (out.0, subst (λ r. Opens tree r b front) (sym is) (subst (λ a. Opens tree state a front) (sym same) opens)))
+      (new q (follows_to_a_slot tree p q follows) stepped))
+      (rest.leaves p q b small bit follows takes);
+}
+
+-- one more place is asked
+pub missed_more : (bytes front : List ℕ) (n : ℕ) → Misses front (take (length bytes - n) (drop n bytes)) → ((x : ℕ) → x < n → Misses front (drop x bytes)) → (x : ℕ) → x < n + 1 → Misses front (drop x bytes)
+missed_more bytes front n here before x below =
+    ⊎_elim
+    (λ (same : x ≡ n). subst (λ k. Misses front (drop k bytes)) (sym same) (subst (λ l. Misses front l) (take_rest bytes n) here))
+    (λ other. before x (omega arith))
+    (cases_eq x n)
+
+-- no state leaves the empty set
+pub IsRest-none : (tree : Tree) (set : List ℕ) (exits : ByteClass) (front : List ℕ) → ((q : ℕ) → HasBit set q → ⊥) → IsRest tree set exits front
+IsRest-none tree set exits front none = record {
+  stays = λ q b small bit. absurd (none q bit);
+  leaves = λ p q b small bit. absurd (none p bit);
+}
+
+-- bytes that are passed over make no difference
+pub passed_both : (tree : Tree) (set rest : List ℕ) (exits : ByteClass) (front : List ℕ) (n : ℕ) (bytes : List ℕ) → set ≡ rest → IsRest tree rest exits front → IsBytes bytes → ((x : ℕ) → x < n → IsPassed exits front (drop x bytes)) → (q : ℕ) → IsReached tree set bytes q ↔ IsReached tree set (drop n bytes) q
+passed_both tree set rest exits front n bytes same is are passed q =
+    let at : IsRest tree set exits front = subst (λ l. IsRest tree l exits front) (sym same) is in
+    (passed_forward tree set exits front n bytes q at are passed, passed_back tree set exits front n bytes q at are)
+
+-- a scan on its way through a piece
+pub record IsDueScan (file : List ℕ) (s : SequenceView) (scan : SequenceScanView) (left : List ℕ) : Type 0 where
+  pub sequence_is : scan.sequence ≡ s
+  pub due : IsDue (whole_tree s) scan.set file left
+
+-- at its begin
+pub scan_begins : (file piece : List ℕ) (s : SequenceView) (scan : SequenceScanView) → IsSequenceScanOf file s scan → IsDueScan (file ++ piece) s scan piece
+scan_begins file piece s scan is = record { sequence_is = is.sequence_is; due = due_begins (whole_tree s) scan.set file piece is.set_is }
+
+-- behind bytes that are passed over
+pub scan_passes : (file left : List ℕ) (n : ℕ) (s : SequenceView) (scan : SequenceScanView) → ((q : ℕ) → IsReached (whole_tree scan.sequence) scan.set left q ↔ IsReached (whole_tree scan.sequence) scan.set (drop n left) q) → IsDueScan file s scan left → IsDueScan file s scan (drop n left)
+scan_passes file left n s scan same is =
+    let P : SequenceView → Type 0 = λ t. (q : ℕ) → IsReached (whole_tree t) scan.set left q ↔ IsReached (whole_tree t) scan.set (drop n left) q in
+    record { sequence_is = is.sequence_is; due = due_passed (whole_tree s) scan.set file left n (subst P is.sequence_is same) is.due }
+
+-- behind one byte
+pub scan_steps : (file left : List ℕ) (b : ℕ) (s : SequenceView) (scan new : SequenceScanView) → new.sequence ≡ scan.sequence → ((q : ℕ) → HasBit new.set q ↔ IsStepOf (whole_tree scan.sequence) scan.set b q) → IsDueScan file s scan (b ∷ left) → IsDueScan file s new left
+scan_steps file left b s scan new same step is =
+    let P : SequenceView → Type 0 = λ t. (q : ℕ) → HasBit new.set q ↔ IsStepOf (whole_tree t) scan.set b q in
+    record { sequence_is = same ∙ is.sequence_is; due = due_stepped (whole_tree s) scan.set new.set file left b (subst P is.sequence_is step) is.due }
+
+-- at its end
+pub scan_ends : (file left : List ℕ) (s : SequenceView) (scan : SequenceScanView) → left ≡ [] → IsDueScan file s scan left → IsSequenceScanOf file s scan
+scan_ends file left s scan none is =
+    let due : IsDue (whole_tree s) scan.set file [] = subst (λ l. IsDue (whole_tree s) scan.set file l) none is.due in
+    record { sequence_is = is.sequence_is; set_is = due_ends (whole_tree s) scan.set file due }
+
+drop_none : (n : ℕ) → drop {A = ℕ} n [] ≡ []
+drop_none zero = refl
+drop_none (suc n) = refl
+
+-- two drops are one
+pub drop_further : (xs : List ℕ) (a n b : ℕ) → b ≡ a + n → drop n (drop a xs) ≡ drop b xs
+drop_further xs zero n b end = let e : n ≡ b = omega arith in ap (λ k. drop k xs) e
+drop_further [] (suc a) n b end = drop_none n ∙ sym (drop_none b)
+drop_further (x ∷ xs) (suc a) n zero end = absurd (omega arith)
+drop_further (x ∷ xs) (suc a) n (suc b) end = drop_further xs a n b (omega arith)
+
+-- nothing is behind the end
+pub drop_all : (xs : List ℕ) (n : ℕ) → length xs ≤ n → drop n xs ≡ []
+drop_all [] n all = drop_none n
+drop_all (x ∷ xs) zero all = absurd (omega arith)
+drop_all (x ∷ xs) (suc n) all = drop_all xs n (omega arith)
+
+-- the same of a scan as callers see it
+pub passed_view : (view scan : SequenceScanView) (rest : List ℕ) (exits : ByteClass) (front : List ℕ) (n : ℕ) (bytes : List ℕ) → view ≡ scan → view.set ≡ rest → IsRest (whole_tree view.sequence) rest exits front → IsBytes bytes → ((x : ℕ) → x < n → IsPassed exits front (drop x bytes)) → (q : ℕ) → IsReached (whole_tree scan.sequence) scan.set bytes q ↔ IsReached (whole_tree scan.sequence) scan.set (drop n bytes) q
+passed_view view scan rest exits front n bytes same set_is is are passed =
+    let P : SequenceScanView → Type 0 = λ v. (q : ℕ) → IsReached (whole_tree v.sequence) v.set bytes q ↔ IsReached (whole_tree v.sequence) v.set (drop n bytes) q in
+    subst P same (passed_both (whole_tree view.sequence) view.set rest exits front n bytes set_is is are passed)
+
+-- one byte of a piece and then bytes that are passed over
+pub scan_goes_on_by : (file piece : List ℕ) (from m n to : ℕ) (s : SequenceView) (scan new : SequenceScanView) → from < length piece → m ≡ length piece - (from + 1) → to ≡ from + 1 + n → new.sequence ≡ scan.sequence → ((q : ℕ) → HasBit new.set q ↔ IsStepOf (whole_tree scan.sequence) scan.set (get_or piece from 0) q) → ((q : ℕ) → IsReached (whole_tree new.sequence) new.set (take m (drop (from + 1) piece)) q ↔ IsReached (whole_tree new.sequence) new.set (drop n (take m (drop (from + 1) piece))) q) → IsDueScan file s scan (drop from piece) → IsDueScan file s new (drop to piece)
+scan_goes_on_by file piece from m n to s scan new within long end same step passed is =
+    let P : List ℕ → Type 0 = λ l. IsDueScan file s scan l in
+    let head : drop from piece ≡ get_or piece from 0 ∷ drop (from + 1) piece = rw add-one (drop-cons piece from 0 within) in
+    let stepped : IsDueScan file s new (drop (from + 1) piece) = scan_steps file (drop (from + 1) piece) (get_or piece from 0) s scan new same step (subst P head is) in
+    let Q : List ℕ → Type 0 = λ l. (q : ℕ) → IsReached (whole_tree new.sequence) new.set l q ↔ IsReached (whole_tree new.sequence) new.set (drop n l) q in
+    let rest : take m (drop (from + 1) piece) ≡ drop (from + 1) piece = ap (λ k. take k (drop (from + 1) piece)) long ∙ take_rest piece (from + 1) in
+    let R : List ℕ → Type 0 = λ l. IsDueScan file s new l in
+    let far : drop n (drop (from + 1) piece) ≡ drop to piece = drop_further piece (from + 1) n to end in
+    subst R far (scan_passes file (drop (from + 1) piece) n s new (subst Q rest passed) stepped)

@@ -1,0 +1,7 @@
+use Rattle.sig_auto.specs.Trees.{whole_tree}
+use Rattle.sig_match.proofs.RestLemmas.{ExitsBelow}
+use Rattle.sig_match.proofs.scan.rest.exits_of.Given as goal
+
+-- the bytes so far are tried
+abbrev pub invariant-loop-at : goal.invariant-loop-at
+invariant-loop-at l = ExitsBelow (whole_tree l.auto') l.set l.exits l.leaves l.at

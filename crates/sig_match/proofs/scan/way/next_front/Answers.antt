@@ -1,0 +1,21 @@
+use Rattle.std.proofs.Common.{arith, refl}
+use Rattle.sig_match.proofs.RestLemmas.{missed_before, missed_more, missed_whole}
+use Rattle.sig_match.proofs.scan.way.next_front.Goals as goal
+
+pub returns-in-Some : goal.returns-in-Some
+returns-in-Some c = record {
+  within = (let fits = c.in-Some.ensures.1.fits in omega arith);
+  passed = λ x below. missed_before c.args.bytes.now c.args.front.now c.in-Some.at x c.in-Some.ensures below;
+}
+
+pub loop-at-init : goal.loop-at-init
+loop-at-init c = record {
+  within = omega arith;
+  missed = λ x below. missed_whole c.args.bytes.now c.args.front.now c.saturating_sub-at.result x c.in_default.ensures c.saturating_sub-at.ensures c.requires below;
+}
+
+pub loop-at-preserved : goal.loop-at-preserved
+loop-at-preserved c = record {
+  within = omega arith;
+  missed = missed_more c.args.bytes.now c.args.front.now c.loop-at.at (c.if-may_begin.ensures refl) c.loop-at.invariant.missed;
+}

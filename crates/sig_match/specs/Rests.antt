@@ -1,0 +1,53 @@
+-- Sets of states in which a scan rests, and the bytes by which they are left.
+use Rattle.std.specs.Prelude.{◌≡◌, ◌≢◌, ◌⊎◌, ℕ, ◌<◌, Bool, false, List, [], ◌∷◌, ⊤}
+use Rattle.sig_auto.specs.Runs.{IsStepOf}
+use Rattle.sig_auto.specs.Tracks.{Follows}
+use Rattle.sig_auto.specs.Trees.{Tree}
+use Rattle.sig_auto.specs.TreeSlots.{Takes}
+use Rattle.sig_bits.specs.BitSets.{HasBit}
+use Rattle.sig_bits.specs.ByteClasses.{Holds}
+use Rattle.sig_bits.specs.declared.byte_class.ByteClass.{ByteClass}
+
+-- these bytes lead from state p to state q
+abbrev pub Reaches : Tree → ℕ → List ℕ → ℕ → Type 0
+Reaches tree p [] q = p ≡ q
+Reaches tree p (b ∷ bytes) q = (r : ℕ) × Follows tree p r × Takes tree r b × Reaches tree r bytes q
+
+-- they lead from some state of the set to q
+abbrev pub IsReached : Tree → List ℕ → List ℕ → ℕ → Type 0
+IsReached tree set bytes q = (p : ℕ) × HasBit set p × Reaches tree p bytes q
+
+-- whatever leads on from state p is these bytes, as far as they go
+abbrev pub GoesBy : Tree → ℕ → List ℕ → Type 0
+GoesBy tree p [] = ⊤
+GoesBy tree p (f ∷ front) = (q b : ℕ) → b < 256 → Follows tree p q → Takes tree q b → (b ≡ f) × GoesBy tree q front
+
+-- byte b, by which state q was reached, is the first of these, and the others are what leads on
+abbrev pub Opens : Tree → ℕ → ℕ → List ℕ → Type 0
+Opens tree q b [] = ⊤
+Opens tree q b (f ∷ front) = (b ≡ f) × GoesBy tree q front
+
+-- each state of the set is there again after any byte, and a state outside comes only on an exit byte, with which the front begins
+pub record IsRest (tree : Tree) (set : List ℕ) (exits : ByteClass) (front : List ℕ) : Type 0 where
+  pub stays : (q b : ℕ) → b < 256 → HasBit set q → IsStepOf tree set b q
+  pub leaves : (p q b : ℕ) → b < 256 → HasBit set p → Follows tree p q → Takes tree q b → HasBit set q ⊎ (Holds exits b × Opens tree q b front)
+
+-- the bytes differ from the front at a place that both have
+abbrev pub Misses : List ℕ → List ℕ → Type 0
+Misses [] bytes = ⊥
+Misses (f ∷ front) [] = ⊥
+Misses (f ∷ front) (b ∷ bytes) = (b ≢ f) ⊎ Misses front bytes
+
+-- no way out of a set of these exits and this front begins with these bytes
+abbrev pub IsPassed : ByteClass → List ℕ → List ℕ → Type 0
+IsPassed exits front [] = ⊤
+IsPassed exits front (b ∷ bytes) = (¬ Holds exits b) ⊎ Misses front (b ∷ bytes)
+
+-- byte b leads to states of the set alone
+abbrev pub StaysIn : Tree → List ℕ → ℕ → Type 0
+StaysIn tree set b = (p q : ℕ) → HasBit set p → Follows tree p q → Takes tree q b → HasBit set q
+
+-- each state of the set is there again after byte b, and where the test is false, no other state is
+pub record IsLeftOn (tree : Tree) (set : List ℕ) (b : ℕ) (leaves : Bool) : Type 0 where
+  pub stays : (q : ℕ) → HasBit set q → IsStepOf tree set b q
+  pub within : leaves ≡ false → StaysIn tree set b

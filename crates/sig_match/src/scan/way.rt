@@ -1,0 +1,98 @@
+//! The way out of a set of states in which a sequence rests: most bytes lead from it to itself.
+//!
+//! Such a set stays as it is up to a byte of its exits, and where only one byte is an exit, up to
+//! that byte and those that have to follow. So the file is searched for them and not stepped
+//! through.
+
+ghost use Rattle.std.specs.Prelude.{◌≡◌, ℕ, ◌<◌, ◌≤◌, false, drop, length, slice_index, take};
+ghost use Rattle.sig_bits.specs.ByteClasses.{Holds};
+ghost use Rattle.sig_match.specs.Rests.{IsPassed, Misses};
+
+use memchr::memmem;
+use sig_bits::ByteClass;
+
+// How many bytes of a way out are known at most.
+pub(crate) const FRONT: usize = 8;
+
+/// How a set is left.
+#[derive(Debug, Drop)]
+pub(crate) struct Way {
+    // The bytes on which another state comes.
+    pub(crate) exits: ByteClass,
+    // As many bytes as `len` says: those with which each way out begins. At 0 none is known.
+    pub(crate) front: [u8; FRONT],
+    pub(crate) len: usize,
+    ghost within: { len ≤ 8 },
+}
+
+impl Way {
+    /// No way out.
+    pub(crate) fn none() -> Way
+        ensures exits { (b : ℕ) → ¬ Holds result.exits b }
+        ensures len { result.len ≡ 0 }
+    {
+        Way {
+            exits: ByteClass::none(),
+            front: [0; FRONT],
+            len: 0,
+        }
+    }
+
+    /// The first place of the bytes at which a way out may begin, or their end.
+    pub(crate) fn next(&self, bytes: &[u8]) -> usize
+        ensures within { result ≤ length bytes.now }
+        ensures passed { (x : ℕ) → x < result → IsPassed self.now.exits (take self.now.len self.now.front) (drop x bytes.now) }
+    {
+        if self.len > 0 {
+            next_front(&self.front[..self.len], bytes)
+        } else {
+            next_exit(&self.exits, bytes)
+        }
+    }
+}
+
+// The first place of a byte of the class, or the end.
+fn next_exit(exits: &ByteClass, bytes: &[u8]) -> usize
+    ensures within { result ≤ length bytes.now }
+    ensures passed { (x : ℕ) → x < result → ¬ Holds exits.now (slice_index bytes.now x) }
+{
+    if exits.is_empty() {
+        return bytes.len();
+    }
+    for (at, byte) in bytes.iter().enumerate() {
+        if exits.contains(*byte) {
+            return at;
+        }
+    }
+    bytes.len()
+}
+
+// The first place at which the bytes begin with the front, as far as they go, or their end.
+fn next_front(front: &[u8], bytes: &[u8]) -> usize
+    requires { 0 < length front.now }
+    ensures within { result ≤ length bytes.now }
+    ensures passed { (x : ℕ) → x < result → Misses front.now (drop x bytes.now) }
+{
+    if let Some(at) = memmem::find(bytes, front) {
+        return at;
+    }
+    let mut at = (bytes.len() + 1).saturating_sub(front.len());
+    while at < bytes.len() {
+        if may_begin(front, &bytes[at..]) {
+            return at;
+        }
+        at += 1;
+    }
+    bytes.len()
+}
+
+// Whether the two agree as far as both go.
+fn may_begin(front: &[u8], bytes: &[u8]) -> bool
+    ensures { result ≡ false → Misses front.now bytes.now }
+{
+    let (Some((first, rest)), Some((byte, later))) = (front.split_first(), bytes.split_first())
+    else {
+        return true;
+    };
+    *first == *byte && may_begin(rest, later)
+}
