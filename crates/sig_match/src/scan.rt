@@ -22,6 +22,8 @@ use sig_table::{SigId, Table};
 use std::alloc::{AllocError, Global};
 use std::marker::Model;
 
+#[cfg(test)]
+mod plain;
 mod rest;
 mod sequence_scan;
 mod signature_scan;

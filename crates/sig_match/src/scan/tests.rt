@@ -1,7 +1,11 @@
+ghost use Rattle.std.specs.Prelude.{◌<◌};
+
+use crate::scan::plain::PlainScan;
+use crate::scan::sequence_scan::SequenceScan;
 use crate::{Hit, Scan};
 use sig_bits::FromRead;
-use sig_table::{FormatId, SigId, Table};
-use std::alloc::Global;
+use sig_table::{FormatId, Sequence, SigId, Table};
+use std::alloc::{AllocError, Global};
 use std::test::Fail;
 
 // The table of the one signature `fmt/1`, 1 with this position and expression.
@@ -171,5 +175,82 @@ fn an_open_gap_is_waited_in(rt: HostRuntime) -> Result<(), Fail> {
     );
     assert!(rt; !one_hits(rt.alloc(), word, &[b"A\x00\x00\x00\x00B", b"\x00C"])?);
     assert!(rt; !one_hits(rt.alloc(), word, &[b"\x00A\x00\x00\x00B", b"C"])?);
+    Ok(())
+}
+
+// So many bytes, each 41, 42 or 00, the same for the same seed.
+fn letters(alloc: Global, seed: u32, len: usize) -> Result<Vec<u8>, AllocError> {
+    let mut state = seed;
+    let mut bytes = Vec::new(alloc);
+    for _ in 0..len {
+        state = state.wrapping_mul(1_664_525).wrapping_add(1_013_904_223);
+        bytes.push(match (state >> 24) % 3 {
+            0 => b'A',
+            1 => b'B',
+            _ => 0,
+        })?;
+    }
+    Ok(bytes)
+}
+
+// Whether the scan and the plain one agree behind each piece of the file.
+fn agree_by(
+    alloc: Global,
+    sequence: &Sequence,
+    file: &[u8],
+    piece: usize,
+) -> Result<bool, AllocError>
+    requires { 0 < piece }
+{
+    let mut scan = SequenceScan::of(alloc, sequence)?;
+    let mut plain = PlainScan::of(alloc, sequence)?;
+    for bytes in file.chunks(piece) {
+        scan.feed(bytes);
+        plain.feed(bytes);
+        if scan.stands() != plain.stands() {
+            return Ok(false);
+        }
+    }
+    Ok(true)
+}
+
+// Whether they agree on a sequence of this position and expression, in pieces of several lengths.
+fn agree(alloc: Global, sequence: &str, file: &[u8]) -> Result<bool, Fail> {
+    let table = table_of(alloc, sequence)?;
+    if table.signature_count() == 0 {
+        return Ok(false);
+    }
+    for sequence in table.sequences_of(SigId(0)) {
+        let same = agree_by(alloc, sequence, file, 1)?
+            && agree_by(alloc, sequence, file, 2)?
+            && agree_by(alloc, sequence, file, 3)?
+            && agree_by(alloc, sequence, file, 7)?
+            && agree_by(alloc, sequence, file, 1024)?;
+        if !same {
+            return Ok(false);
+        }
+    }
+    Ok(true)
+}
+
+#[test]
+fn the_plain_scan_agrees_on_files_of_few_letters(rt: HostRuntime) -> Result<(), Fail> {
+    let file = letters(rt.alloc(), 1, 120)?;
+    assert!(rt; agree(rt.alloc(), "Variable,,,41424142", &file)?);
+    assert!(rt; agree(rt.alloc(), "Variable,,,414142", &file)?);
+    assert!(rt; agree(rt.alloc(), "Variable,,,[!00]00", &file)?);
+    assert!(rt; agree(rt.alloc(), "EOF,0,2,4142", &file)?);
+    assert!(rt; agree(rt.alloc(), "EOF,1,1,4142{1-2}00", &file)?);
+    Ok(())
+}
+
+#[test]
+fn the_plain_scan_agrees_on_gaps_and_lists(rt: HostRuntime) -> Result<(), Fail> {
+    let file = letters(rt.alloc(), 2, 120)?;
+    assert!(rt; agree(rt.alloc(), "Variable,,,(4142|[4100:4142]00)41", &file)?);
+    assert!(rt; agree(rt.alloc(), "Variable,,,{1-2}4142*0041", &file)?);
+    assert!(rt; agree(rt.alloc(), "BOF,0,9,41{0-3}42*4100", &file)?);
+    assert!(rt; agree(rt.alloc(), "BOF,0,60,414200", &file)?);
+    assert!(rt; agree(rt.alloc(), "EOF,0,0,4142*", &file)?);
     Ok(())
 }
