@@ -22,7 +22,7 @@ use Rattle.sig_auto.specs.Local.{is_nullable}
 use Rattle.sig_auto.specs.Rows.{above, behind, below, between, inner_at, lower_at, only_these, rest, upper_at}
 use Rattle.sig_auto.specs.Successions.{BeginsOn}
 use Rattle.sig_auto.specs.Tracks.{Accepting, Follows}
-use Rattle.sig_expr.proofs.LawLemmas.{IsBefore-cases}
+use Rattle.sig_expr.proofs.Exports.{IsBefore-cases}
 use Rattle.sig_auto.specs.Trees.{Tree, Never, Empty, Slot, Gap, Then, Or, alternatives_tree, atom_tree, atoms_tree, back_tree, bracket_tree, front_tree, item_tree, items_tree, row_tree, rows_tree, whole_tree}
 use Rattle.sig_auto.specs.TreeSlots.{Takes, class_of, slots_of}
 use Rattle.sig_auto.specs.Trim.{IsTrim}

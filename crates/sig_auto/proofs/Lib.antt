@@ -1,22 +1,23 @@
 -- Lemmas of this crate.
-pub mod BeginLemmas
-pub mod ByteLemmas
-pub mod ClassLemmas
-pub mod CutLemmas
-pub mod EndLemmas
-pub mod EndOrNotLemmas
-pub mod LocalLemmas
-pub mod PruneLemmas
-pub mod RowLemmas
-pub mod RowPushLemmas
-pub mod RunLaws
-pub mod RunLemmas
-pub mod SameLemmas
-pub mod SideLemmas
-pub mod SpelledLemmas
-pub mod StepLemmas
-pub mod SuccessorLemmas
-pub mod TakenLemmas
-pub mod TrimLemmas
-pub mod WholeLemmas
-pub mod WordLemmas
+mod BeginLemmas
+mod ByteLemmas
+mod ClassLemmas
+mod CutLemmas
+mod EndLemmas
+mod EndOrNotLemmas
+pub mod Exports
+mod LocalLemmas
+mod PruneLemmas
+mod RowLemmas
+mod RowPushLemmas
+mod RunLaws
+mod RunLemmas
+mod SameLemmas
+mod SideLemmas
+mod SpelledLemmas
+mod StepLemmas
+mod SuccessorLemmas
+mod TakenLemmas
+mod TrimLemmas
+mod WholeLemmas
+mod WordLemmas

@@ -8,7 +8,7 @@ use Rattle.sig_auto.specs.Rows.{above, behind, below, between, inner_at, lower_a
 use Rattle.sig_auto.specs.Trees.{row_tree, rows_tree}
 use Rattle.sig_auto.specs.Unfolded.{TreeWord}
 use Rattle.sig_bits.specs.Bytes.{IsBytes}
-use Rattle.sig_expr.proofs.LawLemmas.{IsBefore-cases, IsBefore-lower, IsBefore-same, IsUpTo-before, IsUpTo-behind, IsUpTo-cases, IsUpTo-first, IsUpTo-itself, IsUpTo-rest}
+use Rattle.sig_expr.proofs.Exports.{IsBefore-cases, IsBefore-lower, IsBefore-same, IsUpTo-before, IsUpTo-behind, IsUpTo-cases, IsUpTo-first, IsUpTo-itself, IsUpTo-rest}
 use Rattle.sig_expr.specs.Words.{IsBefore, IsBytesOf, IsUpTo}
 
 -- a word of a row: a byte of its first class, and a word of the others

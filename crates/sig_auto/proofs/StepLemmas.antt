@@ -10,7 +10,7 @@ use Rattle.sig_auto.specs.Trees.{Tree, Gap, Then, Or}
 use Rattle.sig_auto.specs.TreeSlots.{Takes, classes_of, class_of, slots_of}
 use Rattle.sig_auto.specs.Trim.{IsTrim}
 use Rattle.sig_bits.specs.BitSets.{HasBit}
-use Rattle.sig_bits.proofs.BitLaws.{zeros_have_no_bit}
+use Rattle.sig_bits.proofs.Exports.{zeros_have_no_bit}
 use Rattle.sig_table.specs.Slots.{gap_slots}
 use Rattle.sig_auto.proofs.TakenLemmas.{length_classes}
 use Rattle.sig_auto.proofs.LocalLemmas.{IsSlot, first_or, first_then, follows_or, follows_then, is_first-slot, is_last-slot, gap_begins, gap_goes_none, gap_goes_some, gap_next, gap_stays, follows-slots}

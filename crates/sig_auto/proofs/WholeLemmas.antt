@@ -12,7 +12,7 @@ use Rattle.sig_auto.specs.Trees.{Tree, Slot, alternatives_tree, atom_tree, atoms
 use Rattle.sig_auto.specs.TreeSlots.{slots_of}
 use Rattle.sig_auto.specs.Trim.{HasTrack, IsTrim}
 use Rattle.sig_bits.specs.Bytes.{IsBytes}
-use Rattle.sig_expr.proofs.LawLemmas.{IsBefore-cases, leaves_no_all}
+use Rattle.sig_expr.proofs.Exports.{IsBefore-cases, leaves_no_all}
 use Rattle.sig_expr.specs.declared.item.Atom.{Atom}
 use Rattle.sig_expr.specs.declared.item.Atom.TheVariants as atom
 use Rattle.sig_expr.specs.declared.item.Item.{Item}

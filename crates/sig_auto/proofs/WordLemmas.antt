@@ -11,7 +11,7 @@ use Rattle.sig_auto.specs.Rows.{above, below, between}
 use Rattle.sig_auto.specs.Trees.{Tree, Slot, Then, alternatives_tree, atom_tree, atoms_tree, back_tree, bracket_tree, front_tree, item_tree, items_tree, rows_tree, whole_tree}
 use Rattle.sig_auto.specs.Unfolded.{TreeWord}
 use Rattle.sig_bits.specs.Bytes.{IsBytes}
-use Rattle.sig_expr.proofs.LawLemmas.{IsBefore-cases, IsBefore-either, IsBefore-lower, IsUpTo-before, IsUpTo-first, IsUpTo-same, not_before_itself}
+use Rattle.sig_expr.proofs.Exports.{IsBefore-cases, IsBefore-either, IsBefore-lower, IsUpTo-before, IsUpTo-first, IsUpTo-same, not_before_itself}
 use Rattle.sig_expr.specs.declared.item.Atom.{Atom}
 use Rattle.sig_expr.specs.declared.item.Atom.TheVariants as atom
 use Rattle.sig_expr.specs.declared.item.Item.{Item}

@@ -1,7 +1,8 @@
 -- Lemmas of this crate.
-pub mod BitLaws
-pub mod BitLemmas
-pub mod DeviceLemmas
-pub mod JoinLemmas
-pub mod LaneLemmas
-pub mod RangeLemmas
+mod BitLaws
+mod BitLemmas
+mod DeviceLemmas
+pub mod Exports
+mod JoinLemmas
+mod LaneLemmas
+mod RangeLemmas

@@ -1,20 +1,21 @@
 -- The lemmas of this crate.
-pub mod BeforeLemmas
-pub mod CanonLemmas
-pub mod EndLemmas
-pub mod FaultLemmas
-pub mod FirstFaultLemmas
-pub mod FrontLemmas
-pub mod LawLemmas
-pub mod OrderLemmas
-pub mod PairLemmas
-pub mod ProfileLemmas
-pub mod RefusedLemmas
-pub mod RefusalLemmas
-pub mod ScanLemmas
-pub mod Scans
-pub mod ShortestLemmas
-pub mod UniqueLemmas
-pub mod WholePairLemmas
-pub mod WritingLemmas
-pub mod DigitLemmas
+mod BeforeLemmas
+mod CanonLemmas
+mod EndLemmas
+pub mod Exports
+mod FaultLemmas
+mod FirstFaultLemmas
+mod FrontLemmas
+mod LawLemmas
+mod OrderLemmas
+mod PairLemmas
+mod ProfileLemmas
+mod RefusedLemmas
+mod RefusalLemmas
+mod ScanLemmas
+mod Scans
+mod ShortestLemmas
+mod UniqueLemmas
+mod WholePairLemmas
+mod WritingLemmas
+mod DigitLemmas

@@ -11,7 +11,7 @@ use Rattle.sig_match.proofs.OneListLemmas.{one_list}
 use Rattle.sig_table.specs.Ranking.{Outranks, ranks}
 use Rattle.sig_table.specs.Tables.{IsTable}
 use Rattle.sig_table.specs.Views.{TableView}
-use Rattle.sig_table.proofs.PublicLemmas.{ranks-Decides, some_is_not_outranked}
+use Rattle.sig_table.proofs.Exports.{ranks-Decides, some_is_not_outranked}
 
 -- a member of a longer list is its first element, or one of the others
 cons_cases : (y : Hit) (ys : List Hit) (x : Hit) → Contains (y ∷ ys) x → (y ≡ x) ⊎ Contains ys x

@@ -9,7 +9,7 @@ use Rattle.sig_auto.specs.Runs.{EndsIn, FollowsOn, IsSetOf, IsStepOf}
 use Rattle.sig_auto.specs.Tracks.{Follows}
 use Rattle.sig_auto.specs.Trees.{Tree, whole_tree}
 use Rattle.sig_auto.specs.TreeSlots.{Takes, slots_of}
-use Rattle.sig_auto.proofs.RunLaws.{follows_above_the_start, follows_to_a_slot, runs_go_on}
+use Rattle.sig_auto.proofs.Exports.{follows_above_the_start, follows_to_a_slot, runs_go_on}
 use Rattle.sig_bits.specs.BitSets.{HasBit}
 use Rattle.sig_bits.specs.Bytes.{IsBytes}
 use Rattle.sig_bits.specs.ByteClasses.{Holds}

@@ -10,7 +10,7 @@ use Rattle.sig_auto.specs.Runs.{IsSetOf}
 use Rattle.sig_auto.specs.Tracks.{Accepting, Follows}
 use Rattle.sig_auto.specs.Trees.{Tree, whole_tree}
 use Rattle.sig_auto.specs.TreeSlots.{Takes}
-use Rattle.sig_auto.proofs.RunLaws.{accepts_by_an_end, runs_accept_what_stands, runs_begin, runs_go_on}
+use Rattle.sig_auto.proofs.Exports.{accepts_by_an_end, runs_accept_what_stands, runs_begin, runs_go_on}
 use Rattle.sig_bits.specs.BitSets.{HasBit}
 use Rattle.sig_bits.specs.Bytes.{IsBytes}
 use Rattle.sig_bits.specs.Device.{Gives, IsAtEnd}

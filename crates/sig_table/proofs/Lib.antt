@@ -1,31 +1,32 @@
 -- Lemmas of this crate.
-pub mod BelowLemmas
-pub mod DraftLemmas
-pub mod FaultLemmas
-pub mod FormatsAgainLemmas
-pub mod GatheredLemmas
-pub mod JudgingLemmas
-pub mod LimitLemmas
-pub mod LoadLemmas
-pub mod NumberLemmas
-pub mod PairLemmas
-pub mod PairsAgainLemmas
-pub mod PlainLemmas
-pub mod PriorityLemmas
-pub mod PriorityRowLemmas
-pub mod PriorityTextLemmas
-pub mod PublicLemmas
-pub mod PuidLemmas
-pub mod RankingLemmas
-pub mod RecordLemmas
-pub mod RecordsAgainLemmas
-pub mod RemovalLemmas
-pub mod RowAgainLemmas
-pub mod RowLemmas
-pub mod RowTextLemmas
-pub mod SignatureFaultLemmas
-pub mod SignatureRowLemmas
-pub mod SlotLemmas
-pub mod SpanLemmas
-pub mod TableAgainLemmas
-pub mod TableLemmas
+mod BelowLemmas
+mod DraftLemmas
+pub mod Exports
+mod FaultLemmas
+mod FormatsAgainLemmas
+mod GatheredLemmas
+mod JudgingLemmas
+mod LimitLemmas
+mod LoadLemmas
+mod NumberLemmas
+mod PairLemmas
+mod PairsAgainLemmas
+mod PlainLemmas
+mod PriorityLemmas
+mod PriorityRowLemmas
+mod PriorityTextLemmas
+mod PublicLemmas
+mod PuidLemmas
+mod RankingLemmas
+mod RecordLemmas
+mod RecordsAgainLemmas
+mod RemovalLemmas
+mod RowAgainLemmas
+mod RowLemmas
+mod RowTextLemmas
+mod SignatureFaultLemmas
+mod SignatureRowLemmas
+mod SlotLemmas
+mod SpanLemmas
+mod TableAgainLemmas
+mod TableLemmas

@@ -6,7 +6,7 @@ use Rattle.std.specs.List.{flat_map}
 use Rattle.std.proofs.lemmas.Bool.{cases_Bool, ne_eqb}
 use Rattle.std.proofs.lemmas.List.Folds.{list_any-append}
 use Rattle.csv.specs.Writing.{default_writer, fields_text, is_blank, needs_byte, needs_quotes, row_body, row_text}
-use Rattle.sig_expr.proofs.LawLemmas.{encode_upper, encode_with, upper_digits}
+use Rattle.sig_expr.proofs.Exports.{encode_upper, encode_with, upper_digits}
 use Rattle.sig_expr.specs.Canon.{alternative_text, alternatives_text, atom_text, between_text, canon, count_text, from_text, gap_text, item_text, not_text, range_text}
 use Rattle.sig_expr.specs.declared.item.Atom.{Atom}
 use Rattle.sig_expr.specs.declared.item.Atom.TheVariants as atom

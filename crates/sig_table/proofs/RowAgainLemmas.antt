@@ -6,7 +6,7 @@ use Rattle.std.specs.Str.Parse.{digits_value}
 use Rattle.std.proofs.lemmas.Bool.{cases_lt, ne_eqb}
 use Rattle.std.proofs.lemmas.Fmt.{decimal_digit, decimal_nonempty, digits_decimal, digits_value-decimal, first_decimal, length-decimal-le}
 use Rattle.csv.specs.Records.{field_at}
-use Rattle.sig_expr.proofs.LawLemmas.{expression_read}
+use Rattle.sig_expr.proofs.Exports.{expression_read}
 use Rattle.sig_expr.specs.Canon.{canon}
 use Rattle.sig_expr.specs.Profile.{IsExpression}
 use Rattle.sig_expr.specs.Texts.{expr_of}

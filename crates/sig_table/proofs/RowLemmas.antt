@@ -7,7 +7,7 @@ use Rattle.std.proofs.lemmas.Bool.{cases_Bool}
 use Rattle.sig_expr.specs.declared.item.Item.{Item}
 use Rattle.sig_expr.specs.Texts.{expr_of}
 use Rattle.sig_expr.specs.declared.error.ExprError.{ExprError}
-use Rattle.sig_expr.proofs.LawLemmas.{read_expression}
+use Rattle.sig_expr.proofs.Exports.{read_expression}
 use Rattle.sig_table.specs.declared.error.TableError.{TableError}
 use Rattle.sig_table.specs.declared.error.TableError.TheVariants as error
 use Rattle.sig_table.specs.declared.error.TableFile.TheVariants.{Signatures}

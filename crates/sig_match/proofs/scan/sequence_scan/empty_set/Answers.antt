@@ -1,6 +1,6 @@
 use Rattle.std.proofs.Common.{subst}
 use Rattle.sig_bits.specs.BitSets.{HasBit}
-use Rattle.sig_bits.proofs.BitLaws.{zeros_have_no_bit}
+use Rattle.sig_bits.proofs.Exports.{zeros_have_no_bit}
 use Rattle.sig_match.proofs.scan.sequence_scan.empty_set.Goals as goal
 
 pub returns-clause-none : goal.returns-clause-none

@@ -1,5 +1,5 @@
 use Rattle.sig_table.specs.FormatSets.{HasFormat}
-use Rattle.sig_bits.proofs.BitLaws.{zeros_have_no_bit}
+use Rattle.sig_bits.proofs.Exports.{zeros_have_no_bit}
 use Rattle.sig_table.proofs.format_set.FormatSet.new.Goals as goal
 
 pub returns : goal.returns

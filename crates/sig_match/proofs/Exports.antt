@@ -1,0 +1,3 @@
+-- What other crates use of the lemmas of this one.
+pub use Rattle.sig_match.proofs.HitLaws.{left_is_one_list}
+pub use Rattle.sig_match.proofs.LeftLemmas.{Left-member}
