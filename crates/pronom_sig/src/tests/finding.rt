@@ -86,13 +86,25 @@ fn finds_what_the_rows_say(rt: HostRuntime) -> Result<(), Fail> {
         let out = format!(in rt.alloc(); "{folder}/out.bin")?;
         let found = find_files(&rt, budget, out.as_str(), signatures, priorities)?;
         assert_eq!(rt; found.out.as_str(), lines, "{rows:?}");
-        assert_eq!(rt; found.status, if line.is_empty() { 1 } else { 0 }, "{rows:?}");
+        assert_eq!(rt;
+            found.status,
+            if line.is_empty() { 1 } else { 0 },
+            "{rows:?}"
+        );
         assert!(rt; found.err.is_empty(), "{rows:?}");
 
-        let word = if line == "accepted\n" { "check" } else { "witness" };
+        let word = if line == "accepted\n" {
+            "check"
+        } else {
+            "witness"
+        };
         let judged = run_program(&rt, &[word, signatures, priorities, out.as_str()])?;
         assert_eq!(rt; judged.out.as_str(), line, "{rows:?}");
-        assert_eq!(rt; judged.status, if line.is_empty() { 3 } else { 0 }, "{rows:?}");
+        assert_eq!(rt;
+            judged.status,
+            if line.is_empty() { 3 } else { 0 },
+            "{rows:?}"
+        );
         fs::remove_dir_all(&rt, folder)?;
     }
     Ok(())
