@@ -1,5 +1,5 @@
 -- What words ask for, and what they do not.
-use Rattle.std.proofs.Common.{◌≡◌, ◌≢◌, ◌⊎◌, ℕ, List, Option, Some, ap, arith, codes, inl, inr, subst, sym, ◌∙◌}
+use Rattle.std.proofs.Common.{◌≡◌, ◌≢◌, ◌⊎◌, ℕ, List, None, Option, Some, ap, ap₂, arith, codes, inl, inr, option_map, refl, subst, sym, ◌∙◌}
 use Rattle.std.proofs.Math.ListN.{get_or}
 use Rattle.std.proofs.lemmas.Option.{same_Some}
 use Rattle.clap.specs.Words.{HasKind, IsAmong, Kinds, Row, Text, first_of, kind_of}
@@ -9,6 +9,9 @@ use Rattle.pronom_sig.specs.CommandLine.{Asks, NamesBudget, NamesTable}
 use Rattle.pronom_sig.specs.declared.args.Request.{Request}
 use Rattle.pronom_sig.specs.declared.args.Request.TheVariants.{Check, Conflicts, Find, Match, Show, Witness}
 use Rattle.pronom_sig.specs.declared.args.TablePaths.{TablePaths}
+use Rattle.pronom_sig.specs.Requests.{IsFaultOf}
+use Rattle.pronom_sig.specs.declared.error.RunError.TheVariants as run
+use Rattle.pronom_sig.specs.declared.fault.Fault.TheVariants.{Run}
 
 -- one subcommand and its rows are another and its own
 abbrev AreSame : Text → List Row → Text → List Row → Type 0
@@ -106,3 +109,17 @@ pub help_among : (kinds : Kinds) (e : Error) → HasKind kinds e → (kind_of e 
 help_among kinds e (inl memory) is = absurd (no_help e memory is)
 help_among kinds e (inr among) (inl help) = inl (subst (λ k. IsAmong k kinds) help among)
 help_among kinds e (inr among) (inr version) = inr (subst (λ k. IsAmong k kinds) version among)
+
+-- a subcommand that is found by its name, and its rows
+pub named_rows : {B : Type 0} (name_of : B → Text) (its_rows : B → List Row) (found : Option B) (name : Text) (rows : List Row) → option_map name_of found ≡ Some name → option_map (λ (p : Text × List Row). p.1) (option_map {U = Text × List Row} (λ (b : B). (name_of b, its_rows b)) found) ≡ Some rows → option_map {U = Text × List Row} (λ (b : B). (name_of b, its_rows b)) found ≡ Some (name, rows)
+named_rows name_of its_rows (Some b) name rows is_name are_rows = ap₂ (λ (x : Text) (y : List Row). Some (x, y)) (same_Some (name_of b) name is_name) (same_Some (its_rows b) rows are_rows)
+named_rows name_of its_rows None name rows is_name are_rows = let no : None ≡ Some name = is_name in cc
+
+-- memory can run out for whatever is asked
+pub memory_of : (request : Request) → IsFaultOf request (Run run.OutOfMemory)
+memory_of (Show table) = inr (inr refl)
+memory_of (Match all table file) = inr (inr tt)
+memory_of (Find table budget out hex) = inr (inr tt)
+memory_of (Conflicts table budget hex) = inr (inl refl)
+memory_of (Check table certificate) = inr (inr tt)
+memory_of (Witness table file) = inr (inr tt)

@@ -54,7 +54,7 @@ abbrev pub IsFaultOf : Request → Fault → Type 0
 IsFaultOf (Show table) fault = IsLoadFault table fault ⊎ IsShowFault fault
 IsFaultOf (Match all table file) fault = IsLoadFault table fault ⊎ ((fault ≡ CannotOpen file) ⊎ IsRunFault fault)
 IsFaultOf (Find table budget out hex) fault = IsLoadFault table fault ⊎ ((fault ≡ CannotOpen out) ⊎ IsRunFault fault)
-IsFaultOf (Conflicts table budget hex) fault = IsLoadFault table fault ⊎ IsCutFault fault
+IsFaultOf (Conflicts table budget hex) fault = IsLoadFault table fault ⊎ ((fault ≡ Run OutOfMemory) ⊎ IsCutFault fault)
 IsFaultOf (Check table certificate) fault = IsLoadFault table fault ⊎ ((fault ≡ CannotOpen certificate) ⊎ IsRunFault fault)
 IsFaultOf (Witness table file) fault = IsLoadFault table fault ⊎ ((fault ≡ CannotOpen file) ⊎ IsRunFault fault)
 
