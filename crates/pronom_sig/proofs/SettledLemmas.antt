@@ -34,11 +34,11 @@ line_of_all hex table budget counts before after are =
     rw (pairs, are.are_counts.decided, are.are_counts.ambiguous, are.are_counts.unknown) refl
 
 pub all_answered : (hex : Bool) (table : TableView) (budget : ℕ) (counts : Counts) (before mid after : Option (List ℕ)) (is_yes : Bool) → AreTold hex table budget [] counts before mid → Adds mid (counts_line counts) after → (is_yes ≡ true → (counts.ambiguous ≡ 0) × (counts.unknown ≡ 0)) → (is_yes ≡ false → 0 < counts.ambiguous + counts.unknown) → AddsConflicts is_yes hex table budget before after
-all_answered hex table budget counts before mid after is_yes are adds yes no = record {
+all_answered hex table budget counts before mid after is_yes are adds when_yes when_no = record {
   known = are.known;
   are_all = are.are_first;
-  yes = λ h. (sym are.are_counts.ambiguous ∙ (yes h).0, sym are.are_counts.unknown ∙ (yes h).1);
-  no = λ h. (let some = no h in omega (arith, some, are.are_counts.ambiguous, are.are_counts.unknown));
+  yes = λ h. (sym are.are_counts.ambiguous ∙ (when_yes h).0, sym are.are_counts.unknown ∙ (when_yes h).1);
+  no = λ h. (let some = when_no h in omega (arith, some, are.are_counts.ambiguous, are.are_counts.unknown));
   adds = adds_then before mid after (pair_lines hex table are.known) (last_line are.known) are.adds (subst (λ l. Adds mid l after) (line_of_all hex table budget counts before mid are) adds);
 }
 
@@ -70,7 +70,7 @@ last_is_cut e hex table budget counts line is_failed before mid after are is cut
 -- ---- the table
 
 -- where it is neither ambiguous nor unknown, no file leaves both
-never_left : (table : TableView) (formats : ℕ × ℕ) (d : Option PairDecision) → cond (is_ambiguous d) 1 0 ≡ 0 → cond (is_unknown d) 1 0 ≡ 0 → Tells table formats d → AreNeverLeft table formats
+never_left : (table : TableView) (formats : ℕ × ℕ) (d : Option PairDecision) → ◌≡◌ {A = ℕ} (cond (is_ambiguous d) 1 0) 0 → ◌≡◌ {A = ℕ} (cond (is_unknown d) 1 0) 0 → Tells table formats d → AreNeverLeft table formats
 never_left table formats None ambiguous unknown tells = tells
 never_left table formats (Some Decided) ambiguous unknown tells = tells
 never_left table formats (Some (Ambiguous s t file)) ambiguous unknown tells = absurd (omega (arith, ambiguous))
@@ -87,8 +87,8 @@ none_left table budget (k ∷ known) settled ambiguous unknown formats there =
     ]
 
 pub conflicts_decide : (is_yes hex : Bool) (table : TableView) (budget : ℕ) (before after : Option (List ℕ)) → IsTable table → AddsConflicts is_yes hex table budget before after → is_yes ≡ true → TableDecided table
-conflicts_decide is_yes hex table budget before after is adds yes =
-    let zero = adds.yes yes in
+conflicts_decide is_yes hex table budget before after is adds all_known =
+    let none = adds.yes all_known in
     let all : format_pairs (length table.formats) ≡ pairs_of adds.known = adds.are_all.at ∙ append-nil (pairs_of adds.known) in
     decided_pairs_decide table is (λ a b order known unrelated.
-    none_left table budget adds.known adds.are_all.settled zero.0 zero.1 (a, b) (subst (λ l. Contains l (a, b)) all (is_format_pair (length table.formats) a b order known)))
+    none_left table budget adds.known adds.are_all.settled none.0 none.1 (a, b) (subst (λ l. Contains l (a, b)) all (is_format_pair (length table.formats) a b order known)))
