@@ -41,8 +41,8 @@ use signature_scan::SignatureScan;
 
 /// A file on its way past a table.
 ///
-/// All memory is taken at the start: for each sequence its automaton and two sets of a bit for each
-/// state, and the room of the answer.
+/// All memory is taken at the start: for each sequence its automaton and three sets of a bit for
+/// each state, the sieve of all fronts, and the room of the answer.
 #[derive(Debug, Drop)]
 pub struct Scan<'t> {
     table: &'t Table,
