@@ -1,7 +1,5 @@
 -- Lemmas of this crate.
 mod FoundLemmas
-mod SettledLemmas
-mod TellingLemmas
 pub mod BudgetLemmas
 pub mod FaultLemmas
 pub mod HitLemmas

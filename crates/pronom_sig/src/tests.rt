@@ -2,7 +2,6 @@
 //! failing readers and writers do to them.
 
 mod checking;
-mod conflicting;
 mod finding;
 mod matching;
 mod refusals;
