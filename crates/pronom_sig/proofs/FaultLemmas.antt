@@ -3,7 +3,7 @@ use Rattle.std.proofs.Common.{◌++◌, ℕ, Bool, List, Option, None, Some, Res
 use Rattle.sig_bits.specs.Device.{Adds}
 use Rattle.pronom_sig.specs.Faults.{Prints}
 
-adds_then : (before mid after : Option (List ℕ)) (a b : List ℕ) → Adds before a mid → Adds mid b after → Adds before (a ++ b) after
+pub adds_then : (before mid after : Option (List ℕ)) (a b : List ℕ) → Adds before a mid → Adds mid b after → Adds before (a ++ b) after
 adds_then None mid after a b first second = tt
 adds_then (Some before) None after a b first second = absurd first
 adds_then (Some before) (Some mid) None a b first second = absurd second

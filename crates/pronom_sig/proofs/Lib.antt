@@ -1,5 +1,7 @@
 -- Lemmas of this crate.
 mod FoundLemmas
+mod SettledLemmas
+mod TellingLemmas
 pub mod BudgetLemmas
 pub mod FaultLemmas
 pub mod HitLemmas

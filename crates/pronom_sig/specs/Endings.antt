@@ -7,11 +7,11 @@ use Rattle.pronom_sig.specs.Requests.{AnswersWords, ReportsFaultOfWords}
 use Rattle.pronom_sig.specs.declared.error.RunError.TheVariants.{OutOfMemory}
 use Rattle.pronom_sig.specs.declared.fault.Fault.TheVariants.{Run}
 
--- with 0 and 1 no write to the output failed; with 2 it is as it was, and with 3 too, unless a write failed
-pub record KeepsOutput {W : Type 0} (status : ℕ) (is_failed : Bool) (before after : W) : Type 0 where
+-- with 0 and 1 no write to the output failed; with 2 it is as it was, and with 3 too, unless a write failed, or an answer was cut short
+pub record KeepsOutput {W : Type 0} (Cut : Type 0) (status : ℕ) (is_failed : Bool) (before after : W) : Type 0 where
   pub shown : status < 2 → is_failed ≡ false
   pub refused : status ≡ 2 → after ≡ before
-  pub whole : status ≡ 3 → is_failed ≡ false → after ≡ before
+  pub whole : status ≡ 3 → is_failed ≡ false → (after ≡ before) ⊎ Cut
 
 -- with 0 and 1 the error output is as it was; with 3 it has grown by the line of a fault, unless a write failed
 pub record KeepsErrors {E : Type 0} (status : ℕ) (is_failed : Bool) (before after : E) (written written_after : Option (List ℕ)) : Type 0 where

@@ -5,6 +5,7 @@ use Rattle.sig_bits.specs.Device.{Adds}
 use Rattle.sig_table.specs.Tables.{IsTable}
 use Rattle.sig_table.specs.Views.{TableView}
 use Rattle.pronom_sig.specs.CommandLine.{Asks, program}
+use Rattle.pronom_sig.specs.Conflicts.{AddsConflicts, AddsFirstPairs}
 use Rattle.pronom_sig.specs.Faults.{Reports}
 use Rattle.pronom_sig.specs.Finding.{found_text, is_answered}
 use Rattle.pronom_sig.specs.Judged.{AddsVerdict}
@@ -13,11 +14,11 @@ use Rattle.pronom_sig.specs.Shown.{show_text}
 use Rattle.pronom_sig.specs.Witnessed.{AddsWitness}
 use Rattle.pronom_sig.specs.declared.error.RunError.TheVariants.{OutOfMemory, Write}
 use Rattle.pronom_sig.specs.declared.fault.Fault.{Fault}
-use Rattle.pronom_sig.specs.declared.fault.Fault.TheVariants.{CannotOpen, NotText, Run, Table}
+use Rattle.pronom_sig.specs.declared.fault.Fault.TheVariants.{CannotOpen, CutShort, NotText, Run, Table}
 use Rattle.sig_find.specs.declared.found.Found.{Found}
 use Rattle.sig_find.specs.Answers.{IsFound}
 use Rattle.pronom_sig.specs.declared.args.Request.{Request}
-use Rattle.pronom_sig.specs.declared.args.Request.TheVariants.{Check, Find, Match, Show, Witness}
+use Rattle.pronom_sig.specs.declared.args.Request.TheVariants.{Check, Conflicts, Find, Match, Show, Witness}
 use Rattle.pronom_sig.specs.declared.args.TablePaths.{TablePaths}
 
 -- a file of the table can't be opened, or there is no table
@@ -26,6 +27,7 @@ IsLoadFault paths NotText = ⊥
 IsLoadFault paths (CannotOpen name) = (name ≡ paths.signatures) ⊎ (name ≡ paths.priorities)
 IsLoadFault paths (Table error) = ⊤
 IsLoadFault paths (Run error) = ⊥
+IsLoadFault paths (CutShort error) = ⊥
 
 -- an engine gives no answer
 abbrev pub IsRunFault : Fault → Type 0
@@ -33,6 +35,15 @@ IsRunFault NotText = ⊥
 IsRunFault (CannotOpen name) = ⊥
 IsRunFault (Table error) = ⊥
 IsRunFault (Run error) = ⊤
+IsRunFault (CutShort error) = ⊥
+
+-- an engine stopped before its last line
+abbrev pub IsCutFault : Fault → Type 0
+IsCutFault NotText = ⊥
+IsCutFault (CannotOpen name) = ⊥
+IsCutFault (Table error) = ⊥
+IsCutFault (Run error) = ⊥
+IsCutFault (CutShort error) = ⊤
 
 -- the table is not shown: nothing is read for that
 abbrev pub IsShowFault : Fault → Type 0
@@ -43,20 +54,35 @@ abbrev pub IsFaultOf : Request → Fault → Type 0
 IsFaultOf (Show table) fault = IsLoadFault table fault ⊎ IsShowFault fault
 IsFaultOf (Match all table file) fault = IsLoadFault table fault ⊎ ((fault ≡ CannotOpen file) ⊎ IsRunFault fault)
 IsFaultOf (Find table budget out hex) fault = IsLoadFault table fault ⊎ ((fault ≡ CannotOpen out) ⊎ IsRunFault fault)
+IsFaultOf (Conflicts table budget hex) fault = IsLoadFault table fault ⊎ ((fault ≡ Run OutOfMemory) ⊎ IsCutFault fault)
 IsFaultOf (Check table certificate) fault = IsLoadFault table fault ⊎ ((fault ≡ CannotOpen certificate) ⊎ IsRunFault fault)
 IsFaultOf (Witness table file) fault = IsLoadFault table fault ⊎ ((fault ≡ CannotOpen file) ⊎ IsRunFault fault)
 
--- what is written grows by the canonical files of a table, by the lines that are asked for of what a file hits in a table, by the line of the verdict on a certificate, or by that of a file that is ambiguous or not; only the last two can be a no
+-- what is written grows by the canonical files of a table, by the lines that are asked for of what a file hits in a table, by the lines of what was found, by those of the pairs of formats of a table, by the line of the verdict on a certificate, or by that of a file that is ambiguous or not; the first two can't be a no
 abbrev pub Answers : Request → Bool → Option (List ℕ) → Option (List ℕ) → Type 0
 Answers (Show table) is_yes before after = (is_yes ≡ true) × (t : TableView) × IsTable t × Adds before (show_text t) after
 Answers (Match all table path) is_yes before after = (is_yes ≡ true) × (t : TableView) × IsTable t × (file : List ℕ) × AddsLines all t file before after
 Answers (Find table budget out hex) is_yes before after = (t : TableView) × IsTable t × (found : Found) × IsFound t budget found × (is_yes ≡ is_answered found) × Adds before (found_text hex t found) after
+Answers (Conflicts table budget hex) is_yes before after = (t : TableView) × IsTable t × AddsConflicts is_yes hex t budget before after
 Answers (Check table path) is_yes before after = (t : TableView) × IsTable t × (certificate : List ℕ) × AddsVerdict is_yes t certificate before after
 Answers (Witness table path) is_yes before after = (t : TableView) × IsTable t × (file : List ℕ) × AddsWitness is_yes t file before after
 
 -- what is written grows by an answer to what the words ask for, a yes or a no
 abbrev pub AnswersWords : List Text → Bool → Option (List ℕ) → Option (List ℕ) → Type 0
 AnswersWords words is_yes before after = (request : Request) × Asks (subcommand_of program words) request × Answers request is_yes before after
+
+-- the pairs of formats of a table alone are written one by one: of those the lines of the first ones can be all that is written
+abbrev pub IsCutRequest : Request → Option (List ℕ) → Option (List ℕ) → Type 0
+IsCutRequest (Show table) before after = ⊥
+IsCutRequest (Match all table path) before after = ⊥
+IsCutRequest (Find table budget out hex) before after = ⊥
+IsCutRequest (Conflicts table budget hex) before after = (t : TableView) × IsTable t × AddsFirstPairs hex t budget before after
+IsCutRequest (Check table path) before after = ⊥
+IsCutRequest (Witness table path) before after = ⊥
+
+-- the words ask for these pairs, and what is written grows by the lines of the first ones
+abbrev pub CutsWords : List Text → Option (List ℕ) → Option (List ℕ) → Type 0
+CutsWords words before after = (request : Request) × Asks (subcommand_of program words) request × IsCutRequest request before after
 
 -- the line of a fault of the request is reported
 abbrev pub ReportsFaultOf : Request → ℕ → Option (List ℕ) → Option (List ℕ) → Type 0

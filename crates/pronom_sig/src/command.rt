@@ -4,7 +4,7 @@ ghost use Rattle.std.specs.Prelude.{◌≡◌, ◌≢◌, ◌<◌, ◌⊎◌, fa
 ghost use Rattle.clap.specs.Values.{kind_of};
 ghost use Rattle.clap.specs.Words.{Text};
 ghost use Rattle.pronom_sig.specs.Finding.{IsKnown, found_text, is_answered};
-ghost use Rattle.pronom_sig.specs.Requests.{Answers, AnswersWords, IsFaultOf, IsLoadFault, IsRunFault};
+ghost use Rattle.pronom_sig.specs.Requests.{Answers, AnswersWords, CutsWords, IsCutRequest, IsFaultOf, IsLoadFault, IsRunFault};
 ghost use Rattle.sig_bits.specs.Device.{Adds};
 ghost use Rattle.pronom_sig.specs.CommandLine.{IsHelpAsked};
 ghost use Rattle.pronom_sig.specs.Endings.{AnswersBy, KeepsErrors, KeepsOutput, ReportsBy, ReportsMemory};
@@ -12,7 +12,8 @@ ghost use Rattle.sig_table.specs.Tables.{IsTable};
 
 use crate::args::{Request, TablePaths, read_args};
 use crate::check_engine::run_check;
-use crate::error::RunError;
+use crate::conflicts_engine::run_conflicts;
+use crate::error::{CutShort, RunError};
 use crate::fault::Fault;
 use crate::find_engine::{bytes_of, search, write_found};
 use crate::lines::lines_of_found;
@@ -36,7 +37,7 @@ pub fn run<R: Env + Files + AllocGlobal, W: Output, E: Output>(
     err: &mut E,
 ) -> u8
     ensures known { result < 4 }
-    ensures output { KeepsOutput result (W.failed out.new) out.old out.new }
+    ensures output { KeepsOutput ((words : List Text) × CutsWords words (W.written out.old) (W.written out.new)) result (W.failed out.new) out.old out.new }
     ensures errors { KeepsErrors result (E.failed err.new) err.old err.new (E.written err.old) (E.written err.new) }
 
     // What is shown answers some words, or they ask for help.
@@ -80,7 +81,7 @@ pub fn command<R: Files + AllocGlobal, W: Output, E: Output>(
     err: &mut E,
 ) -> u8
     ensures known { result < 4 }
-    ensures output { KeepsOutput result (W.failed out.new) out.old out.new }
+    ensures output { KeepsOutput (CutsWords (map string_bytes words.now) (W.written out.old) (W.written out.new)) result (W.failed out.new) out.old out.new }
     ensures errors { KeepsErrors result (E.failed err.new) err.old err.new (E.written err.old) (E.written err.new) }
     ensures answers { AnswersBy (map string_bytes words.now) result (W.written out.old) (W.written out.new) }
     ensures faults { ReportsBy (map string_bytes words.now) result (E.failed err.new) (E.written err.old) (E.written err.new) }
@@ -104,8 +105,8 @@ fn answer<'a, R: Files + AllocGlobal, W: Output>(
     ensures shown { OnOk result (W.failed out.new ≡ false) }
     ensures answers { IfOk result (λ is_yes. Answers request.entry is_yes (W.written out.old) (W.written out.new)) }
     ensures faults { IfErr result (λ fault. IsFaultOf request.entry fault) }
-    ensures untouched { IfErr result (λ fault. fault ≢ Fault.Run RunError.Write → out.new ≡ out.old) }
-    ensures whole { IfErr result (λ fault. W.failed out.new ≡ false → out.new ≡ out.old) }
+    ensures untouched { IfErr result (λ fault. fault ≢ Fault.Run RunError.Write → ((e : CutShort) → fault ≢ Fault.CutShort e) → out.new ≡ out.old) }
+    ensures whole { IfErr result (λ fault. W.failed out.new ≡ false → (out.new ≡ out.old) ⊎ IsCutRequest request.entry (W.written out.old) (W.written out.new)) }
 {
     match request {
         Request::Show { table } => match run_show(rt.alloc(), &load(rt, table)?, out) {
@@ -130,6 +131,13 @@ fn answer<'a, R: Files + AllocGlobal, W: Output>(
             match search(rt.alloc(), &table, budget) {
                 Ok(found) => answer_found(rt, &table, &found, hex, name, out),
                 Err(error) => Err(Fault::Run(error)),
+            }
+        }
+        Request::Conflicts { table, budget, hex } => {
+            let table = load(rt, table)?;
+            match run_conflicts(rt.alloc(), &table, budget, hex, out) {
+                Ok(is_yes) => Ok(is_yes),
+                Err(error) => Err(Fault::CutShort(error)),
             }
         }
         Request::Check { table, certificate } => {
@@ -226,7 +234,7 @@ fn create<'a, R: Files>(rt: &R, name: &'a str) -> Result<FromWrite<R::File>, Fau
 // What `clap` says: help is an answer, and all else a fault of the words, unless memory ran out.
 fn show_usage<W: Output, E: Output>(alloc: Global, error: &Error, out: &mut W, err: &mut E) -> u8
     ensures known { (result ≡ 0) ⊎ ((result ≡ 2) ⊎ (result ≡ 3)) }
-    ensures output { KeepsOutput result (W.failed out.new) out.old out.new }
+    ensures output { KeepsOutput ⊥ result (W.failed out.new) out.old out.new }
     ensures errors { KeepsErrors result (E.failed err.new) err.old err.new (E.written err.old) (E.written err.new) }
     ensures memory { kind_of error.now ≡ ErrorKind.OutOfMemory → result ≡ 3 }
     ensures memory_reported { kind_of error.now ≡ ErrorKind.OutOfMemory → E.failed err.new ≡ false → ReportsMemory (E.written err.old) (E.written err.new) }

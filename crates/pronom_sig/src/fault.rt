@@ -7,7 +7,7 @@ ghost use Rattle.std.specs.Prelude.{◌≡◌, [], ◌∷◌, ◌++◌, decimal,
 ghost use Rattle.pronom_sig.specs.Faults.{Prints, ReportsFault, Reports, code_text, expression_code_text, fault_line, file_name, fault_text, site_of, site_text};
 ghost use Rattle.pronom_sig.specs.Statuses.{status_of};
 
-use crate::error::RunError;
+use crate::error::{CutShort, RunError};
 use itoa::Buffer;
 use sig_bits::{DeviceFault, Output};
 use sig_expr::ExprError;
@@ -24,6 +24,8 @@ pub(crate) enum Fault<'a> {
     Table(TableError),
     /// An engine gave no answer.
     Run(RunError),
+    /// An engine stopped before its last line.
+    CutShort(CutShort),
 }
 
 impl Fault<'_> {
@@ -35,7 +37,7 @@ impl Fault<'_> {
             Fault::NotText => 2,
             Fault::Table(TableError::Read { .. } | TableError::OutOfMemory) => 3,
             Fault::Table(_) => 2,
-            Fault::CannotOpen(_) | Fault::Run(_) => 3,
+            Fault::CannotOpen(_) | Fault::Run(_) | Fault::CutShort(_) => 3,
         }
     }
 
@@ -73,6 +75,7 @@ fn write_text<E: Output>(fault: Fault<'_>, err: &mut E) -> Result<(), DeviceFaul
             write_code(error, err)
         }
         Fault::Run(error) => put(err, error.text()),
+        Fault::CutShort(error) => put(err, error.text()),
     }
 }
 

@@ -180,8 +180,8 @@ fn push_refusal(line: &mut String, fault: CheckError) -> Result<(), AllocError>
     }
 }
 
-// A text and a number behind it.
-fn push_numbered(line: &mut String, text: &str, number: u32) -> Result<(), AllocError>
+/// A text and a number behind it.
+pub(crate) fn push_numbered(line: &mut String, text: &str, number: u32) -> Result<(), AllocError>
     ensures { OnOk result (string_bytes line.new ≡ string_bytes line.old ++ (text.now ++ decimal number)) }
 {
     write!(line, "{text}{number}")?;

@@ -2,6 +2,7 @@
 //! failing readers and writers do to them.
 
 mod checking;
+mod conflicting;
 mod finding;
 mod matching;
 mod refusals;
