@@ -3,8 +3,10 @@ mod FoundLemmas
 mod SettledLemmas
 mod TellingLemmas
 pub mod BudgetLemmas
+pub mod EndingLemmas
 pub mod FaultLemmas
 pub mod HitLemmas
 pub mod JudgedLemmas
+pub mod ProgressLemmas
 pub mod RequestLemmas
 pub mod RowLemmas

@@ -44,8 +44,8 @@ other_later name other rows more letters same =
 pub no_show : (rows : List Row) → ((table : TablePaths) → NamesTable table rows → ⊥) → (asked : Request) → Asks (Some (codes "show", rows)) asked → ⊥
 no_show rows missing (Show table) asks = missing table (subst (NamesTable table) (rows_of_found (codes "show") rows asks.0 asks.1) asks.2)
 no_show rows missing (Match all table file) asks = other_name (codes "show") (codes "match") rows asks.0 (omega arith) asks.1
-no_show rows missing (Find table budget out hex) asks = other_name (codes "show") (codes "find") rows asks.0 (omega arith) asks.1
-no_show rows missing (Conflicts table budget hex) asks = other_name (codes "show") (codes "conflicts") rows asks.0 (omega arith) asks.1
+no_show rows missing (Find table budget out hex progress) asks = other_name (codes "show") (codes "find") rows asks.0 (omega arith) asks.1
+no_show rows missing (Conflicts table budget hex progress) asks = other_name (codes "show") (codes "conflicts") rows asks.0 (omega arith) asks.1
 no_show rows missing (Check table certificate) asks = other_name (codes "show") (codes "check") rows asks.0 (omega arith) asks.1
 no_show rows missing (Witness table file) asks = other_name (codes "show") (codes "witness") rows asks.0 (omega arith) asks.1
 
@@ -54,16 +54,16 @@ no_match rows missing (Show table) asks = other_name (codes "match") (codes "sho
 no_match rows missing (Match all table file) asks =
     let same : asks.0 ≡ rows = rows_of_found (codes "match") rows asks.0 asks.1 in
     missing table file.now (subst (NamesTable table) same asks.2) (subst (λ (r : List Row). first_of (codes "FILE") r ≡ Some file.now) same asks.3)
-no_match rows missing (Find table budget out hex) asks = other_name (codes "match") (codes "find") rows asks.0 (omega arith) asks.1
-no_match rows missing (Conflicts table budget hex) asks = other_name (codes "match") (codes "conflicts") rows asks.0 (omega arith) asks.1
+no_match rows missing (Find table budget out hex progress) asks = other_name (codes "match") (codes "find") rows asks.0 (omega arith) asks.1
+no_match rows missing (Conflicts table budget hex progress) asks = other_name (codes "match") (codes "conflicts") rows asks.0 (omega arith) asks.1
 no_match rows missing (Check table certificate) asks = other_name (codes "match") (codes "check") rows asks.0 (omega arith) asks.1
 no_match rows missing (Witness table file) asks = other_name (codes "match") (codes "witness") rows asks.0 (omega arith) asks.1
 
 pub no_check : (rows : List Row) → ((table : TablePaths) (text : Text) → NamesTable table rows → first_of (codes "CERT") rows ≡ Some text → ⊥) → (asked : Request) → Asks (Some (codes "check", rows)) asked → ⊥
 no_check rows missing (Show table) asks = other_name (codes "check") (codes "show") rows asks.0 (omega arith) asks.1
 no_check rows missing (Match all table file) asks = other_name (codes "check") (codes "match") rows asks.0 (omega arith) asks.1
-no_check rows missing (Find table budget out hex) asks = other_name (codes "check") (codes "find") rows asks.0 (omega arith) asks.1
-no_check rows missing (Conflicts table budget hex) asks = other_later (codes "check") (codes "conflicts") rows asks.0 (omega arith) asks.1
+no_check rows missing (Find table budget out hex progress) asks = other_name (codes "check") (codes "find") rows asks.0 (omega arith) asks.1
+no_check rows missing (Conflicts table budget hex progress) asks = other_later (codes "check") (codes "conflicts") rows asks.0 (omega arith) asks.1
 no_check rows missing (Check table certificate) asks =
     let same : asks.0 ≡ rows = rows_of_found (codes "check") rows asks.0 asks.1 in
     missing table certificate.now (subst (NamesTable table) same asks.2) (subst (λ (r : List Row). first_of (codes "CERT") r ≡ Some certificate.now) same asks.3)
@@ -72,8 +72,8 @@ no_check rows missing (Witness table file) asks = other_name (codes "check") (co
 pub no_witness : (rows : List Row) → ((table : TablePaths) (text : Text) → NamesTable table rows → first_of (codes "FILE") rows ≡ Some text → ⊥) → (asked : Request) → Asks (Some (codes "witness", rows)) asked → ⊥
 no_witness rows missing (Show table) asks = other_name (codes "witness") (codes "show") rows asks.0 (omega arith) asks.1
 no_witness rows missing (Match all table file) asks = other_name (codes "witness") (codes "match") rows asks.0 (omega arith) asks.1
-no_witness rows missing (Find table budget out hex) asks = other_name (codes "witness") (codes "find") rows asks.0 (omega arith) asks.1
-no_witness rows missing (Conflicts table budget hex) asks = other_name (codes "witness") (codes "conflicts") rows asks.0 (omega arith) asks.1
+no_witness rows missing (Find table budget out hex progress) asks = other_name (codes "witness") (codes "find") rows asks.0 (omega arith) asks.1
+no_witness rows missing (Conflicts table budget hex progress) asks = other_name (codes "witness") (codes "conflicts") rows asks.0 (omega arith) asks.1
 no_witness rows missing (Check table certificate) asks = other_name (codes "witness") (codes "check") rows asks.0 (omega arith) asks.1
 no_witness rows missing (Witness table file) asks =
     let same : asks.0 ≡ rows = rows_of_found (codes "witness") rows asks.0 asks.1 in
@@ -82,18 +82,18 @@ no_witness rows missing (Witness table file) asks =
 pub no_find : (rows : List Row) → ((table : TablePaths) (budget : ℕ) (text : Text) → NamesTable table rows → NamesBudget budget rows → first_of (codes "OUT") rows ≡ Some text → ⊥) → (asked : Request) → Asks (Some (codes "find", rows)) asked → ⊥
 no_find rows missing (Show table) asks = other_name (codes "find") (codes "show") rows asks.0 (omega arith) asks.1
 no_find rows missing (Match all table file) asks = other_name (codes "find") (codes "match") rows asks.0 (omega arith) asks.1
-no_find rows missing (Find table budget out hex) asks =
+no_find rows missing (Find table budget out hex progress) asks =
     let same : asks.0 ≡ rows = rows_of_found (codes "find") rows asks.0 asks.1 in
     missing table budget out.now (subst (NamesTable table) same asks.2) (subst (NamesBudget budget) same asks.3) (subst (λ (r : List Row). first_of (codes "OUT") r ≡ Some out.now) same asks.4)
-no_find rows missing (Conflicts table budget hex) asks = other_name (codes "find") (codes "conflicts") rows asks.0 (omega arith) asks.1
+no_find rows missing (Conflicts table budget hex progress) asks = other_name (codes "find") (codes "conflicts") rows asks.0 (omega arith) asks.1
 no_find rows missing (Check table certificate) asks = other_name (codes "find") (codes "check") rows asks.0 (omega arith) asks.1
 no_find rows missing (Witness table file) asks = other_name (codes "find") (codes "witness") rows asks.0 (omega arith) asks.1
 
 pub no_conflicts : (rows : List Row) → ((table : TablePaths) (budget : ℕ) → NamesTable table rows → NamesBudget budget rows → ⊥) → (asked : Request) → Asks (Some (codes "conflicts", rows)) asked → ⊥
 no_conflicts rows missing (Show table) asks = other_name (codes "conflicts") (codes "show") rows asks.0 (omega arith) asks.1
 no_conflicts rows missing (Match all table file) asks = other_name (codes "conflicts") (codes "match") rows asks.0 (omega arith) asks.1
-no_conflicts rows missing (Find table budget out hex) asks = other_name (codes "conflicts") (codes "find") rows asks.0 (omega arith) asks.1
-no_conflicts rows missing (Conflicts table budget hex) asks =
+no_conflicts rows missing (Find table budget out hex progress) asks = other_name (codes "conflicts") (codes "find") rows asks.0 (omega arith) asks.1
+no_conflicts rows missing (Conflicts table budget hex progress) asks =
     let same : asks.0 ≡ rows = rows_of_found (codes "conflicts") rows asks.0 asks.1 in
     missing table budget (subst (NamesTable table) same asks.2) (subst (NamesBudget budget) same asks.3)
 no_conflicts rows missing (Check table certificate) asks = other_later (codes "conflicts") (codes "check") rows asks.0 (omega arith) asks.1
@@ -119,7 +119,7 @@ named_rows name_of its_rows None name rows is_name are_rows = let no : None ≡ 
 pub memory_of : (request : Request) → IsFaultOf request (Run run.OutOfMemory)
 memory_of (Show table) = inr (inr refl)
 memory_of (Match all table file) = inr (inr tt)
-memory_of (Find table budget out hex) = inr (inr tt)
-memory_of (Conflicts table budget hex) = inr (inl refl)
+memory_of (Find table budget out hex progress) = inr (inr tt)
+memory_of (Conflicts table budget hex progress) = inr (inl refl)
 memory_of (Check table certificate) = inr (inr tt)
 memory_of (Witness table file) = inr (inr tt)

@@ -46,13 +46,13 @@ named name value = record (new_rule value) { long = Some name; required = true }
 abbrev pub budget_rule : Rule
 budget_rule = record (named (codes "budget") (codes "N")) { parser = Some (Signed (pos 1) (pos 4294967295)) }
 
--- `find --budget N --out OUT [--hex] SIGS PRIOS`
+-- `find --budget N --out OUT [--hex] [--progress] SIGS PRIOS`
 abbrev pub find_command : App
-find_command = with_rule (with_rule (with_rule (of_table (new_app (codes "find"))) budget_rule) (named (codes "out") (codes "OUT"))) (given (codes "hex"))
+find_command = with_rule (with_rule (with_rule (with_rule (of_table (new_app (codes "find"))) budget_rule) (named (codes "out") (codes "OUT"))) (given (codes "hex"))) (given (codes "progress"))
 
--- `conflicts --budget N [--hex] SIGS PRIOS`
+-- `conflicts --budget N [--hex] [--progress] SIGS PRIOS`
 abbrev pub conflicts_command : App
-conflicts_command = with_rule (with_rule (of_table (new_app (codes "conflicts"))) budget_rule) (given (codes "hex"))
+conflicts_command = with_rule (with_rule (with_rule (of_table (new_app (codes "conflicts"))) budget_rule) (given (codes "hex"))) (given (codes "progress"))
 
 -- `check SIGS PRIOS CERT`
 abbrev pub check_command : App
@@ -95,8 +95,8 @@ pub record HasFlag (name : Text) (is_given : Bool) (rows : List Row) : Type 0 wh
 abbrev pub Asks : Option (Text × List Row) → Request → Type 0
 Asks found (Show table) = (rows : List Row) × (found ≡ Some (codes "show", rows)) × NamesTable table rows
 Asks found (Match all table file) = (rows : List Row) × (found ≡ Some (codes "match", rows)) × NamesTable table rows × (first_of (codes "FILE") rows ≡ Some file.now) × HasFlag (codes "all") all rows
-Asks found (Find table budget out hex) = (rows : List Row) × (found ≡ Some (codes "find", rows)) × NamesTable table rows × NamesBudget budget rows × (first_of (codes "OUT") rows ≡ Some out.now) × HasFlag (codes "hex") hex rows
-Asks found (Conflicts table budget hex) = (rows : List Row) × (found ≡ Some (codes "conflicts", rows)) × NamesTable table rows × NamesBudget budget rows × HasFlag (codes "hex") hex rows
+Asks found (Find table budget out hex progress) = (rows : List Row) × (found ≡ Some (codes "find", rows)) × NamesTable table rows × NamesBudget budget rows × (first_of (codes "OUT") rows ≡ Some out.now) × HasFlag (codes "hex") hex rows × HasFlag (codes "progress") progress rows
+Asks found (Conflicts table budget hex progress) = (rows : List Row) × (found ≡ Some (codes "conflicts", rows)) × NamesTable table rows × NamesBudget budget rows × HasFlag (codes "hex") hex rows × HasFlag (codes "progress") progress rows
 Asks found (Check table certificate) = (rows : List Row) × (found ≡ Some (codes "check", rows)) × NamesTable table rows × (first_of (codes "CERT") rows ≡ Some certificate.now)
 Asks found (Witness table file) = (rows : List Row) × (found ≡ Some (codes "witness", rows)) × NamesTable table rows × (first_of (codes "FILE") rows ≡ Some file.now)
 

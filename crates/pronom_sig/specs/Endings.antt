@@ -3,7 +3,7 @@ use Rattle.std.specs.Prelude.{◌≡◌, ℕ, ◌<◌, ◌≤◌, ◌⊎◌, Boo
 use Rattle.clap.specs.Words.{Text}
 use Rattle.pronom_sig.specs.CommandLine.{AreTaken, IsHelpAsked}
 use Rattle.pronom_sig.specs.Faults.{Reports, ReportsFault}
-use Rattle.pronom_sig.specs.Requests.{AnswersWords, ReportsFaultOfWords}
+use Rattle.pronom_sig.specs.Requests.{AnswersWords, Behind, ReportsFaultOfWords}
 use Rattle.pronom_sig.specs.declared.error.RunError.TheVariants.{OutOfMemory}
 use Rattle.pronom_sig.specs.declared.fault.Fault.TheVariants.{Run}
 
@@ -13,10 +13,10 @@ pub record KeepsOutput {W : Type 0} (Cut : Type 0) (status : ℕ) (is_failed : B
   pub refused : status ≡ 2 → after ≡ before
   pub whole : status ≡ 3 → is_failed ≡ false → (after ≡ before) ⊎ Cut
 
--- with 0 and 1 the error output is as it was; with 3 it has grown by the line of a fault, unless a write failed
-pub record KeepsErrors {E : Type 0} (status : ℕ) (is_failed : Bool) (before after : E) (written written_after : Option (List ℕ)) : Type 0 where
-  pub quiet : status < 2 → after ≡ before
-  pub reported : status ≡ 3 → is_failed ≡ false → ReportsFault 3 written written_after
+-- with 0 and 1 the error output is as it was, or shows progress; with 3 it has grown by the line of a fault, behind what progress it shows, unless a write failed
+pub record KeepsErrors {E : Type 0} (Shown : Bool → Option (List ℕ) → Option (List ℕ) → Type 0) (status : ℕ) (is_failed : Bool) (before after : E) (written written_after : Option (List ℕ)) : Type 0 where
+  pub quiet : status < 2 → (after ≡ before) ⊎ Shown is_failed written written_after
+  pub reported : status ≡ 3 → is_failed ≡ false → Behind (Shown false) (ReportsFault 3) written written_after
 
 -- with 0 the words ask for help, or are answered with a yes; with 1 they are answered with a no; and words that ask for something are not answered with help
 pub record AnswersBy (words : List Text) (status : ℕ) (before after : Option (List ℕ)) : Type 0 where

@@ -6,6 +6,7 @@ pub mod Faults
 pub mod Finding
 pub mod Judged
 pub mod Lines
+pub mod Progress
 pub mod Requests
 pub mod Shown
 pub mod Statuses
@@ -20,4 +21,5 @@ pub use Rattle.sig_table.specs.Puids
 pub use Rattle.sig_table.specs.Tables
 pub use Rattle.sig_table.specs.Views
 -- The vocabulary of proofs.
+pub mod Metered
 pub mod Pairs

@@ -111,12 +111,14 @@ pub(crate) enum Request<'a> {
         budget: u32,
         out: &'a str,
         hex: bool,
+        progress: bool,
     },
     /// Which pairs of formats of a table are not decided.
     Conflicts {
         table: TablePaths<'a>,
         budget: u32,
         hex: bool,
+        progress: bool,
     },
     /// Whether a certificate of a table is accepted.
     Check {
@@ -197,7 +199,7 @@ fn match_line<'a>(alloc: Global) -> Result<Command<'a>, Error>
     Ok(line)
 }
 
-// `find --budget N --out OUT [--hex] SIGS PRIOS`
+// `find --budget N --out OUT [--hex] [--progress] SIGS PRIOS`
 fn find_line<'a>(alloc: Global) -> Result<Command<'a>, Error>
     ensures line { IfOk result (IsLine find_command) }
     ensures memory { IfErr result (λ e. kind_of e ≡ ErrorKind.OutOfMemory) }
@@ -207,11 +209,12 @@ fn find_line<'a>(alloc: Global) -> Result<Command<'a>, Error>
         .after_help(FIND_HELP)
         .arg(budget(alloc).help("The greatest number of rows for two signatures"))?
         .arg(option(alloc, "out", "OUT").help("Where the certificate or the file goes"))?
-        .arg(flag(alloc, "hex").help("Print the bytes of OUT, too, on a second line"))?;
+        .arg(flag(alloc, "hex").help("Print the bytes of OUT, too, on a second line"))?
+        .arg(flag(alloc, "progress").help("Tell on standard error how many products are done"))?;
     Ok(line)
 }
 
-// `conflicts --budget N [--hex] SIGS PRIOS`
+// `conflicts --budget N [--hex] [--progress] SIGS PRIOS`
 fn conflicts_line<'a>(alloc: Global) -> Result<Command<'a>, Error>
     ensures line { IfOk result (IsLine conflicts_command) }
     ensures memory { IfErr result (λ e. kind_of e ≡ ErrorKind.OutOfMemory) }
@@ -220,7 +223,8 @@ fn conflicts_line<'a>(alloc: Global) -> Result<Command<'a>, Error>
         .about("Find all pairs of formats that a file can leave")
         .after_help(CONFLICTS_HELP)
         .arg(budget(alloc).help("The greatest number of rows for two signatures"))?
-        .arg(flag(alloc, "hex").help("Print the bytes of each file, too"))?;
+        .arg(flag(alloc, "hex").help("Print the bytes of each file, too"))?
+        .arg(flag(alloc, "progress").help("Tell on standard error how many pairs are done"))?;
     Ok(line)
 }
 
@@ -340,6 +344,7 @@ fn find_request<'a>(matches: &ArgMatches<'a>) -> Option<Request<'a>>
         budget: matches.get_one::<u32>("N")?,
         out: matches.get_str("OUT")?,
         hex: matches.get_flag("hex"),
+        progress: matches.get_flag("progress"),
         table: table_paths(matches)?,
     })
 }
@@ -351,6 +356,7 @@ fn conflicts_request<'a>(matches: &ArgMatches<'a>) -> Option<Request<'a>>
     Some(Request::Conflicts {
         budget: matches.get_one::<u32>("N")?,
         hex: matches.get_flag("hex"),
+        progress: matches.get_flag("progress"),
         table: table_paths(matches)?,
     })
 }

@@ -4,7 +4,7 @@ ghost use Rattle.std.specs.Prelude.{◌≡◌, ◌≢◌, ◌<◌, ◌⊎◌, fa
 ghost use Rattle.clap.specs.Values.{kind_of};
 ghost use Rattle.clap.specs.Words.{Text};
 ghost use Rattle.pronom_sig.specs.Finding.{IsKnown, found_text, is_answered};
-ghost use Rattle.pronom_sig.specs.Requests.{Answers, AnswersWords, CutsWords, IsCutRequest, IsFaultOf, IsLoadFault, IsRunFault};
+ghost use Rattle.pronom_sig.specs.Requests.{Answers, AnswersWords, CutsWords, IsCutRequest, IsFaultOf, IsLoadFault, IsRunFault, ShowsWords, TellsOf};
 ghost use Rattle.sig_bits.specs.Device.{Adds};
 ghost use Rattle.pronom_sig.specs.CommandLine.{IsHelpAsked};
 ghost use Rattle.pronom_sig.specs.Endings.{AnswersBy, KeepsErrors, KeepsOutput, ReportsBy, ReportsMemory};
@@ -12,7 +12,7 @@ ghost use Rattle.sig_table.specs.Tables.{IsTable};
 
 use crate::args::{Request, TablePaths, read_args};
 use crate::check_engine::run_check;
-use crate::conflicts_engine::run_conflicts;
+use crate::conflicts_engine::settle;
 use crate::error::{CutShort, RunError};
 use crate::fault::Fault;
 use crate::find_engine::{bytes_of, search, write_found};
@@ -38,7 +38,7 @@ pub fn run<R: Env + Files + AllocGlobal, W: Output, E: Output>(
 ) -> u8
     ensures known { result < 4 }
     ensures output { KeepsOutput ((words : List Text) × CutsWords words (W.written out.old) (W.written out.new)) result (W.failed out.new) out.old out.new }
-    ensures errors { KeepsErrors result (E.failed err.new) err.old err.new (E.written err.old) (E.written err.new) }
+    ensures errors { KeepsErrors (λ is_failed before after. (words : List Text) × ShowsWords words is_failed before after) result (E.failed err.new) err.old err.new (E.written err.old) (E.written err.new) }
 
     // What is shown answers some words, or they ask for help.
     ensures answered { result ≡ 0 → (words : List Text) × (IsHelpAsked words ⊎ AnswersWords words true (W.written out.old) (W.written out.new)) }
@@ -73,7 +73,8 @@ fn fault_of_words(error: io::Error) -> Fault<'static>
 /// Runs the program on its words, without its name, and answers the status.
 ///
 /// The answer and the help go to `out`; a fault is one line on `err`, and a usage fault is the text
-/// of `clap`. A failed write to `err` changes no status.
+/// of `clap`. With `--progress` a search tells `err` how much of it is done. A failed write to `err`
+/// changes no status.
 pub fn command<R: Files + AllocGlobal, W: Output, E: Output>(
     rt: &R,
     words: &[String],
@@ -82,12 +83,12 @@ pub fn command<R: Files + AllocGlobal, W: Output, E: Output>(
 ) -> u8
     ensures known { result < 4 }
     ensures output { KeepsOutput (CutsWords (map string_bytes words.now) (W.written out.old) (W.written out.new)) result (W.failed out.new) out.old out.new }
-    ensures errors { KeepsErrors result (E.failed err.new) err.old err.new (E.written err.old) (E.written err.new) }
+    ensures errors { KeepsErrors (ShowsWords (map string_bytes words.now)) result (E.failed err.new) err.old err.new (E.written err.old) (E.written err.new) }
     ensures answers { AnswersBy (map string_bytes words.now) result (W.written out.old) (W.written out.new) }
     ensures faults { ReportsBy (map string_bytes words.now) result (E.failed err.new) (E.written err.old) (E.written err.new) }
 {
     match read_args(rt.alloc(), words) {
-        Ok(request) => match answer(rt, request, out) {
+        Ok(request) => match answer(rt, request, out, err) {
             Ok(true) => 0,
             Ok(false) => 1,
             Err(fault) => fault.report(err),
@@ -97,11 +98,13 @@ pub fn command<R: Files + AllocGlobal, W: Output, E: Output>(
 }
 
 // Whether the answer is a yes.
-fn answer<'a, R: Files + AllocGlobal, W: Output>(
+fn answer<'a, R: Files + AllocGlobal, W: Output, E: Output>(
     rt: &R,
     request: Request<'a>,
     out: &mut W,
+    err: &mut E,
 ) -> Result<bool, Fault<'a>>
+    ensures told { TellsOf request.entry (E.failed err.new) err.old err.new (E.written err.old) (E.written err.new) }
     ensures shown { OnOk result (W.failed out.new ≡ false) }
     ensures answers { IfOk result (λ is_yes. Answers request.entry is_yes (W.written out.old) (W.written out.new)) }
     ensures faults { IfErr result (λ fault. IsFaultOf request.entry fault) }
@@ -126,16 +129,22 @@ fn answer<'a, R: Files + AllocGlobal, W: Output>(
             budget,
             out: name,
             hex,
+            progress,
         } => {
             let table = load(rt, table)?;
-            match search(rt.alloc(), &table, budget) {
+            match search(rt.alloc(), &table, budget, progress, err) {
                 Ok(found) => answer_found(rt, &table, &found, hex, name, out),
                 Err(error) => Err(Fault::Run(error)),
             }
         }
-        Request::Conflicts { table, budget, hex } => {
+        Request::Conflicts {
+            table,
+            budget,
+            hex,
+            progress,
+        } => {
             let table = load(rt, table)?;
-            match run_conflicts(rt.alloc(), &table, budget, hex, out) {
+            match settle(rt.alloc(), &table, budget, hex, progress, out, err) {
                 Ok(is_yes) => Ok(is_yes),
                 Err(error) => Err(Fault::CutShort(error)),
             }
@@ -235,7 +244,7 @@ fn create<'a, R: Files>(rt: &R, name: &'a str) -> Result<FromWrite<R::File>, Fau
 fn show_usage<W: Output, E: Output>(alloc: Global, error: &Error, out: &mut W, err: &mut E) -> u8
     ensures known { (result ≡ 0) ⊎ ((result ≡ 2) ⊎ (result ≡ 3)) }
     ensures output { KeepsOutput ⊥ result (W.failed out.new) out.old out.new }
-    ensures errors { KeepsErrors result (E.failed err.new) err.old err.new (E.written err.old) (E.written err.new) }
+    ensures errors { KeepsErrors (λ is_failed before after. ⊥) result (E.failed err.new) err.old err.new (E.written err.old) (E.written err.new) }
     ensures memory { kind_of error.now ≡ ErrorKind.OutOfMemory → result ≡ 3 }
     ensures memory_reported { kind_of error.now ≡ ErrorKind.OutOfMemory → E.failed err.new ≡ false → ReportsMemory (E.written err.old) (E.written err.new) }
     ensures help { result ≡ 0 → (kind_of error.now ≡ ErrorKind.DisplayHelp) ⊎ (kind_of error.now ≡ ErrorKind.DisplayVersion) }

@@ -8,7 +8,7 @@ ghost use Rattle.pronom_sig.specs.Faults.{Prints, ReportsFault, Reports, code_te
 ghost use Rattle.pronom_sig.specs.Statuses.{status_of};
 
 use crate::error::{CutShort, RunError};
-use itoa::Buffer;
+use itoa::{Buffer, Integer};
 use sig_bits::{DeviceFault, Output};
 use sig_expr::ExprError;
 use sig_table::{TableError, TableFile};
@@ -45,6 +45,7 @@ impl Fault<'_> {
     pub(crate) fn report<E: Output>(self, err: &mut E) -> u8
         ensures status { result ≡ status_of self.entry }
         ensures reported { E.failed err.new ≡ false → Reports self.entry result (E.written err.old) (E.written err.new) }
+        ensures sound { E.failed err.new ≡ false → E.failed err.old ≡ false }
     {
         let _ = write_line(self, err);
         self.status()
@@ -52,14 +53,16 @@ impl Fault<'_> {
 }
 
 fn write_line<E: Output>(fault: Fault<'_>, err: &mut E) -> Result<(), DeviceFault>
-    ensures { Prints result (fault_line fault.entry) (E.written err.old) (E.written err.new) (E.failed err.new) }
+    ensures prints { Prints result (fault_line fault.entry) (E.written err.old) (E.written err.new) (E.failed err.new) }
+    ensures sound { E.failed err.new ≡ false → E.failed err.old ≡ false }
 {
     write_text(fault, err)?;
     put(err, "\n")
 }
 
 fn write_text<E: Output>(fault: Fault<'_>, err: &mut E) -> Result<(), DeviceFault>
-    ensures { Prints result (fault_text fault.entry) (E.written err.old) (E.written err.new) (E.failed err.new) }
+    ensures prints { Prints result (fault_text fault.entry) (E.written err.old) (E.written err.new) (E.failed err.new) }
+    ensures sound { E.failed err.new ≡ false → E.failed err.old ≡ false }
 {
     match fault {
         Fault::NotText => put(
@@ -110,7 +113,8 @@ fn site_of(error: TableError) -> Site
 }
 
 fn write_site<E: Output>(site: Site, err: &mut E) -> Result<(), DeviceFault>
-    ensures { Prints result (site_text site) (E.written err.old) (E.written err.new) (E.failed err.new) }
+    ensures prints { Prints result (site_text site) (E.written err.old) (E.written err.new) (E.failed err.new) }
+    ensures sound { E.failed err.new ≡ false → E.failed err.old ≡ false }
 {
     match site {
         Site::Nowhere => Ok(()),
@@ -138,7 +142,8 @@ fn file_name(file: TableFile) -> &'static str
 
 // What is wrong with a table, by the number of its rule.
 fn write_code<E: Output>(error: TableError, err: &mut E) -> Result<(), DeviceFault>
-    ensures { Prints result (code_text error) (E.written err.old) (E.written err.new) (E.failed err.new) }
+    ensures prints { Prints result (code_text error) (E.written err.old) (E.written err.new) (E.failed err.new) }
+    ensures sound { E.failed err.new ≡ false → E.failed err.old ≡ false }
 {
     match error {
         TableError::Read { .. } => put(err, "read failed"),
@@ -166,7 +171,8 @@ fn write_code<E: Output>(error: TableError, err: &mut E) -> Result<(), DeviceFau
 
 // What is wrong with an expression: its rule's number, and its place where it has one.
 fn write_expression_code<E: Output>(error: ExprError, err: &mut E) -> Result<(), DeviceFault>
-    ensures { Prints result (expression_code_text error) (E.written err.old) (E.written err.new) (E.failed err.new) }
+    ensures prints { Prints result (expression_code_text error) (E.written err.old) (E.written err.new) (E.failed err.new) }
+    ensures sound { E.failed err.new ≡ false → E.failed err.old ≡ false }
 {
     match error {
         ExprError::TooLong => put(err, "E1"),
@@ -184,21 +190,26 @@ fn write_expression_code<E: Output>(error: ExprError, err: &mut E) -> Result<(),
 
 // A text and a number behind it.
 fn put_numbered<E: Output>(err: &mut E, text: &str, number: usize) -> Result<(), DeviceFault>
-    ensures { Prints result (text.now ++ decimal number) (E.written err.old) (E.written err.new) (E.failed err.new) }
+    ensures prints { Prints result (text.now ++ decimal number) (E.written err.old) (E.written err.new) (E.failed err.new) }
+    ensures sound { E.failed err.new ≡ false → E.failed err.old ≡ false }
 {
     put(err, text)?;
     put_number(err, number)
 }
 
-fn put_number<E: Output>(err: &mut E, number: usize) -> Result<(), DeviceFault>
-    ensures { Prints result (decimal number) (E.written err.old) (E.written err.new) (E.failed err.new) }
+/// Writes a number in decimal.
+pub(crate) fn put_number<E: Output, I: Integer>(err: &mut E, number: I) -> Result<(), DeviceFault>
+    ensures prints { Prints result (I.text number) (E.written err.old) (E.written err.new) (E.failed err.new) }
+    ensures sound { E.failed err.new ≡ false → E.failed err.old ≡ false }
 {
     let mut buffer = Buffer::new();
     put(err, buffer.format(number))
 }
 
-fn put<E: Output>(err: &mut E, text: &str) -> Result<(), DeviceFault>
-    ensures { Prints result text.now (E.written err.old) (E.written err.new) (E.failed err.new) }
+/// Writes a text.
+pub(crate) fn put<E: Output>(err: &mut E, text: &str) -> Result<(), DeviceFault>
+    ensures prints { Prints result text.now (E.written err.old) (E.written err.new) (E.failed err.new) }
+    ensures sound { E.failed err.new ≡ false → E.failed err.old ≡ false }
 {
     err.write_all(text.as_bytes())
 }

@@ -15,8 +15,8 @@
 //!   line, the lines of the first pairs stand.
 //! - No other one writes before its answer is known: after a failed read, and where memory runs out, the
 //!   output is as it was. A failed read or write is reported as one, and nothing else is.
-//! - `command` answers a status of 0, 1, 2 or 3. With 0 and 1 the error output is as it was, no write
-//!   failed, and what was written answers the words, with 1 by the line of a refused certificate or
+//! - `command` answers a status of 0, 1, 2 or 3. With 0 and 1 the error output is as it was, or with
+//!   `--progress` has grown by reports and a line feed; no write to the output failed, and what was written answers the words, with 1 by the line of a refused certificate or
 //!   of a file that is not ambiguous; or, with 0, they ask for help. With 2 the output is as it was,
 //!   and with 3 too, unless a write there failed or the words ask for the pairs of a table: then the
 //!   lines of the first ones stand. A fault is one line, of which fault it is
@@ -38,6 +38,7 @@ mod laws;
 mod lines;
 mod match_engine;
 mod pair_lines;
+mod progress;
 mod show_engine;
 #[cfg(test)]
 mod tests;

@@ -5,6 +5,7 @@ mod checking;
 mod conflicting;
 mod finding;
 mod matching;
+mod progress;
 mod refusals;
 mod showing;
 mod streams;

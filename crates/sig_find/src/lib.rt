@@ -31,5 +31,5 @@ pub use laws::{
     formats_left_leave_pair, pair_left_leaves_formats, related_pairs_leave_none,
     rows_over_some_are_over_all, unblocked_files_lead_to_bad_rows,
 };
-pub use observer::Observer;
+pub use observer::{Observer, Unobserved};
 pub use pair::{PairDecision, decide_pair};

@@ -22,7 +22,7 @@ pub trait Observer {
 
 /// The observer that is told nothing.
 #[derive(Clone, Copy, Debug)]
-pub(crate) struct Unobserved;
+pub struct Unobserved;
 
 impl Observer for Unobserved {
     ghost becomes = { λ before after. ⊤ };

@@ -1,19 +1,18 @@
 //! `conflicts` through the program: tables worked out by hand, and what stands where it stops.
 
-ghost use Rattle.std.specs.Prelude.{None};
-
 use crate::command::command;
+use crate::tests::streams::Room;
 use crate::tests::tables::{
     BOTH_ENDS, COVERED, EVERY_FILE, NONE, ONE, OVER_BOTH, OVER_FIRST, Rows, TWO,
 };
 use crate::tests::{Shown, folder, owned_words, put_table, run_program};
-use sig_bits::{DeviceFault, FromWrite, Output};
+use sig_bits::FromWrite;
 use std::fs;
 use std::test::Fail;
 
 // The last three of these formats are over one another. The first one never meets the second, meets
 // the third in the file `41`, and the fourth in `4142434445`, for which three rows are too few.
-const THREE_RELATED: Rows = Rows(
+pub(crate) const THREE_RELATED: Rows = Rows(
     "fmt/1,10,BOF,0,,41\nfmt/2,20,BOF,0,,42\nfmt/3,30,EOF,0,,41\nfmt/4,40,BOF,0,,4142434445\n",
     "fmt/2,fmt/3\nfmt/2,fmt/4\nfmt/3,fmt/4\n",
 );
@@ -252,30 +251,6 @@ fn wants_a_budget_and_takes_no_other_flag(rt: HostRuntime) -> Result<(), Fail> {
     Ok(())
 }
 
-// An output with room for so many bytes. A write that does not fit takes none of them.
-#[derive(Drop)]
-struct Room {
-    bytes: usize,
-    failed: bool,
-}
-
-impl Output for Room {
-    ghost failed = { λ s. s.failed };
-
-    ghost limit = { λ s. s.bytes };
-
-    ghost written = { λ _. None };
-
-    fn write_all(&mut self, bytes: &[u8]) -> Result<(), DeviceFault> {
-        if self.failed || self.bytes < bytes.len() {
-            self.failed = true;
-            return Err(DeviceFault);
-        }
-        self.bytes -= bytes.len();
-        Ok(())
-    }
-}
-
 #[test]
 fn lines_before_a_failed_write_stand(rt: HostRuntime) -> Result<(), Fail> {
     let folder = folder(&rt, "room")?;
@@ -294,24 +269,18 @@ fn lines_before_a_failed_write_stand(rt: HostRuntime) -> Result<(), Fail> {
     // The lines have 30, 26 and 40 bytes.
     let rooms = [(29, 29), (30, 0), (55, 25), (56, 0), (95, 39)];
     for (room, left) in rooms {
-        let mut out = Room {
-            bytes: room,
-            failed: false,
-        };
+        let mut out = Room::of(room);
         let mut err = FromWrite::new(Vec::new(rt.alloc()));
         let status = command(&rt, words.as_slice(), &mut out, &mut err);
         let line = String::from_utf8(err.into_inner())?;
         assert_eq!(rt; line.as_str(), "write failed\n", "{room}");
         assert_eq!(rt; status, 3, "{room}");
-        assert_eq!(rt; out.bytes, left, "{room}");
+        assert_eq!(rt; out.left(), left, "{room}");
     }
-    let mut out = Room {
-        bytes: 96,
-        failed: false,
-    };
+    let mut out = Room::of(96);
     let mut err = FromWrite::new(Vec::new(rt.alloc()));
     assert_eq!(rt; command(&rt, words.as_slice(), &mut out, &mut err), 1);
-    assert_eq!(rt; out.bytes, 0);
+    assert_eq!(rt; out.left(), 0);
     fs::remove_dir_all(&rt, folder)?;
     Ok(())
 }
