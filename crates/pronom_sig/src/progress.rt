@@ -83,24 +83,26 @@ impl<E: Output> Observer for Meter<'_, E> {
     }
 
     ghost stays = { λ meter. record {
-        same_reference = refl;
-        same_things = refl;
-        sound = λ is. is;
-        adds = λ is things same start told. told;
+      same_reference = refl;
+      same_things = refl;
+      sound = λ is. is;
+      adds = λ is things same start told. told;
     } };
 
     ghost goes_on = { λ a b c first second. record {
-        same_reference = second.same_reference ∙ first.same_reference;
-        same_things = second.same_things ∙ first.same_things;
-        sound = λ is. first.sound (second.sound is);
-        adds = λ is things same start told. second.adds is things (first.same_things ∙ same) start (first.adds (second.sound is) things same start told);
+      same_reference = second.same_reference ∙ first.same_reference;
+      same_things = second.same_things ∙ first.same_things;
+      sound = λ is. first.sound (second.sound is);
+      adds = λ is things same start told. second.adds is things (first.same_things ∙ same) start (first.adds (second.sound is) things same start told);
     } };
 }
 
 // How many are to be done at the report after this one: a percent of all more, or all.
 fn next_report(done: u64, all: u64) -> u64 {
     let step = all.div_ceil(100).max(1);
-    done.saturating_add(step).min(all).max(done.saturating_add(1))
+    done.saturating_add(step)
+        .min(all)
+        .max(done.saturating_add(1))
 }
 
 fn write_report<E: Output>(

@@ -14,8 +14,11 @@ use std::test::Fail;
 struct Watched(Rows, &'static [&'static str], u8, &'static str);
 
 const FIND_ONE: &[&str] = &["find", "--progress", "--budget", "1", "--out", "/dev/null"];
+
 const FIND_TWO: &[&str] = &["find", "--progress", "--budget", "2", "--out", "/dev/null"];
+
 const FIND_UNMADE: &[&str] = &["find", "--progress", "--budget", "2", "--out", "none/none"];
+
 const SETTLE: &[&str] = &["conflicts", "--progress", "--budget", "3"];
 
 const REFUSED: Rows = Rows("fmt/1,1,BOF,0,,4\n", "");
@@ -24,12 +27,7 @@ const REFUSED: Rows = Rows("fmt/1,1,BOF,0,,4\n", "");
 // other.
 const WATCHED: [Watched; 7] = [
     Watched(ONE, FIND_ONE, 0, "\r0 of 0 products\n"),
-    Watched(
-        TWO,
-        FIND_TWO,
-        0,
-        "\r0 of 1 products\r1 of 1 products\n",
-    ),
+    Watched(TWO, FIND_TWO, 0, "\r0 of 1 products\r1 of 1 products\n"),
     Watched(TWO, FIND_ONE, 1, "\r0 of 1 products\n"),
     Watched(
         TWO,
@@ -100,8 +98,14 @@ fn shows_at_most_a_report_for_a_percent(rt: HostRuntime) -> Result<(), Fail> {
     assert_eq!(rt; shown.out.as_str(), "decided\n");
     let err = shown.err.as_str();
     assert_eq!(rt; err.as_bytes().iter().filter(|b| **b == b'\r').count(), 76);
-    assert!(rt; err.starts_with("\r0 of 225 products\r3 of 225 products\r6 of 225"), "{err}");
-    assert!(rt; err.ends_with("\r222 of 225 products\r225 of 225 products\n"), "{err}");
+    assert!(rt;
+        err.starts_with("\r0 of 225 products\r3 of 225 products\r6 of 225"),
+        "{err}"
+    );
+    assert!(rt;
+        err.ends_with("\r222 of 225 products\r225 of 225 products\n"),
+        "{err}"
+    );
     fs::remove_dir_all(&rt, folder)?;
     Ok(())
 }
@@ -129,7 +133,11 @@ fn a_failed_report_changes_nothing(rt: HostRuntime) -> Result<(), Fail> {
         let mut err = Room::of(room);
         let status = command(&rt, words.as_slice(), &mut out, &mut err);
         assert_eq!(rt; status, 0, "{room}");
-        assert_eq!(rt; String::from_utf8(out.into_inner())?.as_str(), "decided\n", "{room}");
+        assert_eq!(rt;
+            String::from_utf8(out.into_inner())?.as_str(),
+            "decided\n",
+            "{room}"
+        );
     }
     fs::remove_dir_all(&rt, folder)?;
     Ok(())

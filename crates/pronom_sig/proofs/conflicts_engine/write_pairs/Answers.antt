@@ -12,8 +12,11 @@ loop-i-init g c =
     let n = c.format_count-formats.result in
     let same : n - 0 ≡ n = omega arith in
     let written = g.W.Output.written c.args.out.now in
-    rw same (c.report.ensures, subst (λ k. AreTold c.args.with_hex c.args.table.now c.args.budget (format_pairs k) c.new-counts.result written written) (sym c.format_count-formats.ensures.count)
-    (begins_told c.args.with_hex c.args.table.now c.args.budget c.new-counts.result written c.new-counts.ensures))
+    rw same (
+      c.report.ensures,
+      subst (λ k. AreTold c.args.with_hex c.args.table.now c.args.budget (format_pairs k) c.new-counts.result written written) (sym c.format_count-formats.ensures.count)
+          (begins_told c.args.with_hex c.args.table.now c.args.budget c.new-counts.result written c.new-counts.ensures),
+    )
 
 pub loop-j-init : goal.loop-j-init
 loop-j-init g c = (
