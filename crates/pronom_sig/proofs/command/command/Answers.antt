@@ -2,6 +2,7 @@ use Rattle.std.proofs.Common.{ℕ, subst, sym}
 use Rattle.pronom_sig.specs.Faults.{Reports}
 use Rattle.pronom_sig.specs.declared.error.RunError.TheVariants.{OutOfMemory}
 use Rattle.pronom_sig.specs.declared.fault.Fault.TheVariants.{Run}
+use Rattle.pronom_sig.proofs.EndingLemmas.{first_of_all}
 use Rattle.pronom_sig.proofs.RequestLemmas.{memory_of}
 use Rattle.pronom_sig.proofs.command.command.Goals as goal
 
@@ -10,5 +11,5 @@ returns-in-Err-clause-faults g c = λ taken high sound.
     let memory = c.in-Err.ensures.taken taken in (
       taken.1.0,
       taken.1.1,
-      (Run OutOfMemory, memory_of taken.1.0, subst (λ (status : ℕ). Reports (Run OutOfMemory) status (g.E.Output.written c.args.err.now) (g.E.Output.written c.show_usage.new.err)) (sym (c.show_usage.ensures.memory memory)) (c.show_usage.ensures.memory_reported memory sound)),
+      (Run OutOfMemory, memory_of taken.1.0, first_of_all _ _ _ _ (subst (λ (status : ℕ). Reports (Run OutOfMemory) status (g.E.Output.written c.args.err.now) (g.E.Output.written c.show_usage.new.err)) (sym (c.show_usage.ensures.memory memory)) (c.show_usage.ensures.memory_reported memory sound))),
     )

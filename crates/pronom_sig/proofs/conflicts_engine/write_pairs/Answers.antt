@@ -44,13 +44,27 @@ write_pair-requires-clause-few g c =
     room_for_one n sum (length all) (length (format_pairs n)) c.format_count-formats.ensures.limit (length-format_pairs n)
     (subst (λ k. sum + length all ≤ length (format_pairs k)) (sym c.format_count-formats.ensures.count) within)
 
+pub pairs-requires : goal.pairs-requires
+pairs-requires g c =
+    let n = c.format_count-formats.result in
+    let left = flat_map (pairs_with n) (range_with_len (c.loop-i.i + 1) (n - (c.loop-i.i + 1))) in
+    let all = map (λ j. (c.loop-i.i, j)) (range_with_len c.loop-j.j (n - c.loop-j.j)) ++ left in
+    let rest = map (λ j. (c.loop-i.i, j)) (range_with_len (c.loop-j.j + 1) (n - (c.loop-j.j + 1))) ++ left in
+    let told = goes_told c.args.with_hex c.args.table.now c.args.budget (c.loop-i.i, c.loop-j.j) all rest c.loop-j.counts c.write_pair.new.counts (g.W.Output.written c.args.out.now) (g.W.Output.written c.loop-j.out) (g.W.Output.written c.write_pair.new.out)
+    (pairs_with-cons n c.loop-i.i c.loop-j.j left c.loop-j-test.true) c.loop-j.invariant.1 c.in_ok-write_pair.ensures.told in
+    let within = few_told c.args.with_hex c.args.table.now c.args.budget rest c.write_pair.new.counts (g.W.Output.written c.args.out.now) (g.W.Output.written c.write_pair.new.out) told in
+    let sum = c.write_pair.new.counts.decided + c.write_pair.new.counts.ambiguous + c.write_pair.new.counts.unknown in
+    let few = room_for_one n sum (length rest) (length (format_pairs n)) c.format_count-formats.ensures.limit (length-format_pairs n)
+    (subst (λ k. sum + length rest ≤ length (format_pairs k)) (sym c.format_count-formats.ensures.count) within) in
+    omega (arith, few)
+
 pub loop-j-preserved : goal.loop-j-preserved
 loop-j-preserved g c =
     let n = c.format_count-formats.result in
     let left = flat_map (pairs_with n) (range_with_len (c.loop-i.i + 1) (n - (c.loop-i.i + 1))) in
     let all = map (λ j. (c.loop-i.i, j)) (range_with_len c.loop-j.j (n - c.loop-j.j)) ++ left in
     let rest = map (λ j. (c.loop-i.i, j)) (range_with_len (c.loop-j.j + 1) (n - (c.loop-j.j + 1))) ++ left in (
-      g.met.O.Observer.goes_on _ _ _ c.loop-j.invariant.0 c.report-2.ensures,
+      g.met.O.Observer.goes_on _ _ _ c.loop-j.invariant.0 c.report-in-loop-j.ensures,
       goes_told c.args.with_hex c.args.table.now c.args.budget (c.loop-i.i, c.loop-j.j) all rest c.loop-j.counts c.write_pair.new.counts (g.W.Output.written c.args.out.now) (g.W.Output.written c.loop-j.out) (g.W.Output.written c.write_pair.new.out)
           (pairs_with-cons n c.loop-i.i c.loop-j.j left c.loop-j-test.true) c.loop-j.invariant.1 c.in_ok-write_pair.ensures.told,
     )
