@@ -8,7 +8,7 @@ use Rattle.sig_auto.specs.Trees.{Tree, Then, Or}
 use Rattle.sig_auto.specs.TreeSlots.{slots_of}
 use Rattle.sig_auto.specs.Trim.{IsTrim}
 use Rattle.sig_auto.proofs.LocalLemmas.{IsSlot}
-use Rattle.sig_auto.proofs.PruneLemmas.{begins_out, goes_out}
+use Rattle.sig_auto.proofs.PruneLemmas.{begins_out, ends_out, goes_out}
 use Rattle.sig_auto.proofs.SpelledLemmas.{followed}
 use Rattle.sig_auto.proofs.TrimLemmas.{follows_slot}
 
@@ -53,10 +53,25 @@ alike_or tree a b x y n before p q is one two many first second =
     subst (λ z. Alike z before p q) (sym is)
     (or_at a b before p q (subst (λ z. Alike z before p q) one first) (subst (λ k. Alike b (before + k) p q) many (subst (λ z. Alike z (before + n) p q) two second)))
 
-pub alike_then : (tree a b x y : Tree) (n before p q : ℕ) → tree ≡ Then a b → x ≡ a → y ≡ b → n ≡ slots_of a → (slots_of b ≡ 0) ⊎ (is_last a before p ≡ is_last a before q) → Alike x before p q → Alike y (before + n) p q → Alike tree before p q
-alike_then tree a b x y n before p q is one two many over first second =
+then_alike : (tree a b x y : Tree) (n before p q : ℕ) → tree ≡ Then a b → x ≡ a → y ≡ b → n ≡ slots_of a → (slots_of b ≡ 0) ⊎ (is_last a before p ≡ is_last a before q) → Alike x before p q → Alike y (before + n) p q → Alike tree before p q
+then_alike tree a b x y n before p q is one two many over first second =
     subst (λ z. Alike z before p q) (sym is)
     (then_at a b before p q (subst (λ z. Alike z before p q) one first) (subst (λ k. Alike b (before + k) p q) many (subst (λ z. Alike z (before + n) p q) two second)) over)
+
+-- neither is a slot of the first branch
+pub alike_behind : (tree a b y : Tree) (n before p q : ℕ) → tree ≡ Then a b → y ≡ b → n ≡ slots_of a → (IsSlot a before p → ⊥) → (IsSlot a before q → ⊥) → Alike y (before + n) p q → Alike tree before p q
+alike_behind tree a b y n before p q is two many p_out q_out second =
+    then_alike tree a b a y n before p q is refl two many (inr (sym (ends_out a before p p_out) ∙ ends_out a before q q_out)) (alike_out a before p q p_out q_out) second
+
+-- the second branch has no slot
+pub alike_alone : (tree a b x : Tree) (before p q : ℕ) → tree ≡ Then a b → x ≡ a → slots_of b ≡ 0 → Alike x before p q → Alike tree before p q
+alike_alone tree a b x before p q is one none first =
+    then_alike tree a b x b (slots_of a) before p q is one refl refl (inl none) first (alike_out b (before + slots_of a) p q (λ slot. omega arith) (λ slot. omega arith))
+
+-- both are slots of the first branch
+pub alike_within : (tree a b x : Tree) (before p q : ℕ) → tree ≡ Then a b → x ≡ a → IsSlot a before p → IsSlot a before q → is_last a before p ≡ is_last a before q → Alike x before p q → Alike tree before p q
+alike_within tree a b x before p q is one p_in q_in over first =
+    then_alike tree a b x b (slots_of a) before p q is one refl refl (inr over) first (alike_out b (before + slots_of a) p q (λ slot. omega arith) (λ slot. omega arith))
 
 -- the states that follow two slots
 pub go_on : (a b : Tree) (p q : ℕ) → IsTrim a → IsSame a b → (p == 0) ≡ false → (q == 0) ≡ false → Alike a 0 p q → (next : ℕ) → Follows b p next ↔ Follows b q next

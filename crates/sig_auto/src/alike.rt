@@ -11,7 +11,8 @@ use crate::node::Node;
 
 impl Node {
     // Whether the slots that follow p are found to be those that follow q. A slot that the tree does
-    // not have goes nowhere in it. Of two slots of a gap nothing is found.
+    // not have goes nowhere in it. Of two slots of a gap nothing is found, nor of two that stand one
+    // behind the other: most questions end where the ways to the two part.
     pub(crate) fn go_on_alike(&self, before: usize, p: usize, q: usize) -> bool
         requires counted { IsCounted self.now }
         requires few { before + slots_of (seen self.now) ≤ 65535 }
@@ -27,12 +28,19 @@ impl Node {
             Node::Never | Node::Empty | Node::Slot(_) => true,
             Node::Gap { .. } => false,
             Node::Then(a, b, _) => {
-                let first = a.go_on_alike(before, p, q);
-                if !first {
+                let has_p = a.has_slot(before, p);
+                let has_q = a.has_slot(before, q);
+                if !has_p && !has_q {
+                    return b.go_on_alike(before + a.slots(), p, q);
+                }
+                if b.slots() == 0 {
+                    return a.go_on_alike(before, p, q);
+                }
+                if !has_p || !has_q {
                     return false;
                 }
-                let over = b.slots() == 0 || a.is_last(before, p) == a.is_last(before, q);
-                over && b.go_on_alike(before + a.slots(), p, q)
+                let within = a.go_on_alike(before, p, q);
+                within && a.is_last(before, p) == a.is_last(before, q)
             }
             Node::Or(a, b, _) => {
                 let first = a.go_on_alike(before, p, q);
