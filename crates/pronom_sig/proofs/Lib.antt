@@ -3,7 +3,6 @@ mod FoundLemmas
 mod SettledLemmas
 mod TellingLemmas
 pub mod BudgetLemmas
-pub mod EndingLemmas
 pub mod FaultLemmas
 pub mod HitLemmas
 pub mod JudgedLemmas

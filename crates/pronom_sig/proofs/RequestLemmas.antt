@@ -9,7 +9,7 @@ use Rattle.pronom_sig.specs.CommandLine.{Asks, NamesBudget, NamesTable}
 use Rattle.pronom_sig.specs.declared.args.Request.{Request}
 use Rattle.pronom_sig.specs.declared.args.Request.TheVariants.{Check, Conflicts, Find, Match, Show, Witness}
 use Rattle.pronom_sig.specs.declared.args.TablePaths.{TablePaths}
-use Rattle.pronom_sig.specs.Requests.{IsFaultOf}
+use Rattle.pronom_sig.specs.Requests.{Behind, IsFaultOf}
 use Rattle.pronom_sig.specs.declared.error.RunError.TheVariants as run
 use Rattle.pronom_sig.specs.declared.fault.Fault.TheVariants.{Run}
 
@@ -123,3 +123,7 @@ memory_of (Find table budget out hex progress) = inr (inr tt)
 memory_of (Conflicts table budget hex progress) = inr (inl refl)
 memory_of (Check table certificate) = inr (inr tt)
 memory_of (Witness table file) = inr (inr tt)
+
+-- nothing is shown before what comes
+pub first_of_all : (Shown Rest : Option (List ℕ) → Option (List ℕ) → Type 0) (before after : Option (List ℕ)) → Rest before after → Behind Shown Rest before after
+first_of_all Shown Rest before after rest = record { mid = before; shown = inl refl; rest = rest }

@@ -4,12 +4,12 @@ use crate::command::command;
 use crate::tests::conflicting::THREE_RELATED;
 use crate::tests::streams::Room;
 use crate::tests::tables::{ONE, Rows, TWO};
-use crate::tests::{folder, owned_words, put_table, run_program};
+use crate::tests::{folder, owned_words, put_table, run_program, run_words};
 use sig_bits::FromWrite;
 use std::fs;
 use std::test::Fail;
 
-// A table, the words behind `find --progress` and before it, the status, and the error output.
+// A table, the words before its files, the status, and the error output.
 #[derive(Clone, Copy)]
 struct Watched(Rows, &'static [&'static str], u8, &'static str);
 
@@ -56,10 +56,10 @@ fn shows_how_much_is_done(rt: HostRuntime) -> Result<(), Fail> {
     let folder = folder.as_str();
     for Watched(rows, words, status, err) in WATCHED {
         let (signatures, priorities) = put_table(&rt, folder, rows.0, rows.1)?;
-        let files = [signatures.as_str(), priorities.as_str()];
-        let mut all = Vec::from_slice(rt.alloc(), words)?;
-        all.extend_from_slice(&files)?;
-        let shown = run_program(&rt, all.as_slice())?;
+        let mut words = owned_words(&rt, words)?;
+        words.push(signatures)?;
+        words.push(priorities)?;
+        let shown = run_words(&rt, words.as_slice())?;
         assert_eq!(rt; shown.err.as_str(), err, "{rows:?}");
         assert_eq!(rt; shown.status, status, "{rows:?}");
     }

@@ -2,8 +2,7 @@ use Rattle.std.proofs.Common.{ℕ, subst, sym}
 use Rattle.pronom_sig.specs.Faults.{Reports}
 use Rattle.pronom_sig.specs.declared.error.RunError.TheVariants.{OutOfMemory}
 use Rattle.pronom_sig.specs.declared.fault.Fault.TheVariants.{Run}
-use Rattle.pronom_sig.proofs.EndingLemmas.{first_of_all}
-use Rattle.pronom_sig.proofs.RequestLemmas.{memory_of}
+use Rattle.pronom_sig.proofs.RequestLemmas.{first_of_all, memory_of}
 use Rattle.pronom_sig.proofs.command.command.Goals as goal
 
 pub returns-in-Err-clause-faults : goal.returns-in-Err-clause-faults
