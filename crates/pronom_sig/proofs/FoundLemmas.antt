@@ -1,5 +1,5 @@
 -- What the finder finds names formats and signatures of its table.
-use Rattle.std.proofs.Common.{◌≡◌, ℕ, ◌<◌, Bool, Bor, Err, List, Ok, Option, Result, Some, length, slice_get, subst, sym}
+use Rattle.std.proofs.Common.{◌≡◌, ℕ, ◌<◌, Bool, Bor, Err, List, Ok, Option, Result, length, subst, sym}
 use Rattle.std.specs.Prelude.{IfOk, OnOk}
 use Rattle.std.proofs.lemmas.Option.{get_or_from_slice_get, slice_get_within}
 use Rattle.sig_find.specs.Answers.{IsFound}
@@ -7,7 +7,7 @@ use Rattle.sig_find.specs.Finding.{IsOfFormat}
 use Rattle.sig_find.specs.declared.found.Found.{Found}
 use Rattle.sig_find.specs.declared.found.Found.TheVariants.{Certificate, GaveUp, Witness}
 use Rattle.sig_table.specs.Tables.{IsSignature, IsTable}
-use Rattle.sig_table.specs.Views.{SignatureView, TableView}
+use Rattle.sig_table.specs.Views.{TableView}
 use Rattle.sig_bits.specs.Device.{Adds}
 use Rattle.pronom_sig.specs.Finding.{IsKnown, found_text, is_answered}
 use Rattle.pronom_sig.specs.Requests.{Answers}

@@ -1,5 +1,5 @@
 -- What the error output shows of a long search: how many of how many things are done.
-use Rattle.std.specs.Prelude.{◌≡◌, ℕ, Bool, true, false, List, [], ◌∷◌, ◌++◌, codes, flat_map, Option}
+use Rattle.std.specs.Prelude.{◌≡◌, ℕ, Bool, true, false, List, ◌++◌, codes, flat_map, Option}
 use Rattle.std.specs.Fmt.{decimal}
 use Rattle.sig_bits.specs.Device.{Adds}
 use Rattle.pronom_sig.specs.declared.progress.Things.{Things}

@@ -1,4 +1,3 @@
-use Rattle.std.proofs.Common.{◌≡◌}
 use Rattle.pronom_sig.proofs.FoundLemmas.{find_is_answered}
 use Rattle.pronom_sig.proofs.command.answer.Goals as goal
 
