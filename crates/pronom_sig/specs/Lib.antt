@@ -9,6 +9,7 @@ pub mod Lines
 pub mod Requests
 pub mod Shown
 pub mod Statuses
+pub mod Stores
 pub mod Tellings
 pub mod Witnessed
 pub use Rattle.sig_bits.specs.Device

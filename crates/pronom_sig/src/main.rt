@@ -39,6 +39,7 @@ mod lines;
 mod match_engine;
 mod pair_lines;
 mod show_engine;
+mod store;
 #[cfg(test)]
 mod tests;
 mod witness_engine;
