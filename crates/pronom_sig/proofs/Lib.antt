@@ -6,5 +6,6 @@ pub mod BudgetLemmas
 pub mod FaultLemmas
 pub mod HitLemmas
 pub mod JudgedLemmas
+pub mod ManyLemmas
 pub mod RequestLemmas
 pub mod RowLemmas

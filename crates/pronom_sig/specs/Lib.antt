@@ -6,6 +6,7 @@ pub mod Faults
 pub mod Finding
 pub mod Judged
 pub mod Lines
+pub mod ManyFiles
 pub mod Requests
 pub mod Shown
 pub mod Statuses

@@ -36,6 +36,7 @@ mod fault;
 mod find_engine;
 mod laws;
 mod lines;
+mod many_engine;
 mod match_engine;
 mod pair_lines;
 mod show_engine;
