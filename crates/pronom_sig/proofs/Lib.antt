@@ -7,5 +7,6 @@ pub mod FaultLemmas
 pub mod HitLemmas
 pub mod JudgedLemmas
 pub mod ProgressLemmas
+pub mod ManyLemmas
 pub mod RequestLemmas
 pub mod RowLemmas

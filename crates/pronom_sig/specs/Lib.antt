@@ -7,9 +7,11 @@ pub mod Finding
 pub mod Judged
 pub mod Lines
 pub mod Progress
+pub mod ManyFiles
 pub mod Requests
 pub mod Shown
 pub mod Statuses
+pub mod Stores
 pub mod Tellings
 pub mod Witnessed
 pub use Rattle.sig_bits.specs.Device

@@ -36,10 +36,12 @@ mod fault;
 mod find_engine;
 mod laws;
 mod lines;
+mod many_engine;
 mod match_engine;
 mod pair_lines;
 mod progress;
 mod show_engine;
+mod store;
 #[cfg(test)]
 mod tests;
 mod witness_engine;
