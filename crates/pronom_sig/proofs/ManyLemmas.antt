@@ -14,11 +14,6 @@ use Rattle.pronom_sig.proofs.TellingLemmas.{adds_nothing, front_then}
 
 -- ---- one file
 
--- its line is written, unless a write failed
-pub told : {T E : Type 0} (result : Result T E) (text : List ℕ) (before after : Option (List ℕ)) (failed : Bool) → Prints result text before after failed → failed ≡ false → Adds before text after
-told (Ok t) text before after failed prints sound = prints.0
-told (Err e) text before after failed prints sound = absurd (false≢true (sym sound ∙ prints.1))
-
 whole_alone : (printed : Printed) → is_ok printed ≡ (is_ok printed && true)
 whole_alone (Ok lines) = refl
 whole_alone (Err fault) = refl

@@ -1,26 +1,20 @@
 -- Reports, and further reports.
 use Rattle.std.proofs.Common.{◌≡◌, ◌∙◌, ◌++◌, ℕ, Bool, true, false, List, [], ◌∷◌, Option, Some, None, refl, sym, ap, subst, append_assoc, append-nil}
 use Rattle.std.specs.Prelude.{codes, flat_map}
+use Rattle.std.proofs.lemmas.Grind.{flat_map-append}
 use Rattle.sig_bits.specs.Device.{Adds}
 use Rattle.pronom_sig.specs.Metered.{HasTold}
 use Rattle.pronom_sig.specs.Progress.{AddsProgress, AddsReports, ShowsIf, report_text}
 use Rattle.pronom_sig.specs.declared.progress.Meter.{Meter}
 use Rattle.pronom_sig.specs.declared.progress.Things.{Things}
 use Rattle.pronom_sig.proofs.FaultLemmas.{adds_then}
-
-pub adds_nothing : (before : Option (List ℕ)) → Adds before [] before
-adds_nothing None = tt
-adds_nothing (Some before) = sym (append-nil before)
+use Rattle.pronom_sig.proofs.TellingLemmas.{adds_nothing}
 
 -- reports and further reports are reports
-reports_append : (things : Things) (some more : List (ℕ × ℕ)) → flat_map (report_text things) (some ++ more) ≡ flat_map (report_text things) some ++ flat_map (report_text things) more
-reports_append things [] more = refl
-reports_append things (x ∷ xs) more = ap (λ l. report_text things x ++ l) (reports_append things xs more) ∙ sym (append_assoc (report_text things x) (flat_map (report_text things) xs) (flat_map (report_text things) more))
-
 pub reports_then : (things : Things) (before mid after : Option (List ℕ)) → AddsReports things before mid → AddsReports things mid after → AddsReports things before after
 reports_then things before mid after first second = record {
   told = first.told ++ second.told;
-  adds = subst (λ l. Adds before l after) (sym (reports_append things first.told second.told)) (adds_then before mid after _ _ first.adds second.adds);
+  adds = subst (λ l. Adds before l after) (sym (flat_map-append (report_text things) first.told second.told)) (adds_then before mid after _ _ first.adds second.adds);
 }
 
 -- one report alone

@@ -8,6 +8,7 @@ ghost use Rattle.pronom_sig.specs.Faults.{Prints};
 ghost use Rattle.pronom_sig.specs.ManyFiles.{AddsFiles, CutsFiles, IsPrinted, file_fault_line};
 
 use crate::error::RunError;
+use crate::fault::put;
 use crate::match_engine::lines_of_match;
 use crate::store::Store;
 use sig_bits::{DeviceFault, Output};
@@ -111,7 +112,7 @@ fn lines_of_name<S: Store, K: DroidCore>(
 // Writes the line of a fault in pieces, which takes no memory.
 fn tell<E: Output>(name: &str, fault: FileFault, err: &mut E) -> Result<(), DeviceFault>
     ensures prints { Prints result (file_fault_line name.now fault) (E.written err.old) (E.written err.new) (E.failed err.new) }
-    ensures sound { OnOk result (E.failed err.old ≡ false) }
+    ensures sound { E.failed err.new ≡ false → E.failed err.old ≡ false }
 {
     match fault {
         FileFault::CannotOpen => tell_unopened(name, err),
@@ -121,7 +122,7 @@ fn tell<E: Output>(name: &str, fault: FileFault, err: &mut E) -> Result<(), Devi
 
 fn tell_unopened<E: Output>(name: &str, err: &mut E) -> Result<(), DeviceFault>
     ensures prints { Prints result (file_fault_line name.now FileFault.CannotOpen) (E.written err.old) (E.written err.new) (E.failed err.new) }
-    ensures sound { OnOk result (E.failed err.old ≡ false) }
+    ensures sound { E.failed err.new ≡ false → E.failed err.old ≡ false }
 {
     put(err, "cannot open ")?;
     put(err, name)?;
@@ -130,17 +131,10 @@ fn tell_unopened<E: Output>(name: &str, err: &mut E) -> Result<(), DeviceFault>
 
 fn tell_unmatched<E: Output>(name: &str, error: RunError, err: &mut E) -> Result<(), DeviceFault>
     ensures prints { Prints result (file_fault_line name.now (FileFault.Run error)) (E.written err.old) (E.written err.new) (E.failed err.new) }
-    ensures sound { OnOk result (E.failed err.old ≡ false) }
+    ensures sound { E.failed err.new ≡ false → E.failed err.old ≡ false }
 {
     put(err, name)?;
     put(err, ": ")?;
     put(err, error.text())?;
     put(err, "\n")
-}
-
-fn put<E: Output>(err: &mut E, text: &str) -> Result<(), DeviceFault>
-    ensures prints { Prints result text.now (E.written err.old) (E.written err.new) (E.failed err.new) }
-    ensures sound { OnOk result (E.failed err.old ≡ false) }
-{
-    err.write_all(text.as_bytes())
 }

@@ -1,6 +1,7 @@
 use Rattle.std.proofs.Common.{List, Option, Ok, Err, string_bytes, subst}
 use Rattle.sig_bits.specs.Device.{Adds, AddsFront}
-use Rattle.pronom_sig.proofs.ManyLemmas.{one_cut, one_printed, told}
+use Rattle.pronom_sig.proofs.FaultLemmas.{printed}
+use Rattle.pronom_sig.proofs.ManyLemmas.{one_cut, one_printed}
 use Rattle.pronom_sig.proofs.TellingLemmas.{adds_nothing}
 use Rattle.pronom_sig.proofs.many_engine.match_file.Goals as goal
 
@@ -26,4 +27,4 @@ returns-clause-answers g c =
     let before = g.E.Output.written c.args.err.now in
     let after = g.E.Output.written c.tell.new.err in
     one_printed _ c.args.name.now (Err c.in-Err.fault) out out (g.E.Output.failed c.tell.new.err) before after c.in-Err.ensures.fault (adds_nothing out)
-    (told c.tell.result _ before after _ c.tell.ensures.prints)
+    (printed c.tell.result _ before after _ c.tell.ensures.prints)
