@@ -10,3 +10,4 @@ pub mod ProgressLemmas
 pub mod ManyLemmas
 pub mod RequestLemmas
 pub mod RowLemmas
+pub mod StoreLemmas

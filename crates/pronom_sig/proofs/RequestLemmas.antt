@@ -1,5 +1,6 @@
 -- What words ask for, and what they do not.
-use Rattle.std.proofs.Common.{◌≡◌, ◌≢◌, ◌⊎◌, ℕ, List, None, Option, Some, ap, ap₂, arith, codes, inl, inr, option_map, refl, subst, sym, ◌∙◌}
+use Rattle.pronom_sig.specs.Stores.{Holding}
+use Rattle.std.proofs.Common.{Bool, ◌≡◌, ◌≢◌, ◌⊎◌, ℕ, List, None, Option, Some, ap, ap₂, arith, codes, inl, inr, option_map, refl, subst, sym, ◌∙◌}
 use Rattle.std.proofs.Math.ListN.{get_or}
 use Rattle.std.proofs.lemmas.Option.{same_Some}
 use Rattle.clap.specs.Words.{HasKind, IsAmong, Kinds, Row, Text, first_of, kind_of}
@@ -116,13 +117,13 @@ named_rows name_of its_rows (Some b) name rows is_name are_rows = ap₂ (λ (x :
 named_rows name_of its_rows None name rows is_name are_rows = let no : None ≡ Some name = is_name in cc
 
 -- memory can run out for whatever is asked
-pub memory_of : (request : Request) → IsFaultOf request (Run run.OutOfMemory)
-memory_of (Show table) = inr (inr refl)
-memory_of (Match all table file) = inr (inr tt)
-memory_of (Find table budget out hex progress) = inr (inr tt)
-memory_of (Conflicts table budget hex progress) = inr (inl refl)
-memory_of (Check table certificate) = inr (inr tt)
-memory_of (Witness table file) = inr (inr tt)
+pub memory_of : {R : Type 0} (failed : R → Bool) (held : Holding) (request : Request) → IsFaultOf failed held request (Run run.OutOfMemory)
+memory_of failed held (Show table) = inr (inr refl)
+memory_of failed held (Match all table file) = inr tt
+memory_of failed held (Find table budget out hex progress) = inr (inr (inr refl))
+memory_of failed held (Conflicts table budget hex progress) = inr (inl refl)
+memory_of failed held (Check table certificate) = inr tt
+memory_of failed held (Witness table file) = inr tt
 
 -- nothing is shown before what comes
 pub first_of_all : (Shown Rest : Option (List ℕ) → Option (List ℕ) → Type 0) (before after : Option (List ℕ)) → Rest before after → Behind Shown Rest before after

@@ -6,7 +6,7 @@ use Rattle.sig_match.specs.declared.results.Hit.{Hit}
 use Rattle.sig_table.specs.Views.{TableView}
 use Rattle.pronom_sig.specs.Faults.{run_text}
 use Rattle.pronom_sig.specs.Lines.{AreAsked, file_lines}
-use Rattle.pronom_sig.specs.Stores.{Has, Holding, Holds, Lacks}
+use Rattle.pronom_sig.specs.Stores.{Has, Holding, Holds, Lacks, SomeFailed}
 use Rattle.pronom_sig.specs.declared.error.RunError.TheVariants.{OutOfMemory, Read, Write}
 use Rattle.pronom_sig.specs.declared.many_engine.FileFault.{FileFault}
 use Rattle.pronom_sig.specs.declared.many_engine.FileFault.TheVariants.{CannotOpen, Run}
@@ -24,11 +24,6 @@ pub record AreLinesOf (all : Bool) (table : TableView) (held : Holding) (name li
   pub hits : List Hit
   pub are_asked : AreAsked all table file hits
   pub are_lines : lines ≡ file_lines (Some name) table hits
-
--- a reader has failed
-pub record SomeFailed {R : Type 0} (failed : R → Bool) : Type 0 where
-  pub reader : R
-  pub has_failed : failed reader ≡ true
 
 -- this is printed of the file of this name: its lines; or there is no such file, a reader of it failed, or memory ran out
 abbrev pub IsPrinted : {R : Type 0} → (R → Bool) → Bool → TableView → Holding → List ℕ → Printed → Type 0

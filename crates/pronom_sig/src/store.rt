@@ -33,6 +33,7 @@ pub trait Store {
 }
 
 /// The files of the system.
+#[derive(Clone, Copy)]
 pub struct SystemFiles<'a, R> {
     rt: &'a R,
 }
