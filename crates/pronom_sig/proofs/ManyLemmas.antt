@@ -1,13 +1,11 @@
 -- What is printed of files, one after another.
-use Rattle.std.proofs.Common.{◌≡◌, ℕ, List, [], ◌∷◌, ◌++◌, All, ◌+◌, ◌<◌, Bool, Option, Result, Ok, Err, drop, false, true, ap, append_assoc, get_or, length, map, refl, subst, sym, take, ◌∙◌}
+use Rattle.std.proofs.Common.{◌≡◌, ℕ, List, [], ◌∷◌, ◌++◌, ◌+◌, ◌<◌, Bool, Option, Ok, Err, drop, false, true, ap, append_assoc, get_or, length, map, refl, subst, sym, take, ◌∙◌}
 use Rattle.std.specs.Prelude.{is_ok, ◌&&◌}
-use Rattle.std.proofs.lemmas.Bool.{false≢true}
 use Rattle.std.proofs.lemmas.Grind.{flat_map-append}
 use Rattle.std.proofs.lemmas.List.{append-nil, map-append, map_more, take-append-drop}
 use Rattle.std.proofs.lemmas.List.Elements.{All-append, All-nil, All-push}
 use Rattle.std.proofs.lemmas.List.Folds.{list_all-append}
 use Rattle.sig_bits.specs.Device.{Adds, AddsFront}
-use Rattle.pronom_sig.specs.Faults.{Prints}
 use Rattle.pronom_sig.specs.ManyFiles.{AddsFiles, CutsFiles, Printed, PrintedFile, err_text, err_texts, is_whole, names_of, out_text, out_texts}
 use Rattle.pronom_sig.proofs.FaultLemmas.{adds_then}
 use Rattle.pronom_sig.proofs.TellingLemmas.{adds_nothing, front_then}

@@ -1,6 +1,6 @@
 -- Reports, and further reports.
-use Rattle.std.proofs.Common.{◌≡◌, ◌∙◌, ◌++◌, ℕ, Bool, true, false, List, [], ◌∷◌, Option, Some, None, refl, sym, ap, subst, append_assoc, append-nil}
-use Rattle.std.specs.Prelude.{codes, flat_map}
+use Rattle.std.proofs.Common.{◌≡◌, ◌∙◌, ◌++◌, ℕ, Bool, true, false, List, [], ◌∷◌, Option, sym, subst, append-nil}
+use Rattle.std.specs.Prelude.{codes}
 use Rattle.std.proofs.lemmas.Grind.{flat_map-append}
 use Rattle.sig_bits.specs.Device.{Adds}
 use Rattle.pronom_sig.specs.Metered.{HasTold}

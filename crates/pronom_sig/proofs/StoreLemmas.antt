@@ -4,7 +4,7 @@ use Rattle.std.specs.Bool.{OnFalse}
 use Rattle.std.specs.Prelude.{option_map}
 use Rattle.std.specs.Borrow.{Bor}
 use Rattle.std.proofs.lemmas.Option.{same_Some}
-use Rattle.sig_table.specs.Judging.{is_judged, is_memory, is_read}
+use Rattle.sig_table.specs.Judging.{is_memory, is_read}
 use Rattle.sig_table.specs.Loading.{records_of, table_of}
 use Rattle.sig_table.specs.Tables.{IsTable}
 use Rattle.sig_table.specs.Views.{TableView}

@@ -1,5 +1,5 @@
 -- What is printed of many files, each by its name.
-use Rattle.std.specs.Prelude.{◌≡◌, ℕ, Bool, true, false, List, [], ◌∷◌, ◌++◌, All, codes, flat_map, is_ok, map, Option, Some, Result, Ok, Err}
+use Rattle.std.specs.Prelude.{◌≡◌, ℕ, Bool, false, List, [], ◌∷◌, ◌++◌, All, codes, flat_map, is_ok, map, Option, Some, Result, Ok, Err}
 use Rattle.std.specs.List.{list_all}
 use Rattle.sig_bits.specs.Device.{Adds, AddsFront}
 use Rattle.sig_match.specs.declared.results.Hit.{Hit}

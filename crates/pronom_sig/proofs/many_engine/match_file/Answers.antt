@@ -1,4 +1,4 @@
-use Rattle.std.proofs.Common.{List, Option, Ok, Err, string_bytes, subst}
+use Rattle.std.proofs.Common.{Ok, Err, string_bytes, subst}
 use Rattle.sig_bits.specs.Device.{Adds, AddsFront}
 use Rattle.pronom_sig.proofs.FaultLemmas.{printed}
 use Rattle.pronom_sig.proofs.ManyLemmas.{one_cut, one_printed}
