@@ -48,6 +48,7 @@ lacks_unopened (Some files) name opens = go (files name) refl opens
   where
     none : Option (Option (List ℕ))
     none = None
+
     go : (file : Option (List ℕ)) → files name ≡ file → none ≡ option_map Some file → files name ≡ None
     go None is same = is
     go (Some bytes) is same = cc

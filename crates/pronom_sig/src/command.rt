@@ -229,11 +229,7 @@ fn answer_found<'a, S: Store, W: Output>(
 // Opens both files of a table before either is read. It stands in a frame of its own, as the engines
 // do: the buffers of all of them in one frame would double the stack that the program needs.
 #[inline(never)]
-fn load<'a, S: Store>(
-    store: &S,
-    alloc: Global,
-    paths: TablePaths<'a>,
-) -> Result<Table, Fault<'a>>
+fn load<'a, S: Store>(store: &S, alloc: Global, paths: TablePaths<'a>) -> Result<Table, Fault<'a>>
     ensures read { IfOk result (IsTableOf (S.held store.now) paths.entry) }
     ensures faults { IfErr result (IsLoadFault S.Reader.failed (S.held store.now) paths.entry) }
 {
