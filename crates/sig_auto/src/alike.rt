@@ -1,5 +1,5 @@
 //! Slots that go on alike: those that follow the one are those that follow the other. So do the last
-//! slots of the alternatives of a bracket.
+//! slots of the alternatives of a list.
 
 ghost use Rattle.std.specs.Prelude.{◌≡◌, ◌+◌, ◌≤◌, ℕ, IsTrue};
 ghost use Rattle.sig_auto.specs.Counted.{IsCounted};
