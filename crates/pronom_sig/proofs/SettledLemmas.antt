@@ -12,7 +12,7 @@ use Rattle.sig_cert.proofs.Exports.{first_or_later, is_format_pair, none_is_ther
 use Rattle.sig_find.specs.FormatPairs.{AreNeverLeft}
 use Rattle.sig_find.specs.declared.pair.PairDecision.{PairDecision}
 use Rattle.sig_find.specs.declared.pair.PairDecision.TheVariants.{Ambiguous, Decided, Unknown}
-use Rattle.sig_find.proofs.PairLaws.{decided_pairs_decide}
+use Rattle.sig_find.proofs.Exports.{decided_pairs_decide}
 use Rattle.sig_table.specs.Tables.{IsTable}
 use Rattle.sig_table.specs.Views.{TableView}
 use Rattle.pronom_sig.specs.Conflicts.{AddsConflicts, AddsFirstPairs, AddsFrontOfPairs, IsCutShort, IsSettled, KnownPair, count_of, counts_line, is_ambiguous, is_unknown, is_unrelated, last_line, pair_lines, pairs_of}
@@ -58,10 +58,6 @@ pub some_left : (m u : ℕ) (is_yes : Bool) → ((m ≡ 0) × (u ≡ 0) → is_y
 some_left zero zero is_yes none is = absurd (false≢true (sym is ∙ none (refl, refl)))
 some_left zero (suc u) is_yes none is = omega arith
 some_left (suc m) u is_yes none is = omega arith
-
--- memory ran out before it was made
-pub last_unmade : (hex : Bool) (table : TableView) (budget : ℕ) (counts : Counts) (before after : Option (List ℕ)) → AreTold hex table budget [] counts before after → AddsFirstPairs hex table budget before after
-last_unmade hex table budget counts before after are = record { known = are.known; others = []; are_first = are.are_first; adds = are.adds }
 
 pub last_is_cut : (e : CutShort) (hex : Bool) (table : TableView) (budget : ℕ) (counts : Counts) (line : List ℕ) (is_failed : Bool) (before mid after : Option (List ℕ)) → AreTold hex table budget [] counts before mid → line ≡ counts_line counts → (e ≡ Write) × (is_failed ≡ true) × AddsFront mid line after → IsCutShort e hex table budget is_failed before after
 last_is_cut e hex table budget counts line is_failed before mid after are is cut =

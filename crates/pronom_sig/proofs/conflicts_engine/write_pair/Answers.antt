@@ -1,7 +1,7 @@
 use Rattle.std.proofs.Common.{None, Some, refl, sym, ◌∙◌}
 use Rattle.std.proofs.lemmas.Bool.{false≢true}
 use Rattle.sig_cert.specs.Pairs.{AreRelated}
-use Rattle.sig_find.proofs.PairLaws.{related_pairs_leave_none}
+use Rattle.sig_find.proofs.Exports.{related_pairs_leave_none}
 use Rattle.pronom_sig.specs.Conflicts.{IsSettled}
 use Rattle.pronom_sig.proofs.TellingLemmas.{adds_nothing, pair_is_cut, pair_is_told}
 use Rattle.pronom_sig.proofs.conflicts_engine.write_pair.Goals as goal
