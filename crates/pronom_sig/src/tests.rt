@@ -4,10 +4,13 @@
 mod checking;
 mod conflicting;
 mod finding;
+mod many_files;
 mod matching;
+mod memory;
 mod progress;
 mod refusals;
 mod showing;
+mod stores;
 mod streams;
 mod tables;
 mod usage;

@@ -1,6 +1,6 @@
 //! Readers and writers that fail midway, through the engines, the cores and the program.
 
-ghost use Rattle.std.specs.Prelude.{◌≡◌, ◌-◌, None, length};
+ghost use Rattle.std.specs.Prelude.{◌≡◌, ◌-◌, None, false, length};
 
 use crate::command::command;
 use crate::error::RunError;
@@ -25,12 +25,16 @@ pub(crate) struct Pieces<'a> {
 
 impl<'a> Pieces<'a> {
     // The bytes one by one, and then the end.
-    pub(crate) fn of(bytes: &'a [u8]) -> Pieces<'a> {
+    pub(crate) fn of(bytes: &'a [u8]) -> Pieces<'a>
+        ensures fresh { result.failed ≡ false }
+    {
         Pieces::cut(bytes, 1)
     }
 
     // The bytes in pieces of at most so many, and then the end.
-    pub(crate) fn cut(bytes: &'a [u8], most: usize) -> Pieces<'a> {
+    pub(crate) fn cut(bytes: &'a [u8], most: usize) -> Pieces<'a>
+        ensures fresh { result.failed ≡ false }
+    {
         Pieces {
             bytes,
             at: 0,
@@ -41,7 +45,9 @@ impl<'a> Pieces<'a> {
     }
 
     // The bytes one by one, and then a fault.
-    pub(crate) fn failing(bytes: &'a [u8]) -> Pieces<'a> {
+    pub(crate) fn failing(bytes: &'a [u8]) -> Pieces<'a>
+        ensures fresh { result.failed ≡ false }
+    {
         Pieces {
             bytes,
             at: 0,
