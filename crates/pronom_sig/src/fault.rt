@@ -7,8 +7,8 @@ ghost use Rattle.std.specs.Prelude.{◌≡◌, [], ◌∷◌, ◌++◌, decimal,
 ghost use Rattle.pronom_sig.specs.Faults.{Prints, ReportsFault, Reports, code_text, expression_code_text, fault_line, file_name, fault_text, site_of, site_text};
 ghost use Rattle.pronom_sig.specs.Statuses.{status_of};
 
-use crate::error::RunError;
-use itoa::Buffer;
+use crate::error::{CutShort, RunError};
+use itoa::{Buffer, Integer};
 use sig_bits::{DeviceFault, Output};
 use sig_expr::ExprError;
 use sig_table::{TableError, TableFile};
@@ -24,6 +24,8 @@ pub(crate) enum Fault<'a> {
     Table(TableError),
     /// An engine gave no answer.
     Run(RunError),
+    /// An engine stopped before its last line.
+    CutShort(CutShort),
 }
 
 impl Fault<'_> {
@@ -35,7 +37,7 @@ impl Fault<'_> {
             Fault::NotText => 2,
             Fault::Table(TableError::Read { .. } | TableError::OutOfMemory) => 3,
             Fault::Table(_) => 2,
-            Fault::CannotOpen(_) | Fault::Run(_) => 3,
+            Fault::CannotOpen(_) | Fault::Run(_) | Fault::CutShort(_) => 3,
         }
     }
 
@@ -43,6 +45,7 @@ impl Fault<'_> {
     pub(crate) fn report<E: Output>(self, err: &mut E) -> u8
         ensures status { result ≡ status_of self.entry }
         ensures reported { E.failed err.new ≡ false → Reports self.entry result (E.written err.old) (E.written err.new) }
+        ensures sound { E.failed err.new ≡ false → E.failed err.old ≡ false }
     {
         let _ = write_line(self, err);
         self.status()
@@ -50,14 +53,16 @@ impl Fault<'_> {
 }
 
 fn write_line<E: Output>(fault: Fault<'_>, err: &mut E) -> Result<(), DeviceFault>
-    ensures { Prints result (fault_line fault.entry) (E.written err.old) (E.written err.new) (E.failed err.new) }
+    ensures prints { Prints result (fault_line fault.entry) (E.written err.old) (E.written err.new) (E.failed err.new) }
+    ensures sound { E.failed err.new ≡ false → E.failed err.old ≡ false }
 {
     write_text(fault, err)?;
     put(err, "\n")
 }
 
 fn write_text<E: Output>(fault: Fault<'_>, err: &mut E) -> Result<(), DeviceFault>
-    ensures { Prints result (fault_text fault.entry) (E.written err.old) (E.written err.new) (E.failed err.new) }
+    ensures prints { Prints result (fault_text fault.entry) (E.written err.old) (E.written err.new) (E.failed err.new) }
+    ensures sound { E.failed err.new ≡ false → E.failed err.old ≡ false }
 {
     match fault {
         Fault::NotText => put(
@@ -73,6 +78,7 @@ fn write_text<E: Output>(fault: Fault<'_>, err: &mut E) -> Result<(), DeviceFaul
             write_code(error, err)
         }
         Fault::Run(error) => put(err, error.text()),
+        Fault::CutShort(error) => put(err, error.text()),
     }
 }
 
@@ -107,7 +113,8 @@ fn site_of(error: TableError) -> Site
 }
 
 fn write_site<E: Output>(site: Site, err: &mut E) -> Result<(), DeviceFault>
-    ensures { Prints result (site_text site) (E.written err.old) (E.written err.new) (E.failed err.new) }
+    ensures prints { Prints result (site_text site) (E.written err.old) (E.written err.new) (E.failed err.new) }
+    ensures sound { E.failed err.new ≡ false → E.failed err.old ≡ false }
 {
     match site {
         Site::Nowhere => Ok(()),
@@ -135,7 +142,8 @@ fn file_name(file: TableFile) -> &'static str
 
 // What is wrong with a table, by the number of its rule.
 fn write_code<E: Output>(error: TableError, err: &mut E) -> Result<(), DeviceFault>
-    ensures { Prints result (code_text error) (E.written err.old) (E.written err.new) (E.failed err.new) }
+    ensures prints { Prints result (code_text error) (E.written err.old) (E.written err.new) (E.failed err.new) }
+    ensures sound { E.failed err.new ≡ false → E.failed err.old ≡ false }
 {
     match error {
         TableError::Read { .. } => put(err, "read failed"),
@@ -163,7 +171,8 @@ fn write_code<E: Output>(error: TableError, err: &mut E) -> Result<(), DeviceFau
 
 // What is wrong with an expression: its rule's number, and its place where it has one.
 fn write_expression_code<E: Output>(error: ExprError, err: &mut E) -> Result<(), DeviceFault>
-    ensures { Prints result (expression_code_text error) (E.written err.old) (E.written err.new) (E.failed err.new) }
+    ensures prints { Prints result (expression_code_text error) (E.written err.old) (E.written err.new) (E.failed err.new) }
+    ensures sound { E.failed err.new ≡ false → E.failed err.old ≡ false }
 {
     match error {
         ExprError::TooLong => put(err, "E1"),
@@ -181,21 +190,26 @@ fn write_expression_code<E: Output>(error: ExprError, err: &mut E) -> Result<(),
 
 // A text and a number behind it.
 fn put_numbered<E: Output>(err: &mut E, text: &str, number: usize) -> Result<(), DeviceFault>
-    ensures { Prints result (text.now ++ decimal number) (E.written err.old) (E.written err.new) (E.failed err.new) }
+    ensures prints { Prints result (text.now ++ decimal number) (E.written err.old) (E.written err.new) (E.failed err.new) }
+    ensures sound { E.failed err.new ≡ false → E.failed err.old ≡ false }
 {
     put(err, text)?;
     put_number(err, number)
 }
 
-fn put_number<E: Output>(err: &mut E, number: usize) -> Result<(), DeviceFault>
-    ensures { Prints result (decimal number) (E.written err.old) (E.written err.new) (E.failed err.new) }
+/// Writes a number in decimal.
+pub(crate) fn put_number<E: Output, I: Integer>(err: &mut E, number: I) -> Result<(), DeviceFault>
+    ensures prints { Prints result (I.text number) (E.written err.old) (E.written err.new) (E.failed err.new) }
+    ensures sound { E.failed err.new ≡ false → E.failed err.old ≡ false }
 {
     let mut buffer = Buffer::new();
     put(err, buffer.format(number))
 }
 
-fn put<E: Output>(err: &mut E, text: &str) -> Result<(), DeviceFault>
-    ensures { Prints result text.now (E.written err.old) (E.written err.new) (E.failed err.new) }
+/// Writes a text.
+pub(crate) fn put<E: Output>(err: &mut E, text: &str) -> Result<(), DeviceFault>
+    ensures prints { Prints result text.now (E.written err.old) (E.written err.new) (E.failed err.new) }
+    ensures sound { E.failed err.new ≡ false → E.failed err.old ≡ false }
 {
     err.write_all(text.as_bytes())
 }

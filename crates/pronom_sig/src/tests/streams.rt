@@ -1,6 +1,6 @@
 //! Readers and writers that fail midway, through the engines, the cores and the program.
 
-ghost use Rattle.std.specs.Prelude.{◌≡◌, ◌-◌, None, length};
+ghost use Rattle.std.specs.Prelude.{◌≡◌, ◌-◌, None, false, length};
 
 use crate::command::command;
 use crate::error::RunError;
@@ -25,12 +25,16 @@ pub(crate) struct Pieces<'a> {
 
 impl<'a> Pieces<'a> {
     // The bytes one by one, and then the end.
-    pub(crate) fn of(bytes: &'a [u8]) -> Pieces<'a> {
+    pub(crate) fn of(bytes: &'a [u8]) -> Pieces<'a>
+        ensures fresh { result.failed ≡ false }
+    {
         Pieces::cut(bytes, 1)
     }
 
     // The bytes in pieces of at most so many, and then the end.
-    pub(crate) fn cut(bytes: &'a [u8], most: usize) -> Pieces<'a> {
+    pub(crate) fn cut(bytes: &'a [u8], most: usize) -> Pieces<'a>
+        ensures fresh { result.failed ≡ false }
+    {
         Pieces {
             bytes,
             at: 0,
@@ -41,7 +45,9 @@ impl<'a> Pieces<'a> {
     }
 
     // The bytes one by one, and then a fault.
-    pub(crate) fn failing(bytes: &'a [u8]) -> Pieces<'a> {
+    pub(crate) fn failing(bytes: &'a [u8]) -> Pieces<'a>
+        ensures fresh { result.failed ≡ false }
+    {
         Pieces {
             bytes,
             at: 0,
@@ -127,6 +133,45 @@ fn unread_answer<K: DroidCore>(
     let mut file = Pieces::failing(b"AB");
     let answer = run_match(rt.alloc(), core, false, &mut file, &mut out);
     Ok((answer, out.into_inner().len()))
+}
+
+// An output with room for so many bytes. A write that does not fit takes none of them.
+#[derive(Drop)]
+pub(crate) struct Room {
+    bytes: usize,
+    failed: bool,
+}
+
+impl Room {
+    // Room for so many bytes.
+    pub(crate) fn of(bytes: usize) -> Room {
+        Room {
+            bytes,
+            failed: false,
+        }
+    }
+
+    // Room for so many bytes more.
+    pub(crate) fn left(&self) -> usize {
+        self.bytes
+    }
+}
+
+impl Output for Room {
+    ghost failed = { λ s. s.failed };
+
+    ghost limit = { λ s. s.bytes };
+
+    ghost written = { λ _. None };
+
+    fn write_all(&mut self, bytes: &[u8]) -> Result<(), DeviceFault> {
+        if self.failed || self.bytes < bytes.len() {
+            self.failed = true;
+            return Err(DeviceFault);
+        }
+        self.bytes -= bytes.len();
+        Ok(())
+    }
 }
 
 #[test]
