@@ -1,5 +1,5 @@
 -- What words ask for, and what they do not.
-use Rattle.pronom_sig.specs.Stores.{Holding}
+use Rattle.sig_engines.specs.Stores.{Holding}
 use Rattle.std.proofs.Common.{Bool, ◌≡◌, ◌≢◌, ◌⊎◌, ℕ, List, None, Option, Some, ap, ap₂, arith, codes, inl, inr, option_map, refl, subst, sym, ◌∙◌}
 use Rattle.std.proofs.Math.ListN.{get_or}
 use Rattle.std.proofs.lemmas.Option.{same_Some}
@@ -9,9 +9,9 @@ use Rattle.clap.specs.declared.error.kind.ErrorKind.TheVariants.{DisplayHelp, Di
 use Rattle.pronom_sig.specs.CommandLine.{Asks, NamesBudget, NamesTable}
 use Rattle.pronom_sig.specs.declared.args.Request.{Request}
 use Rattle.pronom_sig.specs.declared.args.Request.TheVariants.{Check, Conflicts, Find, Match, Show, Witness}
-use Rattle.pronom_sig.specs.declared.args.TablePaths.{TablePaths}
+use Rattle.sig_engines.specs.declared.store.TablePaths.{TablePaths}
 use Rattle.pronom_sig.specs.Requests.{Behind, IsFaultOf}
-use Rattle.pronom_sig.specs.declared.error.RunError.TheVariants as run
+use Rattle.sig_engines.specs.declared.error.RunError.TheVariants as run
 use Rattle.pronom_sig.specs.declared.fault.Fault.TheVariants.{Run}
 
 -- one subcommand and its rows are another and its own

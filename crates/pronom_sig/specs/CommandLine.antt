@@ -11,7 +11,7 @@ use Rattle.clap.specs.declared.builder.value_parser.ValueParser.TheVariants.{Sig
 use Rattle.clap.specs.declared.error.kind.ErrorKind.TheVariants.{DisplayHelp, DisplayVersion}
 use Rattle.pronom_sig.specs.declared.args.Request.{Request}
 use Rattle.pronom_sig.specs.declared.args.Request.TheVariants.{Check, Conflicts, Find, Match, Show, Witness}
-use Rattle.pronom_sig.specs.declared.args.TablePaths.{TablePaths}
+use Rattle.sig_engines.specs.declared.store.TablePaths.{TablePaths}
 
 -- the command is this one, and has no global argument
 pub record IsLine (app : App) (command : Command) : Type 0 where

@@ -4,8 +4,8 @@ use Rattle.clap.specs.Words.{Text}
 use Rattle.pronom_sig.specs.CommandLine.{AreTaken, IsHelpAsked}
 use Rattle.pronom_sig.specs.Faults.{Reports, ReportsFault}
 use Rattle.pronom_sig.specs.Requests.{AnswersWords, Behind, ReportsFaultOfWords}
-use Rattle.pronom_sig.specs.Stores.{Holding}
-use Rattle.pronom_sig.specs.declared.error.RunError.TheVariants.{OutOfMemory}
+use Rattle.sig_engines.specs.Stores.{Holding}
+use Rattle.sig_engines.specs.declared.error.RunError.TheVariants.{OutOfMemory}
 use Rattle.pronom_sig.specs.declared.fault.Fault.TheVariants.{Run}
 
 -- with 0 and 1 no write to the output failed; with 2 it is as it was, and with 3 too, unless a write failed, or an answer was cut short

@@ -5,24 +5,24 @@ use Rattle.clap.specs.Words.{Text, subcommand_of}
 use Rattle.sig_bits.specs.Device.{Adds}
 use Rattle.sig_table.specs.Views.{TableView}
 use Rattle.pronom_sig.specs.CommandLine.{Asks, program}
-use Rattle.pronom_sig.specs.Conflicts.{AddsConflicts, AddsFirstPairs}
+use Rattle.sig_engines.specs.Conflicts.{AddsConflicts, AddsFirstPairs}
 use Rattle.pronom_sig.specs.Faults.{Reports}
-use Rattle.pronom_sig.specs.Finding.{found_text, is_answered}
-use Rattle.pronom_sig.specs.Judged.{AddsVerdict}
-use Rattle.pronom_sig.specs.Lines.{AddsLines}
-use Rattle.pronom_sig.specs.Progress.{AddsProgress}
-use Rattle.pronom_sig.specs.Shown.{show_text}
-use Rattle.pronom_sig.specs.Stores.{Has, Holding, Holds, IsTableFault, IsTableOf, Lacks, SomeFailed}
-use Rattle.pronom_sig.specs.Witnessed.{AddsWitness}
-use Rattle.pronom_sig.specs.declared.error.RunError.TheVariants.{OutOfMemory, Read, Write}
+use Rattle.sig_engines.specs.Finding.{AddsFound}
+use Rattle.sig_engines.specs.Judged.{AddsVerdict}
+use Rattle.sig_engines.specs.Lines.{AddsLines}
+use Rattle.sig_engines.specs.Progress.{AddsProgress}
+use Rattle.sig_engines.specs.Shown.{show_text}
+use Rattle.sig_engines.specs.Stores.{Has, Holding, Holds, IsTableFault, IsTableOf, Lacks, SomeFailed}
+use Rattle.sig_engines.specs.Witnessed.{AddsWitness}
+use Rattle.sig_engines.specs.declared.error.FileFault.{FileFault}
+use Rattle.sig_engines.specs.declared.error.FileFault.TheVariants as file
+use Rattle.sig_engines.specs.declared.error.RunError.TheVariants.{OutOfMemory, Read, Write}
 use Rattle.pronom_sig.specs.declared.fault.Fault.{Fault}
 use Rattle.pronom_sig.specs.declared.fault.Fault.TheVariants.{CannotOpen, CutShort, NotText, Run, Table}
-use Rattle.sig_find.specs.declared.found.Found.{Found}
-use Rattle.sig_find.specs.Answers.{IsFound}
 use Rattle.pronom_sig.specs.declared.args.Request.{Request}
 use Rattle.pronom_sig.specs.declared.args.Request.TheVariants.{Check, Conflicts, Find, Match, Show, Witness}
-use Rattle.pronom_sig.specs.declared.args.TablePaths.{TablePaths}
-use Rattle.pronom_sig.specs.declared.progress.Things.TheVariants.{Pairs, Products}
+use Rattle.sig_engines.specs.declared.store.TablePaths.{TablePaths}
+use Rattle.sig_engines.specs.declared.progress.Things.TheVariants.{Pairs, Products}
 
 -- there is no file of the name of the signatures; or there is one, and none of the name of the priorities
 abbrev pub IsUnopened : Holding → TablePaths → Bor (List ℕ) → Type 0
@@ -45,6 +45,11 @@ IsFileFault failed held name (Run Read) = Has held name.now × SomeFailed failed
 IsFileFault failed held name (Run Write) = Has held name.now
 IsFileFault failed held name (Run OutOfMemory) = ⊤
 IsFileFault failed held name (CutShort error) = ⊥
+
+-- why there is no answer of the file of this name
+abbrev pub file_fault : Bor (List ℕ) → FileFault → Fault
+file_fault name file.CannotOpen = CannotOpen name
+file_fault name (file.Run error) = Run error
 
 -- an engine stopped before its last line
 abbrev pub IsCutFault : Fault → Type 0
@@ -71,7 +76,7 @@ IsFaultOf failed held (Witness table file) fault = IsLoadFault failed held table
 abbrev pub Answers : Holding → Request → Bool → Option (List ℕ) → Option (List ℕ) → Type 0
 Answers held (Show table) is_yes before after = (is_yes ≡ true) × (t : TableView) × IsTableOf held table t × Adds before (show_text t) after
 Answers held (Match all table name) is_yes before after = (is_yes ≡ true) × (t : TableView) × IsTableOf held table t × (file : List ℕ) × Holds held name.now file × AddsLines all t file before after
-Answers held (Find table budget out hex progress) is_yes before after = (t : TableView) × IsTableOf held table t × (found : Found) × IsFound t budget found × (is_yes ≡ is_answered found) × Adds before (found_text hex t found) after
+Answers held (Find table budget out hex progress) is_yes before after = (t : TableView) × IsTableOf held table t × AddsFound is_yes hex t budget before after
 Answers held (Conflicts table budget hex progress) is_yes before after = (t : TableView) × IsTableOf held table t × AddsConflicts is_yes hex t budget before after
 Answers held (Check table name) is_yes before after = (t : TableView) × IsTableOf held table t × (certificate : List ℕ) × Holds held name.now certificate × AddsVerdict is_yes t certificate before after
 Answers held (Witness table name) is_yes before after = (t : TableView) × IsTableOf held table t × (file : List ℕ) × Holds held name.now file × AddsWitness is_yes t file before after

@@ -9,6 +9,7 @@ ghost use Rattle.pronom_sig.specs.CommandLine.{AreTaken, Asks, IsHelpAsked, IsLi
 
 use clap::error::ErrorKind;
 use clap::{Arg, ArgAction, ArgMatches, Command, Error, value_parser};
+use sig_engines::TablePaths;
 use std::alloc::Global;
 
 const SHOW_HELP: &str = "\
@@ -130,13 +131,6 @@ pub(crate) enum Request<'a> {
         table: TablePaths<'a>,
         file: &'a str,
     },
-}
-
-/// The names of the two files of a table.
-#[derive(Clone, Copy, Debug, PartialEq, Eq)]
-pub(crate) struct TablePaths<'a> {
-    pub(crate) signatures: &'a str,
-    pub(crate) priorities: &'a str,
 }
 
 /// Reads the words, of which the first is no name of the program.

@@ -3,29 +3,21 @@
 ghost use Rattle.std.specs.Prelude.{None, Some, ◌≡◌, ◌≢◌, ◌<◌, ◌⊎◌, false, List, map, string_bytes, true, IfErr, IfOk, OnOk};
 ghost use Rattle.clap.specs.Values.{kind_of};
 ghost use Rattle.clap.specs.Words.{Text};
-ghost use Rattle.pronom_sig.specs.Finding.{IsKnown, found_text, is_answered};
-ghost use Rattle.pronom_sig.specs.Requests.{Answers, AnswersWords, CutsWords, IsCutRequest, IsFaultOf, IsLoadFault, IsShowFault, ShowsWords, TellsOf};
-ghost use Rattle.pronom_sig.specs.Stores.{IsTableOf, Opens};
-ghost use Rattle.sig_bits.specs.Device.{Adds};
+ghost use Rattle.pronom_sig.specs.Requests.{Answers, AnswersWords, CutsWords, IsCutRequest, IsFaultOf, IsLoadFault, ShowsWords, TellsOf, file_fault};
+ghost use Rattle.sig_engines.specs.Stores.{IsTableOf, Opens};
 ghost use Rattle.pronom_sig.specs.CommandLine.{IsHelpAsked};
 ghost use Rattle.pronom_sig.specs.Endings.{AnswersBy, KeepsErrors, KeepsOutput, ReportsBy, ReportsMemory};
 ghost use Rattle.sig_table.specs.Tables.{IsTable};
 
-use crate::args::{Request, TablePaths, read_args};
-use crate::check_engine::run_check;
-use crate::conflicts_engine::settle;
-use crate::error::{CutShort, RunError};
+use crate::args::{Request, read_args};
 use crate::fault::Fault;
-use crate::find_engine::{bytes_of, search, write_found};
-use crate::lines::lines_of_found;
-use crate::match_engine::run_match;
-use crate::show_engine::run_show;
-use crate::store::{Store, SystemFiles};
-use crate::witness_engine::run_witness;
 use clap::Error;
 use clap::error::ErrorKind;
 use sig_bits::{FromRead, Input, Output};
-use sig_find::Found;
+use sig_engines::{
+    CutShort, FileFault, RunError, Store, SystemFiles, TablePaths, run_check, run_find, run_match,
+    run_show, run_witness, settle,
+};
 use sig_match::WholeCore;
 use sig_table::Table;
 use std::alloc::Global;
@@ -154,9 +146,9 @@ fn answer<'a, S: Store, W: Output, E: Output>(
             progress,
         } => {
             let table = load(store, alloc, table)?;
-            match search(alloc, &table, budget, progress, err) {
-                Ok(found) => answer_found(store, alloc, &table, &found, hex, name, out),
-                Err(error) => Err(Fault::Run(error)),
+            match run_find(alloc, store, &table, budget, hex, progress, name, out, err) {
+                Ok(is_yes) => Ok(is_yes),
+                Err(fault) => Err(file_fault(name, fault)),
             }
         }
         Request::Conflicts {
@@ -190,39 +182,13 @@ fn answer<'a, S: Store, W: Output, E: Output>(
     }
 }
 
-/// Writes what was found to the file of this name, and then its lines. The file is made only now, and
-/// where the search gave up not at all.
-fn answer_found<'a, S: Store, W: Output>(
-    store: &S,
-    alloc: Global,
-    table: &Table,
-    found: &Found,
-    hex: bool,
-    name: &'a str,
-    out: &mut W,
-) -> Result<bool, Fault<'a>>
-    requires { IsKnown table.now found.now }
-    ensures shown { OnOk result (W.failed out.new ≡ false) }
-    ensures answered { IfOk result (λ is_yes. is_yes ≡ is_answered found.now) }
-    ensures lines { OnOk result (Adds (W.written out.old) (found_text hex table.now found.now) (W.written out.new)) }
-    ensures faults { IfErr result (λ fault. (fault ≡ Fault.CannotOpen name.entry) ⊎ IsShowFault fault) }
-    ensures untouched { IfErr result (λ fault. fault ≢ Fault.Run RunError.Write → out.new ≡ out.old) }
-    ensures whole { IfErr result (λ fault. W.failed out.new ≡ false → out.new ≡ out.old) }
+// Why there is no answer of the file of this name.
+fn file_fault(name: &str, fault: FileFault) -> Fault<'_>
+    ensures { result ≡ file_fault name.entry fault }
 {
-    let lines = match lines_of_found(alloc, table, found, hex) {
-        Ok(lines) => lines,
-        Err(_) => return Err(Fault::Run(RunError::OutOfMemory)),
-    };
-    let Some(bytes) = bytes_of(found) else {
-        return match out.write_all(lines.as_bytes()) {
-            Ok(()) => Ok(false),
-            Err(_) => Err(Fault::Run(RunError::Write)),
-        };
-    };
-    let mut file = create(store, name)?;
-    match write_found(bytes, lines.as_str(), &mut file, out) {
-        Ok(()) => Ok(true),
-        Err(error) => Err(Fault::Run(error)),
+    match fault {
+        FileFault::CannotOpen => Fault::CannotOpen(name),
+        FileFault::Run(error) => Fault::Run(error),
     }
 }
 
@@ -250,12 +216,6 @@ fn open<'a, S: Store>(store: &S, name: &'a str) -> Result<S::Reader, Fault<'a>>
     ensures unopened { IfErr result (λ fault. (fault ≡ Fault.CannotOpen name.entry) × Opens (S.held store.now) name.entry.now None) }
 {
     store.open(name).ok_or(Fault::CannotOpen(name))
-}
-
-fn create<'a, S: Store>(store: &S, name: &'a str) -> Result<S::Writer, Fault<'a>>
-    ensures { IfErr result (λ fault. fault ≡ Fault.CannotOpen name.entry) }
-{
-    store.create(name).ok_or(Fault::CannotOpen(name))
 }
 
 // What `clap` says: help is an answer, and all else a fault of the words, unless memory ran out.

@@ -4,12 +4,12 @@
 //! A line is written in pieces and takes no memory, so no fault is reported as another.
 
 ghost use Rattle.std.specs.Prelude.{◌≡◌, [], ◌∷◌, ◌++◌, decimal, false};
-ghost use Rattle.pronom_sig.specs.Faults.{Prints, ReportsFault, Reports, code_text, expression_code_text, fault_line, file_name, fault_text, site_of, site_text};
+ghost use Rattle.pronom_sig.specs.Faults.{ReportsFault, Reports, code_text, expression_code_text, fault_line, file_name, fault_text, site_of, site_text};
 ghost use Rattle.pronom_sig.specs.Statuses.{status_of};
+ghost use Rattle.sig_engines.specs.Writing.{Prints};
 
-use crate::error::{CutShort, RunError};
-use itoa::{Buffer, Integer};
 use sig_bits::{DeviceFault, Output};
+use sig_engines::{CutShort, RunError, put, put_number};
 use sig_expr::ExprError;
 use sig_table::{TableError, TableFile};
 
@@ -195,21 +195,4 @@ fn put_numbered<E: Output>(err: &mut E, text: &str, number: usize) -> Result<(),
 {
     put(err, text)?;
     put_number(err, number)
-}
-
-/// Writes a number in decimal.
-pub(crate) fn put_number<E: Output, I: Integer>(err: &mut E, number: I) -> Result<(), DeviceFault>
-    ensures prints { Prints result (I.text number) (E.written err.old) (E.written err.new) (E.failed err.new) }
-    ensures sound { E.failed err.new ≡ false → E.failed err.old ≡ false }
-{
-    let mut buffer = Buffer::new();
-    put(err, buffer.format(number))
-}
-
-/// Writes a text.
-pub(crate) fn put<E: Output>(err: &mut E, text: &str) -> Result<(), DeviceFault>
-    ensures prints { Prints result text.now (E.written err.old) (E.written err.new) (E.failed err.new) }
-    ensures sound { E.failed err.new ≡ false → E.failed err.old ≡ false }
-{
-    err.write_all(text.as_bytes())
 }

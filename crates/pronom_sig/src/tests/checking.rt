@@ -1,8 +1,8 @@
 //! `check` through the program: certificates of tables worked out by hand, and the words and files
 //! that it takes.
 
-use crate::check_engine::run_check;
-use crate::error::RunError;
+use sig_engines::run_check;
+use sig_engines::RunError;
 use crate::tests::streams::Pieces;
 use crate::tests::tables::{
     ALL_BUT_ONE, COVERED, EVERY_FILE, NONE, ONE, OVER_BOTH, Rows, TWICE_HIT, TWO, TWO_SEQUENCES,

@@ -1,8 +1,8 @@
 //! Many files, out of a store in memory and out of one with a file whose reads fail.
 
-use crate::error::RunError;
-use crate::many_engine::run_match_many;
-use crate::store::Store;
+use sig_engines::RunError;
+use sig_engines::run_match_many;
+use sig_engines::Store;
 use crate::tests::memory::{Failing, Memory, Named};
 use crate::tests::streams::Broken;
 use crate::tests::tables::{Rows, table_of};

@@ -3,7 +3,7 @@
 ghost use Rattle.std.specs.Prelude.{None, Some, if◌then◌else◌};
 ghost use Rattle.std.specs.Str.{bytes_eq};
 
-use crate::store::Store;
+use sig_engines::Store;
 use crate::tests::streams::{Broken, Pieces};
 use sig_bits::{FromRead, FromWrite};
 use std::alloc::Global;

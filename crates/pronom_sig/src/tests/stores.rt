@@ -2,7 +2,7 @@
 //! fail.
 
 use crate::command::command_over;
-use crate::store::Store;
+use sig_engines::Store;
 use crate::tests::memory::{Failing, Memory, Named};
 use crate::tests::{Shown, owned_words};
 use sig_bits::FromWrite;

@@ -1,12 +1,7 @@
 use Rattle.std.proofs.Common.{subst}
-use Rattle.pronom_sig.specs.Lines.{AddsLinesOfSome}
+use Rattle.sig_engines.specs.Lines.{AddsLinesOfSome}
 use Rattle.pronom_sig.proofs.StoreLemmas.{check_is_answered, match_is_answered, witness_is_answered}
-use Rattle.pronom_sig.proofs.FoundLemmas.{find_is_answered}
 use Rattle.pronom_sig.proofs.command.answer.Goals as goal
-
-pub returns-in-Ok-search-clause-answers : goal.returns-in-Ok-search-clause-answers
-returns-in-Ok-search-clause-answers g c =
-    find_is_answered (g.S.Store.held c.args.store.now) c.args.request c.in-Find.table c.in-Find.budget c.in-Find.name c.in-Find.hex c.in-Find.progress c.in_ok-table-in-Find.table c.in-Ok-search.found _ _ c.answer_found.result c.in-Find.is c.in_ok-table-in-Find.ensures.read c.in-Ok-search.ensures.found c.answer_found.ensures.answered c.answer_found.ensures.lines
 
 pub returns-in-Ok-run_match-clause-answers : goal.returns-in-Ok-run_match-clause-answers
 returns-in-Ok-run_match-clause-answers g c =

@@ -1,6 +1,6 @@
 use Rattle.std.proofs.Common.{ℕ, subst, sym}
 use Rattle.pronom_sig.specs.Faults.{Reports}
-use Rattle.pronom_sig.specs.declared.error.RunError.TheVariants.{OutOfMemory}
+use Rattle.sig_engines.specs.declared.error.RunError.TheVariants.{OutOfMemory}
 use Rattle.pronom_sig.specs.declared.fault.Fault.TheVariants.{Run}
 use Rattle.pronom_sig.proofs.RequestLemmas.{first_of_all, memory_of}
 use Rattle.pronom_sig.proofs.command.command_over.Goals as goal
