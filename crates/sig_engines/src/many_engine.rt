@@ -8,9 +8,9 @@ ghost use Rattle.sig_engines.specs.Writing.{Prints};
 ghost use Rattle.sig_engines.specs.ManyFiles.{AddsFiles, CutsFiles, IsPrinted, file_fault_line};
 
 use crate::error::{FileFault, RunError};
-use crate::writing::put;
 use crate::match_engine::lines_of_match;
 use crate::store::Store;
+use crate::writing::put;
 use sig_bits::{DeviceFault, Output};
 use sig_match::DroidCore;
 use std::alloc::Global;

@@ -1,12 +1,10 @@
 //! Many files, out of a store in memory and out of one with a file whose reads fail.
 
-use sig_engines::RunError;
-use sig_engines::run_match_many;
-use sig_engines::Store;
 use crate::tests::memory::{Failing, Memory, Named};
 use crate::tests::streams::Broken;
 use crate::tests::tables::{Rows, table_of};
 use sig_bits::FromWrite;
+use sig_engines::{RunError, Store, run_match_many};
 use sig_match::{DroidCore, StreamCore, WholeCore};
 use std::test::Fail;
 

@@ -3,9 +3,9 @@
 ghost use Rattle.std.specs.Prelude.{None, Some, if◌then◌else◌};
 ghost use Rattle.std.specs.Str.{bytes_eq};
 
-use sig_engines::Store;
 use crate::tests::streams::{Broken, Pieces};
 use sig_bits::{FromRead, FromWrite};
+use sig_engines::Store;
 use std::alloc::Global;
 
 // A file: its name and its bytes.

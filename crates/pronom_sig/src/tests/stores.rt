@@ -2,10 +2,10 @@
 //! fail.
 
 use crate::command::command_over;
-use sig_engines::Store;
 use crate::tests::memory::{Failing, Memory, Named};
 use crate::tests::{Shown, owned_words};
 use sig_bits::FromWrite;
+use sig_engines::Store;
 use std::test::Fail;
 
 // A format whose files begin with `A`, below one whose files have a byte more.

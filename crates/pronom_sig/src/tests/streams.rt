@@ -3,11 +3,9 @@
 ghost use Rattle.std.specs.Prelude.{◌≡◌, ◌-◌, None, false, length};
 
 use crate::command::command;
-use sig_engines::RunError;
-use sig_engines::run_match;
-use sig_engines::run_show;
 use crate::tests::{PRIORITIES, SIGNATURES, folder, owned_words, put, put_table};
 use sig_bits::{DeviceFault, FromRead, FromWrite, Input, Output};
+use sig_engines::{RunError, run_match, run_show};
 use sig_match::{CoreError, DroidCore, Hit, StreamCore, WholeCore};
 use sig_table::{FormatId, Puid, SigId, Table};
 use std::fs;
