@@ -4,9 +4,9 @@ use Rattle.std.specs.Prelude.{find, option_and_then, option_map, slice_get}
 use Rattle.std.specs.Borrow.{Bor}
 use Rattle.std.specs.Str.{bytes_eq}
 use Rattle.clap.specs.Facts.{Entry}
-use Rattle.clap.specs.Matches.{first_value, one_text}
+use Rattle.clap.specs.Matches.{first_value, matched_of, one_text, raw_values}
 use Rattle.clap.specs.Values.{read_as}
-use Rattle.clap.specs.Walk.{Text, first_of, one_of, row_of, rows_of, texts}
+use Rattle.clap.specs.Walk.{Text, all_of, first_of, one_of, row_of, rows_of, texts}
 use Rattle.clap.specs.declared.builder.value_parser.Reading.{Reading}
 use Rattle.clap.specs.declared.parser.matches.Found.{Found}
 use Rattle.pronom_sig.specs.CommandLine.{HasFlag}
@@ -30,6 +30,22 @@ first_of-entries (e ∷ es) id = go (bytes_eq e.0.now id) refl (first_of-entries
 -- an argument's first value is that of its row
 pub first_of-rows : (found : Found) (id : Text) → first_of id (rows_of found) ≡ first_value found id
 first_of-rows found id = first_of-entries found.entries.items id
+
+-- all the values that the entries have under an id
+abbrev values_in : List Entry → Text → Option (List Text)
+values_in entries id = option_map raw_values (option_map (λ e. e.1) (find (λ e. bytes_eq e.0.now id) entries))
+
+all_of-entries : (entries : List Entry) (id : Text) → all_of id (map row_of entries) ≡ values_in entries id
+all_of-entries [] id = refl
+all_of-entries (e ∷ es) id = go (bytes_eq e.0.now id) refl (all_of-entries es id)
+  where
+    go : (t : Bool) → bytes_eq e.0.now id ≡ t → all_of id (map row_of es) ≡ values_in es id → all_of id (map row_of (e ∷ es)) ≡ values_in (e ∷ es) id
+    go true is rest = rw is refl
+    go false is rest = rw is rest
+
+-- an argument's values are those of its row
+pub all_of-rows : (found : Found) (id : Text) → all_of id (rows_of found) ≡ option_map raw_values (matched_of found id)
+all_of-rows found id = all_of-entries found.entries.items id
 
 -- and as a getter reads it
 read_text : (reading : Reading) (values : List (Bor Text)) → option_map (read_as reading) (slice_get (texts values) 0) ≡ option_map (λ s. read_as reading s.now) (slice_get values 0)

@@ -86,10 +86,20 @@ fault_text (fault.CannotOpen name) = codes "cannot open " ++ name.now
 fault_text (fault.Table error) = site_text (site_of error) ++ code_text error
 fault_text (fault.Run error) = run_text error
 fault_text (fault.CutShort error) = cut_text error
+fault_text fault.SomeFiles = []
+
+-- what ends its line: nothing where there is none, since each file's fault is told already
+abbrev pub line_end : Fault → List ℕ
+line_end fault.NotText = 10 ∷ []
+line_end (fault.CannotOpen name) = 10 ∷ []
+line_end (fault.Table error) = 10 ∷ []
+line_end (fault.Run error) = 10 ∷ []
+line_end (fault.CutShort error) = 10 ∷ []
+line_end fault.SomeFiles = []
 
 -- its line
 abbrev pub fault_line : Fault → List ℕ
-fault_line reason = fault_text reason ++ 10 ∷ []
+fault_line reason = fault_text reason ++ line_end reason
 
 -- the status is the fault's, and what is written grows by the fault's line
 pub record Reports (reason : Fault) (status : ℕ) (before after : Option (List ℕ)) : Type 0 where

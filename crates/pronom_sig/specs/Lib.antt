@@ -3,11 +3,13 @@ pub mod CommandLine
 pub mod Endings
 pub mod Faults
 pub mod Requests
+pub mod Several
 pub mod Statuses
 pub use Rattle.sig_engines.specs.Conflicts
 pub use Rattle.sig_engines.specs.Finding
 pub use Rattle.sig_engines.specs.Judged
 pub use Rattle.sig_engines.specs.Lines
+pub use Rattle.sig_engines.specs.ManyFiles
 pub use Rattle.sig_engines.specs.Progress
 pub use Rattle.sig_engines.specs.Shown
 pub use Rattle.sig_engines.specs.Stores

@@ -1,22 +1,22 @@
 //! All that the program does: it reads the words, opens the files, answers, and gives the status.
 
-ghost use Rattle.std.specs.Prelude.{None, Some, ◌≡◌, ◌≢◌, ◌<◌, ◌⊎◌, false, List, map, string_bytes, true, IfErr, IfOk, OnOk};
+ghost use Rattle.std.specs.Prelude.{None, Some, ◌≡◌, ◌≢◌, ◌<◌, ◌⊎◌, false, is_ok, length, List, map, string_bytes, true, IfErr, IfOk, OnOk};
 ghost use Rattle.clap.specs.Values.{kind_of};
 ghost use Rattle.clap.specs.Words.{Text};
-ghost use Rattle.pronom_sig.specs.Requests.{Answers, AnswersWords, CutsWords, IsCutRequest, IsFaultOf, IsLoadFault, ShowsWords, TellsOf, file_fault};
+ghost use Rattle.pronom_sig.specs.Requests.{Answers, AnswersWords, CutsWords, HasFiles, IsCutRequest, IsFaultOf, IsLoadFault, Joins, ShowsWords, TellsOf, file_fault};
 ghost use Rattle.sig_engines.specs.Stores.{IsTableOf, Opens};
 ghost use Rattle.pronom_sig.specs.CommandLine.{IsHelpAsked};
 ghost use Rattle.pronom_sig.specs.Endings.{AnswersBy, KeepsErrors, KeepsOutput, ReportsBy, ReportsMemory};
 ghost use Rattle.sig_table.specs.Tables.{IsTable};
 
-use crate::args::{Request, read_args};
+use crate::args::{Request, read_args, request_of};
 use crate::fault::Fault;
 use clap::Error;
 use clap::error::ErrorKind;
 use sig_bits::{FromRead, Input, Output};
 use sig_engines::{
     CutShort, FileFault, RunError, Store, SystemFiles, TablePaths, run_check, run_find, run_match,
-    run_show, run_witness, settle,
+    run_match_many, run_show, run_witness, settle,
 };
 use sig_match::WholeCore;
 use sig_table::Table;
@@ -31,8 +31,8 @@ pub fn run<R: Env + Files + AllocGlobal, W: Output, E: Output>(
     err: &mut E,
 ) -> u8
     ensures known { result < 4 }
-    ensures output { KeepsOutput ((words : List Text) × CutsWords None words (W.written out.old) (W.written out.new)) result (W.failed out.new) out.old out.new }
-    ensures errors { KeepsErrors (λ is_failed before after. (words : List Text) × ShowsWords words is_failed before after) result (E.failed err.new) err.old err.new (E.written err.old) (E.written err.new) }
+    ensures output { KeepsOutput ((words : List Text) × CutsWords ⟦<FromRead<R::File> as Input>⟧.failed None words (W.written out.old) (W.written out.new)) result (W.failed out.new) out.old out.new }
+    ensures errors { KeepsErrors (λ is_answered is_failed before after. (words : List Text) × ShowsWords ⟦<FromRead<R::File> as Input>⟧.failed None words is_answered is_failed before after) result (E.failed err.new) err.old err.new (E.written err.old) (E.written err.new) }
 
     // What is shown answers some words, or they ask for help.
     ensures answered { result ≡ 0 → (words : List Text) × (IsHelpAsked words ⊎ AnswersWords None words true (W.written out.old) (W.written out.new)) }
@@ -73,10 +73,10 @@ pub fn command<R: Files + AllocGlobal, W: Output, E: Output>(
     err: &mut E,
 ) -> u8
     ensures known { result < 4 }
-    ensures output { KeepsOutput (CutsWords None (map string_bytes words.now) (W.written out.old) (W.written out.new)) result (W.failed out.new) out.old out.new }
-    ensures errors { KeepsErrors (ShowsWords (map string_bytes words.now)) result (E.failed err.new) err.old err.new (E.written err.old) (E.written err.new) }
+    ensures output { KeepsOutput (CutsWords ⟦<FromRead<R::File> as Input>⟧.failed None (map string_bytes words.now) (W.written out.old) (W.written out.new)) result (W.failed out.new) out.old out.new }
+    ensures errors { KeepsErrors (ShowsWords ⟦<FromRead<R::File> as Input>⟧.failed None (map string_bytes words.now)) result (E.failed err.new) err.old err.new (E.written err.old) (E.written err.new) }
     ensures answers { AnswersBy None (map string_bytes words.now) result (W.written out.old) (W.written out.new) }
-    ensures faults { ReportsBy ⟦<FromRead<R::File> as Input>⟧.failed None (map string_bytes words.now) result (E.failed err.new) (E.written err.old) (E.written err.new) }
+    ensures faults { ReportsBy ⟦<FromRead<R::File> as Input>⟧.failed None (map string_bytes words.now) result (E.failed err.new) (W.written out.old) (W.written out.new) (E.written err.old) (E.written err.new) }
 {
     command_over(&SystemFiles::new(rt), rt.alloc(), words, out, err)
 }
@@ -85,8 +85,8 @@ pub fn command<R: Files + AllocGlobal, W: Output, E: Output>(
 /// status.
 ///
 /// The answer and the help go to `out`; a fault is one line on `err`, and a usage fault is the text
-/// of `clap`. With `--progress` a search tells `err` how much of it is done. A failed write to `err`
-/// changes no status.
+/// of `clap`. With `--progress` a search tells `err` how much of it is done, and of several files each
+/// that has a fault is one line there. A failed write to `err` changes no status.
 pub fn command_over<S: Store, W: Output, E: Output>(
     store: &S,
     alloc: Global,
@@ -95,35 +95,40 @@ pub fn command_over<S: Store, W: Output, E: Output>(
     err: &mut E,
 ) -> u8
     ensures known { result < 4 }
-    ensures output { KeepsOutput (CutsWords (S.held store.now) (map string_bytes words.now) (W.written out.old) (W.written out.new)) result (W.failed out.new) out.old out.new }
-    ensures errors { KeepsErrors (ShowsWords (map string_bytes words.now)) result (E.failed err.new) err.old err.new (E.written err.old) (E.written err.new) }
+    ensures output { KeepsOutput (CutsWords S.Reader.failed (S.held store.now) (map string_bytes words.now) (W.written out.old) (W.written out.new)) result (W.failed out.new) out.old out.new }
+    ensures errors { KeepsErrors (ShowsWords S.Reader.failed (S.held store.now) (map string_bytes words.now)) result (E.failed err.new) err.old err.new (E.written err.old) (E.written err.new) }
     ensures answers { AnswersBy (S.held store.now) (map string_bytes words.now) result (W.written out.old) (W.written out.new) }
-    ensures faults { ReportsBy S.Reader.failed (S.held store.now) (map string_bytes words.now) result (E.failed err.new) (E.written err.old) (E.written err.new) }
+    ensures faults { ReportsBy S.Reader.failed (S.held store.now) (map string_bytes words.now) result (E.failed err.new) (W.written out.old) (W.written out.new) (E.written err.old) (E.written err.new) }
 {
-    match read_args(alloc, words) {
-        Ok(request) => match answer(store, alloc, request, out, err) {
-            Ok(true) => 0,
-            Ok(false) => 1,
-            Err(fault) => fault.report(err),
-        },
-        Err(error) => show_usage(alloc, &error, out, err),
+    let matches = match read_args(alloc, words) {
+        Ok(matches) => matches,
+        Err(error) => return show_usage(alloc, &error, out, err),
+    };
+    let Some(request) = request_of(&matches) else {
+        unreachable!();
+    };
+    match answer(store, alloc, request, out, err) {
+        Ok(true) => 0,
+        Ok(false) => 1,
+        Err(fault) => fault.report(err),
     }
 }
 
 // Whether the answer is a yes.
-fn answer<'a, S: Store, W: Output, E: Output>(
+fn answer<'m, 'a, S: Store, W: Output, E: Output>(
     store: &S,
     alloc: Global,
-    request: Request<'a>,
+    request: Request<'m, 'a>,
     out: &mut W,
     err: &mut E,
 ) -> Result<bool, Fault<'a>>
-    ensures told { TellsOf request.entry (E.failed err.new) err.old err.new (E.written err.old) (E.written err.new) }
-    ensures shown { OnOk result (W.failed out.new ≡ false) }
+    ensures told { TellsOf S.Reader.failed (S.held store.now) request.entry (is_ok result) (E.failed err.new) err.old err.new (E.written err.old) (E.written err.new) }
+    ensures joined { IfErr result (λ fault. Joins S.Reader.failed (S.held store.now) request.entry fault (W.written out.old) (W.written out.new) (E.failed err.new) (E.written err.old) (E.written err.new)) }
+    ensures shown { OnOk result (HasFiles request.entry → W.failed out.new ≡ false) }
     ensures answers { IfOk result (λ is_yes. Answers (S.held store.now) request.entry is_yes (W.written out.old) (W.written out.new)) }
     ensures faults { IfErr result (λ fault. IsFaultOf S.Reader.failed (S.held store.now) request.entry fault) }
-    ensures untouched { IfErr result (λ fault. fault ≢ Fault.Run RunError.Write → ((e : CutShort) → fault ≢ Fault.CutShort e) → out.new ≡ out.old) }
-    ensures whole { IfErr result (λ fault. W.failed out.new ≡ false → (out.new ≡ out.old) ⊎ IsCutRequest (S.held store.now) request.entry (W.written out.old) (W.written out.new)) }
+    ensures untouched { IfErr result (λ fault. fault ≢ Fault.Run RunError.Write → ((e : CutShort) → fault ≢ Fault.CutShort e) → fault ≢ Fault.SomeFiles → out.new ≡ out.old) }
+    ensures whole { IfErr result (λ fault. W.failed out.new ≡ false → (out.new ≡ out.old) ⊎ IsCutRequest S.Reader.failed (S.held store.now) request.entry (W.written out.old) (W.written out.new)) }
 {
     match request {
         Request::Show { table } => match run_show(alloc, &load(store, alloc, table)?, out) {
@@ -137,6 +142,9 @@ fn answer<'a, S: Store, W: Output, E: Output>(
                 Ok(()) => Ok(true),
                 Err(error) => Err(Fault::Run(error)),
             }
+        }
+        Request::MatchMany { all, table, files } => {
+            match_many(store, alloc, all, table, files, out, err)
         }
         Request::Find {
             table,
@@ -179,6 +187,32 @@ fn answer<'a, S: Store, W: Output, E: Output>(
                 Err(error) => Err(Fault::Run(error)),
             }
         }
+    }
+}
+
+// Of several files: the lines of each, or of some and the faults of the others.
+fn match_many<'m, 'a, S: Store, W: Output, E: Output>(
+    store: &S,
+    alloc: Global,
+    all: bool,
+    table: TablePaths<'a>,
+    files: &'m [&'a str],
+    out: &mut W,
+    err: &mut E,
+) -> Result<bool, Fault<'a>>
+    ensures told { TellsOf S.Reader.failed (S.held store.now) (Request.MatchMany all table.entry files.entry) (is_ok result) (E.failed err.new) err.old err.new (E.written err.old) (E.written err.new) }
+    ensures joined { IfErr result (λ fault. Joins S.Reader.failed (S.held store.now) (Request.MatchMany all table.entry files.entry) fault (W.written out.old) (W.written out.new) (E.failed err.new) (E.written err.old) (E.written err.new)) }
+    ensures shown { OnOk result (0 < length files.now → W.failed out.new ≡ false) }
+    ensures answers { IfOk result (λ is_yes. Answers (S.held store.now) (Request.MatchMany all table.entry files.entry) is_yes (W.written out.old) (W.written out.new)) }
+    ensures faults { IfErr result (λ fault. IsFaultOf S.Reader.failed (S.held store.now) (Request.MatchMany all table.entry files.entry) fault) }
+    ensures untouched { IfErr result (λ fault. fault ≢ Fault.Run RunError.Write → fault ≢ Fault.SomeFiles → out.new ≡ out.old) }
+    ensures whole { IfErr result (λ fault. W.failed out.new ≡ false → (out.new ≡ out.old) ⊎ IsCutRequest S.Reader.failed (S.held store.now) (Request.MatchMany all table.entry files.entry) (W.written out.old) (W.written out.new)) }
+{
+    let core = WholeCore::new(alloc, load(store, alloc, table)?);
+    match run_match_many(alloc, store, &core, all, files, out, err) {
+        Ok(true) => Ok(true),
+        Ok(false) => Err(Fault::SomeFiles),
+        Err(error) => Err(Fault::Run(error)),
     }
 }
 

@@ -4,7 +4,7 @@
 //! A line is written in pieces and takes no memory, so no fault is reported as another.
 
 ghost use Rattle.std.specs.Prelude.{◌≡◌, [], ◌∷◌, ◌++◌, decimal, false};
-ghost use Rattle.pronom_sig.specs.Faults.{ReportsFault, Reports, code_text, expression_code_text, fault_line, file_name, fault_text, site_of, site_text};
+ghost use Rattle.pronom_sig.specs.Faults.{ReportsFault, Reports, code_text, expression_code_text, fault_line, file_name, fault_text, line_end, site_of, site_text};
 ghost use Rattle.pronom_sig.specs.Statuses.{status_of};
 ghost use Rattle.sig_engines.specs.Writing.{Prints};
 
@@ -26,6 +26,8 @@ pub(crate) enum Fault<'a> {
     Run(RunError),
     /// An engine stopped before its last line.
     CutShort(CutShort),
+    /// Some of several files have no lines. Each is told already, so this has no line of its own.
+    SomeFiles,
 }
 
 impl Fault<'_> {
@@ -37,7 +39,7 @@ impl Fault<'_> {
             Fault::NotText => 2,
             Fault::Table(TableError::Read { .. } | TableError::OutOfMemory) => 3,
             Fault::Table(_) => 2,
-            Fault::CannotOpen(_) | Fault::Run(_) | Fault::CutShort(_) => 3,
+            Fault::CannotOpen(_) | Fault::Run(_) | Fault::CutShort(_) | Fault::SomeFiles => 3,
         }
     }
 
@@ -57,7 +59,20 @@ fn write_line<E: Output>(fault: Fault<'_>, err: &mut E) -> Result<(), DeviceFaul
     ensures sound { E.failed err.new ≡ false → E.failed err.old ≡ false }
 {
     write_text(fault, err)?;
-    put(err, "\n")
+    put(err, line_end(fault))
+}
+
+fn line_end(fault: Fault<'_>) -> &'static str
+    ensures { result.now ≡ line_end fault.entry }
+{
+    match fault {
+        Fault::SomeFiles => "",
+        Fault::NotText
+        | Fault::CannotOpen(_)
+        | Fault::Table(_)
+        | Fault::Run(_)
+        | Fault::CutShort(_) => "\n",
+    }
 }
 
 fn write_text<E: Output>(fault: Fault<'_>, err: &mut E) -> Result<(), DeviceFault>
@@ -79,6 +94,7 @@ fn write_text<E: Output>(fault: Fault<'_>, err: &mut E) -> Result<(), DeviceFaul
         }
         Fault::Run(error) => put(err, error.text()),
         Fault::CutShort(error) => put(err, error.text()),
+        Fault::SomeFiles => put(err, ""),
     }
 }
 

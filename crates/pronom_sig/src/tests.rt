@@ -6,6 +6,7 @@ mod conflicting;
 mod finding;
 mod many_files;
 mod matching;
+mod matching_many;
 mod memory;
 mod progress;
 mod refusals;

@@ -40,7 +40,7 @@ const SHOWN: &str = "puid,signature,position,offset,max_offset,expression\n\
 // The one pair of formats is related, and has no more than its kind.
 const CERTIFICATE: &[u8] = b"PSAC\x01\x00\x00\x00\x01\x00";
 
-const ANSWERED: [Answered; 12] = [
+const ANSWERED: [Answered; 16] = [
     Answered(b"AB", &["match", "s", "p", "f"], 0, "fmt/2 2\n", ""),
     Answered(b"A", &["match", "s", "p", "f"], 0, "fmt/1 1\n", ""),
     Answered(b"B", &["match", "s", "p", "f"], 0, "", ""),
@@ -50,6 +50,34 @@ const ANSWERED: [Answered; 12] = [
         0,
         "fmt/1 1\nfmt/2 2\n",
         "",
+    ),
+    Answered(
+        b"AB",
+        &["match", "s", "p", "f", "p", "f"],
+        0,
+        "f\tfmt/2 2\np\t-\nf\tfmt/2 2\n",
+        "",
+    ),
+    Answered(
+        b"AB",
+        &["match", "--all", "s", "p", "s", "f"],
+        0,
+        "s\t-\nf\tfmt/1 1\nf\tfmt/2 2\n",
+        "",
+    ),
+    Answered(
+        b"A",
+        &["match", "s", "p", "z", "f", "y"],
+        3,
+        "f\tfmt/1 1\n",
+        "cannot open z\ncannot open y\n",
+    ),
+    Answered(
+        b"A",
+        &["match", "p", "s", "z", "f"],
+        2,
+        "",
+        "signatures: L2 header\n",
     ),
     Answered(b"", &["show", "s", "p"], 0, SHOWN, ""),
     Answered(CERTIFICATE, &["check", "s", "p", "f"], 0, "accepted\n", ""),
@@ -143,5 +171,19 @@ fn says_nothing_of_a_table_whose_reads_fail(rt: HostRuntime) -> Result<(), Fail>
         let shown = run_over(&rt, &store, words)?;
         assert!(rt; shown.is_fault(3, "read failed\n"), "{words:?}{shown:?}");
     }
+    Ok(())
+}
+
+#[test]
+fn says_of_which_of_several_files_the_reads_fail(rt: HostRuntime) -> Result<(), Fail> {
+    let store = Failing {
+        first: SIGNATURES,
+        second: PRIORITIES,
+        third: FILE,
+    };
+    let shown = run_over(&rt, &store, &["match", "s", "p", "s", "f", "p"])?;
+    assert_eq!(rt; shown.out.as_str(), "s\t-\np\t-\n");
+    assert_eq!(rt; shown.err.as_str(), "f: read failed\n");
+    assert_eq!(rt; shown.status, 3);
     Ok(())
 }

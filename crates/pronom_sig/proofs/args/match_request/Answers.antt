@@ -1,25 +1,10 @@
-use Rattle.std.proofs.Common.{◌≡◌, ◌∙◌, codes, refl, sym, None, Some}
+use Rattle.std.proofs.Common.{codes, refl}
 use Rattle.clap.specs.Matches.{found_of}
 use Rattle.clap.specs.Words.{rows_of}
 use Rattle.pronom_sig.proofs.RequestLemmas.{no_match}
-use Rattle.pronom_sig.proofs.RowLemmas.{first_of-rows, flag_is_read}
+use Rattle.pronom_sig.proofs.RowLemmas.{all_of-rows, flag_is_read}
 use Rattle.pronom_sig.proofs.args.match_request.Goals as goal
-
-pub returns-clause-asked : goal.returns-clause-asked
-returns-clause-asked c = (
-  rows_of (found_of c.args.matches.now),
-  refl,
-  c.in_ok-table_paths.ensures.named,
-  first_of-rows (found_of c.args.matches.now) (codes "FILE") ∙ sym c.in_ok-get_str.ensures,
-  flag_is_read (found_of c.args.matches.now) (codes "all") _ c.get_flag.ensures.value c.get_flag.ensures.other c.get_flag.ensures.none,
-)
 
 pub returns-in_err-table_paths-clause-none : goal.returns-in_err-table_paths-clause-none
 returns-in_err-table_paths-clause-none c = λ is.
-    no_match (rows_of (found_of c.args.matches.now)) (λ table text named first. c.in_err-table_paths.ensures.none refl table named)
-
-pub returns-in_err-get_str-clause-none : goal.returns-in_err-get_str-clause-none
-returns-in_err-get_str-clause-none c = λ is.
-    no_match (rows_of (found_of c.args.matches.now)) (λ table text named first.
-    let none : None ≡ Some text = c.in_err-get_str.ensures ∙ sym (first_of-rows (found_of c.args.matches.now) (codes "FILE")) ∙ first in
-    cc)
+    no_match (rows_of (found_of c.args.matches.now)) (λ table text texts named are. c.in_err-table_paths.ensures.none refl table named)

@@ -15,12 +15,6 @@ is_program_free : is_simple_and_free program ≡ true
 unfolding clap_on_literals
 is_program_free = refl
 
-pub returns-in-Some-clause-asked : goal.returns-in-Some-clause-asked
-returns-in-Some-clause-asked c =
-    let found = (c.in_ok-matches.ensures.ok.2 (ap is_simple c.in_ok-command.ensures.app ∙ is_program_simple)).1 in
-    let same = found ∙ ap (λ (a : App). subcommand_of a (map string_bytes c.args.words.now)) c.in_ok-command.ensures.app in
-    subst (λ (o : Option (Text × List Row)). Asks o c.in-Some.request) same c.in-Some.ensures.asked
-
 pub returns-in_err-matches-clause-taken : goal.returns-in_err-matches-clause-taken
 returns-in_err-matches-clause-taken c =
     let r = err_from_is_err_and c.from_residual-in_err-matches.result c.from_residual-in_err-matches.ensures.1 in
@@ -32,14 +26,3 @@ returns-in_err-matches-clause-help c =
     let app = c.in_ok-command.ensures.app in
     let kinds = subst (λ (a : App). HasKind (fault_of a (map string_bytes c.args.words.now)) c.in_err-matches.field-0.0) app (c.in_err-matches.ensures.kinds (ap is_simple_and_free app ∙ is_program_free)) in
     rw (r.1, r.2) (help_among (fault_of program (map string_bytes c.args.words.now)) c.in_err-matches.field-0.0 kinds)
-
-pub returns-in_err-error-in-None-clause-help : goal.returns-in_err-error-in-None-clause-help
-returns-in_err-error-in-None-clause-help c =
-    let r = err_from_is_err_and c.from_residual-in_err-error-in-None.result c.from_residual-in_err-error-in-None.ensures.1 in
-    rw r.1 (λ is. absurd (no_help r.0 r.2 is))
-
-pub returns-clause-taken : goal.returns-clause-taken
-returns-clause-taken c = λ taken.
-    let found = (c.in_ok-matches.ensures.ok.2 (ap is_simple c.in_ok-command.ensures.app ∙ is_program_simple)).1 in
-    let same = found ∙ ap (λ (a : App). subcommand_of a (map string_bytes c.args.words.now)) c.in_ok-command.ensures.app in
-    absurd (c.in-None.ensures.none refl taken.1.0 (subst (λ (o : Option (Text × List Row)). Asks o taken.1.0) (sym same) taken.1.1))

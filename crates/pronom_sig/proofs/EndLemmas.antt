@@ -1,0 +1,43 @@
+-- How a run ends, whatever is asked for.
+use Rattle.std.proofs.Common.{◌≡◌, ◌⊎◌, ℕ, ◌<◌, ◌∷◌, Bool, List, Option, arith, false, inl, inr, refl}
+use Rattle.clap.specs.Words.{Row, Text}
+use Rattle.sig_engines.specs.Stores.{Holding}
+use Rattle.sig_engines.specs.declared.error.RunError.TheVariants as run
+use Rattle.pronom_sig.specs.CommandLine.{Asks}
+use Rattle.pronom_sig.specs.Requests.{HasFiles, IsFaultOf, Joins, ShowsBefore}
+use Rattle.pronom_sig.specs.declared.args.Request.{Request}
+use Rattle.pronom_sig.specs.declared.args.Request.TheVariants.{Check, Conflicts, Find, Match, MatchMany, Show, Witness}
+use Rattle.pronom_sig.specs.declared.fault.Fault.TheVariants.{Run}
+
+-- memory can run out for whatever is asked
+pub memory_of : {R : Type 0} (failed : R → Bool) (held : Holding) (request : Request) → IsFaultOf failed held request (Run run.OutOfMemory)
+memory_of failed held (Show table) = inr (inr refl)
+memory_of failed held (Match all table file) = inr tt
+memory_of failed held (MatchMany all table files) = inr (inr (inr refl))
+memory_of failed held (Find table budget out hex progress) = inr (inr (inr refl))
+memory_of failed held (Conflicts table budget hex progress) = inr (inl refl)
+memory_of failed held (Check table certificate) = inr tt
+memory_of failed held (Witness table file) = inr tt
+
+-- and then nothing is shown before that is told
+pub memory_first : {R : Type 0} (failed : R → Bool) (held : Holding) (request : Request) (before after err : Option (List ℕ)) → ShowsBefore failed held request (Run run.OutOfMemory) before after err err
+memory_first failed held request before after err = (inl refl, go request)
+  where
+    go : (request : Request) → Joins failed held request (Run run.OutOfMemory) before after false err err
+    go (Show table) = tt
+    go (Match all table file) = tt
+    go (MatchMany all table files) = refl
+    go (Find table budget out hex progress) = tt
+    go (Conflicts table budget hex progress) = tt
+    go (Check table certificate) = tt
+    go (Witness table file) = tt
+
+-- of the several files that words name there are some
+pub has_files : (found : Option (Text × List Row)) (request : Request) → Asks found request → HasFiles request
+has_files found (Show table) asks = tt
+has_files found (Match all table file) asks = tt
+has_files found (MatchMany all table files) asks = let many = asks.3.many in omega (arith, many)
+has_files found (Find table budget out hex progress) asks = tt
+has_files found (Conflicts table budget hex progress) asks = tt
+has_files found (Check table certificate) asks = tt
+has_files found (Witness table file) asks = tt
