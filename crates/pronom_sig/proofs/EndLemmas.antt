@@ -1,12 +1,14 @@
 -- How a run ends, whatever is asked for.
-use Rattle.std.proofs.Common.{◌≡◌, ◌⊎◌, ℕ, ◌<◌, ◌∷◌, Bool, List, Option, arith, false, inl, inr, refl}
+use Rattle.std.proofs.Common.{◌≡◌, ◌⊎◌, ℕ, Bool, List, Option, ap, arith, false, inl, inr, refl, subst}
 use Rattle.clap.specs.Words.{Row, Text}
 use Rattle.sig_engines.specs.Stores.{Holding}
 use Rattle.sig_engines.specs.declared.error.RunError.TheVariants as run
 use Rattle.pronom_sig.specs.CommandLine.{Asks}
-use Rattle.pronom_sig.specs.Requests.{HasFiles, IsFaultOf, Joins, ShowsBefore}
+use Rattle.pronom_sig.specs.Faults.{Reports}
+use Rattle.pronom_sig.specs.Requests.{HasFiles, IsFaultOf, Joins, ReportsFaultOf, Shows, ShowsBefore, TellsOf}
 use Rattle.pronom_sig.specs.declared.args.Request.{Request}
 use Rattle.pronom_sig.specs.declared.args.Request.TheVariants.{Check, Conflicts, Find, Match, MatchMany, Show, Witness}
+use Rattle.pronom_sig.specs.declared.fault.Fault.{Fault}
 use Rattle.pronom_sig.specs.declared.fault.Fault.TheVariants.{Run}
 
 -- memory can run out for whatever is asked
@@ -41,3 +43,12 @@ has_files found (Find table budget out hex progress) asks = tt
 has_files found (Conflicts table budget hex progress) asks = tt
 has_files found (Check table certificate) asks = tt
 has_files found (Witness table file) asks = tt
+
+-- a fault of the request is reported behind what the request shows
+pub fault_is_reported : {R E : Type 0} (failed : R → Bool) (held : Holding) (request : Request) (reason : Fault) (status : ℕ) (written : E → Option (List ℕ)) (err mid : E) (err_failed : Bool) (before after err_after : Option (List ℕ)) → IsFaultOf failed held request reason → TellsOf failed held request false err_failed err mid (written err) (written mid) → Joins failed held request reason before after err_failed (written err) (written mid) → err_failed ≡ false → Reports reason status (written mid) err_after → ReportsFaultOf failed held request status before after (written err) err_after
+fault_is_reported failed held request reason status written err mid err_failed before after err_after is told joins sound reports =
+    (reason, is, written mid, (shown told, subst (λ b. Joins failed held request reason before after b (written err) (written mid)) sound joins), reports)
+  where
+    shown : (mid ≡ err) ⊎ Shows failed held request false err_failed (written err) (written mid) → (written mid ≡ written err) ⊎ Shows failed held request false false (written err) (written mid)
+    shown (inl same) = inl (ap written same)
+    shown (inr shows) = inr (subst (λ b. Shows failed held request false b (written err) (written mid)) sound shows)

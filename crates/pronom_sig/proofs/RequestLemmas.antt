@@ -1,6 +1,7 @@
 -- What words ask for, and what they do not.
-use Rattle.std.proofs.Common.{Bool, ◌≡◌, ◌≢◌, ◌⊎◌, ℕ, ◌<◌, List, [], ◌∷◌, None, Option, Some, ap, ap₂, arith, codes, inl, inr, map, option_map, refl, subst, sym, ◌∙◌}
+use Rattle.std.proofs.Common.{Bool, true, false, not, IfSome, ◌≡◌, ◌≢◌, ◌⊎◌, ℕ, ◌<◌, List, [], ◌∷◌, None, Option, Some, ap, ap₂, arith, codes, inl, inr, map, option_map, refl, subst, sym, ◌∙◌}
 use Rattle.std.specs.Borrow.{Bor}
+use Rattle.std.specs.Prelude.{is_some}
 use Rattle.std.proofs.Math.ListN.{get_or}
 use Rattle.std.proofs.lemmas.Option.{same_Some}
 use Rattle.clap.specs.Words.{HasKind, IsAmong, Kinds, Row, Text, all_of, first_of, kind_of}
@@ -125,3 +126,14 @@ help_among kinds e (inr among) (inr version) = inr (subst (λ k. IsAmong k kinds
 pub named_rows : {B : Type 0} (name_of : B → Text) (its_rows : B → List Row) (found : Option B) (name : Text) (rows : List Row) → option_map name_of found ≡ Some name → option_map (λ (p : Text × List Row). p.1) (option_map {U = Text × List Row} (λ (b : B). (name_of b, its_rows b)) found) ≡ Some rows → option_map {U = Text × List Row} (λ (b : B). (name_of b, its_rows b)) found ≡ Some (name, rows)
 named_rows name_of its_rows (Some b) name rows is_name are_rows = ap₂ (λ (x : Text) (y : List Row). Some (x, y)) (same_Some (name_of b) name is_name) (same_Some (its_rows b) rows are_rows)
 named_rows name_of its_rows None name rows is_name are_rows = let no : None ≡ Some name = is_name in cc
+
+-- what is found asks for something where a request is made of it
+pub some_asked : (found : Option (Text × List Row)) (request : Option Request) (none : Bool) → IfSome request (λ r. Asks found r) → is_some request ≡ not none → none ≡ false → (r : Request) × Asks found r
+some_asked found (Some r) none asked some is = (r, asked)
+some_asked found None true asked some is = cc
+some_asked found None false asked some is = cc
+
+pub none_made : (request : Option Request) (none : Bool) → is_some request ≡ not none → none ≡ true → request ≡ None
+none_made None none some is = refl
+none_made (Some r) true some is = cc
+none_made (Some r) false some is = cc

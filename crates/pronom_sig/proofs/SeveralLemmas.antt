@@ -1,17 +1,16 @@
 -- What is written of several files.
-use Rattle.std.proofs.Common.{◌≡◌, ℕ, List, [], ◌∷◌, ◌++◌, Bool, Option, Ok, Err, false, true, append_assoc, inl, inr, map, refl, subst, sym, ◌∙◌}
+use Rattle.std.proofs.Common.{◌≡◌, ℕ, List, [], ◌∷◌, ◌++◌, Bool, Option, Ok, Err, false, true, map, refl, subst, sym, ◌∙◌}
 use Rattle.std.specs.Prelude.{All, is_ok, ◌&&◌}
 use Rattle.std.specs.Borrow.{Bor}
 use Rattle.std.proofs.lemmas.List.{append-nil}
 use Rattle.std.proofs.lemmas.List.Elements.{All-head, All-tail}
-use Rattle.sig_bits.specs.Device.{Adds}
 use Rattle.sig_table.specs.Views.{TableView}
 use Rattle.sig_engines.specs.ManyFiles.{AddsFiles, AreLinesOf, CutsFiles, IsPrinted, Printed, PrintedFile, is_whole, names_of, out_text, out_texts}
 use Rattle.sig_engines.specs.Stores.{Holding, IsTableOf}
 use Rattle.sig_engines.specs.declared.error.RunError.TheVariants.{Write}
 use Rattle.sig_engines.specs.declared.store.TablePaths.{TablePaths}
-use Rattle.pronom_sig.specs.Requests.{Answers, IsCutRequest, IsLoadFault, Joins, Shows, TellsMany}
-use Rattle.pronom_sig.specs.Several.{AddsFaults, AddsLinesOfEach, AddsLinesOfSome, AreTexts}
+use Rattle.pronom_sig.specs.Requests.{Answers, IsCutRequest, IsLoadFault, Joins, Shows}
+use Rattle.pronom_sig.specs.Several.{AreTexts}
 use Rattle.pronom_sig.specs.declared.args.Request.TheVariants.{MatchMany}
 use Rattle.pronom_sig.specs.declared.fault.Fault.{Fault}
 use Rattle.pronom_sig.specs.declared.fault.Fault.TheVariants.{CannotOpen, CutShort, NotText, Run, SomeFiles, Table}

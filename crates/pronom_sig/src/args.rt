@@ -5,7 +5,7 @@ ghost use Rattle.clap.specs.Values.{kind_of};
 ghost use Rattle.clap.specs.Matches.{found_of};
 ghost use Rattle.clap.specs.declared.Command.TheViews.{out-Command as fields_of};
 ghost use Rattle.clap.specs.Words.{app_of, rows_of, rule_of, subcommand_of, subcommand_rows_of};
-ghost use Rattle.pronom_sig.specs.CommandLine.{AreTaken, Asks, IsHelpAsked, IsLine, NamesTable, asking, budget_rule, check_command, conflicts_command, find_command, given, match_command, named, of_table, program, several, show_command, wanted, witness_command};
+ghost use Rattle.pronom_sig.specs.CommandLine.{AreTaken, Asks, IsHelpAsked, IsLine, NamesTable, asking, budget_rule, check_command, conflicts_command, find_command, given, match_command, named, of_table, program, show_command, wanted, witness_command};
 
 use clap::error::ErrorKind;
 use clap::{Arg, ArgAction, ArgMatches, Command, Error, value_parser};

@@ -249,14 +249,17 @@ fn open<'a, S: Store>(store: &S, name: &'a str) -> Result<S::Reader, Fault<'a>>
     ensures opens { IfOk result (λ file. Opens (S.held store.now) name.entry.now (Some (S.Reader.to_come file))) }
     ensures unopened { IfErr result (λ fault. (fault ≡ Fault.CannotOpen name.entry) × Opens (S.held store.now) name.entry.now None) }
 {
-    store.open(name).ok_or(Fault::CannotOpen(name))
+    match store.open(name) {
+        Some(file) => Ok(file),
+        None => Err(Fault::CannotOpen(name)),
+    }
 }
 
 // What `clap` says: help is an answer, and all else a fault of the words, unless memory ran out.
 fn show_usage<W: Output, E: Output>(alloc: Global, error: &Error, out: &mut W, err: &mut E) -> u8
     ensures known { (result ≡ 0) ⊎ ((result ≡ 2) ⊎ (result ≡ 3)) }
     ensures output { KeepsOutput ⊥ result (W.failed out.new) out.old out.new }
-    ensures errors { KeepsErrors (λ is_failed before after. ⊥) result (E.failed err.new) err.old err.new (E.written err.old) (E.written err.new) }
+    ensures errors { KeepsErrors (λ is_answered is_failed before after. ⊥) result (E.failed err.new) err.old err.new (E.written err.old) (E.written err.new) }
     ensures memory { kind_of error.now ≡ ErrorKind.OutOfMemory → result ≡ 3 }
     ensures memory_reported { kind_of error.now ≡ ErrorKind.OutOfMemory → E.failed err.new ≡ false → ReportsMemory (E.written err.old) (E.written err.new) }
     ensures help { result ≡ 0 → (kind_of error.now ≡ ErrorKind.DisplayHelp) ⊎ (kind_of error.now ≡ ErrorKind.DisplayVersion) }

@@ -94,7 +94,7 @@ fn write_text<E: Output>(fault: Fault<'_>, err: &mut E) -> Result<(), DeviceFaul
         }
         Fault::Run(error) => put(err, error.text()),
         Fault::CutShort(error) => put(err, error.text()),
-        Fault::SomeFiles => put(err, ""),
+        Fault::SomeFiles => Ok(()),
     }
 }
 
