@@ -130,10 +130,10 @@ named_rows name_of its_rows None name rows is_name are_rows = let no : None ≡ 
 -- what is found asks for something where a request is made of it
 pub some_asked : (found : Option (Text × List Row)) (request : Option Request) (none : Bool) → IfSome request (λ r. Asks found r) → is_some request ≡ not none → none ≡ false → (r : Request) × Asks found r
 some_asked found (Some r) none asked some is = (r, asked)
-some_asked found None true asked some is = cc
-some_asked found None false asked some is = cc
+some_asked found None true asked some is = let bad : true ≡ false = is in cc
+some_asked found None false asked some is = let bad : false ≡ true = some in cc
 
 pub none_made : (request : Option Request) (none : Bool) → is_some request ≡ not none → none ≡ true → request ≡ None
 none_made None none some is = refl
-none_made (Some r) true some is = cc
-none_made (Some r) false some is = cc
+none_made (Some r) true some is = let bad : true ≡ false = some in cc
+none_made (Some r) false some is = let bad : false ≡ true = is in cc

@@ -1,6 +1,6 @@
--- The first value of an argument, by the rows of a parse.
-use Rattle.std.proofs.Common.{◌≡◌, Bool, true, false, ◌||◌, List, [], ◌∷◌, Option, Some, None, codes, map, refl, sym, ◌∙◌}
-use Rattle.std.specs.Prelude.{find, option_and_then, option_map, slice_get}
+-- The values of an argument, by the rows of a parse.
+use Rattle.std.proofs.Common.{◌≡◌, Bool, true, false, ◌||◌, List, [], ◌∷◌, Option, Some, None, ap, codes, map, refl, sym, ◌∙◌}
+use Rattle.std.specs.Prelude.{IsSomeAnd, find, option_and_then, option_map, slice_get}
 use Rattle.std.specs.Borrow.{Bor}
 use Rattle.std.specs.Str.{bytes_eq}
 use Rattle.clap.specs.Facts.{Entry}
@@ -84,3 +84,8 @@ flag_is_read found name is_given value other none = record {
   left_out = λ h. other (sym (one_of-rows found name) ∙ h);
   absent = λ h. none (sym (one_of-rows found name) ∙ h);
 }
+
+-- an option that has this value
+pub some_of : {T : Type 0} (o : Option T) (x : T) → IsSomeAnd o (λ y. y ≡ x) → o ≡ Some x
+some_of None x is = absurd is
+some_of (Some y) x is = ap Some is

@@ -20,7 +20,7 @@ use Rattle.pronom_sig.specs.declared.fault.Fault.TheVariants.{CannotOpen, CutSho
 -- the lines of one, and those of the others
 lines_of_first : {R : Type 0} (failed : R → Bool) (all : Bool) (table : TableView) (held : Holding) (name : List ℕ) (printed : Printed) (files : List PrintedFile) → IsPrinted failed all table held name printed → true ≡ (is_ok printed && is_whole files) → (true ≡ is_whole files → AreTexts (AreLinesOf all table held) (names_of files) (out_texts files)) → AreTexts (AreLinesOf all table held) (name ∷ names_of files) (out_text printed ++ out_texts files)
 lines_of_first failed all table held name (Ok lines) files is whole rest = (lines, out_texts files, refl, is, rest whole)
-lines_of_first failed all table held name (Err fault) files is whole rest = cc
+lines_of_first failed all table held name (Err fault) files is whole rest = let bad : true ≡ false = whole in cc
 
 lines_of_all : {R : Type 0} (failed : R → Bool) (all : Bool) (table : TableView) (held : Holding) (files : List PrintedFile) → All (λ (f : PrintedFile). IsPrinted failed all table held f.name f.printed) files → true ≡ is_whole files → AreTexts (AreLinesOf all table held) (names_of files) (out_texts files)
 lines_of_all failed all table held [] each whole = refl

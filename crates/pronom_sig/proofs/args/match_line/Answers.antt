@@ -5,14 +5,14 @@ use Rattle.clap.specs.Words.{Rule, app_of, new_app, rule_of, with_rule}
 use Rattle.clap.specs.declared.builder.range.ValueRange.{ValueRange}
 use Rattle.clap.specs.declared.Command.TheViews.{out-Command as fields_of}
 use Rattle.pronom_sig.specs.CommandLine.{given, of_table, several}
-use Rattle.pronom_sig.proofs.RowLemmas.{or_false}
+use Rattle.pronom_sig.proofs.RowLemmas.{or_false, some_of}
 use Rattle.pronom_sig.proofs.args.match_line.Goals as goal
 
 pub returns-clause-line : goal.returns-clause-line
 returns-clause-line c =
     let table : app_of c.after_help.result ≡ of_table (new_app (codes "match")) = ap app_of_fields c.after_help.ensures ∙ ap app_of_fields c.about.ensures ∙ c.in_ok-with_table_args.ensures.app ∙ ap of_table c.new.ensures.app in
     let table_local : (fields_of c.after_help.result).has_globals ≡ false = rw (c.after_help.ensures, c.about.ensures) (c.in_ok-with_table_args.ensures.local ∙ c.new.ensures.local) in
-    let range : c.num_args.result.num_vals ≡ Some (record { start_inclusive = 1; end_inclusive = usize_max }) = rw c.num_args.ensures.1.1 (ap (λ (r : ValueRange). Some r) c.num_args.ensures.1.2) in
+    let range : c.num_args.result.num_vals ≡ Some (record { start_inclusive = 1; end_inclusive = usize_max }) = some_of c.num_args.result.num_vals (record { start_inclusive = 1; end_inclusive = usize_max }) c.num_args.ensures.1 in
     let files : rule_of c.num_args.result ≡ several (codes "FILE") = ap rule_of c.num_args.ensures.0 ∙ ap₂ (λ (rule : Rule) (r : Option ValueRange). record rule { range = r }) c.required.ensures.rule range in
     let file : rule_of c.help.result ≡ several (codes "FILE") = rw c.help.ensures files in
     let file_local : c.help.result.global ≡ false = rw (c.help.ensures, c.num_args.ensures.0) c.required.ensures.local in
