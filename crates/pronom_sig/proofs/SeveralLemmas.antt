@@ -34,12 +34,16 @@ lines_of_all failed all table held (f ∷ fs) each whole =
 pub many_answered : {R : Type 0} (failed : R → Bool) (held : Holding) (all : Bool) (paths : TablePaths) (files : Bor (List (Bor (List ℕ)))) (core table : TableView) (before after : Option (List ℕ)) (err_failed : Bool) (err_before err_after : Option (List ℕ)) → core ≡ table → IsTableOf held paths table → AddsFiles (IsPrinted failed all core held) (map (λ n. n.now) files.now) before after err_failed err_before err_after true → Answers held (MatchMany all paths files) true before after
 many_answered failed held all paths files core table before after err_failed err_before err_after same is adds =
     let names = map (λ (n : Bor (List ℕ)). n.now) files.now in
-    let added = subst (λ t. AddsFiles (IsPrinted failed all t held) names before after err_failed err_before err_after true) same adds in
-    (refl, table, is, record {
-      text = out_texts added.files;
-      are_lines = subst (λ l. AreTexts (AreLinesOf all table held) l (out_texts added.files)) added.are (lines_of_all failed all table held added.files added.each added.is);
-      adds = added.adds;
-    })
+    let added = subst (λ t. AddsFiles (IsPrinted failed all t held) names before after err_failed err_before err_after true) same adds in (
+      refl,
+      table,
+      is,
+      record {
+        text = out_texts added.files;
+        are_lines = subst (λ l. AreTexts (AreLinesOf all table held) l (out_texts added.files)) added.are (lines_of_all failed all table held added.files added.each added.is);
+        adds = added.adds;
+      },
+    )
 
 pub many_joined : {R : Type 0} (failed : R → Bool) (held : Holding) (all : Bool) (paths : TablePaths) (files : Bor (List (Bor (List ℕ)))) (core table : TableView) (before after : Option (List ℕ)) (err_failed : Bool) (err_before err_after : Option (List ℕ)) → core ≡ table → IsTableOf held paths table → AddsFiles (IsPrinted failed all core held) (map (λ n. n.now) files.now) before after err_failed err_before err_after false → Joins failed held (MatchMany all paths files) SomeFiles before after err_failed err_before err_after
 many_joined failed held all paths files core table before after err_failed err_before err_after same is adds =
@@ -49,14 +53,18 @@ many_joined failed held all paths files core table before after err_failed err_b
 pub many_told : {R : Type 0} (failed : R → Bool) (held : Holding) (all : Bool) (paths : TablePaths) (files : Bor (List (Bor (List ℕ)))) (core table : TableView) (before after : Option (List ℕ)) (err_failed : Bool) (err_before err_after : Option (List ℕ)) → core ≡ table → IsTableOf held paths table → AddsFiles (IsPrinted failed all core held) (map (λ n. n.now) files.now) before after err_failed err_before err_after false → Shows failed held (MatchMany all paths files) false err_failed err_before err_after
 many_told failed held all paths files core table before after err_failed err_before err_after same is adds =
     let names = map (λ (n : Bor (List ℕ)). n.now) files.now in
-    let added = subst (λ t. AddsFiles (IsPrinted failed all t held) names before after err_failed err_before err_after false) same adds in
-    (refl, table, is, λ sound. record {
-      files = added.files;
-      others = [];
-      are_first = sym added.are ∙ sym (append-nil (names_of added.files));
-      each = added.each;
-      adds = added.reports sound;
-    })
+    let added = subst (λ t. AddsFiles (IsPrinted failed all t held) names before after err_failed err_before err_after false) same adds in (
+      refl,
+      table,
+      is,
+      λ sound. record {
+        files = added.files;
+        others = [];
+        are_first = sym added.are ∙ sym (append-nil (names_of added.files));
+        each = added.each;
+        adds = added.reports sound;
+      },
+    )
 
 -- and the lines of the others are all that is written
 pub many_cut : {R : Type 0} (failed : R → Bool) (held : Holding) (all : Bool) (paths : TablePaths) (files : Bor (List (Bor (List ℕ)))) (core table : TableView) (before after : Option (List ℕ)) (err_failed : Bool) (err_before err_after : Option (List ℕ)) → core ≡ table → IsTableOf held paths table → AddsFiles (IsPrinted failed all core held) (map (λ n. n.now) files.now) before after err_failed err_before err_after false → IsCutRequest failed held (MatchMany all paths files) before after

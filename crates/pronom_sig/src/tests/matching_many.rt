@@ -22,8 +22,9 @@ fn prints_the_lines_of_each_file_behind_its_name(rt: HostRuntime) -> Result<(), 
     let one = put(&rt, folder.as_str(), "one.bin", b"AC")?;
     let (signatures, priorities) = (signatures.as_str(), priorities.as_str());
     let (both, none, one) = (both.as_str(), none.as_str(), one.as_str());
-    let lines =
-        format!(in rt.alloc(); "{one}\tfmt/1 1\n{both}\tfmt/2 2\n{none}\t-\n{both}\tfmt/2 2\n")?;
+    let lines = format!(in rt.alloc();
+        "{one}\tfmt/1 1\n{both}\tfmt/2 2\n{none}\t-\n{both}\tfmt/2 2\n"
+    )?;
     let shown = run_program(
         &rt,
         &["match", signatures, priorities, one, both, none, both],
@@ -88,7 +89,14 @@ fn a_failed_write_is_told_last(rt: HostRuntime) -> Result<(), Fail> {
     let (signatures, priorities, one) = (signatures.as_str(), priorities.as_str(), one.as_str());
     let words = owned_words(
         &rt,
-        &["match", signatures, priorities, "none.bin", one, "other.bin"],
+        &[
+            "match",
+            signatures,
+            priorities,
+            "none.bin",
+            one,
+            "other.bin",
+        ],
     )?;
     let mut out = Broken::new();
     let mut err = FromWrite::new(Vec::new(rt.alloc()));

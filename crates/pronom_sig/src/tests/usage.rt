@@ -48,7 +48,10 @@ fn shows_help_and_the_version(rt: HostRuntime) -> Result<(), Fail> {
         out.contains("the file is ambiguous.\n\nWith more than one FILE each line begins"),
         "{out}"
     );
-    assert!(rt; out.contains("and the others go on.\n\nStatuses:\n  0  "), "{out}");
+    assert!(rt;
+        out.contains("and the others go on.\n\nStatuses:\n  0  "),
+        "{out}"
+    );
     assert!(rt; out.contains("<SIGS> <PRIOS> <FILE>..."), "{out}");
     Ok(())
 }
