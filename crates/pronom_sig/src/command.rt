@@ -215,7 +215,10 @@ fn open<'a, S: Store>(store: &S, name: &'a str) -> Result<S::Reader, Fault<'a>>
     ensures opens { IfOk result (λ file. Opens (S.held store.now) name.entry.now (Some (S.Reader.to_come file))) }
     ensures unopened { IfErr result (λ fault. (fault ≡ Fault.CannotOpen name.entry) × Opens (S.held store.now) name.entry.now None) }
 {
-    store.open(name).ok_or(Fault::CannotOpen(name))
+    match store.open(name) {
+        Some(file) => Ok(file),
+        None => Err(Fault::CannotOpen(name)),
+    }
 }
 
 // What `clap` says: help is an answer, and all else a fault of the words, unless memory ran out.
