@@ -131,18 +131,8 @@ fn answer<'m, 'a, S: Store, W: Output, E: Output>(
     ensures whole { IfErr result (λ fault. W.failed out.new ≡ false → (out.new ≡ out.old) ⊎ IsCutRequest S.Reader.failed (S.held store.now) request.entry (W.written out.old) (W.written out.new)) }
 {
     match request {
-        Request::Show { table } => match run_show(alloc, &load(store, alloc, table)?, out) {
-            Ok(()) => Ok(true),
-            Err(error) => Err(Fault::Run(error)),
-        },
-        Request::Match { all, table, file } => {
-            let core = WholeCore::new(alloc, load(store, alloc, table)?);
-            let mut file = open(store, file)?;
-            match run_match(alloc, &core, all, &mut file, out) {
-                Ok(()) => Ok(true),
-                Err(error) => Err(Fault::Run(error)),
-            }
-        }
+        Request::Show { table } => show_table(store, alloc, table, out),
+        Request::Match { all, table, file } => match_file(store, alloc, all, table, file, out),
         Request::MatchMany { all, table, files } => {
             match_many(store, alloc, all, table, files, out, err)
         }
@@ -152,41 +142,57 @@ fn answer<'m, 'a, S: Store, W: Output, E: Output>(
             out: name,
             hex,
             progress,
-        } => {
-            let table = load(store, alloc, table)?;
-            match run_find(alloc, store, &table, budget, hex, progress, name, out, err) {
-                Ok(is_yes) => Ok(is_yes),
-                Err(fault) => Err(file_fault(name, fault)),
-            }
-        }
+        } => find_in_table(store, alloc, table, budget, name, hex, progress, out, err),
         Request::Conflicts {
             table,
             budget,
             hex,
             progress,
-        } => {
-            let table = load(store, alloc, table)?;
-            match settle(alloc, &table, budget, hex, progress, out, err) {
-                Ok(is_yes) => Ok(is_yes),
-                Err(error) => Err(Fault::CutShort(error)),
-            }
-        }
+        } => settle_pairs(store, alloc, table, budget, hex, progress, out, err),
         Request::Check { table, certificate } => {
-            let table = load(store, alloc, table)?;
-            let mut certificate = open(store, certificate)?;
-            match run_check(alloc, &table, &mut certificate, out) {
-                Ok(is_accepted) => Ok(is_accepted),
-                Err(error) => Err(Fault::Run(error)),
-            }
+            check_certificate(store, alloc, table, certificate, out)
         }
-        Request::Witness { table, file } => {
-            let table = load(store, alloc, table)?;
-            let mut file = open(store, file)?;
-            match run_witness(alloc, &table, &mut file, out) {
-                Ok(is_ambiguous) => Ok(is_ambiguous),
-                Err(error) => Err(Fault::Run(error)),
-            }
-        }
+        Request::Witness { table, file } => judge_file(store, alloc, table, file, out),
+    }
+}
+
+fn show_table<'a, S: Store, W: Output>(
+    store: &S,
+    alloc: Global,
+    table: TablePaths<'a>,
+    out: &mut W,
+) -> Result<bool, Fault<'a>>
+    ensures answers { IfOk result (λ is_yes. Answers (S.held store.now) (Request.Show table.entry) is_yes (W.written out.old) (W.written out.new)) }
+    ensures shown { OnOk result (W.failed out.new ≡ false) }
+    ensures faults { IfErr result (IsFaultOf S.Reader.failed (S.held store.now) (Request.Show table.entry)) }
+    ensures untouched { IfErr result (λ fault. fault ≢ Fault.Run RunError.Write → out.new ≡ out.old) }
+    ensures whole { IfErr result (λ fault. W.failed out.new ≡ false → out.new ≡ out.old) }
+{
+    match run_show(alloc, &load(store, alloc, table)?, out) {
+        Ok(()) => Ok(true),
+        Err(error) => Err(Fault::Run(error)),
+    }
+}
+
+fn match_file<'a, S: Store, W: Output>(
+    store: &S,
+    alloc: Global,
+    all: bool,
+    table: TablePaths<'a>,
+    name: &'a str,
+    out: &mut W,
+) -> Result<bool, Fault<'a>>
+    ensures answers { IfOk result (λ is_yes. Answers (S.held store.now) (Request.Match all table.entry name.entry) is_yes (W.written out.old) (W.written out.new)) }
+    ensures shown { OnOk result (W.failed out.new ≡ false) }
+    ensures faults { IfErr result (IsFaultOf S.Reader.failed (S.held store.now) (Request.Match all table.entry name.entry)) }
+    ensures untouched { IfErr result (λ fault. fault ≢ Fault.Run RunError.Write → out.new ≡ out.old) }
+    ensures whole { IfErr result (λ fault. W.failed out.new ≡ false → out.new ≡ out.old) }
+{
+    let core = WholeCore::new(alloc, load(store, alloc, table)?);
+    let mut file = open(store, name)?;
+    match run_match(alloc, &core, all, &mut file, out) {
+        Ok(()) => Ok(true),
+        Err(error) => Err(Fault::Run(error)),
     }
 }
 
@@ -208,10 +214,102 @@ fn match_many<'m, 'a, S: Store, W: Output, E: Output>(
     ensures untouched { IfErr result (λ fault. fault ≢ Fault.Run RunError.Write → fault ≢ Fault.SomeFiles → out.new ≡ out.old) }
     ensures whole { IfErr result (λ fault. W.failed out.new ≡ false → (out.new ≡ out.old) ⊎ IsCutRequest S.Reader.failed (S.held store.now) (Request.MatchMany all table.entry files.entry) (W.written out.old) (W.written out.new)) }
 {
-    let core = WholeCore::new(alloc, load(store, alloc, table)?);
+    let table = load(store, alloc, table)?;
+    let core = WholeCore::new(alloc, table);
     match run_match_many(alloc, store, &core, all, files, out, err) {
         Ok(true) => Ok(true),
         Ok(false) => Err(Fault::SomeFiles),
+        Err(error) => Err(Fault::Run(error)),
+    }
+}
+
+fn find_in_table<'a, S: Store, W: Output, E: Output>(
+    store: &S,
+    alloc: Global,
+    table: TablePaths<'a>,
+    budget: u32,
+    name: &'a str,
+    hex: bool,
+    progress: bool,
+    out: &mut W,
+    err: &mut E,
+) -> Result<bool, Fault<'a>>
+    ensures told { TellsOf S.Reader.failed (S.held store.now) (Request.Find table.entry budget name.entry hex progress) (is_ok result) (E.failed err.new) err.old err.new (E.written err.old) (E.written err.new) }
+    ensures answers { IfOk result (λ is_yes. Answers (S.held store.now) (Request.Find table.entry budget name.entry hex progress) is_yes (W.written out.old) (W.written out.new)) }
+    ensures shown { OnOk result (W.failed out.new ≡ false) }
+    ensures faults { IfErr result (IsFaultOf S.Reader.failed (S.held store.now) (Request.Find table.entry budget name.entry hex progress)) }
+    ensures untouched { IfErr result (λ fault. fault ≢ Fault.Run RunError.Write → out.new ≡ out.old) }
+    ensures whole { IfErr result (λ fault. W.failed out.new ≡ false → out.new ≡ out.old) }
+{
+    let table = load(store, alloc, table)?;
+    match run_find(alloc, store, &table, budget, hex, progress, name, out, err) {
+        Ok(is_yes) => Ok(is_yes),
+        Err(fault) => Err(file_fault(name, fault)),
+    }
+}
+
+fn settle_pairs<'a, S: Store, W: Output, E: Output>(
+    store: &S,
+    alloc: Global,
+    table: TablePaths<'a>,
+    budget: u32,
+    hex: bool,
+    progress: bool,
+    out: &mut W,
+    err: &mut E,
+) -> Result<bool, Fault<'a>>
+    ensures told { TellsOf S.Reader.failed (S.held store.now) (Request.Conflicts table.entry budget hex progress) (is_ok result) (E.failed err.new) err.old err.new (E.written err.old) (E.written err.new) }
+    ensures answers { IfOk result (λ is_yes. Answers (S.held store.now) (Request.Conflicts table.entry budget hex progress) is_yes (W.written out.old) (W.written out.new)) }
+    ensures shown { OnOk result (W.failed out.new ≡ false) }
+    ensures faults { IfErr result (IsFaultOf S.Reader.failed (S.held store.now) (Request.Conflicts table.entry budget hex progress)) }
+    ensures untouched { IfErr result (λ fault. ((e : CutShort) → fault ≢ Fault.CutShort e) → out.new ≡ out.old) }
+    ensures whole { IfErr result (λ fault. W.failed out.new ≡ false → (out.new ≡ out.old) ⊎ IsCutRequest S.Reader.failed (S.held store.now) (Request.Conflicts table.entry budget hex progress) (W.written out.old) (W.written out.new)) }
+{
+    let table = load(store, alloc, table)?;
+    match settle(alloc, &table, budget, hex, progress, out, err) {
+        Ok(is_yes) => Ok(is_yes),
+        Err(error) => Err(Fault::CutShort(error)),
+    }
+}
+
+fn check_certificate<'a, S: Store, W: Output>(
+    store: &S,
+    alloc: Global,
+    table: TablePaths<'a>,
+    name: &'a str,
+    out: &mut W,
+) -> Result<bool, Fault<'a>>
+    ensures answers { IfOk result (λ is_yes. Answers (S.held store.now) (Request.Check table.entry name.entry) is_yes (W.written out.old) (W.written out.new)) }
+    ensures shown { OnOk result (W.failed out.new ≡ false) }
+    ensures faults { IfErr result (IsFaultOf S.Reader.failed (S.held store.now) (Request.Check table.entry name.entry)) }
+    ensures untouched { IfErr result (λ fault. fault ≢ Fault.Run RunError.Write → out.new ≡ out.old) }
+    ensures whole { IfErr result (λ fault. W.failed out.new ≡ false → out.new ≡ out.old) }
+{
+    let table = load(store, alloc, table)?;
+    let mut certificate = open(store, name)?;
+    match run_check(alloc, &table, &mut certificate, out) {
+        Ok(is_accepted) => Ok(is_accepted),
+        Err(error) => Err(Fault::Run(error)),
+    }
+}
+
+fn judge_file<'a, S: Store, W: Output>(
+    store: &S,
+    alloc: Global,
+    table: TablePaths<'a>,
+    name: &'a str,
+    out: &mut W,
+) -> Result<bool, Fault<'a>>
+    ensures answers { IfOk result (λ is_yes. Answers (S.held store.now) (Request.Witness table.entry name.entry) is_yes (W.written out.old) (W.written out.new)) }
+    ensures shown { OnOk result (W.failed out.new ≡ false) }
+    ensures faults { IfErr result (IsFaultOf S.Reader.failed (S.held store.now) (Request.Witness table.entry name.entry)) }
+    ensures untouched { IfErr result (λ fault. fault ≢ Fault.Run RunError.Write → out.new ≡ out.old) }
+    ensures whole { IfErr result (λ fault. W.failed out.new ≡ false → out.new ≡ out.old) }
+{
+    let table = load(store, alloc, table)?;
+    let mut file = open(store, name)?;
+    match run_witness(alloc, &table, &mut file, out) {
+        Ok(is_ambiguous) => Ok(is_ambiguous),
         Err(error) => Err(Fault::Run(error)),
     }
 }
