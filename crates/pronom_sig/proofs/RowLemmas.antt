@@ -1,5 +1,6 @@
 -- The values of an argument, by the rows of a parse.
-use Rattle.std.proofs.Common.{◌≡◌, Bool, true, false, ◌||◌, List, [], ◌∷◌, Option, Some, None, ap, codes, map, refl, sym, ◌∙◌}
+use Rattle.std.proofs.Common.{◌≡◌, ◌<◌, Bool, true, false, ◌||◌, List, [], ◌∷◌, Option, Some, None, ap, arith, codes, length, map, refl, sym, ◌∙◌}
+use Rattle.std.proofs.lemmas.Option.{same_Some}
 use Rattle.std.specs.Prelude.{IsSomeAnd, find, option_and_then, option_map, slice_get}
 use Rattle.std.specs.Borrow.{Bor}
 use Rattle.std.specs.Str.{bytes_eq}
@@ -9,7 +10,7 @@ use Rattle.clap.specs.Values.{read_as}
 use Rattle.clap.specs.Walk.{Text, all_of, first_of, one_of, row_of, rows_of, texts}
 use Rattle.clap.specs.declared.builder.value_parser.Reading.{Reading}
 use Rattle.clap.specs.declared.parser.matches.Found.{Found}
-use Rattle.pronom_sig.specs.CommandLine.{HasFlag}
+use Rattle.pronom_sig.specs.CommandLine.{HasFlag, NamesMany}
 
 first_text : (values : List (Bor Text)) → slice_get (texts values) 0 ≡ option_map (λ s. s.now) (slice_get values 0)
 first_text [] = refl
@@ -89,3 +90,16 @@ flag_is_read found name is_given value other none = record {
 pub some_of : {T : Type 0} (o : Option T) (x : T) → IsSomeAnd o (λ y. y ≡ x) → o ≡ Some x
 some_of None x is = absurd is
 some_of (Some y) x is = ap Some is
+
+-- the names of files that a getter gives: none, one, or several
+pub none_named : (found : Found) (names : List (Bor Text)) → length names < 1 → Some (map (λ n. n.now) names) ≡ option_map raw_values (matched_of found (codes "FILE")) → (text : Text) (texts : List Text) → all_of (codes "FILE") (rows_of found) ≡ Some (text ∷ texts) → ⊥
+none_named found [] few is text texts are = let bad : Some [] ≡ Some (text ∷ texts) = is ∙ sym (all_of-rows found (codes "FILE")) ∙ are in cc
+none_named found (n ∷ ns) few is text texts are = absurd (omega (arith, few))
+
+pub one_named : (found : Found) (names : List (Bor Text)) (file : Bor Text) → length names ≡ 1 → slice_get names 0 ≡ Some file → Some (map (λ n. n.now) names) ≡ option_map raw_values (matched_of found (codes "FILE")) → all_of (codes "FILE") (rows_of found) ≡ Some (file.now ∷ [])
+one_named found [] file one at is = let bad : None ≡ Some file = at in cc
+one_named found (n ∷ []) file one at is = all_of-rows found (codes "FILE") ∙ sym is ∙ ap (λ (f : Bor Text). Some (f.now ∷ [])) (same_Some n file at)
+one_named found (n ∷ m ∷ ns) file one at is = absurd (omega (arith, one))
+
+pub many_named : (found : Found) (names : List (Bor Text)) → 1 < length names → Some (map (λ n. n.now) names) ≡ option_map raw_values (matched_of found (codes "FILE")) → NamesMany names (rows_of found)
+many_named found names many is = record { are = all_of-rows found (codes "FILE") ∙ sym is; many = many }
