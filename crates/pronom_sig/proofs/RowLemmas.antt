@@ -1,6 +1,5 @@
 -- The values of an argument, by the rows of a parse.
-use Rattle.std.proofs.Common.{◌≡◌, ◌<◌, Bool, true, false, ◌||◌, List, [], ◌∷◌, Option, Some, None, ap, arith, codes, length, map, refl, sym, ◌∙◌}
-use Rattle.std.proofs.lemmas.Option.{same_Some}
+use Rattle.std.proofs.Common.{◌≡◌, ◌<◌, ◌≤◌, Bool, true, false, ◌||◌, List, [], ◌∷◌, Option, Some, None, ap, arith, codes, get_or, length, map, refl, sym, ◌∙◌}
 use Rattle.std.specs.Prelude.{IsSomeAnd, find, option_and_then, option_map, slice_get}
 use Rattle.std.specs.Borrow.{Bor}
 use Rattle.std.specs.Str.{bytes_eq}
@@ -96,10 +95,10 @@ pub none_named : (found : Found) (names : List (Bor Text)) → length names < 1 
 none_named found [] few is text texts are = let bad : Some [] ≡ Some (text ∷ texts) = is ∙ sym (all_of-rows found (codes "FILE")) ∙ are in cc
 none_named found (n ∷ ns) few is text texts are = absurd (omega (arith, few))
 
-pub one_named : (found : Found) (names : List (Bor Text)) (file : Bor Text) → length names ≡ 1 → slice_get names 0 ≡ Some file → Some (map (λ n. n.now) names) ≡ option_map raw_values (matched_of found (codes "FILE")) → all_of (codes "FILE") (rows_of found) ≡ Some (file.now ∷ [])
-one_named found [] file one at is = let bad : None ≡ Some file = at in cc
-one_named found (n ∷ []) file one at is = all_of-rows found (codes "FILE") ∙ sym is ∙ ap (λ (f : Bor Text). Some (f.now ∷ [])) (same_Some n file at)
-one_named found (n ∷ m ∷ ns) file one at is = absurd (omega (arith, one))
+pub one_named : (found : Found) (names : List (Bor Text)) (d : Bor Text) → 1 ≤ length names → length names < 2 → Some (map (λ n. n.now) names) ≡ option_map raw_values (matched_of found (codes "FILE")) → all_of (codes "FILE") (rows_of found) ≡ Some ((get_or names 0 d).now ∷ [])
+one_named found [] d some one is = absurd (omega (arith, some))
+one_named found (n ∷ []) d some one is = all_of-rows found (codes "FILE") ∙ sym is
+one_named found (n ∷ m ∷ ns) d some one is = absurd (omega (arith, one))
 
-pub many_named : (found : Found) (names : List (Bor Text)) → 1 < length names → Some (map (λ n. n.now) names) ≡ option_map raw_values (matched_of found (codes "FILE")) → NamesMany names (rows_of found)
-many_named found names many is = record { are = all_of-rows found (codes "FILE") ∙ sym is; many = many }
+pub many_named : (found : Found) (names : List (Bor Text)) → 2 ≤ length names → Some (map (λ n. n.now) names) ≡ option_map raw_values (matched_of found (codes "FILE")) → NamesMany names (rows_of found)
+many_named found names many is = record { are = all_of-rows found (codes "FILE") ∙ sym is; many = omega (arith, many) }
