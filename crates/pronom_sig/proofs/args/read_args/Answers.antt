@@ -45,3 +45,8 @@ returns-clause-asked c =
     let found = (c.in_ok-matches.ensures.ok.2 (ap is_simple c.in_ok-command.ensures.app ∙ is_program_simple)).1 in
     let same = found ∙ ap (λ (a : App). subcommand_of a (map string_bytes c.args.words.now)) c.in_ok-command.ensures.app in
     subst (λ (o : Option (Text × List Row)). (request : Request) × Asks o request) same (some_asked _ c.request_of.result c.is_none.result c.request_of.ensures.asked c.is_none.ensures c.if-is_none.false)
+
+pub returns-in_err-error-clause-help : goal.returns-in_err-error-clause-help
+returns-in_err-error-clause-help c =
+    let r = err_from_is_err_and c.from_residual-in_err-error.result c.from_residual-in_err-error.ensures.1 in
+    rw r.1 (λ is. absurd (no_help r.0 r.2 is))
