@@ -1,16 +1,18 @@
 -- What words ask for, and what they do not.
-use Rattle.std.proofs.Common.{Bool, true, false, not, IfSome, ◌≡◌, ◌≢◌, ◌⊎◌, ℕ, ◌<◌, List, [], ◌∷◌, None, Option, Some, ap, ap₂, arith, codes, inl, inr, map, option_map, refl, subst, sym, ◌∙◌}
-use Rattle.std.specs.Borrow.{Bor}
-use Rattle.std.specs.Prelude.{is_some}
+use Rattle.pronom_sig.specs.Stores.{Holding}
+use Rattle.std.proofs.Common.{Bool, ◌≡◌, ◌≢◌, ◌⊎◌, ℕ, List, None, Option, Some, ap, ap₂, arith, codes, inl, inr, option_map, refl, subst, sym, ◌∙◌}
 use Rattle.std.proofs.Math.ListN.{get_or}
 use Rattle.std.proofs.lemmas.Option.{same_Some}
-use Rattle.clap.specs.Words.{HasKind, IsAmong, Kinds, Row, Text, all_of, first_of, kind_of}
+use Rattle.clap.specs.Words.{HasKind, IsAmong, Kinds, Row, Text, first_of, kind_of}
 use Rattle.clap.specs.declared.error.Error.{Error}
 use Rattle.clap.specs.declared.error.kind.ErrorKind.TheVariants.{DisplayHelp, DisplayVersion, OutOfMemory}
-use Rattle.pronom_sig.specs.CommandLine.{Asks, NamesBudget, NamesMany, NamesTable}
+use Rattle.pronom_sig.specs.CommandLine.{Asks, NamesBudget, NamesTable}
 use Rattle.pronom_sig.specs.declared.args.Request.{Request}
-use Rattle.pronom_sig.specs.declared.args.Request.TheVariants.{Check, Conflicts, Find, Match, MatchMany, Show, Witness}
-use Rattle.sig_engines.specs.declared.store.TablePaths.{TablePaths}
+use Rattle.pronom_sig.specs.declared.args.Request.TheVariants.{Check, Conflicts, Find, Match, Show, Witness}
+use Rattle.pronom_sig.specs.declared.args.TablePaths.{TablePaths}
+use Rattle.pronom_sig.specs.Requests.{Behind, IsFaultOf}
+use Rattle.pronom_sig.specs.declared.error.RunError.TheVariants as run
+use Rattle.pronom_sig.specs.declared.fault.Fault.TheVariants.{Run}
 
 -- one subcommand and its rows are another and its own
 abbrev AreSame : Text → List Row → Text → List Row → Type 0
@@ -43,25 +45,16 @@ other_later name other rows more letters same =
 pub no_show : (rows : List Row) → ((table : TablePaths) → NamesTable table rows → ⊥) → (asked : Request) → Asks (Some (codes "show", rows)) asked → ⊥
 no_show rows missing (Show table) asks = missing table (subst (NamesTable table) (rows_of_found (codes "show") rows asks.0 asks.1) asks.2)
 no_show rows missing (Match all table file) asks = other_name (codes "show") (codes "match") rows asks.0 (omega arith) asks.1
-no_show rows missing (MatchMany all table files) asks = other_name (codes "show") (codes "match") rows asks.0 (omega arith) asks.1
 no_show rows missing (Find table budget out hex progress) asks = other_name (codes "show") (codes "find") rows asks.0 (omega arith) asks.1
 no_show rows missing (Conflicts table budget hex progress) asks = other_name (codes "show") (codes "conflicts") rows asks.0 (omega arith) asks.1
 no_show rows missing (Check table certificate) asks = other_name (codes "show") (codes "check") rows asks.0 (omega arith) asks.1
 no_show rows missing (Witness table file) asks = other_name (codes "show") (codes "witness") rows asks.0 (omega arith) asks.1
 
--- several files have a first one
-many_named : (files : List (Bor Text)) (rows : List Row) → NamesMany files rows → ((text : Text) (texts : List Text) → all_of (codes "FILE") rows ≡ Some (text ∷ texts) → ⊥) → ⊥
-many_named [] rows named none = let few : 1 < 0 = named.many in absurd (omega (arith, few))
-many_named (file ∷ files) rows named none = none file.now (map (λ f. f.now) files) named.are
-
-pub no_match : (rows : List Row) → ((table : TablePaths) (text : Text) (texts : List Text) → NamesTable table rows → all_of (codes "FILE") rows ≡ Some (text ∷ texts) → ⊥) → (asked : Request) → Asks (Some (codes "match", rows)) asked → ⊥
+pub no_match : (rows : List Row) → ((table : TablePaths) (text : Text) → NamesTable table rows → first_of (codes "FILE") rows ≡ Some text → ⊥) → (asked : Request) → Asks (Some (codes "match", rows)) asked → ⊥
 no_match rows missing (Show table) asks = other_name (codes "match") (codes "show") rows asks.0 (omega arith) asks.1
 no_match rows missing (Match all table file) asks =
     let same : asks.0 ≡ rows = rows_of_found (codes "match") rows asks.0 asks.1 in
-    missing table file.now [] (subst (NamesTable table) same asks.2) (subst (λ (r : List Row). all_of (codes "FILE") r ≡ Some (file.now ∷ [])) same asks.3)
-no_match rows missing (MatchMany all table files) asks =
-    let same : asks.0 ≡ rows = rows_of_found (codes "match") rows asks.0 asks.1 in
-    many_named files.now rows (subst (NamesMany files.now) same asks.3) (λ text texts is. missing table text texts (subst (NamesTable table) same asks.2) is)
+    missing table file.now (subst (NamesTable table) same asks.2) (subst (λ (r : List Row). first_of (codes "FILE") r ≡ Some file.now) same asks.3)
 no_match rows missing (Find table budget out hex progress) asks = other_name (codes "match") (codes "find") rows asks.0 (omega arith) asks.1
 no_match rows missing (Conflicts table budget hex progress) asks = other_name (codes "match") (codes "conflicts") rows asks.0 (omega arith) asks.1
 no_match rows missing (Check table certificate) asks = other_name (codes "match") (codes "check") rows asks.0 (omega arith) asks.1
@@ -70,7 +63,6 @@ no_match rows missing (Witness table file) asks = other_name (codes "match") (co
 pub no_check : (rows : List Row) → ((table : TablePaths) (text : Text) → NamesTable table rows → first_of (codes "CERT") rows ≡ Some text → ⊥) → (asked : Request) → Asks (Some (codes "check", rows)) asked → ⊥
 no_check rows missing (Show table) asks = other_name (codes "check") (codes "show") rows asks.0 (omega arith) asks.1
 no_check rows missing (Match all table file) asks = other_name (codes "check") (codes "match") rows asks.0 (omega arith) asks.1
-no_check rows missing (MatchMany all table files) asks = other_name (codes "check") (codes "match") rows asks.0 (omega arith) asks.1
 no_check rows missing (Find table budget out hex progress) asks = other_name (codes "check") (codes "find") rows asks.0 (omega arith) asks.1
 no_check rows missing (Conflicts table budget hex progress) asks = other_later (codes "check") (codes "conflicts") rows asks.0 (omega arith) asks.1
 no_check rows missing (Check table certificate) asks =
@@ -81,7 +73,6 @@ no_check rows missing (Witness table file) asks = other_name (codes "check") (co
 pub no_witness : (rows : List Row) → ((table : TablePaths) (text : Text) → NamesTable table rows → first_of (codes "FILE") rows ≡ Some text → ⊥) → (asked : Request) → Asks (Some (codes "witness", rows)) asked → ⊥
 no_witness rows missing (Show table) asks = other_name (codes "witness") (codes "show") rows asks.0 (omega arith) asks.1
 no_witness rows missing (Match all table file) asks = other_name (codes "witness") (codes "match") rows asks.0 (omega arith) asks.1
-no_witness rows missing (MatchMany all table files) asks = other_name (codes "witness") (codes "match") rows asks.0 (omega arith) asks.1
 no_witness rows missing (Find table budget out hex progress) asks = other_name (codes "witness") (codes "find") rows asks.0 (omega arith) asks.1
 no_witness rows missing (Conflicts table budget hex progress) asks = other_name (codes "witness") (codes "conflicts") rows asks.0 (omega arith) asks.1
 no_witness rows missing (Check table certificate) asks = other_name (codes "witness") (codes "check") rows asks.0 (omega arith) asks.1
@@ -92,7 +83,6 @@ no_witness rows missing (Witness table file) asks =
 pub no_find : (rows : List Row) → ((table : TablePaths) (budget : ℕ) (text : Text) → NamesTable table rows → NamesBudget budget rows → first_of (codes "OUT") rows ≡ Some text → ⊥) → (asked : Request) → Asks (Some (codes "find", rows)) asked → ⊥
 no_find rows missing (Show table) asks = other_name (codes "find") (codes "show") rows asks.0 (omega arith) asks.1
 no_find rows missing (Match all table file) asks = other_name (codes "find") (codes "match") rows asks.0 (omega arith) asks.1
-no_find rows missing (MatchMany all table files) asks = other_name (codes "find") (codes "match") rows asks.0 (omega arith) asks.1
 no_find rows missing (Find table budget out hex progress) asks =
     let same : asks.0 ≡ rows = rows_of_found (codes "find") rows asks.0 asks.1 in
     missing table budget out.now (subst (NamesTable table) same asks.2) (subst (NamesBudget budget) same asks.3) (subst (λ (r : List Row). first_of (codes "OUT") r ≡ Some out.now) same asks.4)
@@ -103,7 +93,6 @@ no_find rows missing (Witness table file) asks = other_name (codes "find") (code
 pub no_conflicts : (rows : List Row) → ((table : TablePaths) (budget : ℕ) → NamesTable table rows → NamesBudget budget rows → ⊥) → (asked : Request) → Asks (Some (codes "conflicts", rows)) asked → ⊥
 no_conflicts rows missing (Show table) asks = other_name (codes "conflicts") (codes "show") rows asks.0 (omega arith) asks.1
 no_conflicts rows missing (Match all table file) asks = other_name (codes "conflicts") (codes "match") rows asks.0 (omega arith) asks.1
-no_conflicts rows missing (MatchMany all table files) asks = other_name (codes "conflicts") (codes "match") rows asks.0 (omega arith) asks.1
 no_conflicts rows missing (Find table budget out hex progress) asks = other_name (codes "conflicts") (codes "find") rows asks.0 (omega arith) asks.1
 no_conflicts rows missing (Conflicts table budget hex progress) asks =
     let same : asks.0 ≡ rows = rows_of_found (codes "conflicts") rows asks.0 asks.1 in
@@ -127,13 +116,15 @@ pub named_rows : {B : Type 0} (name_of : B → Text) (its_rows : B → List Row)
 named_rows name_of its_rows (Some b) name rows is_name are_rows = ap₂ (λ (x : Text) (y : List Row). Some (x, y)) (same_Some (name_of b) name is_name) (same_Some (its_rows b) rows are_rows)
 named_rows name_of its_rows None name rows is_name are_rows = let no : None ≡ Some name = is_name in cc
 
--- what is found asks for something where a request is made of it
-pub some_asked : (found : Option (Text × List Row)) (request : Option Request) (none : Bool) → IfSome request (λ r. Asks found r) → is_some request ≡ not none → none ≡ false → (r : Request) × Asks found r
-some_asked found (Some r) none asked some is = (r, asked)
-some_asked found None true asked some is = let bad : true ≡ false = is in cc
-some_asked found None false asked some is = let bad : false ≡ true = some in cc
+-- memory can run out for whatever is asked
+pub memory_of : {R : Type 0} (failed : R → Bool) (held : Holding) (request : Request) → IsFaultOf failed held request (Run run.OutOfMemory)
+memory_of failed held (Show table) = inr (inr refl)
+memory_of failed held (Match all table file) = inr tt
+memory_of failed held (Find table budget out hex progress) = inr (inr (inr refl))
+memory_of failed held (Conflicts table budget hex progress) = inr (inl refl)
+memory_of failed held (Check table certificate) = inr tt
+memory_of failed held (Witness table file) = inr tt
 
-pub none_made : (request : Option Request) (none : Bool) → is_some request ≡ not none → none ≡ true → request ≡ None
-none_made None none some is = refl
-none_made (Some r) true some is = let bad : true ≡ false = some in cc
-none_made (Some r) false some is = let bad : false ≡ true = is in cc
+-- nothing is shown before what comes
+pub first_of_all : (Shown Rest : Option (List ℕ) → Option (List ℕ) → Type 0) (before after : Option (List ℕ)) → Rest before after → Behind Shown Rest before after
+first_of_all Shown Rest before after rest = record { mid = before; shown = inl refl; rest = rest }

@@ -1,15 +1,15 @@
--- The values of an argument, by the rows of a parse.
-use Rattle.std.proofs.Common.{◌≡◌, ◌<◌, ◌≤◌, Bool, true, false, ◌||◌, List, [], ◌∷◌, Option, Some, None, ap, arith, codes, get_or, length, map, refl, sym, ◌∙◌}
-use Rattle.std.specs.Prelude.{IsSomeAnd, find, option_and_then, option_map, slice_get}
+-- The first value of an argument, by the rows of a parse.
+use Rattle.std.proofs.Common.{◌≡◌, Bool, true, false, ◌||◌, List, [], ◌∷◌, Option, Some, None, codes, map, refl, sym, ◌∙◌}
+use Rattle.std.specs.Prelude.{find, option_and_then, option_map, slice_get}
 use Rattle.std.specs.Borrow.{Bor}
 use Rattle.std.specs.Str.{bytes_eq}
 use Rattle.clap.specs.Facts.{Entry}
-use Rattle.clap.specs.Matches.{first_value, matched_of, one_text, raw_values}
+use Rattle.clap.specs.Matches.{first_value, one_text}
 use Rattle.clap.specs.Values.{read_as}
-use Rattle.clap.specs.Walk.{Text, all_of, first_of, one_of, row_of, rows_of, texts}
+use Rattle.clap.specs.Walk.{Text, first_of, one_of, row_of, rows_of, texts}
 use Rattle.clap.specs.declared.builder.value_parser.Reading.{Reading}
 use Rattle.clap.specs.declared.parser.matches.Found.{Found}
-use Rattle.pronom_sig.specs.CommandLine.{HasFlag, NamesMany}
+use Rattle.pronom_sig.specs.CommandLine.{HasFlag}
 
 first_text : (values : List (Bor Text)) → slice_get (texts values) 0 ≡ option_map (λ s. s.now) (slice_get values 0)
 first_text [] = refl
@@ -30,22 +30,6 @@ first_of-entries (e ∷ es) id = go (bytes_eq e.0.now id) refl (first_of-entries
 -- an argument's first value is that of its row
 pub first_of-rows : (found : Found) (id : Text) → first_of id (rows_of found) ≡ first_value found id
 first_of-rows found id = first_of-entries found.entries.items id
-
--- all the values that the entries have under an id
-abbrev values_in : List Entry → Text → Option (List Text)
-values_in entries id = option_map raw_values (option_map (λ e. e.1) (find (λ e. bytes_eq e.0.now id) entries))
-
-all_of-entries : (entries : List Entry) (id : Text) → all_of id (map row_of entries) ≡ values_in entries id
-all_of-entries [] id = refl
-all_of-entries (e ∷ es) id = go (bytes_eq e.0.now id) refl (all_of-entries es id)
-  where
-    go : (t : Bool) → bytes_eq e.0.now id ≡ t → all_of id (map row_of es) ≡ values_in es id → all_of id (map row_of (e ∷ es)) ≡ values_in (e ∷ es) id
-    go true is rest = rw is refl
-    go false is rest = rw is rest
-
--- an argument's values are those of its row
-pub all_of-rows : (found : Found) (id : Text) → all_of id (rows_of found) ≡ option_map raw_values (matched_of found id)
-all_of-rows found id = all_of-entries found.entries.items id
 
 -- and as a getter reads it
 read_text : (reading : Reading) (values : List (Bor Text)) → option_map (read_as reading) (slice_get (texts values) 0) ≡ option_map (λ s. read_as reading s.now) (slice_get values 0)
@@ -84,21 +68,3 @@ flag_is_read found name is_given value other none = record {
   left_out = λ h. other (sym (one_of-rows found name) ∙ h);
   absent = λ h. none (sym (one_of-rows found name) ∙ h);
 }
-
--- an option that has this value
-pub some_of : {T : Type 0} (o : Option T) (x : T) → IsSomeAnd o (λ y. y ≡ x) → o ≡ Some x
-some_of None x is = absurd is
-some_of (Some y) x is = ap Some is
-
--- the names of files that a getter gives: none, one, or several
-pub none_named : (found : Found) (names : List (Bor Text)) → length names < 1 → Some (map (λ n. n.now) names) ≡ option_map raw_values (matched_of found (codes "FILE")) → (text : Text) (texts : List Text) → all_of (codes "FILE") (rows_of found) ≡ Some (text ∷ texts) → ⊥
-none_named found [] few is text texts are = let bad : Some [] ≡ Some (text ∷ texts) = is ∙ sym (all_of-rows found (codes "FILE")) ∙ are in cc
-none_named found (n ∷ ns) few is text texts are = absurd (omega (arith, few))
-
-pub one_named : (found : Found) (names : List (Bor Text)) (d : Bor Text) → 1 ≤ length names → length names < 2 → Some (map (λ n. n.now) names) ≡ option_map raw_values (matched_of found (codes "FILE")) → all_of (codes "FILE") (rows_of found) ≡ Some ((get_or names 0 d).now ∷ [])
-one_named found [] d some one is = absurd (omega (arith, some))
-one_named found (n ∷ []) d some one is = all_of-rows found (codes "FILE") ∙ sym is
-one_named found (n ∷ m ∷ ns) d some one is = absurd (omega (arith, one))
-
-pub many_named : (found : Found) (names : List (Bor Text)) → 2 ≤ length names → Some (map (λ n. n.now) names) ≡ option_map raw_values (matched_of found (codes "FILE")) → NamesMany names (rows_of found)
-many_named found names many is = record { are = all_of-rows found (codes "FILE") ∙ sym is; many = omega (arith, many) }

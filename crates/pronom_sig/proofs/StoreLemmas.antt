@@ -11,16 +11,16 @@ use Rattle.sig_table.specs.Views.{TableView}
 use Rattle.sig_table.specs.declared.error.TableError.{TableError}
 use Rattle.sig_table.specs.declared.error.TableError.TheVariants as table
 use Rattle.sig_table.specs.declared.error.TableFile.TheVariants.{Priorities, Signatures}
-use Rattle.sig_engines.specs.Judged.{AddsVerdictOfSome}
-use Rattle.sig_engines.specs.Lines.{AddsLinesOfSome}
+use Rattle.pronom_sig.specs.Judged.{AddsVerdictOfSome}
+use Rattle.pronom_sig.specs.Lines.{AddsLinesOfSome}
 use Rattle.pronom_sig.specs.Requests.{Answers, IsFileFault}
-use Rattle.sig_engines.specs.Stores.{Has, Holding, Holds, IsTableFault, IsTableOf, Lacks, Opens, ReadsAs, SomeFailed}
-use Rattle.sig_engines.specs.Witnessed.{AddsWitnessOfSome}
+use Rattle.pronom_sig.specs.Stores.{Has, Holding, Holds, IsTableFault, IsTableOf, Lacks, Opens, ReadsAs, SomeFailed}
+use Rattle.pronom_sig.specs.Witnessed.{AddsWitnessOfSome}
 use Rattle.pronom_sig.specs.declared.args.Request.{Request}
 use Rattle.pronom_sig.specs.declared.args.Request.TheVariants.{Check, Match, Witness}
-use Rattle.sig_engines.specs.declared.store.TablePaths.{TablePaths}
-use Rattle.sig_engines.specs.declared.error.RunError.{RunError}
-use Rattle.sig_engines.specs.declared.error.RunError.TheVariants.{OutOfMemory, Read, Write}
+use Rattle.pronom_sig.specs.declared.args.TablePaths.{TablePaths}
+use Rattle.pronom_sig.specs.declared.error.RunError.{RunError}
+use Rattle.pronom_sig.specs.declared.error.RunError.TheVariants.{OutOfMemory, Read, Write}
 use Rattle.pronom_sig.specs.declared.fault.Fault.TheVariants.{Run}
 
 -- ---- one file

@@ -1,10 +1,8 @@
 -- The command line in clap's words, and what its words ask for.
-use Rattle.std.specs.Prelude.{◌≡◌, ◌⊎◌, ◌<◌, ◌^◌, ℕ, pos, Bool, true, false, List, [], ◌∷◌, Option, None, Some, codes, length, map}
-use Rattle.std.specs.Borrow.{Bor}
+use Rattle.std.specs.Prelude.{◌≡◌, ◌⊎◌, ◌<◌, ◌^◌, ℕ, pos, Bool, true, false, List, Option, None, Some, codes}
 use Rattle.std.specs.Str.Parse.{IsNumeral, digits_value, without_leading_plus}
-use Rattle.clap.specs.Lexer.{usize_max}
 use Rattle.clap.specs.Simple.{on_top}
-use Rattle.clap.specs.Words.{App, IsAmong, Row, Rule, Text, all_of, app_of, fault_of, first_of, found_of, one_of, new_app, new_rule, rows_of, subcommand_of, takes, with_rule, with_subcommand}
+use Rattle.clap.specs.Words.{App, IsAmong, Row, Rule, Text, app_of, fault_of, first_of, found_of, one_of, new_app, new_rule, rows_of, subcommand_of, takes, with_rule, with_subcommand}
 use Rattle.clap.specs.declared.Command.{Command}
 use Rattle.clap.specs.declared.Command.TheViews.{out-Command as fields_of}
 use Rattle.clap.specs.declared.parser.matches.ArgMatches.{ArgMatches}
@@ -12,8 +10,8 @@ use Rattle.clap.specs.declared.builder.action.ArgAction.TheVariants.{SetTrue}
 use Rattle.clap.specs.declared.builder.value_parser.ValueParser.TheVariants.{Signed}
 use Rattle.clap.specs.declared.error.kind.ErrorKind.TheVariants.{DisplayHelp, DisplayVersion}
 use Rattle.pronom_sig.specs.declared.args.Request.{Request}
-use Rattle.pronom_sig.specs.declared.args.Request.TheVariants.{Check, Conflicts, Find, Match, MatchMany, Show, Witness}
-use Rattle.sig_engines.specs.declared.store.TablePaths.{TablePaths}
+use Rattle.pronom_sig.specs.declared.args.Request.TheVariants.{Check, Conflicts, Find, Match, Show, Witness}
+use Rattle.pronom_sig.specs.declared.args.TablePaths.{TablePaths}
 
 -- the command is this one, and has no global argument
 pub record IsLine (app : App) (command : Command) : Type 0 where
@@ -36,13 +34,9 @@ show_command = of_table (new_app (codes "show"))
 abbrev pub given : Text → Rule
 given name = record (new_rule name) { long = Some name; action = Some SetTrue }
 
--- an argument that must be there, of one value or more
-abbrev pub several : Text → Rule
-several name = record (wanted name) { range = Some (record { start_inclusive = 1; end_inclusive = usize_max }) }
-
--- `match [--all] SIGS PRIOS FILE..`
+-- `match [--all] SIGS PRIOS FILE`
 abbrev pub match_command : App
-match_command = with_rule (with_rule (of_table (new_app (codes "match"))) (several (codes "FILE"))) (given (codes "all"))
+match_command = with_rule (with_rule (of_table (new_app (codes "match"))) (wanted (codes "FILE"))) (given (codes "all"))
 
 -- an option that must be there: two hyphens and its name, and a value behind it
 abbrev pub named : Text → Text → Rule
@@ -83,11 +77,6 @@ pub record NamesTable (paths : TablePaths) (rows : List Row) : Type 0 where
   pub signatures : first_of (codes "SIGS") rows ≡ Some paths.signatures.now
   pub priorities : first_of (codes "PRIOS") rows ≡ Some paths.priorities.now
 
--- the files are the values of their argument, in their order, and there are two at least
-pub record NamesMany (files : List (Bor Text)) (rows : List Row) : Type 0 where
-  pub are : all_of (codes "FILE") rows ≡ Some (map (λ f. f.now) files)
-  pub many : 1 < length files
-
 -- the value of `--budget` writes this number in decimal, perhaps behind a plus
 pub record NamesBudget (budget : ℕ) (rows : List Row) : Type 0 where
   pub digits : Text
@@ -105,8 +94,7 @@ pub record HasFlag (name : Text) (is_given : Bool) (rows : List Row) : Type 0 wh
 -- the subcommand and its arguments ask for this
 abbrev pub Asks : Option (Text × List Row) → Request → Type 0
 Asks found (Show table) = (rows : List Row) × (found ≡ Some (codes "show", rows)) × NamesTable table rows
-Asks found (Match all table file) = (rows : List Row) × (found ≡ Some (codes "match", rows)) × NamesTable table rows × (all_of (codes "FILE") rows ≡ Some (file.now ∷ [])) × HasFlag (codes "all") all rows
-Asks found (MatchMany all table files) = (rows : List Row) × (found ≡ Some (codes "match", rows)) × NamesTable table rows × NamesMany files.now rows × HasFlag (codes "all") all rows
+Asks found (Match all table file) = (rows : List Row) × (found ≡ Some (codes "match", rows)) × NamesTable table rows × (first_of (codes "FILE") rows ≡ Some file.now) × HasFlag (codes "all") all rows
 Asks found (Find table budget out hex progress) = (rows : List Row) × (found ≡ Some (codes "find", rows)) × NamesTable table rows × NamesBudget budget rows × (first_of (codes "OUT") rows ≡ Some out.now) × HasFlag (codes "hex") hex rows × HasFlag (codes "progress") progress rows
 Asks found (Conflicts table budget hex progress) = (rows : List Row) × (found ≡ Some (codes "conflicts", rows)) × NamesTable table rows × NamesBudget budget rows × HasFlag (codes "hex") hex rows × HasFlag (codes "progress") progress rows
 Asks found (Check table certificate) = (rows : List Row) × (found ≡ Some (codes "check", rows)) × NamesTable table rows × (first_of (codes "CERT") rows ≡ Some certificate.now)

@@ -1,13 +1,18 @@
 -- The lines of the faults, as the program writes them to standard error.
-use Rattle.std.specs.Prelude.{◌≡◌, ℕ, List, [], ◌∷◌, ◌++◌, codes, Option}
+use Rattle.std.specs.Prelude.{◌≡◌, ℕ, Bool, true, List, [], ◌∷◌, ◌++◌, codes, Option, Result, OnOk, OnErr}
 use Rattle.std.specs.Fmt.{decimal}
 use Rattle.pronom_sig.specs.Statuses.{status_of}
+use Rattle.pronom_sig.specs.declared.error.CutShort.{CutShort}
+use Rattle.pronom_sig.specs.declared.error.CutShort.TheVariants as cut
+use Rattle.pronom_sig.specs.declared.error.RunError.{RunError}
+use Rattle.pronom_sig.specs.declared.error.RunError.TheVariants as run
 use Rattle.pronom_sig.specs.declared.fault.Fault.{Fault}
 use Rattle.pronom_sig.specs.declared.fault.Fault.TheVariants as fault
 use Rattle.pronom_sig.specs.declared.fault.Site.{Site}
 use Rattle.pronom_sig.specs.declared.fault.Site.TheVariants.{Nowhere, File, Row}
 use Rattle.sig_bits.specs.Device.{Adds}
-use Rattle.sig_engines.specs.Writing.{cut_text, run_text}
+use Rattle.sig_bits.specs.declared.fault.ReadWholeError.{ReadWholeError}
+use Rattle.sig_bits.specs.declared.fault.ReadWholeError.TheVariants as whole
 use Rattle.sig_expr.specs.declared.error.ExprError.{ExprError}
 use Rattle.sig_expr.specs.declared.error.ExprError.TheVariants as expr
 use Rattle.sig_table.specs.declared.error.TableError.{TableError}
@@ -79,6 +84,22 @@ site_text Nowhere = []
 site_text (File file) = file_name file ++ codes ": "
 site_text (Row file row_number) = file_name file ++ codes " row " ++ decimal row_number ++ codes ": "
 
+-- why an engine gives no answer where its input is not read whole
+abbrev pub reading_fault : ReadWholeError → RunError
+reading_fault whole.Read = run.Read
+reading_fault whole.OutOfMemory = run.OutOfMemory
+
+-- the text of an engine that gives no answer
+abbrev pub run_text : RunError → List ℕ
+run_text run.Read = codes "read failed"
+run_text run.Write = codes "write failed"
+run_text run.OutOfMemory = codes "out of memory"
+
+-- the text of an engine that stopped before its last line
+abbrev pub cut_text : CutShort → List ℕ
+cut_text cut.Write = codes "write failed"
+cut_text cut.OutOfMemory = codes "out of memory"
+
 -- the text of a fault
 abbrev pub fault_text : Fault → List ℕ
 fault_text fault.NotText = codes "error: invalid UTF-8 was detected in one or more arguments"
@@ -86,20 +107,14 @@ fault_text (fault.CannotOpen name) = codes "cannot open " ++ name.now
 fault_text (fault.Table error) = site_text (site_of error) ++ code_text error
 fault_text (fault.Run error) = run_text error
 fault_text (fault.CutShort error) = cut_text error
-fault_text fault.SomeFiles = []
-
--- what ends its line: nothing where there is none, since each file's fault is told already
-abbrev pub line_end : Fault → List ℕ
-line_end fault.NotText = 10 ∷ []
-line_end (fault.CannotOpen name) = 10 ∷ []
-line_end (fault.Table error) = 10 ∷ []
-line_end (fault.Run error) = 10 ∷ []
-line_end (fault.CutShort error) = 10 ∷ []
-line_end fault.SomeFiles = []
 
 -- its line
 abbrev pub fault_line : Fault → List ℕ
-fault_line reason = fault_text reason ++ line_end reason
+fault_line reason = fault_text reason ++ 10 ∷ []
+
+-- the text is written, unless a write failed
+abbrev pub Prints : {T E : Type 0} → Result T E → List ℕ → Option (List ℕ) → Option (List ℕ) → Bool → Type 0
+Prints result text before after failed = OnOk result (Adds before text after) × OnErr result (failed ≡ true)
 
 -- the status is the fault's, and what is written grows by the fault's line
 pub record Reports (reason : Fault) (status : ℕ) (before after : Option (List ℕ)) : Type 0 where

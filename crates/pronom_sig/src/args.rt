@@ -9,7 +9,6 @@ ghost use Rattle.pronom_sig.specs.CommandLine.{AreTaken, Asks, IsHelpAsked, IsLi
 
 use clap::error::ErrorKind;
 use clap::{Arg, ArgAction, ArgMatches, Command, Error, value_parser};
-use sig_engines::TablePaths;
 use std::alloc::Global;
 
 const SHOW_HELP: &str = "\
@@ -26,15 +25,10 @@ Each line is a PUID, a space, and the number of the signature that hits, the fir
 the table. No line means that no format of the table is hit. Several lines mean that no priority
 decides between these formats: the file is ambiguous.
 
-With more than one FILE each line begins with the file's name and a tab, and of a file that no format
-is hit by the line is its name, a tab and a hyphen. A file with a fault has a line on standard error,
-and the others go on.
-
 Statuses:
-  0  each file was read to its end and the answer was printed, also where it has no line
+  0  the file was read to its end and the answer was printed, also where it has no line
   2  the words are wrong, or the table is refused
-  3  a file can't be opened, a read or a write failed, or memory ran out. With more than one FILE
-     the lines that were written stand";
+  3  a file can't be opened, a read or a write failed, or memory ran out";
 
 const FIND_HELP: &str = "\
 The first line is one of three answers:
@@ -100,7 +94,7 @@ Statuses:
 
 /// What the words ask for.
 #[derive(Clone, Copy, Debug, PartialEq, Eq)]
-pub(crate) enum Request<'m, 'a> {
+pub(crate) enum Request<'a> {
     /// The canonical files of a table.
     Show {
         table: TablePaths<'a>,
@@ -110,12 +104,6 @@ pub(crate) enum Request<'m, 'a> {
         all: bool,
         table: TablePaths<'a>,
         file: &'a str,
-    },
-    /// The same for each of several files.
-    MatchMany {
-        all: bool,
-        table: TablePaths<'a>,
-        files: &'m [&'a str],
     },
     /// Whether a table is decided: a certificate of it, or a file that leaves two formats.
     Find {
@@ -144,21 +132,27 @@ pub(crate) enum Request<'m, 'a> {
     },
 }
 
-/// Reads the words, of which the first is no name of the program. What is found asks for something.
+/// The names of the two files of a table.
+#[derive(Clone, Copy, Debug, PartialEq, Eq)]
+pub(crate) struct TablePaths<'a> {
+    pub(crate) signatures: &'a str,
+    pub(crate) priorities: &'a str,
+}
+
+/// Reads the words, of which the first is no name of the program.
 ///
 /// The error is also a request for help.
-pub(crate) fn read_args<'a>(alloc: Global, words: &'a [String]) -> Result<ArgMatches<'a>, Error>
-    ensures found { IfOk result (λ matches. subcommand_rows_of matches ≡ subcommand_of program (map string_bytes words.now)) }
-    ensures asked { IfOk result (λ matches. (request : Request) × Asks (subcommand_of program (map string_bytes words.now)) request) }
+pub(crate) fn read_args<'a>(alloc: Global, words: &'a [String]) -> Result<Request<'a>, Error>
+    ensures asked { IfOk result (λ request. Asks (subcommand_of program (map string_bytes words.now)) request) }
     ensures taken { IfErr result (λ e. AreTaken (map string_bytes words.now) → kind_of e ≡ ErrorKind.OutOfMemory) }
     ensures help { IfErr result (λ e. (kind_of e ≡ ErrorKind.DisplayHelp) ⊎ (kind_of e ≡ ErrorKind.DisplayVersion) → IsHelpAsked (map string_bytes words.now)) }
 {
     let mut command = command_line(alloc)?;
     let matches = command.try_get_matches_from_mut(words)?;
-    if request_of(&matches).is_none() {
-        return Err(command.error(ErrorKind::MissingSubcommand, "a word is missing")?);
+    match request_of(&matches) {
+        Some(request) => Ok(request),
+        None => Err(command.error(ErrorKind::MissingSubcommand, "a word is missing")?),
     }
-    Ok(matches)
 }
 
 // All subcommands and their words.
@@ -192,20 +186,16 @@ fn show_line<'a>(alloc: Global) -> Result<Command<'a>, Error>
     Ok(line)
 }
 
-// `match [--all] SIGS PRIOS FILE..`
+// `match [--all] SIGS PRIOS FILE`
 fn match_line<'a>(alloc: Global) -> Result<Command<'a>, Error>
     ensures line { IfOk result (IsLine match_command) }
     ensures memory { IfErr result (λ e. kind_of e ≡ ErrorKind.OutOfMemory) }
 {
     let line = with_table_args(alloc, Command::new(alloc, "match"))?
-        .about("Print the formats left for each file")
+        .about("Print the formats left for a file")
         .after_help(MATCH_HELP)
-        .arg(
-            required(alloc, "FILE")
-                .num_args(1..)
-                .help("The files to identify"),
-        )?
-        .arg(flag(alloc, "all").help("Print all formats that a file hits, before priorities"))?;
+        .arg(required(alloc, "FILE").help("The file to identify"))?
+        .arg(flag(alloc, "all").help("Print all formats that the file hits, before priorities"))?;
     Ok(line)
 }
 
@@ -304,8 +294,7 @@ fn budget<'a>(alloc: Global) -> Arg<'a>
     option(alloc, "budget", "N").value_parser(value_parser!(u32).range(1..))
 }
 
-/// What is asked for by what was found in the words.
-pub(crate) fn request_of<'m, 'a>(matches: &'m ArgMatches<'a>) -> Option<Request<'m, 'a>>
+fn request_of<'a>(matches: &ArgMatches<'a>) -> Option<Request<'a>>
     ensures asked { IfSome result (λ request. Asks (subcommand_rows_of matches.now) request) }
     ensures none { result ≡ None → (request : Request) → ¬ Asks (subcommand_rows_of matches.now) request }
 {
@@ -327,7 +316,7 @@ pub(crate) fn request_of<'m, 'a>(matches: &'m ArgMatches<'a>) -> Option<Request<
     match_request(matches.subcommand_matches("match")?)
 }
 
-fn show_request<'m, 'a>(matches: &'m ArgMatches<'a>) -> Option<Request<'m, 'a>>
+fn show_request<'a>(matches: &ArgMatches<'a>) -> Option<Request<'a>>
     ensures asked { IfSome result (λ request. Asks (asking (codes "show") matches.now) request) }
     ensures none { result ≡ None → (request : Request) → ¬ Asks (asking (codes "show") matches.now) request }
 {
@@ -336,24 +325,18 @@ fn show_request<'m, 'a>(matches: &'m ArgMatches<'a>) -> Option<Request<'m, 'a>>
     })
 }
 
-fn match_request<'m, 'a>(matches: &'m ArgMatches<'a>) -> Option<Request<'m, 'a>>
+fn match_request<'a>(matches: &ArgMatches<'a>) -> Option<Request<'a>>
     ensures asked { IfSome result (λ request. Asks (asking (codes "match") matches.now) request) }
     ensures none { result ≡ None → (request : Request) → ¬ Asks (asking (codes "match") matches.now) request }
 {
-    let all = matches.get_flag("all");
-    let table = table_paths(matches)?;
-    match matches.get_strs("FILE")? {
-        [] => None,
-        [file] => Some(Request::Match {
-            all,
-            table,
-            file: *file,
-        }),
-        files => Some(Request::MatchMany { all, table, files }),
-    }
+    Some(Request::Match {
+        all: matches.get_flag("all"),
+        table: table_paths(matches)?,
+        file: matches.get_str("FILE")?,
+    })
 }
 
-fn find_request<'m, 'a>(matches: &'m ArgMatches<'a>) -> Option<Request<'m, 'a>>
+fn find_request<'a>(matches: &ArgMatches<'a>) -> Option<Request<'a>>
     ensures asked { IfSome result (λ request. Asks (asking (codes "find") matches.now) request) }
     ensures none { result ≡ None → (request : Request) → ¬ Asks (asking (codes "find") matches.now) request }
 {
@@ -366,7 +349,7 @@ fn find_request<'m, 'a>(matches: &'m ArgMatches<'a>) -> Option<Request<'m, 'a>>
     })
 }
 
-fn conflicts_request<'m, 'a>(matches: &'m ArgMatches<'a>) -> Option<Request<'m, 'a>>
+fn conflicts_request<'a>(matches: &ArgMatches<'a>) -> Option<Request<'a>>
     ensures asked { IfSome result (λ request. Asks (asking (codes "conflicts") matches.now) request) }
     ensures none { result ≡ None → (request : Request) → ¬ Asks (asking (codes "conflicts") matches.now) request }
 {
@@ -378,7 +361,7 @@ fn conflicts_request<'m, 'a>(matches: &'m ArgMatches<'a>) -> Option<Request<'m, 
     })
 }
 
-fn check_request<'m, 'a>(matches: &'m ArgMatches<'a>) -> Option<Request<'m, 'a>>
+fn check_request<'a>(matches: &ArgMatches<'a>) -> Option<Request<'a>>
     ensures asked { IfSome result (λ request. Asks (asking (codes "check") matches.now) request) }
     ensures none { result ≡ None → (request : Request) → ¬ Asks (asking (codes "check") matches.now) request }
 {
@@ -388,7 +371,7 @@ fn check_request<'m, 'a>(matches: &'m ArgMatches<'a>) -> Option<Request<'m, 'a>>
     })
 }
 
-fn witness_request<'m, 'a>(matches: &'m ArgMatches<'a>) -> Option<Request<'m, 'a>>
+fn witness_request<'a>(matches: &ArgMatches<'a>) -> Option<Request<'a>>
     ensures asked { IfSome result (λ request. Asks (asking (codes "witness") matches.now) request) }
     ensures none { result ≡ None → (request : Request) → ¬ Asks (asking (codes "witness") matches.now) request }
 {

@@ -1,23 +1,31 @@
 //! All that the program does: it reads the words, opens the files, answers, and gives the status.
 
-ghost use Rattle.std.specs.Prelude.{None, Some, ◌≡◌, ◌≢◌, ◌<◌, ◌⊎◌, false, is_ok, length, List, map, string_bytes, true, IfErr, IfOk, OnOk};
+ghost use Rattle.std.specs.Prelude.{None, Some, ◌≡◌, ◌≢◌, ◌<◌, ◌⊎◌, false, List, map, string_bytes, true, IfErr, IfOk, OnOk};
 ghost use Rattle.clap.specs.Values.{kind_of};
 ghost use Rattle.clap.specs.Words.{Text};
-ghost use Rattle.pronom_sig.specs.Requests.{Answers, AnswersWords, CutsWords, HasFiles, IsCutRequest, IsFaultOf, IsLoadFault, Joins, ShowsWords, TellsOf, file_fault};
-ghost use Rattle.sig_engines.specs.Stores.{IsTableOf, Opens};
+ghost use Rattle.pronom_sig.specs.Finding.{IsKnown, found_text, is_answered};
+ghost use Rattle.pronom_sig.specs.Requests.{Answers, AnswersWords, CutsWords, IsCutRequest, IsFaultOf, IsLoadFault, IsShowFault, ShowsWords, TellsOf};
+ghost use Rattle.pronom_sig.specs.Stores.{IsTableOf, Opens};
+ghost use Rattle.sig_bits.specs.Device.{Adds};
 ghost use Rattle.pronom_sig.specs.CommandLine.{IsHelpAsked};
 ghost use Rattle.pronom_sig.specs.Endings.{AnswersBy, KeepsErrors, KeepsOutput, ReportsBy, ReportsMemory};
 ghost use Rattle.sig_table.specs.Tables.{IsTable};
 
-use crate::args::{Request, read_args, request_of};
+use crate::args::{Request, TablePaths, read_args};
+use crate::check_engine::run_check;
+use crate::conflicts_engine::settle;
+use crate::error::{CutShort, RunError};
 use crate::fault::Fault;
+use crate::find_engine::{bytes_of, search, write_found};
+use crate::lines::lines_of_found;
+use crate::match_engine::run_match;
+use crate::show_engine::run_show;
+use crate::store::{Store, SystemFiles};
+use crate::witness_engine::run_witness;
 use clap::Error;
 use clap::error::ErrorKind;
 use sig_bits::{FromRead, Input, Output};
-use sig_engines::{
-    CutShort, FileFault, RunError, Store, SystemFiles, TablePaths, run_check, run_find, run_match,
-    run_match_many, run_show, run_witness, settle,
-};
+use sig_find::Found;
 use sig_match::WholeCore;
 use sig_table::Table;
 use std::alloc::Global;
@@ -31,8 +39,8 @@ pub fn run<R: Env + Files + AllocGlobal, W: Output, E: Output>(
     err: &mut E,
 ) -> u8
     ensures known { result < 4 }
-    ensures output { KeepsOutput ((words : List Text) × CutsWords ⟦<FromRead<R::File> as Input>⟧.failed None words (W.written out.old) (W.written out.new)) result (W.failed out.new) out.old out.new }
-    ensures errors { KeepsErrors (λ is_answered is_failed before after. (words : List Text) × ShowsWords ⟦<FromRead<R::File> as Input>⟧.failed None words is_answered is_failed before after) result (E.failed err.new) err.old err.new (E.written err.old) (E.written err.new) }
+    ensures output { KeepsOutput ((words : List Text) × CutsWords None words (W.written out.old) (W.written out.new)) result (W.failed out.new) out.old out.new }
+    ensures errors { KeepsErrors (λ is_failed before after. (words : List Text) × ShowsWords words is_failed before after) result (E.failed err.new) err.old err.new (E.written err.old) (E.written err.new) }
 
     // What is shown answers some words, or they ask for help.
     ensures answered { result ≡ 0 → (words : List Text) × (IsHelpAsked words ⊎ AnswersWords None words true (W.written out.old) (W.written out.new)) }
@@ -73,10 +81,10 @@ pub fn command<R: Files + AllocGlobal, W: Output, E: Output>(
     err: &mut E,
 ) -> u8
     ensures known { result < 4 }
-    ensures output { KeepsOutput (CutsWords ⟦<FromRead<R::File> as Input>⟧.failed None (map string_bytes words.now) (W.written out.old) (W.written out.new)) result (W.failed out.new) out.old out.new }
-    ensures errors { KeepsErrors (ShowsWords ⟦<FromRead<R::File> as Input>⟧.failed None (map string_bytes words.now)) result (E.failed err.new) err.old err.new (E.written err.old) (E.written err.new) }
+    ensures output { KeepsOutput (CutsWords None (map string_bytes words.now) (W.written out.old) (W.written out.new)) result (W.failed out.new) out.old out.new }
+    ensures errors { KeepsErrors (ShowsWords (map string_bytes words.now)) result (E.failed err.new) err.old err.new (E.written err.old) (E.written err.new) }
     ensures answers { AnswersBy None (map string_bytes words.now) result (W.written out.old) (W.written out.new) }
-    ensures faults { ReportsBy ⟦<FromRead<R::File> as Input>⟧.failed None (map string_bytes words.now) result (E.failed err.new) (W.written out.old) (W.written out.new) (E.written err.old) (E.written err.new) }
+    ensures faults { ReportsBy ⟦<FromRead<R::File> as Input>⟧.failed None (map string_bytes words.now) result (E.failed err.new) (E.written err.old) (E.written err.new) }
 {
     command_over(&SystemFiles::new(rt), rt.alloc(), words, out, err)
 }
@@ -85,8 +93,8 @@ pub fn command<R: Files + AllocGlobal, W: Output, E: Output>(
 /// status.
 ///
 /// The answer and the help go to `out`; a fault is one line on `err`, and a usage fault is the text
-/// of `clap`. With `--progress` a search tells `err` how much of it is done, and of several files each
-/// that has a fault is one line there. A failed write to `err` changes no status.
+/// of `clap`. With `--progress` a search tells `err` how much of it is done. A failed write to `err`
+/// changes no status.
 pub fn command_over<S: Store, W: Output, E: Output>(
     store: &S,
     alloc: Global,
@@ -95,46 +103,48 @@ pub fn command_over<S: Store, W: Output, E: Output>(
     err: &mut E,
 ) -> u8
     ensures known { result < 4 }
-    ensures output { KeepsOutput (CutsWords S.Reader.failed (S.held store.now) (map string_bytes words.now) (W.written out.old) (W.written out.new)) result (W.failed out.new) out.old out.new }
-    ensures errors { KeepsErrors (ShowsWords S.Reader.failed (S.held store.now) (map string_bytes words.now)) result (E.failed err.new) err.old err.new (E.written err.old) (E.written err.new) }
+    ensures output { KeepsOutput (CutsWords (S.held store.now) (map string_bytes words.now) (W.written out.old) (W.written out.new)) result (W.failed out.new) out.old out.new }
+    ensures errors { KeepsErrors (ShowsWords (map string_bytes words.now)) result (E.failed err.new) err.old err.new (E.written err.old) (E.written err.new) }
     ensures answers { AnswersBy (S.held store.now) (map string_bytes words.now) result (W.written out.old) (W.written out.new) }
-    ensures faults { ReportsBy S.Reader.failed (S.held store.now) (map string_bytes words.now) result (E.failed err.new) (W.written out.old) (W.written out.new) (E.written err.old) (E.written err.new) }
+    ensures faults { ReportsBy S.Reader.failed (S.held store.now) (map string_bytes words.now) result (E.failed err.new) (E.written err.old) (E.written err.new) }
 {
-    let matches = match read_args(alloc, words) {
-        Ok(matches) => matches,
-        Err(error) => return show_usage(alloc, &error, out, err),
-    };
-    let Some(request) = request_of(&matches) else {
-        unreachable!();
-    };
-    match answer(store, alloc, request, out, err) {
-        Ok(true) => 0,
-        Ok(false) => 1,
-        Err(fault) => fault.report(err),
+    match read_args(alloc, words) {
+        Ok(request) => match answer(store, alloc, request, out, err) {
+            Ok(true) => 0,
+            Ok(false) => 1,
+            Err(fault) => fault.report(err),
+        },
+        Err(error) => show_usage(alloc, &error, out, err),
     }
 }
 
 // Whether the answer is a yes.
-fn answer<'m, 'a, S: Store, W: Output, E: Output>(
+fn answer<'a, S: Store, W: Output, E: Output>(
     store: &S,
     alloc: Global,
-    request: Request<'m, 'a>,
+    request: Request<'a>,
     out: &mut W,
     err: &mut E,
 ) -> Result<bool, Fault<'a>>
-    ensures told { TellsOf S.Reader.failed (S.held store.now) request.entry (is_ok result) (E.failed err.new) err.old err.new (E.written err.old) (E.written err.new) }
-    ensures joined { IfErr result (λ fault. Joins S.Reader.failed (S.held store.now) request.entry fault (W.written out.old) (W.written out.new) (E.failed err.new) (E.written err.old) (E.written err.new)) }
-    ensures shown { OnOk result (HasFiles request.entry → W.failed out.new ≡ false) }
+    ensures told { TellsOf request.entry (E.failed err.new) err.old err.new (E.written err.old) (E.written err.new) }
+    ensures shown { OnOk result (W.failed out.new ≡ false) }
     ensures answers { IfOk result (λ is_yes. Answers (S.held store.now) request.entry is_yes (W.written out.old) (W.written out.new)) }
     ensures faults { IfErr result (λ fault. IsFaultOf S.Reader.failed (S.held store.now) request.entry fault) }
-    ensures untouched { IfErr result (λ fault. fault ≢ Fault.Run RunError.Write → ((e : CutShort) → fault ≢ Fault.CutShort e) → fault ≢ Fault.SomeFiles → out.new ≡ out.old) }
-    ensures whole { IfErr result (λ fault. W.failed out.new ≡ false → (out.new ≡ out.old) ⊎ IsCutRequest S.Reader.failed (S.held store.now) request.entry (W.written out.old) (W.written out.new)) }
+    ensures untouched { IfErr result (λ fault. fault ≢ Fault.Run RunError.Write → ((e : CutShort) → fault ≢ Fault.CutShort e) → out.new ≡ out.old) }
+    ensures whole { IfErr result (λ fault. W.failed out.new ≡ false → (out.new ≡ out.old) ⊎ IsCutRequest (S.held store.now) request.entry (W.written out.old) (W.written out.new)) }
 {
     match request {
-        Request::Show { table } => show_table(store, alloc, table, out),
-        Request::Match { all, table, file } => match_file(store, alloc, all, table, file, out),
-        Request::MatchMany { all, table, files } => {
-            match_many(store, alloc, all, table, files, out, err)
+        Request::Show { table } => match run_show(alloc, &load(store, alloc, table)?, out) {
+            Ok(()) => Ok(true),
+            Err(error) => Err(Fault::Run(error)),
+        },
+        Request::Match { all, table, file } => {
+            let core = WholeCore::new(alloc, load(store, alloc, table)?);
+            let mut file = open(store, file)?;
+            match run_match(alloc, &core, all, &mut file, out) {
+                Ok(()) => Ok(true),
+                Err(error) => Err(Fault::Run(error)),
+            }
         }
         Request::Find {
             table,
@@ -142,185 +152,77 @@ fn answer<'m, 'a, S: Store, W: Output, E: Output>(
             out: name,
             hex,
             progress,
-        } => find_in_table(store, alloc, table, budget, name, hex, progress, out, err),
+        } => {
+            let table = load(store, alloc, table)?;
+            match search(alloc, &table, budget, progress, err) {
+                Ok(found) => answer_found(store, alloc, &table, &found, hex, name, out),
+                Err(error) => Err(Fault::Run(error)),
+            }
+        }
         Request::Conflicts {
             table,
             budget,
             hex,
             progress,
-        } => settle_pairs(store, alloc, table, budget, hex, progress, out, err),
-        Request::Check { table, certificate } => {
-            check_certificate(store, alloc, table, certificate, out)
+        } => {
+            let table = load(store, alloc, table)?;
+            match settle(alloc, &table, budget, hex, progress, out, err) {
+                Ok(is_yes) => Ok(is_yes),
+                Err(error) => Err(Fault::CutShort(error)),
+            }
         }
-        Request::Witness { table, file } => judge_file(store, alloc, table, file, out),
+        Request::Check { table, certificate } => {
+            let table = load(store, alloc, table)?;
+            let mut certificate = open(store, certificate)?;
+            match run_check(alloc, &table, &mut certificate, out) {
+                Ok(is_accepted) => Ok(is_accepted),
+                Err(error) => Err(Fault::Run(error)),
+            }
+        }
+        Request::Witness { table, file } => {
+            let table = load(store, alloc, table)?;
+            let mut file = open(store, file)?;
+            match run_witness(alloc, &table, &mut file, out) {
+                Ok(is_ambiguous) => Ok(is_ambiguous),
+                Err(error) => Err(Fault::Run(error)),
+            }
+        }
     }
 }
 
-fn show_table<'a, S: Store, W: Output>(
+/// Writes what was found to the file of this name, and then its lines. The file is made only now, and
+/// where the search gave up not at all.
+fn answer_found<'a, S: Store, W: Output>(
     store: &S,
     alloc: Global,
-    table: TablePaths<'a>,
+    table: &Table,
+    found: &Found,
+    hex: bool,
+    name: &'a str,
     out: &mut W,
 ) -> Result<bool, Fault<'a>>
-    ensures answers { IfOk result (λ is_yes. Answers (S.held store.now) (Request.Show table.entry) is_yes (W.written out.old) (W.written out.new)) }
+    requires { IsKnown table.now found.now }
     ensures shown { OnOk result (W.failed out.new ≡ false) }
-    ensures faults { IfErr result (IsFaultOf S.Reader.failed (S.held store.now) (Request.Show table.entry)) }
+    ensures answered { IfOk result (λ is_yes. is_yes ≡ is_answered found.now) }
+    ensures lines { OnOk result (Adds (W.written out.old) (found_text hex table.now found.now) (W.written out.new)) }
+    ensures faults { IfErr result (λ fault. (fault ≡ Fault.CannotOpen name.entry) ⊎ IsShowFault fault) }
     ensures untouched { IfErr result (λ fault. fault ≢ Fault.Run RunError.Write → out.new ≡ out.old) }
     ensures whole { IfErr result (λ fault. W.failed out.new ≡ false → out.new ≡ out.old) }
 {
-    match run_show(alloc, &load(store, alloc, table)?, out) {
+    let lines = match lines_of_found(alloc, table, found, hex) {
+        Ok(lines) => lines,
+        Err(_) => return Err(Fault::Run(RunError::OutOfMemory)),
+    };
+    let Some(bytes) = bytes_of(found) else {
+        return match out.write_all(lines.as_bytes()) {
+            Ok(()) => Ok(false),
+            Err(_) => Err(Fault::Run(RunError::Write)),
+        };
+    };
+    let mut file = create(store, name)?;
+    match write_found(bytes, lines.as_str(), &mut file, out) {
         Ok(()) => Ok(true),
         Err(error) => Err(Fault::Run(error)),
-    }
-}
-
-fn match_file<'a, S: Store, W: Output>(
-    store: &S,
-    alloc: Global,
-    all: bool,
-    table: TablePaths<'a>,
-    name: &'a str,
-    out: &mut W,
-) -> Result<bool, Fault<'a>>
-    ensures answers { IfOk result (λ is_yes. Answers (S.held store.now) (Request.Match all table.entry name.entry) is_yes (W.written out.old) (W.written out.new)) }
-    ensures shown { OnOk result (W.failed out.new ≡ false) }
-    ensures faults { IfErr result (IsFaultOf S.Reader.failed (S.held store.now) (Request.Match all table.entry name.entry)) }
-    ensures untouched { IfErr result (λ fault. fault ≢ Fault.Run RunError.Write → out.new ≡ out.old) }
-    ensures whole { IfErr result (λ fault. W.failed out.new ≡ false → out.new ≡ out.old) }
-{
-    let core = WholeCore::new(alloc, load(store, alloc, table)?);
-    let mut file = open(store, name)?;
-    match run_match(alloc, &core, all, &mut file, out) {
-        Ok(()) => Ok(true),
-        Err(error) => Err(Fault::Run(error)),
-    }
-}
-
-// Of several files: the lines of each, or of some and the faults of the others.
-fn match_many<'m, 'a, S: Store, W: Output, E: Output>(
-    store: &S,
-    alloc: Global,
-    all: bool,
-    table: TablePaths<'a>,
-    files: &'m [&'a str],
-    out: &mut W,
-    err: &mut E,
-) -> Result<bool, Fault<'a>>
-    ensures told { TellsOf S.Reader.failed (S.held store.now) (Request.MatchMany all table.entry files.entry) (is_ok result) (E.failed err.new) err.old err.new (E.written err.old) (E.written err.new) }
-    ensures joined { IfErr result (λ fault. Joins S.Reader.failed (S.held store.now) (Request.MatchMany all table.entry files.entry) fault (W.written out.old) (W.written out.new) (E.failed err.new) (E.written err.old) (E.written err.new)) }
-    ensures shown { OnOk result (0 < length files.now → W.failed out.new ≡ false) }
-    ensures answers { IfOk result (λ is_yes. Answers (S.held store.now) (Request.MatchMany all table.entry files.entry) is_yes (W.written out.old) (W.written out.new)) }
-    ensures faults { IfErr result (λ fault. IsFaultOf S.Reader.failed (S.held store.now) (Request.MatchMany all table.entry files.entry) fault) }
-    ensures untouched { IfErr result (λ fault. fault ≢ Fault.Run RunError.Write → fault ≢ Fault.SomeFiles → out.new ≡ out.old) }
-    ensures whole { IfErr result (λ fault. W.failed out.new ≡ false → (out.new ≡ out.old) ⊎ IsCutRequest S.Reader.failed (S.held store.now) (Request.MatchMany all table.entry files.entry) (W.written out.old) (W.written out.new)) }
-{
-    let table = load(store, alloc, table)?;
-    let core = WholeCore::new(alloc, table);
-    match run_match_many(alloc, store, &core, all, files, out, err) {
-        Ok(true) => Ok(true),
-        Ok(false) => Err(Fault::SomeFiles),
-        Err(error) => Err(Fault::Run(error)),
-    }
-}
-
-fn find_in_table<'a, S: Store, W: Output, E: Output>(
-    store: &S,
-    alloc: Global,
-    table: TablePaths<'a>,
-    budget: u32,
-    name: &'a str,
-    hex: bool,
-    progress: bool,
-    out: &mut W,
-    err: &mut E,
-) -> Result<bool, Fault<'a>>
-    ensures told { TellsOf S.Reader.failed (S.held store.now) (Request.Find table.entry budget name.entry hex progress) (is_ok result) (E.failed err.new) err.old err.new (E.written err.old) (E.written err.new) }
-    ensures answers { IfOk result (λ is_yes. Answers (S.held store.now) (Request.Find table.entry budget name.entry hex progress) is_yes (W.written out.old) (W.written out.new)) }
-    ensures shown { OnOk result (W.failed out.new ≡ false) }
-    ensures faults { IfErr result (IsFaultOf S.Reader.failed (S.held store.now) (Request.Find table.entry budget name.entry hex progress)) }
-    ensures untouched { IfErr result (λ fault. fault ≢ Fault.Run RunError.Write → out.new ≡ out.old) }
-    ensures whole { IfErr result (λ fault. W.failed out.new ≡ false → out.new ≡ out.old) }
-{
-    let table = load(store, alloc, table)?;
-    match run_find(alloc, store, &table, budget, hex, progress, name, out, err) {
-        Ok(is_yes) => Ok(is_yes),
-        Err(fault) => Err(file_fault(name, fault)),
-    }
-}
-
-fn settle_pairs<'a, S: Store, W: Output, E: Output>(
-    store: &S,
-    alloc: Global,
-    table: TablePaths<'a>,
-    budget: u32,
-    hex: bool,
-    progress: bool,
-    out: &mut W,
-    err: &mut E,
-) -> Result<bool, Fault<'a>>
-    ensures told { TellsOf S.Reader.failed (S.held store.now) (Request.Conflicts table.entry budget hex progress) (is_ok result) (E.failed err.new) err.old err.new (E.written err.old) (E.written err.new) }
-    ensures answers { IfOk result (λ is_yes. Answers (S.held store.now) (Request.Conflicts table.entry budget hex progress) is_yes (W.written out.old) (W.written out.new)) }
-    ensures shown { OnOk result (W.failed out.new ≡ false) }
-    ensures faults { IfErr result (IsFaultOf S.Reader.failed (S.held store.now) (Request.Conflicts table.entry budget hex progress)) }
-    ensures untouched { IfErr result (λ fault. ((e : CutShort) → fault ≢ Fault.CutShort e) → out.new ≡ out.old) }
-    ensures whole { IfErr result (λ fault. W.failed out.new ≡ false → (out.new ≡ out.old) ⊎ IsCutRequest S.Reader.failed (S.held store.now) (Request.Conflicts table.entry budget hex progress) (W.written out.old) (W.written out.new)) }
-{
-    let table = load(store, alloc, table)?;
-    match settle(alloc, &table, budget, hex, progress, out, err) {
-        Ok(is_yes) => Ok(is_yes),
-        Err(error) => Err(Fault::CutShort(error)),
-    }
-}
-
-fn check_certificate<'a, S: Store, W: Output>(
-    store: &S,
-    alloc: Global,
-    table: TablePaths<'a>,
-    name: &'a str,
-    out: &mut W,
-) -> Result<bool, Fault<'a>>
-    ensures answers { IfOk result (λ is_yes. Answers (S.held store.now) (Request.Check table.entry name.entry) is_yes (W.written out.old) (W.written out.new)) }
-    ensures shown { OnOk result (W.failed out.new ≡ false) }
-    ensures faults { IfErr result (IsFaultOf S.Reader.failed (S.held store.now) (Request.Check table.entry name.entry)) }
-    ensures untouched { IfErr result (λ fault. fault ≢ Fault.Run RunError.Write → out.new ≡ out.old) }
-    ensures whole { IfErr result (λ fault. W.failed out.new ≡ false → out.new ≡ out.old) }
-{
-    let table = load(store, alloc, table)?;
-    let mut certificate = open(store, name)?;
-    match run_check(alloc, &table, &mut certificate, out) {
-        Ok(is_accepted) => Ok(is_accepted),
-        Err(error) => Err(Fault::Run(error)),
-    }
-}
-
-fn judge_file<'a, S: Store, W: Output>(
-    store: &S,
-    alloc: Global,
-    table: TablePaths<'a>,
-    name: &'a str,
-    out: &mut W,
-) -> Result<bool, Fault<'a>>
-    ensures answers { IfOk result (λ is_yes. Answers (S.held store.now) (Request.Witness table.entry name.entry) is_yes (W.written out.old) (W.written out.new)) }
-    ensures shown { OnOk result (W.failed out.new ≡ false) }
-    ensures faults { IfErr result (IsFaultOf S.Reader.failed (S.held store.now) (Request.Witness table.entry name.entry)) }
-    ensures untouched { IfErr result (λ fault. fault ≢ Fault.Run RunError.Write → out.new ≡ out.old) }
-    ensures whole { IfErr result (λ fault. W.failed out.new ≡ false → out.new ≡ out.old) }
-{
-    let table = load(store, alloc, table)?;
-    let mut file = open(store, name)?;
-    match run_witness(alloc, &table, &mut file, out) {
-        Ok(is_ambiguous) => Ok(is_ambiguous),
-        Err(error) => Err(Fault::Run(error)),
-    }
-}
-
-// Why there is no answer of the file of this name.
-fn file_fault(name: &str, fault: FileFault) -> Fault<'_>
-    ensures { result ≡ file_fault name.entry fault }
-{
-    match fault {
-        FileFault::CannotOpen => Fault::CannotOpen(name),
-        FileFault::Run(error) => Fault::Run(error),
     }
 }
 
@@ -347,17 +249,20 @@ fn open<'a, S: Store>(store: &S, name: &'a str) -> Result<S::Reader, Fault<'a>>
     ensures opens { IfOk result (λ file. Opens (S.held store.now) name.entry.now (Some (S.Reader.to_come file))) }
     ensures unopened { IfErr result (λ fault. (fault ≡ Fault.CannotOpen name.entry) × Opens (S.held store.now) name.entry.now None) }
 {
-    match store.open(name) {
-        Some(file) => Ok(file),
-        None => Err(Fault::CannotOpen(name)),
-    }
+    store.open(name).ok_or(Fault::CannotOpen(name))
+}
+
+fn create<'a, S: Store>(store: &S, name: &'a str) -> Result<S::Writer, Fault<'a>>
+    ensures { IfErr result (λ fault. fault ≡ Fault.CannotOpen name.entry) }
+{
+    store.create(name).ok_or(Fault::CannotOpen(name))
 }
 
 // What `clap` says: help is an answer, and all else a fault of the words, unless memory ran out.
 fn show_usage<W: Output, E: Output>(alloc: Global, error: &Error, out: &mut W, err: &mut E) -> u8
     ensures known { (result ≡ 0) ⊎ ((result ≡ 2) ⊎ (result ≡ 3)) }
     ensures output { KeepsOutput ⊥ result (W.failed out.new) out.old out.new }
-    ensures errors { KeepsErrors (λ is_answered is_failed before after. ⊥) result (E.failed err.new) err.old err.new (E.written err.old) (E.written err.new) }
+    ensures errors { KeepsErrors (λ is_failed before after. ⊥) result (E.failed err.new) err.old err.new (E.written err.old) (E.written err.new) }
     ensures memory { kind_of error.now ≡ ErrorKind.OutOfMemory → result ≡ 3 }
     ensures memory_reported { kind_of error.now ≡ ErrorKind.OutOfMemory → E.failed err.new ≡ false → ReportsMemory (E.written err.old) (E.written err.new) }
     ensures help { result ≡ 0 → (kind_of error.now ≡ ErrorKind.DisplayHelp) ⊎ (kind_of error.now ≡ ErrorKind.DisplayVersion) }

@@ -4,12 +4,12 @@
 //! A line is written in pieces and takes no memory, so no fault is reported as another.
 
 ghost use Rattle.std.specs.Prelude.{◌≡◌, [], ◌∷◌, ◌++◌, decimal, false};
-ghost use Rattle.pronom_sig.specs.Faults.{ReportsFault, Reports, code_text, expression_code_text, fault_line, file_name, fault_text, line_end, site_of, site_text};
+ghost use Rattle.pronom_sig.specs.Faults.{Prints, ReportsFault, Reports, code_text, expression_code_text, fault_line, file_name, fault_text, site_of, site_text};
 ghost use Rattle.pronom_sig.specs.Statuses.{status_of};
-ghost use Rattle.sig_engines.specs.Writing.{Prints};
 
+use crate::error::{CutShort, RunError};
+use itoa::{Buffer, Integer};
 use sig_bits::{DeviceFault, Output};
-use sig_engines::{CutShort, RunError, put, put_number};
 use sig_expr::ExprError;
 use sig_table::{TableError, TableFile};
 
@@ -26,8 +26,6 @@ pub(crate) enum Fault<'a> {
     Run(RunError),
     /// An engine stopped before its last line.
     CutShort(CutShort),
-    /// Some of several files have no lines. Each is told already, so this has no line of its own.
-    SomeFiles,
 }
 
 impl Fault<'_> {
@@ -39,7 +37,7 @@ impl Fault<'_> {
             Fault::NotText => 2,
             Fault::Table(TableError::Read { .. } | TableError::OutOfMemory) => 3,
             Fault::Table(_) => 2,
-            Fault::CannotOpen(_) | Fault::Run(_) | Fault::CutShort(_) | Fault::SomeFiles => 3,
+            Fault::CannotOpen(_) | Fault::Run(_) | Fault::CutShort(_) => 3,
         }
     }
 
@@ -59,20 +57,7 @@ fn write_line<E: Output>(fault: Fault<'_>, err: &mut E) -> Result<(), DeviceFaul
     ensures sound { E.failed err.new ≡ false → E.failed err.old ≡ false }
 {
     write_text(fault, err)?;
-    put(err, line_end(fault))
-}
-
-fn line_end(fault: Fault<'_>) -> &'static str
-    ensures { result.now ≡ line_end fault.entry }
-{
-    match fault {
-        Fault::SomeFiles => "",
-        Fault::NotText
-        | Fault::CannotOpen(_)
-        | Fault::Table(_)
-        | Fault::Run(_)
-        | Fault::CutShort(_) => "\n",
-    }
+    put(err, "\n")
 }
 
 fn write_text<E: Output>(fault: Fault<'_>, err: &mut E) -> Result<(), DeviceFault>
@@ -94,7 +79,6 @@ fn write_text<E: Output>(fault: Fault<'_>, err: &mut E) -> Result<(), DeviceFaul
         }
         Fault::Run(error) => put(err, error.text()),
         Fault::CutShort(error) => put(err, error.text()),
-        Fault::SomeFiles => Ok(()),
     }
 }
 
@@ -211,4 +195,21 @@ fn put_numbered<E: Output>(err: &mut E, text: &str, number: usize) -> Result<(),
 {
     put(err, text)?;
     put_number(err, number)
+}
+
+/// Writes a number in decimal.
+pub(crate) fn put_number<E: Output, I: Integer>(err: &mut E, number: I) -> Result<(), DeviceFault>
+    ensures prints { Prints result (I.text number) (E.written err.old) (E.written err.new) (E.failed err.new) }
+    ensures sound { E.failed err.new ≡ false → E.failed err.old ≡ false }
+{
+    let mut buffer = Buffer::new();
+    put(err, buffer.format(number))
+}
+
+/// Writes a text.
+pub(crate) fn put<E: Output>(err: &mut E, text: &str) -> Result<(), DeviceFault>
+    ensures prints { Prints result text.now (E.written err.old) (E.written err.new) (E.failed err.new) }
+    ensures sound { E.failed err.new ≡ false → E.failed err.old ≡ false }
+{
+    err.write_all(text.as_bytes())
 }

@@ -6,15 +6,13 @@ ghost use Rattle.pronom_sig.specs.CommandLine.{program};
 
 use clap::error::ErrorKind;
 
-/// Words that name all files are taken, also where `match` has several, and they ask for no help.
-/// `--help` alone asks for it, and `--version` for the version.
+/// Words that name all files are taken, and they ask for no help. `--help` alone asks for it, and
+/// `--version` for the version.
 pub fn words_are_taken()
     ensures shown { takes program (codes "show" ∷ codes "a" ∷ codes "b" ∷ []) ≡ true }
     ensures shown_no_help { fault_of program (codes "show" ∷ codes "a" ∷ codes "b" ∷ []) ≡ [] }
     ensures matched { takes program (codes "match" ∷ codes "a" ∷ codes "b" ∷ codes "c" ∷ []) ≡ true }
     ensures matched_no_help { fault_of program (codes "match" ∷ codes "a" ∷ codes "b" ∷ codes "c" ∷ []) ≡ [] }
-    ensures many { takes program (codes "match" ∷ codes "a" ∷ codes "b" ∷ codes "c" ∷ codes "d" ∷ []) ≡ true }
-    ensures many_no_help { fault_of program (codes "match" ∷ codes "a" ∷ codes "b" ∷ codes "c" ∷ codes "d" ∷ []) ≡ [] }
     ensures all { takes program (codes "match" ∷ codes "--all" ∷ codes "a" ∷ codes "b" ∷ codes "c" ∷ []) ≡ true }
     ensures found { takes program (codes "find" ∷ codes "--budget" ∷ codes "100000" ∷ codes "--out" ∷ codes "a" ∷ codes "b" ∷ codes "c" ∷ []) ≡ true }
     ensures found_shown { takes program (codes "find" ∷ codes "--progress" ∷ codes "--budget" ∷ codes "100000" ∷ codes "--out" ∷ codes "a" ∷ codes "b" ∷ codes "c" ∷ []) ≡ true }

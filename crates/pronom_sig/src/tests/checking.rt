@@ -1,6 +1,8 @@
 //! `check` through the program: certificates of tables worked out by hand, and the words and files
 //! that it takes.
 
+use crate::check_engine::run_check;
+use crate::error::RunError;
 use crate::tests::streams::Pieces;
 use crate::tests::tables::{
     ALL_BUT_ONE, COVERED, EVERY_FILE, NONE, ONE, OVER_BOTH, Rows, TWICE_HIT, TWO, TWO_SEQUENCES,
@@ -9,7 +11,6 @@ use crate::tests::tables::{
 use crate::tests::{Shown, folder, put, put_table, run_program};
 use sig_bits::FromWrite;
 use sig_cert::check;
-use sig_engines::{RunError, run_check};
 use sig_table::{Puid, Table};
 use std::fs;
 use std::test::Fail;

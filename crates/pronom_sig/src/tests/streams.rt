@@ -1,11 +1,13 @@
 //! Readers and writers that fail midway, through the engines, the cores and the program.
 
-ghost use Rattle.std.specs.Prelude.{◌≡◌, ◌-◌, None, false, length};
+ghost use Rattle.std.specs.Prelude.{◌≡◌, ◌-◌, None, length};
 
 use crate::command::command;
+use crate::error::RunError;
+use crate::match_engine::run_match;
+use crate::show_engine::run_show;
 use crate::tests::{PRIORITIES, SIGNATURES, folder, owned_words, put, put_table};
 use sig_bits::{DeviceFault, FromRead, FromWrite, Input, Output};
-use sig_engines::{RunError, run_match, run_show};
 use sig_match::{CoreError, DroidCore, Hit, StreamCore, WholeCore};
 use sig_table::{FormatId, Puid, SigId, Table};
 use std::fs;
@@ -23,16 +25,12 @@ pub(crate) struct Pieces<'a> {
 
 impl<'a> Pieces<'a> {
     // The bytes one by one, and then the end.
-    pub(crate) fn of(bytes: &'a [u8]) -> Pieces<'a>
-        ensures fresh { result.failed ≡ false }
-    {
+    pub(crate) fn of(bytes: &'a [u8]) -> Pieces<'a> {
         Pieces::cut(bytes, 1)
     }
 
     // The bytes in pieces of at most so many, and then the end.
-    pub(crate) fn cut(bytes: &'a [u8], most: usize) -> Pieces<'a>
-        ensures fresh { result.failed ≡ false }
-    {
+    pub(crate) fn cut(bytes: &'a [u8], most: usize) -> Pieces<'a> {
         Pieces {
             bytes,
             at: 0,
@@ -43,9 +41,7 @@ impl<'a> Pieces<'a> {
     }
 
     // The bytes one by one, and then a fault.
-    pub(crate) fn failing(bytes: &'a [u8]) -> Pieces<'a>
-        ensures fresh { result.failed ≡ false }
-    {
+    pub(crate) fn failing(bytes: &'a [u8]) -> Pieces<'a> {
         Pieces {
             bytes,
             at: 0,

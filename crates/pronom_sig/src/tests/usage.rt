@@ -13,10 +13,7 @@ fn shows_help_and_the_version(rt: HostRuntime) -> Result<(), Fail> {
             &["show", "--help"],
             "Print the canonical files of a table\n",
         ),
-        (
-            &["match", "--help"],
-            "Print the formats left for each file\n",
-        ),
+        (&["match", "--help"], "Print the formats left for a file\n"),
         (
             &["find", "--help"],
             "Find a certificate of a table, or a file that leaves two of its formats\n",
@@ -45,14 +42,9 @@ fn shows_help_and_the_version(rt: HostRuntime) -> Result<(), Fail> {
         "{out}"
     );
     assert!(rt;
-        out.contains("the file is ambiguous.\n\nWith more than one FILE each line begins"),
+        out.contains("the file is ambiguous.\n\nStatuses:\n  0  "),
         "{out}"
     );
-    assert!(rt;
-        out.contains("and the others go on.\n\nStatuses:\n  0  "),
-        "{out}"
-    );
-    assert!(rt; out.contains("<SIGS> <PRIOS> <FILE>..."), "{out}");
     Ok(())
 }
 
@@ -82,7 +74,7 @@ fn refuses_wrong_words(rt: HostRuntime) -> Result<(), Fail> {
             "error: the following required arguments were not provided:",
         ),
         (
-            &["check", "a", "b", "c", "d"],
+            &["match", "a", "b", "c", "d"],
             "error: unexpected argument 'd' found",
         ),
         (

@@ -1,11 +1,12 @@
 //! `witness` through the program: files of tables worked out by hand, and the words and files that
 //! it takes.
 
+use crate::error::RunError;
 use crate::tests::streams::{Broken, Pieces};
 use crate::tests::tables::{BOTH_ENDS, EVERY_FILE, ONE, OVER_BOTH, OVER_FIRST, Rows, table_of};
 use crate::tests::{Shown, folder, put, put_table, run_program};
+use crate::witness_engine::run_witness;
 use sig_bits::{FromRead, FromWrite};
-use sig_engines::{RunError, run_witness};
 use sig_table::Table;
 use std::fs;
 use std::test::Fail;

@@ -1,10 +1,10 @@
 //! The worked rows: tables and files with their answers, worked out by hand. Every core answers each
 //! of them, however the file is cut into pieces.
 
+use crate::match_engine::run_match;
 use crate::tests::streams::Pieces;
 use crate::tests::{PRIORITIES, SIGNATURES};
 use sig_bits::{FromRead, FromWrite};
-use sig_engines::run_match;
 use sig_match::{DroidCore, StreamCore, WholeCore};
 use sig_table::Table;
 use std::test::Fail;

@@ -1,4 +1,4 @@
-use Rattle.sig_engines.proofs.Exports.{prints_then}
+use Rattle.pronom_sig.proofs.FaultLemmas.{prints_then}
 use Rattle.pronom_sig.proofs.fault.write_code.Goals as goal
 
 pub returns-in_ok-put-in-Expression-clause-prints : goal.returns-in_ok-put-in-Expression-clause-prints
