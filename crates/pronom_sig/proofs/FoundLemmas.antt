@@ -1,5 +1,5 @@
 -- What the finder finds names formats and signatures of its table.
-use Rattle.std.proofs.Common.{◌≡◌, ℕ, ◌<◌, Bool, Bor, Err, List, Ok, Option, Result, length, subst, sym}
+use Rattle.std.proofs.Common.{◌≡◌, ℕ, ◌<◌, Bool, Bor, Err, List, Ok, Option, Result, Some, length, slice_get, subst, sym}
 use Rattle.std.specs.Prelude.{IfOk, OnOk}
 use Rattle.std.proofs.lemmas.Option.{get_or_from_slice_get, slice_get_within}
 use Rattle.sig_find.specs.Answers.{IsFound}
@@ -7,11 +7,10 @@ use Rattle.sig_find.specs.Finding.{IsOfFormat}
 use Rattle.sig_find.specs.declared.found.Found.{Found}
 use Rattle.sig_find.specs.declared.found.Found.TheVariants.{Certificate, GaveUp, Witness}
 use Rattle.sig_table.specs.Tables.{IsSignature, IsTable}
-use Rattle.sig_table.specs.Views.{TableView}
+use Rattle.sig_table.specs.Views.{SignatureView, TableView}
 use Rattle.sig_bits.specs.Device.{Adds}
 use Rattle.pronom_sig.specs.Finding.{IsKnown, found_text, is_answered}
 use Rattle.pronom_sig.specs.Requests.{Answers}
-use Rattle.pronom_sig.specs.Stores.{Holding, IsTableOf}
 use Rattle.pronom_sig.specs.declared.args.Request.{Request}
 use Rattle.pronom_sig.specs.declared.args.Request.TheVariants.{Find}
 use Rattle.pronom_sig.specs.declared.args.TablePaths.{TablePaths}
@@ -29,7 +28,7 @@ found_is_known table is budget (GaveUp s t) h =
     (slice_get_within table.signatures s.0 h.s_of.0 h.s_of.1, slice_get_within table.signatures t.0 h.t_of.0 h.t_of.1)
 
 -- what is written of what was found answers the words of `find`
-pub find_is_answered : {F : Type 0} (held : Holding) (request : Request) (paths : TablePaths) (budget : ℕ) (name : Bor (List ℕ)) (hex progress : Bool) (table : TableView) (found : Found) (before after : Option (List ℕ)) (result : Result Bool F) → request ≡ Find paths budget name hex progress → IsTableOf held paths table → IsFound table budget found → IfOk result (λ is_yes. is_yes ≡ is_answered found) → OnOk result (Adds before (found_text hex table found) after) → IfOk result (λ is_yes. Answers held request is_yes before after)
-find_is_answered held request paths budget name hex progress table found before after (Ok is_yes) same is found_is answered lines =
-    subst (λ r. Answers held r is_yes before after) (sym same) (table, is, found, found_is, answered, lines)
-find_is_answered held request paths budget name hex progress table found before after (Err fault) same is found_is answered lines = tt
+pub find_is_answered : {F : Type 0} (request : Request) (paths : TablePaths) (budget : ℕ) (name : Bor (List ℕ)) (hex : Bool) (table : TableView) (found : Found) (before after : Option (List ℕ)) (result : Result Bool F) → request ≡ Find paths budget name hex → IsTable table → IsFound table budget found → IfOk result (λ is_yes. is_yes ≡ is_answered found) → OnOk result (Adds before (found_text hex table found) after) → IfOk result (λ is_yes. Answers request is_yes before after)
+find_is_answered request paths budget name hex table found before after (Ok is_yes) same is found_is answered lines =
+    subst (λ r. Answers r is_yes before after) (sym same) (table, is, found, found_is, answered, lines)
+find_is_answered request paths budget name hex table found before after (Err fault) same is found_is answered lines = tt

@@ -1,6 +1,5 @@
 -- What words ask for, and what they do not.
-use Rattle.pronom_sig.specs.Stores.{Holding}
-use Rattle.std.proofs.Common.{Bool, ◌≡◌, ◌≢◌, ◌⊎◌, ℕ, List, None, Option, Some, ap, ap₂, arith, codes, inl, inr, option_map, refl, subst, sym, ◌∙◌}
+use Rattle.std.proofs.Common.{◌≡◌, ◌≢◌, ◌⊎◌, ℕ, List, Option, Some, ap, arith, codes, inl, inr, subst, sym, ◌∙◌}
 use Rattle.std.proofs.Math.ListN.{get_or}
 use Rattle.std.proofs.lemmas.Option.{same_Some}
 use Rattle.clap.specs.Words.{HasKind, IsAmong, Kinds, Row, Text, first_of, kind_of}
@@ -8,11 +7,8 @@ use Rattle.clap.specs.declared.error.Error.{Error}
 use Rattle.clap.specs.declared.error.kind.ErrorKind.TheVariants.{DisplayHelp, DisplayVersion, OutOfMemory}
 use Rattle.pronom_sig.specs.CommandLine.{Asks, NamesBudget, NamesTable}
 use Rattle.pronom_sig.specs.declared.args.Request.{Request}
-use Rattle.pronom_sig.specs.declared.args.Request.TheVariants.{Check, Conflicts, Find, Match, Show, Witness}
+use Rattle.pronom_sig.specs.declared.args.Request.TheVariants.{Check, Find, Match, Show, Witness}
 use Rattle.pronom_sig.specs.declared.args.TablePaths.{TablePaths}
-use Rattle.pronom_sig.specs.Requests.{Behind, IsFaultOf}
-use Rattle.pronom_sig.specs.declared.error.RunError.TheVariants as run
-use Rattle.pronom_sig.specs.declared.fault.Fault.TheVariants.{Run}
 
 -- one subcommand and its rows are another and its own
 abbrev AreSame : Text → List Row → Text → List Row → Type 0
@@ -34,19 +30,11 @@ other_name name other rows more letters same =
     let asked : Text × List Row = (other, more) in
     letters (ap (λ (p : Text × List Row). get_or p.0 0 0) (same_Some mine asked same))
 
--- two of them begin alike, and go on with other letters
-other_later : (name other : Text) (rows more : List Row) → get_or name 1 0 ≢ get_or other 1 0 → AreSame name rows other more → ⊥
-other_later name other rows more letters same =
-    let mine : Text × List Row = (name, rows) in
-    let asked : Text × List Row = (other, more) in
-    letters (ap (λ (p : Text × List Row). get_or p.0 1 0) (same_Some mine asked same))
-
 -- nothing is asked for where a word is missing
 pub no_show : (rows : List Row) → ((table : TablePaths) → NamesTable table rows → ⊥) → (asked : Request) → Asks (Some (codes "show", rows)) asked → ⊥
 no_show rows missing (Show table) asks = missing table (subst (NamesTable table) (rows_of_found (codes "show") rows asks.0 asks.1) asks.2)
 no_show rows missing (Match all table file) asks = other_name (codes "show") (codes "match") rows asks.0 (omega arith) asks.1
-no_show rows missing (Find table budget out hex progress) asks = other_name (codes "show") (codes "find") rows asks.0 (omega arith) asks.1
-no_show rows missing (Conflicts table budget hex progress) asks = other_name (codes "show") (codes "conflicts") rows asks.0 (omega arith) asks.1
+no_show rows missing (Find table budget out hex) asks = other_name (codes "show") (codes "find") rows asks.0 (omega arith) asks.1
 no_show rows missing (Check table certificate) asks = other_name (codes "show") (codes "check") rows asks.0 (omega arith) asks.1
 no_show rows missing (Witness table file) asks = other_name (codes "show") (codes "witness") rows asks.0 (omega arith) asks.1
 
@@ -55,16 +43,14 @@ no_match rows missing (Show table) asks = other_name (codes "match") (codes "sho
 no_match rows missing (Match all table file) asks =
     let same : asks.0 ≡ rows = rows_of_found (codes "match") rows asks.0 asks.1 in
     missing table file.now (subst (NamesTable table) same asks.2) (subst (λ (r : List Row). first_of (codes "FILE") r ≡ Some file.now) same asks.3)
-no_match rows missing (Find table budget out hex progress) asks = other_name (codes "match") (codes "find") rows asks.0 (omega arith) asks.1
-no_match rows missing (Conflicts table budget hex progress) asks = other_name (codes "match") (codes "conflicts") rows asks.0 (omega arith) asks.1
+no_match rows missing (Find table budget out hex) asks = other_name (codes "match") (codes "find") rows asks.0 (omega arith) asks.1
 no_match rows missing (Check table certificate) asks = other_name (codes "match") (codes "check") rows asks.0 (omega arith) asks.1
 no_match rows missing (Witness table file) asks = other_name (codes "match") (codes "witness") rows asks.0 (omega arith) asks.1
 
 pub no_check : (rows : List Row) → ((table : TablePaths) (text : Text) → NamesTable table rows → first_of (codes "CERT") rows ≡ Some text → ⊥) → (asked : Request) → Asks (Some (codes "check", rows)) asked → ⊥
 no_check rows missing (Show table) asks = other_name (codes "check") (codes "show") rows asks.0 (omega arith) asks.1
 no_check rows missing (Match all table file) asks = other_name (codes "check") (codes "match") rows asks.0 (omega arith) asks.1
-no_check rows missing (Find table budget out hex progress) asks = other_name (codes "check") (codes "find") rows asks.0 (omega arith) asks.1
-no_check rows missing (Conflicts table budget hex progress) asks = other_later (codes "check") (codes "conflicts") rows asks.0 (omega arith) asks.1
+no_check rows missing (Find table budget out hex) asks = other_name (codes "check") (codes "find") rows asks.0 (omega arith) asks.1
 no_check rows missing (Check table certificate) asks =
     let same : asks.0 ≡ rows = rows_of_found (codes "check") rows asks.0 asks.1 in
     missing table certificate.now (subst (NamesTable table) same asks.2) (subst (λ (r : List Row). first_of (codes "CERT") r ≡ Some certificate.now) same asks.3)
@@ -73,8 +59,7 @@ no_check rows missing (Witness table file) asks = other_name (codes "check") (co
 pub no_witness : (rows : List Row) → ((table : TablePaths) (text : Text) → NamesTable table rows → first_of (codes "FILE") rows ≡ Some text → ⊥) → (asked : Request) → Asks (Some (codes "witness", rows)) asked → ⊥
 no_witness rows missing (Show table) asks = other_name (codes "witness") (codes "show") rows asks.0 (omega arith) asks.1
 no_witness rows missing (Match all table file) asks = other_name (codes "witness") (codes "match") rows asks.0 (omega arith) asks.1
-no_witness rows missing (Find table budget out hex progress) asks = other_name (codes "witness") (codes "find") rows asks.0 (omega arith) asks.1
-no_witness rows missing (Conflicts table budget hex progress) asks = other_name (codes "witness") (codes "conflicts") rows asks.0 (omega arith) asks.1
+no_witness rows missing (Find table budget out hex) asks = other_name (codes "witness") (codes "find") rows asks.0 (omega arith) asks.1
 no_witness rows missing (Check table certificate) asks = other_name (codes "witness") (codes "check") rows asks.0 (omega arith) asks.1
 no_witness rows missing (Witness table file) asks =
     let same : asks.0 ≡ rows = rows_of_found (codes "witness") rows asks.0 asks.1 in
@@ -83,22 +68,11 @@ no_witness rows missing (Witness table file) asks =
 pub no_find : (rows : List Row) → ((table : TablePaths) (budget : ℕ) (text : Text) → NamesTable table rows → NamesBudget budget rows → first_of (codes "OUT") rows ≡ Some text → ⊥) → (asked : Request) → Asks (Some (codes "find", rows)) asked → ⊥
 no_find rows missing (Show table) asks = other_name (codes "find") (codes "show") rows asks.0 (omega arith) asks.1
 no_find rows missing (Match all table file) asks = other_name (codes "find") (codes "match") rows asks.0 (omega arith) asks.1
-no_find rows missing (Find table budget out hex progress) asks =
+no_find rows missing (Find table budget out hex) asks =
     let same : asks.0 ≡ rows = rows_of_found (codes "find") rows asks.0 asks.1 in
     missing table budget out.now (subst (NamesTable table) same asks.2) (subst (NamesBudget budget) same asks.3) (subst (λ (r : List Row). first_of (codes "OUT") r ≡ Some out.now) same asks.4)
-no_find rows missing (Conflicts table budget hex progress) asks = other_name (codes "find") (codes "conflicts") rows asks.0 (omega arith) asks.1
 no_find rows missing (Check table certificate) asks = other_name (codes "find") (codes "check") rows asks.0 (omega arith) asks.1
 no_find rows missing (Witness table file) asks = other_name (codes "find") (codes "witness") rows asks.0 (omega arith) asks.1
-
-pub no_conflicts : (rows : List Row) → ((table : TablePaths) (budget : ℕ) → NamesTable table rows → NamesBudget budget rows → ⊥) → (asked : Request) → Asks (Some (codes "conflicts", rows)) asked → ⊥
-no_conflicts rows missing (Show table) asks = other_name (codes "conflicts") (codes "show") rows asks.0 (omega arith) asks.1
-no_conflicts rows missing (Match all table file) asks = other_name (codes "conflicts") (codes "match") rows asks.0 (omega arith) asks.1
-no_conflicts rows missing (Find table budget out hex progress) asks = other_name (codes "conflicts") (codes "find") rows asks.0 (omega arith) asks.1
-no_conflicts rows missing (Conflicts table budget hex progress) asks =
-    let same : asks.0 ≡ rows = rows_of_found (codes "conflicts") rows asks.0 asks.1 in
-    missing table budget (subst (NamesTable table) same asks.2) (subst (NamesBudget budget) same asks.3)
-no_conflicts rows missing (Check table certificate) asks = other_later (codes "conflicts") (codes "check") rows asks.0 (omega arith) asks.1
-no_conflicts rows missing (Witness table file) asks = other_name (codes "conflicts") (codes "witness") rows asks.0 (omega arith) asks.1
 
 -- where memory ran out, no help is asked for
 pub no_help : (e : Error) → kind_of e ≡ OutOfMemory → (kind_of e ≡ DisplayHelp) ⊎ (kind_of e ≡ DisplayVersion) → ⊥
@@ -110,21 +84,3 @@ pub help_among : (kinds : Kinds) (e : Error) → HasKind kinds e → (kind_of e 
 help_among kinds e (inl memory) is = absurd (no_help e memory is)
 help_among kinds e (inr among) (inl help) = inl (subst (λ k. IsAmong k kinds) help among)
 help_among kinds e (inr among) (inr version) = inr (subst (λ k. IsAmong k kinds) version among)
-
--- a subcommand that is found by its name, and its rows
-pub named_rows : {B : Type 0} (name_of : B → Text) (its_rows : B → List Row) (found : Option B) (name : Text) (rows : List Row) → option_map name_of found ≡ Some name → option_map (λ (p : Text × List Row). p.1) (option_map {U = Text × List Row} (λ (b : B). (name_of b, its_rows b)) found) ≡ Some rows → option_map {U = Text × List Row} (λ (b : B). (name_of b, its_rows b)) found ≡ Some (name, rows)
-named_rows name_of its_rows (Some b) name rows is_name are_rows = ap₂ (λ (x : Text) (y : List Row). Some (x, y)) (same_Some (name_of b) name is_name) (same_Some (its_rows b) rows are_rows)
-named_rows name_of its_rows None name rows is_name are_rows = let no : None ≡ Some name = is_name in cc
-
--- memory can run out for whatever is asked
-pub memory_of : {R : Type 0} (failed : R → Bool) (held : Holding) (request : Request) → IsFaultOf failed held request (Run run.OutOfMemory)
-memory_of failed held (Show table) = inr (inr refl)
-memory_of failed held (Match all table file) = inr tt
-memory_of failed held (Find table budget out hex progress) = inr (inr (inr refl))
-memory_of failed held (Conflicts table budget hex progress) = inr (inl refl)
-memory_of failed held (Check table certificate) = inr tt
-memory_of failed held (Witness table file) = inr tt
-
--- nothing is shown before what comes
-pub first_of_all : (Shown Rest : Option (List ℕ) → Option (List ℕ) → Type 0) (before after : Option (List ℕ)) → Rest before after → Behind Shown Rest before after
-first_of_all Shown Rest before after rest = record { mid = before; shown = inl refl; rest = rest }

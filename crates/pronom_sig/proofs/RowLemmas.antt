@@ -1,5 +1,5 @@
 -- The first value of an argument, by the rows of a parse.
-use Rattle.std.proofs.Common.{◌≡◌, Bool, true, false, ◌||◌, List, [], ◌∷◌, Option, Some, None, codes, map, refl, sym, ◌∙◌}
+use Rattle.std.proofs.Common.{◌≡◌, Bool, true, false, ◌||◌, List, [], ◌∷◌, Option, Some, None, map, refl}
 use Rattle.std.specs.Prelude.{find, option_and_then, option_map, slice_get}
 use Rattle.std.specs.Borrow.{Bor}
 use Rattle.std.specs.Str.{bytes_eq}
@@ -9,7 +9,6 @@ use Rattle.clap.specs.Values.{read_as}
 use Rattle.clap.specs.Walk.{Text, first_of, one_of, row_of, rows_of, texts}
 use Rattle.clap.specs.declared.builder.value_parser.Reading.{Reading}
 use Rattle.clap.specs.declared.parser.matches.Found.{Found}
-use Rattle.pronom_sig.specs.CommandLine.{HasFlag}
 
 first_text : (values : List (Bor Text)) → slice_get (texts values) 0 ≡ option_map (λ s. s.now) (slice_get values 0)
 first_text [] = refl
@@ -60,11 +59,3 @@ pair_of_parts f g (Some a) x y first second = cc
 pub or_false : (a b : Bool) → b ≡ false → (a || b) ≡ a
 or_false true b is = refl
 or_false false b is = is
-
--- whether a flag is among the words, as its getter reads it
-pub flag_is_read : (found : Found) (name : Text) (is_given : Bool) → (one_text found name ≡ Some (codes "true") → is_given ≡ true) → (one_text found name ≡ Some (codes "false") → is_given ≡ false) → (one_text found name ≡ None → is_given ≡ false) → HasFlag name is_given (rows_of found)
-flag_is_read found name is_given value other none = record {
-  given = λ h. value (sym (one_of-rows found name) ∙ h);
-  left_out = λ h. other (sym (one_of-rows found name) ∙ h);
-  absent = λ h. none (sym (one_of-rows found name) ∙ h);
-}

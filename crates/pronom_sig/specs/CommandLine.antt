@@ -10,7 +10,7 @@ use Rattle.clap.specs.declared.builder.action.ArgAction.TheVariants.{SetTrue}
 use Rattle.clap.specs.declared.builder.value_parser.ValueParser.TheVariants.{Signed}
 use Rattle.clap.specs.declared.error.kind.ErrorKind.TheVariants.{DisplayHelp, DisplayVersion}
 use Rattle.pronom_sig.specs.declared.args.Request.{Request}
-use Rattle.pronom_sig.specs.declared.args.Request.TheVariants.{Check, Conflicts, Find, Match, Show, Witness}
+use Rattle.pronom_sig.specs.declared.args.Request.TheVariants.{Check, Find, Match, Show, Witness}
 use Rattle.pronom_sig.specs.declared.args.TablePaths.{TablePaths}
 
 -- the command is this one, and has no global argument
@@ -46,13 +46,9 @@ named name value = record (new_rule value) { long = Some name; required = true }
 abbrev pub budget_rule : Rule
 budget_rule = record (named (codes "budget") (codes "N")) { parser = Some (Signed (pos 1) (pos 4294967295)) }
 
--- `find --budget N --out OUT [--hex] [--progress] SIGS PRIOS`
+-- `find --budget N --out OUT [--hex] SIGS PRIOS`
 abbrev pub find_command : App
-find_command = with_rule (with_rule (with_rule (with_rule (of_table (new_app (codes "find"))) budget_rule) (named (codes "out") (codes "OUT"))) (given (codes "hex"))) (given (codes "progress"))
-
--- `conflicts --budget N [--hex] [--progress] SIGS PRIOS`
-abbrev pub conflicts_command : App
-conflicts_command = with_rule (with_rule (with_rule (of_table (new_app (codes "conflicts"))) budget_rule) (given (codes "hex"))) (given (codes "progress"))
+find_command = with_rule (with_rule (with_rule (of_table (new_app (codes "find"))) budget_rule) (named (codes "out") (codes "OUT"))) (given (codes "hex"))
 
 -- `check SIGS PRIOS CERT`
 abbrev pub check_command : App
@@ -66,7 +62,7 @@ witness_command = with_rule (of_table (new_app (codes "witness"))) (wanted (code
 abbrev pub program : App
 program =
     let top = on_top (λ s. record s { has_version = true; no_binary_name = true; subcommand_required = true }) (new_app (codes "pronom_sig")) in
-    with_subcommand (with_subcommand (with_subcommand (with_subcommand (with_subcommand (with_subcommand top show_command.top) match_command.top) find_command.top) conflicts_command.top) check_command.top) witness_command.top
+    with_subcommand (with_subcommand (with_subcommand (with_subcommand (with_subcommand top show_command.top) match_command.top) find_command.top) check_command.top) witness_command.top
 
 -- the subcommand of this name with these arguments
 abbrev pub asking : Text → ArgMatches → Option (Text × List Row)
@@ -95,8 +91,7 @@ pub record HasFlag (name : Text) (is_given : Bool) (rows : List Row) : Type 0 wh
 abbrev pub Asks : Option (Text × List Row) → Request → Type 0
 Asks found (Show table) = (rows : List Row) × (found ≡ Some (codes "show", rows)) × NamesTable table rows
 Asks found (Match all table file) = (rows : List Row) × (found ≡ Some (codes "match", rows)) × NamesTable table rows × (first_of (codes "FILE") rows ≡ Some file.now) × HasFlag (codes "all") all rows
-Asks found (Find table budget out hex progress) = (rows : List Row) × (found ≡ Some (codes "find", rows)) × NamesTable table rows × NamesBudget budget rows × (first_of (codes "OUT") rows ≡ Some out.now) × HasFlag (codes "hex") hex rows × HasFlag (codes "progress") progress rows
-Asks found (Conflicts table budget hex progress) = (rows : List Row) × (found ≡ Some (codes "conflicts", rows)) × NamesTable table rows × NamesBudget budget rows × HasFlag (codes "hex") hex rows × HasFlag (codes "progress") progress rows
+Asks found (Find table budget out hex) = (rows : List Row) × (found ≡ Some (codes "find", rows)) × NamesTable table rows × NamesBudget budget rows × (first_of (codes "OUT") rows ≡ Some out.now) × HasFlag (codes "hex") hex rows
 Asks found (Check table certificate) = (rows : List Row) × (found ≡ Some (codes "check", rows)) × NamesTable table rows × (first_of (codes "CERT") rows ≡ Some certificate.now)
 Asks found (Witness table file) = (rows : List Row) × (found ≡ Some (codes "witness", rows)) × NamesTable table rows × (first_of (codes "FILE") rows ≡ Some file.now)
 

@@ -2,8 +2,6 @@
 use Rattle.std.specs.Prelude.{◌≡◌, ℕ, Bool, true, List, [], ◌∷◌, ◌++◌, codes, Option, Result, OnOk, OnErr}
 use Rattle.std.specs.Fmt.{decimal}
 use Rattle.pronom_sig.specs.Statuses.{status_of}
-use Rattle.pronom_sig.specs.declared.error.CutShort.{CutShort}
-use Rattle.pronom_sig.specs.declared.error.CutShort.TheVariants as cut
 use Rattle.pronom_sig.specs.declared.error.RunError.{RunError}
 use Rattle.pronom_sig.specs.declared.error.RunError.TheVariants as run
 use Rattle.pronom_sig.specs.declared.fault.Fault.{Fault}
@@ -95,18 +93,12 @@ run_text run.Read = codes "read failed"
 run_text run.Write = codes "write failed"
 run_text run.OutOfMemory = codes "out of memory"
 
--- the text of an engine that stopped before its last line
-abbrev pub cut_text : CutShort → List ℕ
-cut_text cut.Write = codes "write failed"
-cut_text cut.OutOfMemory = codes "out of memory"
-
 -- the text of a fault
 abbrev pub fault_text : Fault → List ℕ
 fault_text fault.NotText = codes "error: invalid UTF-8 was detected in one or more arguments"
 fault_text (fault.CannotOpen name) = codes "cannot open " ++ name.now
 fault_text (fault.Table error) = site_text (site_of error) ++ code_text error
 fault_text (fault.Run error) = run_text error
-fault_text (fault.CutShort error) = cut_text error
 
 -- its line
 abbrev pub fault_line : Fault → List ℕ

@@ -23,21 +23,6 @@ line_of table hit = line_with (slice_get table.formats hit.format.0) (slice_get 
 abbrev pub lines_of : TableView → List Hit → List ℕ
 lines_of table hits = flat_map (line_of table) hits
 
--- what stands before each line of a file: nothing where it is the only one, else its name and a tab
-abbrev pub line_head : Option (List ℕ) → List ℕ
-line_head None = []
-line_head (Some name) = name ++ 9 ∷ []
-
--- what is printed where there is no hit: nothing for the only file, else its name, a tab and a hyphen
-abbrev pub no_hit_line : Option (List ℕ) → List ℕ
-no_hit_line None = []
-no_hit_line (Some name) = name ++ 9 ∷ 45 ∷ 10 ∷ []
-
--- the lines of a file, of this name where it is one of several: one for each hit, in their order
-abbrev pub file_lines : Option (List ℕ) → TableView → List Hit → List ℕ
-file_lines name table [] = no_hit_line name
-file_lines name table (hit ∷ hits) = flat_map (λ h. line_head name ++ line_of table h) (hit ∷ hits)
-
 -- the hit's signature is in the table, and is of the hit's format
 pub record IsOf (table : TableView) (hit : Hit) : Type 0 where
   pub signature : SignatureView
@@ -54,12 +39,6 @@ pub record AreAskedOfSome (all : Bool) (table : TableView) (to_come : Option (Li
   pub file : List ℕ
   pub is_to_come : IfSome to_come (λ bytes. file ≡ bytes)
   pub are_asked : AreAsked all table file hits
-
--- these are the lines of a file: of the one to come, where its bytes are known
-pub record AreLinesOfSome (all : Bool) (table : TableView) (name to_come : Option (List ℕ)) (lines : List ℕ) : Type 0 where
-  pub hits : List Hit
-  pub are_asked : AreAskedOfSome all table to_come hits
-  pub are_lines : lines ≡ file_lines name table hits
 
 -- what is written grows by the lines of the hits that are asked for
 pub record AddsLines (all : Bool) (table : TableView) (file : List ℕ) (before after : Option (List ℕ)) : Type 0 where

@@ -1,7 +1,7 @@
 -- The statuses that the program ends with.
 use Rattle.std.specs.Prelude.{ℕ}
 use Rattle.pronom_sig.specs.declared.fault.Fault.{Fault}
-use Rattle.pronom_sig.specs.declared.fault.Fault.TheVariants.{CannotOpen, CutShort, NotText, Run, Table}
+use Rattle.pronom_sig.specs.declared.fault.Fault.TheVariants.{CannotOpen, NotText, Run, Table}
 use Rattle.sig_table.specs.declared.error.TableError.{TableError}
 use Rattle.sig_table.specs.declared.error.TableError.TheVariants.{OutOfMemory, Read}
 
@@ -17,4 +17,3 @@ status_of NotText = 2
 status_of (CannotOpen name) = 3
 status_of (Table error) = table_status error
 status_of (Run error) = 3
-status_of (CutShort error) = 3

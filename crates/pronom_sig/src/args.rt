@@ -5,7 +5,7 @@ ghost use Rattle.clap.specs.Values.{kind_of};
 ghost use Rattle.clap.specs.Matches.{found_of};
 ghost use Rattle.clap.specs.declared.Command.TheViews.{out-Command as fields_of};
 ghost use Rattle.clap.specs.Words.{app_of, rows_of, rule_of, subcommand_of, subcommand_rows_of};
-ghost use Rattle.pronom_sig.specs.CommandLine.{AreTaken, Asks, IsHelpAsked, IsLine, NamesTable, asking, budget_rule, check_command, conflicts_command, find_command, given, match_command, named, of_table, program, show_command, wanted, witness_command};
+ghost use Rattle.pronom_sig.specs.CommandLine.{AreTaken, Asks, IsHelpAsked, IsLine, NamesTable, asking, budget_rule, check_command, find_command, given, match_command, named, of_table, program, show_command, wanted, witness_command};
 
 use clap::error::ErrorKind;
 use clap::{Arg, ArgAction, ArgMatches, Command, Error, value_parser};
@@ -50,27 +50,6 @@ Statuses:
   2  the words are wrong, or the table is refused
   3  a file can't be opened or made, a read or a write failed, or memory ran out";
 
-const CONFLICTS_HELP: &str = "\
-A line for each pair of formats that is not known to be decided, as soon as it is known, in table
-order. Pairs of which one format outranks the other are left out.
-  ambiguous A B S T N  the signatures numbered S of A and T of B hit a file of N bytes that leaves
-                       both formats. No shorter one does that the two hit. With --hex its bytes
-                       stand behind N
-  unknown A B S T      the search gave up on these two signatures, and no other two of A and B
-                       gave such a file
-Of a pair without a line no file whatever leaves both formats. The last line counts the pairs:
-  pairs P decided D ambiguous M unknown U
-
-The budget is the greatest number of rows that are kept at a time, each of which stands for all files
-that the signatures do not tell apart. 100000 is a sensible one. It holds for each two signatures.
-
-Statuses:
-  0  no pair is ambiguous or unknown: no file leaves two formats of the table
-  1  some pair is ambiguous or unknown
-  2  the words are wrong, or the table is refused
-  3  a file can't be opened, a read or a write failed, or memory ran out. The lines that were
-     written stand, and the last line is missing";
-
 const CHECK_HELP: &str = "\
 The one line is `accepted`, or `refused` and the first fault of the certificate. An accepted
 certificate means that no file whatever leaves two formats of the table. Pairs, tables and rows of
@@ -111,14 +90,6 @@ pub(crate) enum Request<'a> {
         budget: u32,
         out: &'a str,
         hex: bool,
-        progress: bool,
-    },
-    /// Which pairs of formats of a table are not decided.
-    Conflicts {
-        table: TablePaths<'a>,
-        budget: u32,
-        hex: bool,
-        progress: bool,
     },
     /// Whether a certificate of a table is accepted.
     Check {
@@ -169,7 +140,6 @@ fn command_line<'a>(alloc: Global) -> Result<Command<'a>, Error>
         .subcommand(show_line(alloc)?)?
         .subcommand(match_line(alloc)?)?
         .subcommand(find_line(alloc)?)?
-        .subcommand(conflicts_line(alloc)?)?
         .subcommand(check_line(alloc)?)?
         .subcommand(witness_line(alloc)?)?;
     Ok(command)
@@ -199,7 +169,7 @@ fn match_line<'a>(alloc: Global) -> Result<Command<'a>, Error>
     Ok(line)
 }
 
-// `find --budget N --out OUT [--hex] [--progress] SIGS PRIOS`
+// `find --budget N --out OUT [--hex] SIGS PRIOS`
 fn find_line<'a>(alloc: Global) -> Result<Command<'a>, Error>
     ensures line { IfOk result (IsLine find_command) }
     ensures memory { IfErr result (λ e. kind_of e ≡ ErrorKind.OutOfMemory) }
@@ -209,22 +179,7 @@ fn find_line<'a>(alloc: Global) -> Result<Command<'a>, Error>
         .after_help(FIND_HELP)
         .arg(budget(alloc).help("The greatest number of rows for two signatures"))?
         .arg(option(alloc, "out", "OUT").help("Where the certificate or the file goes"))?
-        .arg(flag(alloc, "hex").help("Print the bytes of OUT, too, on a second line"))?
-        .arg(flag(alloc, "progress").help("Tell on standard error how many products are done"))?;
-    Ok(line)
-}
-
-// `conflicts --budget N [--hex] [--progress] SIGS PRIOS`
-fn conflicts_line<'a>(alloc: Global) -> Result<Command<'a>, Error>
-    ensures line { IfOk result (IsLine conflicts_command) }
-    ensures memory { IfErr result (λ e. kind_of e ≡ ErrorKind.OutOfMemory) }
-{
-    let line = with_table_args(alloc, Command::new(alloc, "conflicts"))?
-        .about("Find all pairs of formats that a file can leave")
-        .after_help(CONFLICTS_HELP)
-        .arg(budget(alloc).help("The greatest number of rows for two signatures"))?
-        .arg(flag(alloc, "hex").help("Print the bytes of each file, too"))?
-        .arg(flag(alloc, "progress").help("Tell on standard error how many pairs are done"))?;
+        .arg(flag(alloc, "hex").help("Print the bytes of OUT, too, on a second line"))?;
     Ok(line)
 }
 
@@ -307,9 +262,6 @@ fn request_of<'a>(matches: &ArgMatches<'a>) -> Option<Request<'a>>
     if let Some(finding) = matches.subcommand_matches("find") {
         return find_request(finding);
     }
-    if let Some(settling) = matches.subcommand_matches("conflicts") {
-        return conflicts_request(settling);
-    }
     if let Some(judging) = matches.subcommand_matches("witness") {
         return witness_request(judging);
     }
@@ -344,19 +296,6 @@ fn find_request<'a>(matches: &ArgMatches<'a>) -> Option<Request<'a>>
         budget: matches.get_one::<u32>("N")?,
         out: matches.get_str("OUT")?,
         hex: matches.get_flag("hex"),
-        progress: matches.get_flag("progress"),
-        table: table_paths(matches)?,
-    })
-}
-
-fn conflicts_request<'a>(matches: &ArgMatches<'a>) -> Option<Request<'a>>
-    ensures asked { IfSome result (λ request. Asks (asking (codes "conflicts") matches.now) request) }
-    ensures none { result ≡ None → (request : Request) → ¬ Asks (asking (codes "conflicts") matches.now) request }
-{
-    Some(Request::Conflicts {
-        budget: matches.get_one::<u32>("N")?,
-        hex: matches.get_flag("hex"),
-        progress: matches.get_flag("progress"),
         table: table_paths(matches)?,
     })
 }

@@ -1,7 +1,6 @@
 //! Why an engine gives no answer.
 
-use sig_bits::{DeviceFault, ReadWholeError};
-use std::alloc::AllocError;
+use sig_bits::ReadWholeError;
 use std::error::Error;
 use std::fmt;
 
@@ -43,64 +42,6 @@ impl fmt::Display for RunError {
 }
 
 impl Error for RunError {}
-
-/// Why an engine stopped before its last line. The lines that it wrote until then stand.
-#[derive(Clone, Copy, Debug, PartialEq, Eq)]
-pub enum CutShort {
-    /// A write failed.
-    Write,
-    /// A growth was refused.
-    OutOfMemory,
-}
-
-impl CutShort {
-    ghost use Rattle.std.specs.Prelude.{◌≡◌};
-    ghost use Rattle.pronom_sig.specs.Faults.{cut_text};
-
-    pub(crate) fn text(self) -> &'static str
-        ensures { result.now ≡ cut_text self }
-    {
-        match self {
-            CutShort::Write => "write failed",
-            CutShort::OutOfMemory => "out of memory",
-        }
-    }
-}
-
-impl fmt::Display for CutShort {
-    ghost use Rattle.std.specs.Prelude.{Some};
-    ghost use Rattle.pronom_sig.specs.Faults.{cut_text};
-
-    ghost output = { λ error. Some (cut_text error) };
-
-    fn fmt<W: fmt::Write>(&self, f: &mut fmt::Formatter<W>) -> fmt::Result {
-        f.write_str(self.text())
-    }
-}
-
-impl Error for CutShort {}
-
-impl From<DeviceFault> for CutShort {
-    ghost use Rattle.std.specs.Prelude.{◌≡◌};
-    ghost use Rattle.pronom_sig.specs.declared.error.CutShort.{CutShort};
-
-    ghost from_gives = { λ _ gives. gives ≡ CutShort.Write };
-
-    fn from(_fault: DeviceFault) -> CutShort {
-        CutShort::Write
-    }
-}
-
-impl From<AllocError> for CutShort {
-    ghost use Rattle.std.specs.Prelude.{◌≡◌};
-    ghost use Rattle.pronom_sig.specs.declared.error.CutShort.{CutShort};
-
-    ghost from_gives = { λ _ gives. gives ≡ CutShort.OutOfMemory };
-
-    fn from(_error: AllocError) -> CutShort {
-        CutShort::OutOfMemory
-    }
-}
 
 impl From<ReadWholeError> for RunError {
     ghost use Rattle.std.specs.Prelude.{◌≡◌};

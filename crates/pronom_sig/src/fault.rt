@@ -7,8 +7,8 @@ ghost use Rattle.std.specs.Prelude.{◌≡◌, [], ◌∷◌, ◌++◌, decimal,
 ghost use Rattle.pronom_sig.specs.Faults.{Prints, ReportsFault, Reports, code_text, expression_code_text, fault_line, file_name, fault_text, site_of, site_text};
 ghost use Rattle.pronom_sig.specs.Statuses.{status_of};
 
-use crate::error::{CutShort, RunError};
-use itoa::{Buffer, Integer};
+use crate::error::RunError;
+use itoa::Buffer;
 use sig_bits::{DeviceFault, Output};
 use sig_expr::ExprError;
 use sig_table::{TableError, TableFile};
@@ -24,8 +24,6 @@ pub(crate) enum Fault<'a> {
     Table(TableError),
     /// An engine gave no answer.
     Run(RunError),
-    /// An engine stopped before its last line.
-    CutShort(CutShort),
 }
 
 impl Fault<'_> {
@@ -37,7 +35,7 @@ impl Fault<'_> {
             Fault::NotText => 2,
             Fault::Table(TableError::Read { .. } | TableError::OutOfMemory) => 3,
             Fault::Table(_) => 2,
-            Fault::CannotOpen(_) | Fault::Run(_) | Fault::CutShort(_) => 3,
+            Fault::CannotOpen(_) | Fault::Run(_) => 3,
         }
     }
 
@@ -45,7 +43,6 @@ impl Fault<'_> {
     pub(crate) fn report<E: Output>(self, err: &mut E) -> u8
         ensures status { result ≡ status_of self.entry }
         ensures reported { E.failed err.new ≡ false → Reports self.entry result (E.written err.old) (E.written err.new) }
-        ensures sound { E.failed err.new ≡ false → E.failed err.old ≡ false }
     {
         let _ = write_line(self, err);
         self.status()
@@ -53,16 +50,14 @@ impl Fault<'_> {
 }
 
 fn write_line<E: Output>(fault: Fault<'_>, err: &mut E) -> Result<(), DeviceFault>
-    ensures prints { Prints result (fault_line fault.entry) (E.written err.old) (E.written err.new) (E.failed err.new) }
-    ensures sound { E.failed err.new ≡ false → E.failed err.old ≡ false }
+    ensures { Prints result (fault_line fault.entry) (E.written err.old) (E.written err.new) (E.failed err.new) }
 {
     write_text(fault, err)?;
     put(err, "\n")
 }
 
 fn write_text<E: Output>(fault: Fault<'_>, err: &mut E) -> Result<(), DeviceFault>
-    ensures prints { Prints result (fault_text fault.entry) (E.written err.old) (E.written err.new) (E.failed err.new) }
-    ensures sound { E.failed err.new ≡ false → E.failed err.old ≡ false }
+    ensures { Prints result (fault_text fault.entry) (E.written err.old) (E.written err.new) (E.failed err.new) }
 {
     match fault {
         Fault::NotText => put(
@@ -78,7 +73,6 @@ fn write_text<E: Output>(fault: Fault<'_>, err: &mut E) -> Result<(), DeviceFaul
             write_code(error, err)
         }
         Fault::Run(error) => put(err, error.text()),
-        Fault::CutShort(error) => put(err, error.text()),
     }
 }
 
@@ -113,8 +107,7 @@ fn site_of(error: TableError) -> Site
 }
 
 fn write_site<E: Output>(site: Site, err: &mut E) -> Result<(), DeviceFault>
-    ensures prints { Prints result (site_text site) (E.written err.old) (E.written err.new) (E.failed err.new) }
-    ensures sound { E.failed err.new ≡ false → E.failed err.old ≡ false }
+    ensures { Prints result (site_text site) (E.written err.old) (E.written err.new) (E.failed err.new) }
 {
     match site {
         Site::Nowhere => Ok(()),
@@ -142,8 +135,7 @@ fn file_name(file: TableFile) -> &'static str
 
 // What is wrong with a table, by the number of its rule.
 fn write_code<E: Output>(error: TableError, err: &mut E) -> Result<(), DeviceFault>
-    ensures prints { Prints result (code_text error) (E.written err.old) (E.written err.new) (E.failed err.new) }
-    ensures sound { E.failed err.new ≡ false → E.failed err.old ≡ false }
+    ensures { Prints result (code_text error) (E.written err.old) (E.written err.new) (E.failed err.new) }
 {
     match error {
         TableError::Read { .. } => put(err, "read failed"),
@@ -171,8 +163,7 @@ fn write_code<E: Output>(error: TableError, err: &mut E) -> Result<(), DeviceFau
 
 // What is wrong with an expression: its rule's number, and its place where it has one.
 fn write_expression_code<E: Output>(error: ExprError, err: &mut E) -> Result<(), DeviceFault>
-    ensures prints { Prints result (expression_code_text error) (E.written err.old) (E.written err.new) (E.failed err.new) }
-    ensures sound { E.failed err.new ≡ false → E.failed err.old ≡ false }
+    ensures { Prints result (expression_code_text error) (E.written err.old) (E.written err.new) (E.failed err.new) }
 {
     match error {
         ExprError::TooLong => put(err, "E1"),
@@ -190,26 +181,21 @@ fn write_expression_code<E: Output>(error: ExprError, err: &mut E) -> Result<(),
 
 // A text and a number behind it.
 fn put_numbered<E: Output>(err: &mut E, text: &str, number: usize) -> Result<(), DeviceFault>
-    ensures prints { Prints result (text.now ++ decimal number) (E.written err.old) (E.written err.new) (E.failed err.new) }
-    ensures sound { E.failed err.new ≡ false → E.failed err.old ≡ false }
+    ensures { Prints result (text.now ++ decimal number) (E.written err.old) (E.written err.new) (E.failed err.new) }
 {
     put(err, text)?;
     put_number(err, number)
 }
 
-/// Writes a number in decimal.
-pub(crate) fn put_number<E: Output, I: Integer>(err: &mut E, number: I) -> Result<(), DeviceFault>
-    ensures prints { Prints result (I.text number) (E.written err.old) (E.written err.new) (E.failed err.new) }
-    ensures sound { E.failed err.new ≡ false → E.failed err.old ≡ false }
+fn put_number<E: Output>(err: &mut E, number: usize) -> Result<(), DeviceFault>
+    ensures { Prints result (decimal number) (E.written err.old) (E.written err.new) (E.failed err.new) }
 {
     let mut buffer = Buffer::new();
     put(err, buffer.format(number))
 }
 
-/// Writes a text.
-pub(crate) fn put<E: Output>(err: &mut E, text: &str) -> Result<(), DeviceFault>
-    ensures prints { Prints result text.now (E.written err.old) (E.written err.new) (E.failed err.new) }
-    ensures sound { E.failed err.new ≡ false → E.failed err.old ≡ false }
+fn put<E: Output>(err: &mut E, text: &str) -> Result<(), DeviceFault>
+    ensures { Prints result text.now (E.written err.old) (E.written err.new) (E.failed err.new) }
 {
     err.write_all(text.as_bytes())
 }

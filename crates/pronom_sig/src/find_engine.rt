@@ -4,58 +4,29 @@
 
 ghost use Rattle.std.specs.Prelude.{◌≡◌, ◌⊎◌, false, option_map, true, IfErr, IfOk, OnOk};
 ghost use Rattle.pronom_sig.specs.Finding.{IsKnown, found_bytes};
-ghost use Rattle.pronom_sig.specs.Progress.{AddsProgress, ShowsIf};
 ghost use Rattle.sig_bits.specs.Device.{Adds};
 ghost use Rattle.sig_find.specs.Answers.{IsFound};
 ghost use Rattle.sig_table.specs.Tables.{IsTable};
 
 use crate::error::RunError;
-use crate::progress::{Meter, Things};
 use sig_bits::Output;
-use sig_find::{Found, find, find_observed};
+use sig_find::{Found, find};
 use sig_table::Table;
-use std::alloc::{AllocError, Global};
+use std::alloc::Global;
 
-/// What the finder finds of a table. With `progress` it tells `err` how many products are done.
+/// What the finder finds of a table.
 #[inline(never)]
-pub(crate) fn search<E: Output>(
-    alloc: Global,
-    table: &Table,
-    budget: u32,
-    progress: bool,
-    err: &mut E,
-) -> Result<Found, RunError>
+pub(crate) fn search(alloc: Global, table: &Table, budget: u32) -> Result<Found, RunError>
     requires { IsTable table.now }
     ensures found { IfOk result (IsFound table.now budget) }
     ensures known { IfOk result (IsKnown table.now) }
     ensures memory { IfErr result (λ e. e ≡ RunError.OutOfMemory) }
-    ensures shown { ShowsIf progress Things.Products (E.failed err.new) err.old err.new (E.written err.old) (E.written err.new) }
 {
-    let found = if progress {
-        find_shown(alloc, table, budget, err)
-    } else {
-        find(alloc, table, budget)
-    };
-    match found {
+    match find(alloc, table, budget) {
         Ok(found) => Ok(found),
-        // Nothing is read, and no failed write is told of, so memory ran out.
+        // Nothing is read or written, so memory ran out.
         Err(_) => Err(RunError::OutOfMemory),
     }
-}
-
-fn find_shown<E: Output>(
-    alloc: Global,
-    table: &Table,
-    budget: u32,
-    err: &mut E,
-) -> Result<Found, AllocError>
-    ensures found { IfOk result (IsFound table.now budget) }
-    ensures shown { E.failed err.new ≡ false → AddsProgress Things.Products (E.written err.old) (E.written err.new) }
-{
-    let mut meter = Meter::new(Things::Products, err);
-    let found = find_observed(alloc, table, budget, &mut meter);
-    meter.end();
-    found
 }
 
 /// The bytes of what was found, where there are any.

@@ -1,9 +1,9 @@
 //! The lines that are answers.
 
-ghost use Rattle.std.specs.Prelude.{◌≡◌, ◌++◌, ◌∷◌, [], All, codes, decimal, IfOk, IfSome, OnOk, option_map, Some, string_bytes};
+ghost use Rattle.std.specs.Prelude.{◌≡◌, ◌++◌, ◌∷◌, [], All, codes, decimal, IfOk, IfSome, OnOk, Some, string_bytes};
 ghost use Rattle.pronom_sig.specs.Finding.{AreSignatures, IsKnown, found_text, hex_line, numbers_text};
 ghost use Rattle.pronom_sig.specs.Judged.{byte_text, refusal_text, row_text, table_text, verdict_line};
-ghost use Rattle.pronom_sig.specs.Lines.{IsOf, file_lines, line_head, line_of, no_hit_line};
+ghost use Rattle.pronom_sig.specs.Lines.{IsOf, line_of, lines_of};
 ghost use Rattle.pronom_sig.specs.Witnessed.{pair_text, witness_line};
 ghost use Rattle.sig_cert.specs.Deciding.{AreFormats};
 
@@ -14,50 +14,20 @@ use sig_table::{FormatId, SigId, Table};
 use std::alloc::{AllocError, Global};
 use std::fmt::Write;
 
-/// The lines of a file: one for each hit, in their order.
-///
-/// With a name, that of one of several files, each line begins with it and a tab, and where there is
-/// no hit a line says so. The name is written byte by byte.
-pub(crate) fn lines_of_file(
+/// The line of each hit, in their order.
+pub(crate) fn lines_of_hits(
     alloc: Global,
     table: &Table,
-    name: Option<&str>,
     hits: &[Hit],
 ) -> Result<String, AllocError>
     requires { All (IsOf table.now) hits.now }
-    ensures { IfOk result (λ lines. string_bytes lines ≡ file_lines (option_map (λ n. n.now) name.entry) table.now hits.now) }
+    ensures { IfOk result (λ lines. string_bytes lines ≡ lines_of table.now hits.now) }
 {
     let mut lines = String::new(alloc);
     for hit in hits {
-        push_head(&mut lines, name)?;
         push_hit(&mut lines, table, *hit)?;
     }
-    if hits.is_empty() {
-        push_no_hit(&mut lines, name)?;
-    }
     Ok(lines)
-}
-
-// What stands before a line of a file.
-fn push_head(lines: &mut String, name: Option<&str>) -> Result<(), AllocError>
-    ensures { OnOk result (string_bytes lines.new ≡ string_bytes lines.old ++ line_head (option_map (λ n. n.now) name.entry)) }
-{
-    if let Some(name) = name {
-        lines.push_str(name)?;
-        lines.push_str("\t")?;
-    }
-    Ok(())
-}
-
-// The line of one of several files that has no hit.
-fn push_no_hit(lines: &mut String, name: Option<&str>) -> Result<(), AllocError>
-    ensures { OnOk result (string_bytes lines.new ≡ string_bytes lines.old ++ no_hit_line (option_map (λ n. n.now) name.entry)) }
-{
-    if let Some(name) = name {
-        lines.push_str(name)?;
-        lines.push_str("\t-\n")?;
-    }
-    Ok(())
 }
 
 fn push_hit(lines: &mut String, table: &Table, hit: Hit) -> Result<(), AllocError>
@@ -210,8 +180,8 @@ fn push_refusal(line: &mut String, fault: CheckError) -> Result<(), AllocError>
     }
 }
 
-/// A text and a number behind it.
-pub(crate) fn push_numbered(line: &mut String, text: &str, number: u32) -> Result<(), AllocError>
+// A text and a number behind it.
+fn push_numbered(line: &mut String, text: &str, number: u32) -> Result<(), AllocError>
     ensures { OnOk result (string_bytes line.new ≡ string_bytes line.old ++ (text.now ++ decimal number)) }
 {
     write!(line, "{text}{number}")?;

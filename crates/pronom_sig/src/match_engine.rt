@@ -2,12 +2,12 @@
 //!
 //! Its whole answer is made before a byte of it is written.
 
-ghost use Rattle.std.specs.Prelude.{◌≡◌, ◌≢◌, false, true, IfOk, IsErrOf, OnOk, option_map, string_bytes};
+ghost use Rattle.std.specs.Prelude.{◌≡◌, ◌≢◌, false, true, IfOk, IsErrOf, OnOk};
 ghost use Rattle.sig_bits.specs.Device.{IsAtEnd};
-ghost use Rattle.pronom_sig.specs.Lines.{AddsLinesOfSome, AreAskedOfSome, AreLinesOfSome};
+ghost use Rattle.pronom_sig.specs.Lines.{AddsLinesOfSome, AreAskedOfSome};
 
 use crate::error::RunError;
-use crate::lines::lines_of_file;
+use crate::lines::lines_of_hits;
 use sig_bits::{Input, Output};
 use sig_match::{CoreError, DroidCore, Results};
 use std::alloc::Global;
@@ -39,29 +39,11 @@ pub fn run_match<K: DroidCore, R: Input, W: Output>(
     ensures read_stays { IsErrOf result RunError.Read → out.new ≡ out.old }
     ensures memory_stays { IsErrOf result RunError.OutOfMemory → out.new ≡ out.old }
 {
-    let lines = lines_of_match(alloc, core, all, None, file)?;
-    out.write_all(lines.as_bytes()).map_err(|_| RunError::Write)
-}
-
-/// The lines that are written of a file, of this name where it is one of several.
-pub(crate) fn lines_of_match<K: DroidCore, R: Input>(
-    alloc: Global,
-    core: &K,
-    all: bool,
-    name: Option<&str>,
-    file: &mut R,
-) -> Result<String, RunError>
-    ensures lines { IfOk result (λ lines. let name = option_map (λ n. n.now) name.entry in AreLinesOfSome all (K.lists core.now) name (R.to_come file.old) (string_bytes lines)) }
-    ensures at_end { OnOk result (IsAtEnd (R.to_come file.new)) }
-
-    // Each refusal, and when.
-    ensures reads { OnOk result (R.failed file.new ≡ false) }
-    ensures read { IsErrOf result RunError.Read → R.failed file.new ≡ true }
-    ensures memory { IsErrOf result RunError.OutOfMemory → R.failed file.old ≡ false → R.failed file.new ≡ false }
-    ensures never_write { ¬ IsErrOf result RunError.Write }
-{
     let results = asked_hits(core, all, file)?;
-    lines_of_file(alloc, core.table(), name, results.hits()).map_err(|_| RunError::OutOfMemory)
+    let text = lines_of_hits(alloc, core.table(), results.hits()).map_err(
+        |_| RunError::OutOfMemory,
+    )?;
+    out.write_all(text.as_bytes()).map_err(|_| RunError::Write)
 }
 
 // The hits of the file, or what is left of them.

@@ -2,10 +2,8 @@
 //! failing readers and writers do to them.
 
 mod checking;
-mod conflicting;
 mod finding;
 mod matching;
-mod progress;
 mod refusals;
 mod showing;
 mod streams;
@@ -53,13 +51,10 @@ pub(crate) fn owned_words(rt: &HostRuntime, words: &[&str]) -> Result<Vec<String
 
 // Runs the program on words.
 pub(crate) fn run_program(rt: &HostRuntime, words: &[&str]) -> Result<Shown, Fail> {
-    run_words(rt, owned_words(rt, words)?.as_slice())
-}
-
-pub(crate) fn run_words(rt: &HostRuntime, words: &[String]) -> Result<Shown, Fail> {
+    let owned = owned_words(rt, words)?;
     let mut out = FromWrite::new(Vec::new(rt.alloc()));
     let mut err = FromWrite::new(Vec::new(rt.alloc()));
-    let status = command(rt, words, &mut out, &mut err);
+    let status = command(rt, owned.as_slice(), &mut out, &mut err);
     Ok(Shown {
         status,
         out: String::from_utf8(out.into_inner())?,

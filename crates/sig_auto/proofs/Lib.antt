@@ -1,5 +1,4 @@
 -- Lemmas of this crate.
-mod AlikeLemmas
 mod BeginLemmas
 mod ByteLemmas
 mod ClassLemmas

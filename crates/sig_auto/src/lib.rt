@@ -3,7 +3,6 @@
 //! Some run of a file accepts exactly where the sequence stands in it (`specs/Runs.antt`).
 #![tactic(auto)]
 
-mod alike;
 mod auto;
 mod behind;
 mod class;

@@ -288,26 +288,6 @@ fn bytes_on_the_same_sides(rt: HostRuntime) -> Result<(), Fail> {
     Ok(())
 }
 
-#[test]
-fn states_that_go_on_alike(rt: HostRuntime) -> Result<(), Fail> {
-    let auto = automaton(rt.alloc(), "BOF,0,,(41|4243|44)(45|46)").expect(&rt, "loads");
-    let cases: [(u32, u32, bool); 9] = [
-        (1, 3, true),
-        (3, 4, true),
-        (4, 1, true),
-        (5, 6, true),
-        (2, 2, true),
-        (1, 2, false),
-        (2, 3, false),
-        (4, 5, false),
-        (0, 1, false),
-    ];
-    for (p, q, wanted) in cases {
-        assert_eq!(rt; auto.go_on_alike(p, q), wanted, "{p} and {q}");
-    }
-    Ok(())
-}
-
 // The class of these bytes.
 fn class_of(bytes: &[u8]) -> ByteClass {
     let mut class = ByteClass::none();

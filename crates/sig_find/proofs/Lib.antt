@@ -1,9 +1,8 @@
--- The lemmas of this crate.
+-- The lemmas of this crate; those that other crates may use are in PairLaws.
 mod AllBlockerLemmas
 mod AloneLemmas
 mod ByteLemmas
 mod ExpandLemmas
-pub mod Exports
 mod FoundLemmas
 mod FrontierLemmas
 mod HitLemmas
@@ -11,7 +10,7 @@ mod KeptLemmas
 mod KeyLemmas
 mod LeavingLemmas
 mod OrderLemmas
-mod PairLaws
+pub mod PairLaws
 mod PlaceLemmas
 mod ProjectionLemmas
 mod RisingLemmas

@@ -15,6 +15,4 @@ mod ReachLemmas
 mod RestLemmas
 mod RunLemmas
 mod ScanLemmas
-mod SieveLemmas
-mod SpanLemmas
 mod StandLemmas

@@ -19,6 +19,4 @@ pub mod Hitting
 pub mod Parts
 pub mod Rests
 pub mod Runs
-pub mod Sieves
-pub mod Spans
 pub use Rattle.memchr.specs.Find

@@ -129,45 +129,6 @@ fn unread_answer<K: DroidCore>(
     Ok((answer, out.into_inner().len()))
 }
 
-// An output with room for so many bytes. A write that does not fit takes none of them.
-#[derive(Drop)]
-pub(crate) struct Room {
-    bytes: usize,
-    failed: bool,
-}
-
-impl Room {
-    // Room for so many bytes.
-    pub(crate) fn of(bytes: usize) -> Room {
-        Room {
-            bytes,
-            failed: false,
-        }
-    }
-
-    // Room for so many bytes more.
-    pub(crate) fn left(&self) -> usize {
-        self.bytes
-    }
-}
-
-impl Output for Room {
-    ghost failed = { λ s. s.failed };
-
-    ghost limit = { λ s. s.bytes };
-
-    ghost written = { λ _. None };
-
-    fn write_all(&mut self, bytes: &[u8]) -> Result<(), DeviceFault> {
-        if self.failed || self.bytes < bytes.len() {
-            self.failed = true;
-            return Err(DeviceFault);
-        }
-        self.bytes -= bytes.len();
-        Ok(())
-    }
-}
-
 #[test]
 fn writes_nothing_before_the_last_read(rt: HostRuntime) -> Result<(), Fail> {
     let answers = [

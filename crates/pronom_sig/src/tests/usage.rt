@@ -5,7 +5,7 @@ use std::test::Fail;
 
 #[test]
 fn shows_help_and_the_version(rt: HostRuntime) -> Result<(), Fail> {
-    let texts: [(&[&str], &str); 10] = [
+    let texts: [(&[&str], &str); 9] = [
         (&["--help"], "Match files against tables of signatures\n"),
         (&["-h"], "Match files against tables of signatures\n"),
         (&["help"], "Match files against tables of signatures\n"),
@@ -17,10 +17,6 @@ fn shows_help_and_the_version(rt: HostRuntime) -> Result<(), Fail> {
         (
             &["find", "--help"],
             "Find a certificate of a table, or a file that leaves two of its formats\n",
-        ),
-        (
-            &["conflicts", "--help"],
-            "Find all pairs of formats that a file can leave\n",
         ),
         (&["check", "--help"], "Judge a certificate of a table\n"),
         (

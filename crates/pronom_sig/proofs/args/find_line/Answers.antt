@@ -16,12 +16,9 @@ returns-clause-line c =
     let out_local : c.help-2.result.global ≡ false = rw c.help-2.ensures c.option.ensures.local in
     let flag : rule_of c.help-3.result ≡ given (codes "hex") = rw c.help-3.ensures c.flag.ensures.rule in
     let flag_local : c.help-3.result.global ≡ false = rw c.help-3.ensures c.flag.ensures.local in
-    let shown : rule_of c.help-4.result ≡ given (codes "progress") = rw c.help-4.ensures c.flag-2.ensures.rule in
-    let shown_local : c.help-4.result.global ≡ false = rw c.help-4.ensures c.flag-2.ensures.local in
     let first : app_of c.in_ok-arg.field-0 ≡ with_rule (of_table (new_app (codes "find"))) budget_rule = c.in_ok-arg.ensures.shape budget_local ∙ ap₂ with_rule table budget in
     let second : app_of c.in_ok-arg-2.field-0 ≡ with_rule (with_rule (of_table (new_app (codes "find"))) budget_rule) (named (codes "out") (codes "OUT")) = c.in_ok-arg-2.ensures.shape out_local ∙ ap₂ with_rule first out in
-    let third : app_of c.in_ok-arg-3.field-0 ≡ with_rule (with_rule (with_rule (of_table (new_app (codes "find"))) budget_rule) (named (codes "out") (codes "OUT"))) (given (codes "hex")) = c.in_ok-arg-3.ensures.shape flag_local ∙ ap₂ with_rule second flag in
     record {
-      is_app = c.in_ok-line.ensures.shape shown_local ∙ ap₂ with_rule third shown;
-      has_no_globals = c.in_ok-line.ensures.globals ∙ or_false _ _ shown_local ∙ c.in_ok-arg-3.ensures.globals ∙ or_false _ _ flag_local ∙ c.in_ok-arg-2.ensures.globals ∙ or_false _ _ out_local ∙ c.in_ok-arg.ensures.globals ∙ or_false _ _ budget_local ∙ table_local;
+      is_app = c.in_ok-line.ensures.shape flag_local ∙ ap₂ with_rule second flag;
+      has_no_globals = c.in_ok-line.ensures.globals ∙ or_false _ _ flag_local ∙ c.in_ok-arg-2.ensures.globals ∙ or_false _ _ out_local ∙ c.in_ok-arg.ensures.globals ∙ or_false _ _ budget_local ∙ table_local;
     }

@@ -4,7 +4,7 @@ use Rattle.clap.specs.Matches.{found_of}
 use Rattle.clap.specs.Words.{rows_of}
 use Rattle.pronom_sig.proofs.BudgetLemmas.{budget_is_read, no_budget}
 use Rattle.pronom_sig.proofs.RequestLemmas.{no_find}
-use Rattle.pronom_sig.proofs.RowLemmas.{first_of-rows, flag_is_read, one_of-rows}
+use Rattle.pronom_sig.proofs.RowLemmas.{first_of-rows, one_of-rows}
 use Rattle.pronom_sig.proofs.args.find_request.Goals as goal
 
 pub returns-clause-asked : goal.returns-clause-asked
@@ -15,8 +15,11 @@ returns-clause-asked c = (
   budget_is_read _ (λ bs r. ParsesUnsigned 32 10 bs r × ExplainsUnsignedError 10 bs r × HasUnsignedDigitsIfOk bs r) (rows_of (found_of c.args.matches.now)) _ _ _
       (one_of-rows (found_of c.args.matches.now) (codes "N")) c.get_one.ensures.none c.get_one.ensures.value (λ t x g. g.0) c.in_ok-get_one.was,
   first_of-rows (found_of c.args.matches.now) (codes "OUT") ∙ sym c.in_ok-get_str.ensures,
-  flag_is_read (found_of c.args.matches.now) (codes "hex") _ c.get_flag.ensures.value c.get_flag.ensures.other c.get_flag.ensures.none,
-  flag_is_read (found_of c.args.matches.now) (codes "progress") _ c.get_flag-2.ensures.value c.get_flag-2.ensures.other c.get_flag-2.ensures.none,
+  record {
+    given = λ h. c.get_flag.ensures.value (sym (one_of-rows (found_of c.args.matches.now) (codes "hex")) ∙ h);
+    left_out = λ h. c.get_flag.ensures.other (sym (one_of-rows (found_of c.args.matches.now) (codes "hex")) ∙ h);
+    absent = λ h. c.get_flag.ensures.none (sym (one_of-rows (found_of c.args.matches.now) (codes "hex")) ∙ h);
+  },
 )
 
 pub returns-in_err-get_one-clause-none : goal.returns-in_err-get_one-clause-none

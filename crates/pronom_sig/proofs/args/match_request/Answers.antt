@@ -2,7 +2,7 @@ use Rattle.std.proofs.Common.{◌≡◌, ◌∙◌, codes, refl, sym, None, Some
 use Rattle.clap.specs.Matches.{found_of}
 use Rattle.clap.specs.Words.{rows_of}
 use Rattle.pronom_sig.proofs.RequestLemmas.{no_match}
-use Rattle.pronom_sig.proofs.RowLemmas.{first_of-rows, flag_is_read}
+use Rattle.pronom_sig.proofs.RowLemmas.{first_of-rows, one_of-rows}
 use Rattle.pronom_sig.proofs.args.match_request.Goals as goal
 
 pub returns-clause-asked : goal.returns-clause-asked
@@ -11,7 +11,11 @@ returns-clause-asked c = (
   refl,
   c.in_ok-table_paths.ensures.named,
   first_of-rows (found_of c.args.matches.now) (codes "FILE") ∙ sym c.in_ok-get_str.ensures,
-  flag_is_read (found_of c.args.matches.now) (codes "all") _ c.get_flag.ensures.value c.get_flag.ensures.other c.get_flag.ensures.none,
+  record {
+    given = λ h. c.get_flag.ensures.value (sym (one_of-rows (found_of c.args.matches.now) (codes "all")) ∙ h);
+    left_out = λ h. c.get_flag.ensures.other (sym (one_of-rows (found_of c.args.matches.now) (codes "all")) ∙ h);
+    absent = λ h. c.get_flag.ensures.none (sym (one_of-rows (found_of c.args.matches.now) (codes "all")) ∙ h);
+  },
 )
 
 pub returns-in_err-table_paths-clause-none : goal.returns-in_err-table_paths-clause-none

@@ -1,4 +1,4 @@
-use Rattle.std.proofs.Common.{◌≡◌, true, ap, refl, subst, sym, ◌∙◌}
+use Rattle.std.proofs.Common.{◌≡◌, true, ap, refl, subst, ◌∙◌}
 use Rattle.clap.specs.Words.{App, HasKind, Row, Text, fault_of, is_simple, is_simple_and_free, subcommand_of, takes}
 use Rattle.std.proofs.lemmas.Result.{err_from_is_err_and}
 use Rattle.clap.proofs.OnLiterals.{clap_on_literals}
@@ -37,9 +37,3 @@ pub returns-in_err-error-in-None-clause-help : goal.returns-in_err-error-in-None
 returns-in_err-error-in-None-clause-help c =
     let r = err_from_is_err_and c.from_residual-in_err-error-in-None.result c.from_residual-in_err-error-in-None.ensures.1 in
     rw r.1 (λ is. absurd (no_help r.0 r.2 is))
-
-pub returns-clause-taken : goal.returns-clause-taken
-returns-clause-taken c = λ taken.
-    let found = (c.in_ok-matches.ensures.ok.2 (ap is_simple c.in_ok-command.ensures.app ∙ is_program_simple)).1 in
-    let same = found ∙ ap (λ (a : App). subcommand_of a (map string_bytes c.args.words.now)) c.in_ok-command.ensures.app in
-    absurd (c.in-None.ensures.none refl taken.1.0 (subst (λ (o : Option (Text × List Row)). Asks o taken.1.0) (sym same) taken.1.1))
