@@ -23,16 +23,12 @@ pub(crate) struct Pieces<'a> {
 
 impl<'a> Pieces<'a> {
     // The bytes one by one, and then the end.
-    pub(crate) fn of(bytes: &'a [u8]) -> Pieces<'a>
-        ensures fresh { result.failed ≡ false }
-    {
+    pub(crate) fn of(bytes: &'a [u8]) -> Pieces<'a> {
         Pieces::cut(bytes, 1)
     }
 
     // The bytes in pieces of at most so many, and then the end.
-    pub(crate) fn cut(bytes: &'a [u8], most: usize) -> Pieces<'a>
-        ensures fresh { result.failed ≡ false }
-    {
+    pub(crate) fn cut(bytes: &'a [u8], most: usize) -> Pieces<'a> {
         Pieces {
             bytes,
             at: 0,
@@ -43,9 +39,7 @@ impl<'a> Pieces<'a> {
     }
 
     // The bytes one by one, and then a fault.
-    pub(crate) fn failing(bytes: &'a [u8]) -> Pieces<'a>
-        ensures fresh { result.failed ≡ false }
-    {
+    pub(crate) fn failing(bytes: &'a [u8]) -> Pieces<'a> {
         Pieces {
             bytes,
             at: 0,
