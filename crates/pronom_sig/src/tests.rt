@@ -4,11 +4,14 @@
 mod checking;
 mod conflicting;
 mod finding;
+mod many_files;
 mod matching;
 mod matching_many;
+mod memory;
 mod progress;
 mod refusals;
 mod showing;
+mod stores;
 mod streams;
 mod tables;
 mod usage;

@@ -23,12 +23,16 @@ pub(crate) struct Pieces<'a> {
 
 impl<'a> Pieces<'a> {
     // The bytes one by one, and then the end.
-    pub(crate) fn of(bytes: &'a [u8]) -> Pieces<'a> {
+    pub(crate) fn of(bytes: &'a [u8]) -> Pieces<'a>
+        ensures fresh { result.failed ≡ false }
+    {
         Pieces::cut(bytes, 1)
     }
 
     // The bytes in pieces of at most so many, and then the end.
-    pub(crate) fn cut(bytes: &'a [u8], most: usize) -> Pieces<'a> {
+    pub(crate) fn cut(bytes: &'a [u8], most: usize) -> Pieces<'a>
+        ensures fresh { result.failed ≡ false }
+    {
         Pieces {
             bytes,
             at: 0,
@@ -39,7 +43,9 @@ impl<'a> Pieces<'a> {
     }
 
     // The bytes one by one, and then a fault.
-    pub(crate) fn failing(bytes: &'a [u8]) -> Pieces<'a> {
+    pub(crate) fn failing(bytes: &'a [u8]) -> Pieces<'a>
+        ensures fresh { result.failed ≡ false }
+    {
         Pieces {
             bytes,
             at: 0,
