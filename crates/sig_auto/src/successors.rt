@@ -1,14 +1,15 @@
 //! The states that follow one state on a byte, in order, without memory of their own.
 //!
-//! The next one is found from the tree's root, past the branches that have no slot above the last. At
-//! most one slot begins a gap, and at most one of its slots goes behind another, so no gap is walked
-//! slot by slot.
+//! The next one is found from the tree's root, past the branches that have no slot above the one
+//! before. At most one slot begins a gap, and at most one of its slots goes behind another, so no gap is
+//! walked slot by slot. A walk tells whether it passed a branch that may have a later one, and where it
+//! did not, the next call needs no walk.
 
-ghost use Rattle.std.specs.Prelude.{◌≡◌, ◌↔◌, ℕ, ◌+◌, ◌≤◌, Contains, IfSome};
+ghost use Rattle.std.specs.Prelude.{◌≡◌, ◌↔◌, ℕ, ◌+◌, ◌≤◌, [], Contains, IfSome, IsTrue};
 ghost use Rattle.sig_auto.specs.Counted.{IsCounted, IsCounted-prop};
 ghost use Rattle.sig_auto.specs.Runs.{FollowsOn};
 ghost use Rattle.sig_auto.specs.Seen.{seen};
-ghost use Rattle.sig_auto.specs.Successions.{BeginsOn, GoesOn, IsLeastAbove, IsNextAbove};
+ghost use Rattle.sig_auto.specs.Successions.{BeginsOn, GoesOn, IsLeastAbove, IsNextAbove, NoneLater, successors_above};
 ghost use Rattle.sig_auto.specs.TreeSlots.{slots_of};
 ghost use Rattle.sig_auto.specs.Trim.{IsTrim};
 
@@ -75,33 +76,41 @@ impl Iterator for Successors<'_> {
     ghost remaining = { item_count remaining_of };
 
     fn next(&mut self) -> Option<u32> {
-        let q = self.root.next_state(self.state, self.byte, self.above)?;
-        self.above = q;
+        if self.above >= self.root.slots() {
+            return None;
+        }
+        let mut last = true;
+        let q = self.root.next_state(self.state, self.byte, self.above, &mut last)?;
+        self.above = if last { 65535 } else { q };
         Some(q as u32)
     }
 }
 
 impl Node {
-    // The least slot above this one that follows the state and takes the byte.
-    fn next_state(&self, state: usize, byte: u8, above: usize) -> Option<usize>
+    // The least slot above this one that follows the state and takes the byte, and whether it is seen to
+    // be the last.
+    fn next_state(&self, state: usize, byte: u8, above: usize, last: &mut bool) -> Option<usize>
         requires counted { IsCounted self.now }
         requires few { slots_of (seen self.now) ≤ 65535 }
         ensures next { IsNextAbove (seen self.now) state byte above result }
         ensures within { IfSome result (λ q. q ≤ slots_of (seen self.now)) }
+        ensures last { IsTrue last.new → IfSome result (λ q. successors_above (seen self.now) state byte q ≡ []) }
     {
         if state == 0 {
-            self.next_begin(0, byte, above)
+            self.next_begin(0, byte, above, last)
         } else {
-            self.next_gone(0, state, byte, above)
+            self.next_gone(0, state, byte, above, last)
         }
     }
 
-    // The least slot above this one that begins the tree and takes the byte.
-    fn next_begin(&self, before: usize, byte: u8, above: usize) -> Option<usize>
+    // The least slot above this one that begins the tree and takes the byte, and whether it is seen to be
+    // the last.
+    fn next_begin(&self, before: usize, byte: u8, above: usize, last: &mut bool) -> Option<usize>
         requires counted { IsCounted self.now }
         requires few { before + slots_of (seen self.now) ≤ 65535 }
         ensures least { IsLeastAbove above (BeginsOn (seen self.now) before byte) result }
         ensures within { IfSome result (λ q. q ≤ before + slots_of (seen self.now)) }
+        ensures last { IsTrue last.new → NoneLater (BeginsOn (seen self.now) before byte) result }
     {
         match self {
             Node::Never | Node::Empty => None,
@@ -122,12 +131,13 @@ impl Node {
             Node::Then(a, b, _) => {
                 let between = before + a.slots();
                 if above < between {
-                    if let Some(q) = a.next_begin(before, byte, above) {
+                    if let Some(q) = a.next_begin(before, byte, above, last) {
+                        *last &= !a.is_nullable();
                         return Some(q);
                     }
                 }
                 if a.is_nullable() {
-                    b.next_begin(between, byte, above)
+                    b.next_begin(between, byte, above, last)
                 } else {
                     None
                 }
@@ -135,29 +145,39 @@ impl Node {
             Node::Or(a, b, _) => {
                 let between = before + a.slots();
                 if above < between {
-                    if let Some(q) = a.next_begin(before, byte, above) {
+                    if let Some(q) = a.next_begin(before, byte, above, last) {
+                        *last = false;
                         return Some(q);
                     }
                 }
-                b.next_begin(between, byte, above)
+                b.next_begin(between, byte, above, last)
             }
         }
     }
 
-    // The least slot above this one that goes behind p and takes the byte.
-    fn next_gone(&self, before: usize, p: usize, byte: u8, above: usize) -> Option<usize>
+    // The least slot above this one that goes behind p and takes the byte, and whether it is seen to be
+    // the last.
+    fn next_gone(
+        &self,
+        before: usize,
+        p: usize,
+        byte: u8,
+        above: usize,
+        last: &mut bool,
+    ) -> Option<usize>
         requires counted { IsCounted self.now }
         requires few { before + slots_of (seen self.now) ≤ 65535 }
         ensures least { IsLeastAbove above (GoesOn (seen self.now) before p byte) result }
         ensures within { IfSome result (λ q. q ≤ before + slots_of (seen self.now)) }
+        ensures last { IsTrue last.new → NoneLater (GoesOn (seen self.now) before p byte) result }
     {
         match self {
             Node::Never | Node::Empty | Node::Slot(_) => None,
             Node::Gap { max, .. } => {
-                let last = before + self.slots();
-                if before < p && p < last && above <= p {
+                let end = before + self.slots();
+                if before < p && p < end && above <= p {
                     Some(p + 1)
-                } else if max.is_none() && p == last && above < p {
+                } else if max.is_none() && p == end && above < p {
                     Some(p)
                 } else {
                     None
@@ -166,15 +186,16 @@ impl Node {
             Node::Then(a, b, _) => {
                 let between = before + a.slots();
                 if between < p {
-                    return b.next_gone(between, p, byte, above);
+                    return b.next_gone(between, p, byte, above, last);
                 }
                 if above < between {
-                    if let Some(q) = a.next_gone(before, p, byte, above) {
+                    if let Some(q) = a.next_gone(before, p, byte, above, last) {
+                        *last &= !a.is_last(before, p);
                         return Some(q);
                     }
                 }
                 if a.is_last(before, p) {
-                    b.next_begin(between, byte, above)
+                    b.next_begin(between, byte, above, last)
                 } else {
                     None
                 }
@@ -182,9 +203,9 @@ impl Node {
             Node::Or(a, b, _) => {
                 let between = before + a.slots();
                 if between < p {
-                    b.next_gone(between, p, byte, above)
+                    b.next_gone(between, p, byte, above, last)
                 } else {
-                    a.next_gone(before, p, byte, above)
+                    a.next_gone(before, p, byte, above, last)
                 }
             }
         }
