@@ -13,8 +13,6 @@ mod node;
 mod start;
 mod step;
 mod successors;
-#[cfg(test)]
-mod tests;
 mod unroll;
 
 pub use auto::Auto;

@@ -13,14 +13,10 @@ mod kept;
 mod laws;
 mod observer;
 mod pair;
-#[cfg(test)]
-mod pair_tests;
 mod search;
 #[cfg(test)]
 mod search_tests;
 mod tally;
-#[cfg(test)]
-mod tests;
 mod writer;
 
 pub use decision::{Decision, decide_product};

@@ -1,5 +1,0 @@
-use Rattle.std.proofs.Common.{refl}
-use Rattle.pronom_sig.proofs.command.settle_pairs.Goals as goal
-
-pub returns-clause-untouched : goal.returns-clause-untouched
-returns-clause-untouched g c = λ none. absurd (none c.in-Err.error refl)
