@@ -1,5 +1,5 @@
 -- The slots that follow a state on a byte, in order.
-use Rattle.std.specs.Prelude.{◌≡◌, ℕ, zero, suc, ◌+◌, ◌-◌, ◌<◌, ◌==◌, ◌&&◌, ◌||◌, nat_le, nat_lt, Bool, true, if◌then◌else◌, List, [], ◌∷◌, Option, Some, None, MatchOption, ⊤}
+use Rattle.std.specs.Prelude.{◌≡◌, ℕ, zero, suc, ◌+◌, ◌-◌, ◌<◌, ◌==◌, ◌&&◌, ◌||◌, nat_le, nat_lt, Bool, true, if◌then◌else◌, List, [], ◌∷◌, Option, Some, None, MatchOption}
 use Rattle.sig_auto.specs.declared.class.Class.{Class}
 use Rattle.sig_auto.specs.declared.class.Class.TheVariants.{Within, Outside}
 use Rattle.sig_auto.specs.Classes.{InClass}
@@ -11,10 +11,6 @@ use Rattle.sig_auto.specs.TreeSlots.{class_of, slots_of}
 abbrev pub IsLeastAbove : ℕ → (ℕ → Type 0) → Option ℕ → Type 0
 IsLeastAbove above P None = (q : ℕ) → above < q → P q → ⊥
 IsLeastAbove above P (Some q) = (above < q) × P q × ((r : ℕ) → above < r → r < q → P r → ⊥)
-
--- it holds of no number above this one, where there is one
-abbrev pub NoneLater : (ℕ → Type 0) → Option ℕ → Type 0
-NoneLater P o = MatchOption o ⊤ (λ q. (r : ℕ) → q < r → P r → ⊥)
 
 -- slot q begins the tree and takes the byte
 abbrev pub BeginsOn : Tree → ℕ → ℕ → ℕ → Type 0

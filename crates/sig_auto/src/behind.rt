@@ -110,22 +110,16 @@ impl Node {
                 }
             }
             Node::Then(a, b, _) => {
-                let between = before + a.slots();
-                if between < p {
-                    return b.add_behind(between, p, live, cuts);
-                }
                 a.add_behind(before, p, live, cuts);
                 if a.is_last(before, p) {
                     b.add_begin(live, cuts);
+                } else {
+                    b.add_behind(before + a.slots(), p, live, cuts);
                 }
             }
             Node::Or(a, b, _) => {
-                let between = before + a.slots();
-                if between < p {
-                    b.add_behind(between, p, live, cuts);
-                } else {
-                    a.add_behind(before, p, live, cuts);
-                }
+                a.add_behind(before, p, live, cuts);
+                b.add_behind(before + a.slots(), p, live, cuts);
             }
         }
     }

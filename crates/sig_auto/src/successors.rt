@@ -1,15 +1,14 @@
 //! The states that follow one state on a byte, in order, without memory of their own.
 //!
-//! The next one is found from the tree's root, past the branches that have no slot above the one
-//! before. At most one slot begins a gap, and at most one of its slots goes behind another, so no gap is
-//! walked slot by slot. A walk tells whether it passed a branch that may have a later one, and where it
-//! did not, the next call needs no walk.
+//! The next one is found from the tree's root, past the branches that have no slot above the last. At
+//! most one slot begins a gap, and at most one of its slots goes behind another, so no gap is walked
+//! slot by slot.
 
-ghost use Rattle.std.specs.Prelude.{◌≡◌, ◌↔◌, ℕ, ◌+◌, ◌≤◌, [], Contains, IfSome, IsTrue};
+ghost use Rattle.std.specs.Prelude.{◌≡◌, ◌↔◌, ℕ, ◌+◌, ◌≤◌, Contains, IfSome};
 ghost use Rattle.sig_auto.specs.Counted.{IsCounted, IsCounted-prop};
 ghost use Rattle.sig_auto.specs.Runs.{FollowsOn};
 ghost use Rattle.sig_auto.specs.Seen.{seen};
-ghost use Rattle.sig_auto.specs.Successions.{BeginsOn, GoesOn, IsLeastAbove, IsNextAbove, NoneLater, successors_above};
+ghost use Rattle.sig_auto.specs.Successions.{BeginsOn, GoesOn, IsLeastAbove, IsNextAbove};
 ghost use Rattle.sig_auto.specs.TreeSlots.{slots_of};
 ghost use Rattle.sig_auto.specs.Trim.{IsTrim};
 
@@ -76,41 +75,33 @@ impl Iterator for Successors<'_> {
     ghost remaining = { item_count remaining_of };
 
     fn next(&mut self) -> Option<u32> {
-        if self.above >= self.root.slots() {
-            return None;
-        }
-        let mut last = true;
-        let q = self.root.next_state(self.state, self.byte, self.above, &mut last)?;
-        self.above = if last { 65535 } else { q };
+        let q = self.root.next_state(self.state, self.byte, self.above)?;
+        self.above = q;
         Some(q as u32)
     }
 }
 
 impl Node {
-    // The least slot above this one that follows the state and takes the byte, and whether it is seen to
-    // be the last.
-    fn next_state(&self, state: usize, byte: u8, above: usize, last: &mut bool) -> Option<usize>
+    // The least slot above this one that follows the state and takes the byte.
+    fn next_state(&self, state: usize, byte: u8, above: usize) -> Option<usize>
         requires counted { IsCounted self.now }
         requires few { slots_of (seen self.now) ≤ 65535 }
         ensures next { IsNextAbove (seen self.now) state byte above result }
         ensures within { IfSome result (λ q. q ≤ slots_of (seen self.now)) }
-        ensures last { IsTrue last.new → IfSome result (λ q. successors_above (seen self.now) state byte q ≡ []) }
     {
         if state == 0 {
-            self.next_begin(0, byte, above, last)
+            self.next_begin(0, byte, above)
         } else {
-            self.next_gone(0, state, byte, above, last)
+            self.next_gone(0, state, byte, above)
         }
     }
 
-    // The least slot above this one that begins the tree and takes the byte, and whether it is seen to be
-    // the last.
-    fn next_begin(&self, before: usize, byte: u8, above: usize, last: &mut bool) -> Option<usize>
+    // The least slot above this one that begins the tree and takes the byte.
+    fn next_begin(&self, before: usize, byte: u8, above: usize) -> Option<usize>
         requires counted { IsCounted self.now }
         requires few { before + slots_of (seen self.now) ≤ 65535 }
         ensures least { IsLeastAbove above (BeginsOn (seen self.now) before byte) result }
         ensures within { IfSome result (λ q. q ≤ before + slots_of (seen self.now)) }
-        ensures last { IsTrue last.new → NoneLater (BeginsOn (seen self.now) before byte) result }
     {
         match self {
             Node::Never | Node::Empty => None,
@@ -131,13 +122,12 @@ impl Node {
             Node::Then(a, b, _) => {
                 let between = before + a.slots();
                 if above < between {
-                    if let Some(q) = a.next_begin(before, byte, above, last) {
-                        *last &= !a.is_nullable();
+                    if let Some(q) = a.next_begin(before, byte, above) {
                         return Some(q);
                     }
                 }
                 if a.is_nullable() {
-                    b.next_begin(between, byte, above, last)
+                    b.next_begin(between, byte, above)
                 } else {
                     None
                 }
@@ -145,39 +135,29 @@ impl Node {
             Node::Or(a, b, _) => {
                 let between = before + a.slots();
                 if above < between {
-                    if let Some(q) = a.next_begin(before, byte, above, last) {
-                        *last = false;
+                    if let Some(q) = a.next_begin(before, byte, above) {
                         return Some(q);
                     }
                 }
-                b.next_begin(between, byte, above, last)
+                b.next_begin(between, byte, above)
             }
         }
     }
 
-    // The least slot above this one that goes behind p and takes the byte, and whether it is seen to be
-    // the last.
-    fn next_gone(
-        &self,
-        before: usize,
-        p: usize,
-        byte: u8,
-        above: usize,
-        last: &mut bool,
-    ) -> Option<usize>
+    // The least slot above this one that goes behind p and takes the byte.
+    fn next_gone(&self, before: usize, p: usize, byte: u8, above: usize) -> Option<usize>
         requires counted { IsCounted self.now }
         requires few { before + slots_of (seen self.now) ≤ 65535 }
         ensures least { IsLeastAbove above (GoesOn (seen self.now) before p byte) result }
         ensures within { IfSome result (λ q. q ≤ before + slots_of (seen self.now)) }
-        ensures last { IsTrue last.new → NoneLater (GoesOn (seen self.now) before p byte) result }
     {
         match self {
             Node::Never | Node::Empty | Node::Slot(_) => None,
             Node::Gap { max, .. } => {
-                let end = before + self.slots();
-                if before < p && p < end && above <= p {
+                let last = before + self.slots();
+                if before < p && p < last && above <= p {
                     Some(p + 1)
-                } else if max.is_none() && p == end && above < p {
+                } else if max.is_none() && p == last && above < p {
                     Some(p)
                 } else {
                     None
@@ -186,16 +166,15 @@ impl Node {
             Node::Then(a, b, _) => {
                 let between = before + a.slots();
                 if between < p {
-                    return b.next_gone(between, p, byte, above, last);
+                    return b.next_gone(between, p, byte, above);
                 }
                 if above < between {
-                    if let Some(q) = a.next_gone(before, p, byte, above, last) {
-                        *last &= !a.is_last(before, p);
+                    if let Some(q) = a.next_gone(before, p, byte, above) {
                         return Some(q);
                     }
                 }
                 if a.is_last(before, p) {
-                    b.next_begin(between, byte, above, last)
+                    b.next_begin(between, byte, above)
                 } else {
                     None
                 }
@@ -203,9 +182,9 @@ impl Node {
             Node::Or(a, b, _) => {
                 let between = before + a.slots();
                 if between < p {
-                    b.next_gone(between, p, byte, above, last)
+                    b.next_gone(between, p, byte, above)
                 } else {
-                    a.next_gone(before, p, byte, above, last)
+                    a.next_gone(before, p, byte, above)
                 }
             }
         }
