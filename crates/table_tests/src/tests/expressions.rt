@@ -1,8 +1,8 @@
+use sig_bits::FromWrite;
 use sig_expr::ExprError::{
     BracketTooLong, ClassEmpty, GapEmpty, GapNumber, GapOrder, RangeLength, RangeOrder, Syntax,
     TooLong,
 };
-use sig_bits::FromWrite;
 use sig_expr::{ExprError, parse, print};
 use std::test::*;
 
