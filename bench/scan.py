@@ -11,7 +11,7 @@ random bytes, words of text and zeros in turn, with the beginnings of some signa
 
 Of each table and file the best of three runs counts. A line has the milliseconds of a run on an empty
 file, which are those of the start and of the table, and for each file the MB/s without them. The last
-line is one run that names 2,000 files of 16 KiB, with the table of 300 signatures. With `--keep`
+line is one run that names 2,000 files of 16 KiB, with the table of 1,500 signatures. With `--keep`
 tables and files stay in that folder. The same seed makes the same ones anywhere.
 """
 import argparse
@@ -119,11 +119,10 @@ def measure(program, seed, large, folder):
             spent = seconds(program, folder, count, path) - start
             line += f" {size / 1e6 / max(spent, 1e-6):>9.1f}"
         print(line, flush=True)
-        if count == 300:
-            many = [os.path.join(folder, f"many{number}") for number in range(2000)]
-            for path in many:
-                write_file(rng, path, 16 << 10, fronts)
-    print(f"2,000 files of 16 KiB, 300 signatures: {seconds(program, folder, 300, *many):.2f} s")
+    many = [os.path.join(folder, f"many{number}") for number in range(2000)]
+    for path in many:
+        write_file(rng, path, 16 << 10, fronts)
+    print(f"2,000 files of 16 KiB, {count} signatures: {seconds(program, folder, count, *many):.2f} s")
 
 
 def main():
