@@ -1,7 +1,7 @@
-//! Tests of the program's one function, `command`: the answers to rows worked out by hand, its texts and
-//! statuses, and what failing readers and writers do to it.
+//! Tests of the command line, `command` and `command_over`: the answers to rows worked out by hand, texts
+//! and statuses, and what failing readers and writers do to them.
 //!
-//! They are a crate of their own so that `command` is not proved once more with them.
+//! They are a crate of their own so that the command line is not proved once more with them.
 #![tactic(auto)]
 
 #[cfg(test)]

@@ -4,8 +4,8 @@
 //! - `run_match`, for every core that meets the law of `DroidCore`: where it answers Ok, the output has
 //!   grown by exactly the lines of the formats left for a file, or with `all` of those that it hits.
 //!   The file is the one that was to come, where its bytes are known.
-//! - `run_match_many` does so for each of many files of a store, each line behind the file's name, and
-//!   tells each fault of one.
+//! - `run_match_many` does so for each of many files of a store, each line behind the file's name. The
+//!   fault of a file is a line of the error output.
 //! - `run_show` adds both canonical files with an empty line between them.
 //! - `run_find` adds the lines of what the finder finds of a table, once its bytes are written to a file
 //!   of the store.
@@ -17,8 +17,9 @@
 //!   line. Of a pair without a line no file leaves both formats, and the file of an `ambiguous` line
 //!   leaves both; it answers a yes only where the table is decided. Where it stops before the last
 //!   line, the lines of the first pairs stand. `settle` is the same with progress.
-//! - No other one writes before its answer is known: after a failed read, and where memory runs out, the
-//!   output is as it was. A failed read or write is reported as one, and nothing else is.
+//! - But for `run_conflicts` and `run_match_many`, none writes before its answer is known: after a failed
+//!   read, and where memory runs out, the output is as it was. A failed read, and a failed write of an
+//!   answer, is reported as one, and nothing else is.
 #![tactic(auto)]
 
 mod check_engine;
