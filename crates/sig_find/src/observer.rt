@@ -2,7 +2,7 @@
 
 ghost use Rattle.std.specs.Prelude.{⊤};
 
-/// Is told, after each product, how many of how many are done.
+/// Is told, at the start and after each product or pair, how many of how many are done.
 ///
 /// A search owes it nothing more, and asks nothing of it.
 pub trait Observer {
@@ -20,7 +20,7 @@ pub trait Observer {
     ghost goes_on: { (a b c : Self) → becomes a b → becomes b c → becomes a c };
 }
 
-/// The observer that is told nothing.
+/// The observer that makes nothing of what it is told.
 #[derive(Clone, Copy, Debug)]
 pub struct Unobserved;
 
