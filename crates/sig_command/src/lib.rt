@@ -24,9 +24,9 @@
 #![tactic(auto)]
 
 mod args;
-mod command;
 mod fault;
 mod laws;
+mod requests;
 
-pub use command::{command, command_over, run};
 pub use laws::words_are_taken;
+pub use requests::{command, command_over, run};

@@ -1,7 +1,7 @@
 use Rattle.std.proofs.Common.{inr}
 use Rattle.std.proofs.lemmas.Result.{err_from_is_err_and}
 use Rattle.sig_command.proofs.SeveralLemmas.{first_joined, first_told, load_joined, many_answered, many_cut, many_joined, many_told}
-use Rattle.sig_command.proofs.command.match_many.Goals as goal
+use Rattle.sig_command.proofs.requests.match_many.Goals as goal
 
 pub returns-in_err-table-clause-joined : goal.returns-in_err-table-clause-joined
 returns-in_err-table-clause-joined g c =

@@ -3,7 +3,7 @@ use Rattle.sig_command.specs.Faults.{Reports}
 use Rattle.sig_engines.specs.declared.error.RunError.TheVariants.{OutOfMemory}
 use Rattle.sig_command.specs.declared.fault.Fault.TheVariants.{Run}
 use Rattle.sig_command.proofs.EndLemmas.{memory_first, memory_of}
-use Rattle.sig_command.proofs.command.command_over.Goals as goal
+use Rattle.sig_command.proofs.requests.command_over.Goals as goal
 
 pub returns-in-Err-clause-faults : goal.returns-in-Err-clause-faults
 returns-in-Err-clause-faults g c = λ taken high sound.

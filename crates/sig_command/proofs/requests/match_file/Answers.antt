@@ -1,7 +1,7 @@
 use Rattle.std.proofs.Common.{refl, subst}
 use Rattle.sig_engines.specs.Lines.{AddsLinesOfSome}
 use Rattle.sig_command.proofs.StoreLemmas.{match_is_answered}
-use Rattle.sig_command.proofs.command.match_file.Goals as goal
+use Rattle.sig_command.proofs.requests.match_file.Goals as goal
 
 pub returns-in-Ok-clause-answers : goal.returns-in-Ok-clause-answers
 returns-in-Ok-clause-answers g c =

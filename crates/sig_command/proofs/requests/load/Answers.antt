@@ -1,6 +1,6 @@
 use Rattle.std.proofs.Common.{Err, ap}
 use Rattle.sig_command.proofs.StoreLemmas.{table_fault}
-use Rattle.sig_command.proofs.command.load.Goals as goal
+use Rattle.sig_command.proofs.requests.load.Goals as goal
 
 pub returns-clause-faults : goal.returns-clause-faults
 returns-clause-faults g c =

@@ -1,6 +1,6 @@
 use Rattle.std.proofs.Common.{refl}
 use Rattle.sig_command.proofs.StoreLemmas.{check_is_answered}
-use Rattle.sig_command.proofs.command.check_certificate.Goals as goal
+use Rattle.sig_command.proofs.requests.check_certificate.Goals as goal
 
 pub returns-in-Ok-clause-answers : goal.returns-in-Ok-clause-answers
 returns-in-Ok-clause-answers g c =
