@@ -20,20 +20,44 @@ fn prints_the_lines_of_each_file_behind_its_name(rt: HostRuntime) -> Result<(), 
     let both = put(&rt, folder.as_str(), "both.bin", b"AB")?;
     let none = put(&rt, folder.as_str(), "none.bin", b"B")?;
     let one = put(&rt, folder.as_str(), "one.bin", b"AC")?;
-    let (signatures, priorities) = (signatures.as_str(), priorities.as_str());
-    let (both, none, one) = (both.as_str(), none.as_str(), one.as_str());
     let lines = format!(in rt.alloc();
         "{one}\tfmt/1 1\n{both}\tfmt/2 2\n{none}\t-\n{both}\tfmt/2 2\n"
     )?;
     let shown = run_program(
         &rt,
-        &["match", signatures, priorities, one, both, none, both],
+        &[
+            "match",
+            signatures.as_str(),
+            priorities.as_str(),
+            one.as_str(),
+            both.as_str(),
+            none.as_str(),
+            both.as_str(),
+        ],
     )?;
     assert!(rt; shown.is_answer(lines.as_str()), "{shown:?}");
     let lines = format!(in rt.alloc(); "{both}\tfmt/1 1\n{both}\tfmt/2 2\n{one}\tfmt/1 1\n")?;
-    let shown = run_program(&rt, &["match", "--all", signatures, priorities, both, one])?;
+    let shown = run_program(
+        &rt,
+        &[
+            "match",
+            "--all",
+            signatures.as_str(),
+            priorities.as_str(),
+            both.as_str(),
+            one.as_str(),
+        ],
+    )?;
     assert!(rt; shown.is_answer(lines.as_str()), "{shown:?}");
-    let shown = run_program(&rt, &["match", signatures, priorities, none])?;
+    let shown = run_program(
+        &rt,
+        &[
+            "match",
+            signatures.as_str(),
+            priorities.as_str(),
+            none.as_str(),
+        ],
+    )?;
     assert!(rt; shown.is_answer(""), "{shown:?}");
     fs::remove_dir_all(&rt, folder.as_str())?;
     Ok(())
@@ -45,17 +69,16 @@ fn goes_on_behind_a_file_with_a_fault(rt: HostRuntime) -> Result<(), Fail> {
     let (signatures, priorities) = put_table(&rt, folder.as_str(), ROWS, PAIRS)?;
     let one = put(&rt, folder.as_str(), "one.bin", b"A")?;
     let missing = format!(in rt.alloc(); "{folder}/missing.bin")?;
-    let (folder, one, missing) = (folder.as_str(), one.as_str(), missing.as_str());
     let shown = run_program(
         &rt,
         &[
             "match",
             signatures.as_str(),
             priorities.as_str(),
-            missing,
-            one,
-            folder,
-            one,
+            missing.as_str(),
+            one.as_str(),
+            folder.as_str(),
+            one.as_str(),
         ],
     )?;
     let lines = format!(in rt.alloc(); "{one}\tfmt/1 1\n{one}\tfmt/1 1\n")?;
@@ -63,7 +86,7 @@ fn goes_on_behind_a_file_with_a_fault(rt: HostRuntime) -> Result<(), Fail> {
     assert_eq!(rt; shown.out.as_str(), lines.as_str());
     assert_eq!(rt; shown.err.as_str(), faults.as_str());
     assert_eq!(rt; shown.status, 3);
-    fs::remove_dir_all(&rt, folder)?;
+    fs::remove_dir_all(&rt, folder.as_str())?;
     Ok(())
 }
 
@@ -72,10 +95,27 @@ fn a_refused_table_comes_before_any_line(rt: HostRuntime) -> Result<(), Fail> {
     let folder = folder(&rt, "no_table")?;
     let (signatures, priorities) = put_table(&rt, folder.as_str(), ROWS, PAIRS)?;
     let one = put(&rt, folder.as_str(), "one.bin", b"A")?;
-    let (signatures, priorities, one) = (signatures.as_str(), priorities.as_str(), one.as_str());
-    let shown = run_program(&rt, &["match", priorities, priorities, one, "none.bin"])?;
+    let shown = run_program(
+        &rt,
+        &[
+            "match",
+            priorities.as_str(),
+            priorities.as_str(),
+            one.as_str(),
+            "none.bin",
+        ],
+    )?;
     assert!(rt; shown.is_fault(2, "signatures: L2 header\n"), "{shown:?}");
-    let shown = run_program(&rt, &["match", signatures, "none.csv", "none.bin", one])?;
+    let shown = run_program(
+        &rt,
+        &[
+            "match",
+            signatures.as_str(),
+            "none.csv",
+            "none.bin",
+            one.as_str(),
+        ],
+    )?;
     assert!(rt; shown.is_fault(3, "cannot open none.csv\n"), "{shown:?}");
     fs::remove_dir_all(&rt, folder.as_str())?;
     Ok(())
