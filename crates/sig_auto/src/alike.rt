@@ -25,8 +25,8 @@ impl Node {
             return true;
         }
         match self {
-            Node::Never | Node::Empty | Node::Slot(_) => true,
-            Node::Gap { .. } => false,
+            Node::Never | Node::Empty => true,
+            Node::Run(_) | Node::Gap { .. } => false,
             Node::Then(a, b, _) => {
                 let has_p = a.has_slot(before, p);
                 let has_q = a.has_slot(before, q);

@@ -22,7 +22,11 @@ impl Node {
     {
         match self {
             Node::Never | Node::Empty | Node::Gap { .. } => {}
-            Node::Slot(class) => class.add_cuts(cuts),
+            Node::Run(classes) => {
+                for class in classes.iter() {
+                    class.add_cuts(cuts);
+                }
+            }
             Node::Then(x, y, _) | Node::Or(x, y, _) => {
                 x.add_cuts(cuts);
                 y.add_cuts(cuts);
@@ -36,7 +40,11 @@ impl Node {
     {
         match self {
             Node::Never | Node::Empty | Node::Gap { .. } => {}
-            Node::Slot(class) => class.add_alone(alone),
+            Node::Run(classes) => {
+                for class in classes.iter() {
+                    class.add_alone(alone);
+                }
+            }
             Node::Then(x, y, _) | Node::Or(x, y, _) => {
                 x.add_alone(alone);
                 y.add_alone(alone);
@@ -70,9 +78,10 @@ impl Node {
     {
         match self {
             Node::Never | Node::Empty => {}
-            Node::Slot(class) => {
-                live.extend(&class.bytes());
-                class.add_cuts(cuts);
+            Node::Run(classes) => {
+                if let Some(class) = classes.first() {
+                    class.add_live(live, cuts);
+                }
             }
             Node::Gap { .. } => {
                 if self.slots() > 0 {
@@ -103,7 +112,12 @@ impl Node {
             return;
         }
         match self {
-            Node::Never | Node::Empty | Node::Slot(_) => {}
+            Node::Never | Node::Empty => {}
+            Node::Run(classes) => {
+                if let Some(class) = classes.get(p - before) {
+                    class.add_live(live, cuts);
+                }
+            }
             Node::Gap { max, .. } => {
                 if p < before + self.slots() || max.is_none() {
                     *live = ByteClass::all();

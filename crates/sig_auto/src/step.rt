@@ -61,11 +61,13 @@ impl Node {
         match self {
             Node::Never => false,
             Node::Empty => enter,
-            Node::Slot(class) => {
-                if enter && class.contains(byte) {
-                    set_bit(to, before + 1);
+            Node::Run(classes) => {
+                let mut led = enter;
+                for (index, class) in classes.iter().enumerate() {
+                    add_if(to, before + index + 1, led && class.contains(byte));
+                    led = get_bit(from, before + index + 1);
                 }
-                get_bit(from, before + 1)
+                led
             }
             Node::Gap { min, max } => {
                 step_gap(before, self.slots(), *max, enter, from, to);
@@ -93,7 +95,12 @@ impl Node {
         match self {
             Node::Never => false,
             Node::Empty => enter,
-            Node::Slot(_) => get_bit(from, before + 1),
+            Node::Run(classes) => {
+                if classes.is_empty() {
+                    return enter;
+                }
+                get_bit(from, before + classes.len())
+            }
             Node::Gap { min, .. } => gap_leads(before, self.slots(), *min, enter, from),
             Node::Then(a, b, _) => {
                 let led = a.goes_on(before, enter, from);

@@ -105,13 +105,10 @@ impl Node {
     {
         match self {
             Node::Never | Node::Empty => None,
-            Node::Slot(class) => {
-                if above <= before && class.contains(byte) {
-                    Some(before + 1)
-                } else {
-                    None
-                }
-            }
+            Node::Run(classes) => match classes.first() {
+                Some(class) if above <= before && class.contains(byte) => Some(before + 1),
+                _ => None,
+            },
             Node::Gap { .. } => {
                 if above <= before && self.slots() > 0 {
                     Some(before + 1)
@@ -152,7 +149,16 @@ impl Node {
         ensures within { IfSome result (λ q. q ≤ before + slots_of (seen self.now)) }
     {
         match self {
-            Node::Never | Node::Empty | Node::Slot(_) => None,
+            Node::Never | Node::Empty => None,
+            Node::Run(classes) => {
+                if p <= before || p < above {
+                    return None;
+                }
+                match classes.get(p - before) {
+                    Some(class) if class.contains(byte) => Some(p + 1),
+                    _ => None,
+                }
+            }
             Node::Gap { max, .. } => {
                 let last = before + self.slots();
                 if before < p && p < last && above <= p {
