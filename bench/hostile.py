@@ -37,12 +37,14 @@ EXAMPLES = os.path.join(os.path.dirname(os.path.abspath(__file__)), "..", "examp
 PAIRS = "higher,lower\n"
 LONGEST = 60  # seconds that a run may take
 PUID = r"(x-)?fmt/[1-9]\d{0,8}"
+COUNTS = r"pairs \d+ decided \d+ ambiguous"
 # What each subcommand may print, by its status.
 SAID = {
     "match": {0: rf"({PUID} [1-9]\d*\n)*"},
     "show": {0: rf"{HEADER}(.*\n)*\n{PAIRS}({PUID},{PUID}\n)*"},
     "witness": {0: rf"ambiguous {PUID} {PUID}\n", 1: r"not ambiguous\n"},
     "check": {0: r"accepted\n", 1: r"refused C([1-9]|1[0-2]) [^\n]+\n"},
+    "conflicts": {0: rf"{COUNTS} 0 unknown 0\n", 1: rf"((ambiguous|unknown) {PUID} {PUID} [1-9]\d* [1-9]\d*( [0-9a-f]+)*\n)+{COUNTS} \d+ unknown \d+\n"},
     "find": {0: rf"(decided|witness {PUID} {PUID})\n([0-9a-f]*\n)?", 1: r"gave up [1-9]\d* [1-9]\d*\n"},
 }
 FAULTS = {
@@ -377,6 +379,29 @@ def searched(runs, kind, signatures, budget):
         raise Failed(f"find says {answer[1]!r}, and match leaves {lines}")
 
 
+def settled(runs, kind, budget):
+    """`conflicts`; the file of a line leaves its two formats, and no line stands exactly where `find` says decided."""
+    answer = runs.run("conflicts", "--hex", "--budget", str(budget), *TABLE_FILES)
+    runs.count(kind, named(answer))
+    if answer[0] > 1:
+        return
+    *lines, last = answer[1].splitlines()
+    _, pairs, _, decided, _, ambiguous, _, unknown = last.split()
+    told = [sum(line.startswith(word) for line in lines) for word in ("ambiguous", "unknown")]
+    if told != [int(ambiguous), int(unknown)] or int(pairs) != int(decided) + sum(told):
+        raise Failed(f"the last line counts other pairs: {answer}")
+    for words in [line.split() for line in lines if line.startswith("ambiguous")][:5]:
+        file = bytes.fromhex("".join(words[6:]))
+        runs.put("file", file)
+        left = {line.split()[0] for line in runs.run("match", *TABLE_FILES, "file")[1].splitlines()}
+        if len(file) != int(words[5]) or not set(words[1:3]) <= left:
+            raise Failed(f"conflicts says {words}, and match leaves {left}")
+    runs.clear("out")
+    found = runs.run("find", "--budget", str(budget), "--out", "out", *TABLE_FILES)
+    if (answer[0] == 0) != (found[1] == "decided\n"):
+        raise Failed(f"find and conflicts differ: {found} {answer}")
+
+
 def shown(runs, kind):
     """`show`, and what it shows is a table that is shown as itself."""
     answer = runs.run("show", *TABLE_FILES)
@@ -391,7 +416,7 @@ def shown(runs, kind):
 
 def words_case(runs, chance):
     """A command line that is mixed up. A usage fault has some lines, and each other answer its form."""
-    words = [chance.choice(["match", "show", "check", "witness", "find", "--all", "--out", "--budget", "--hex", "0", "1",
+    words = [chance.choice(["match", "show", "check", "witness", "find", "conflicts", "--all", "--out", "--budget", "--hex", "--progress", "0", "1",
                             "4294967296", "-1", "--", "-", "", "none", "signatures.csv", "priorities.csv", "certificate",
                             "--al", "match=1", "/", "n\u00e4me", "a\x1bb"]) for _ in range(chance.randrange(7))]
     words = [word.encode() if chance.random() < 0.9 else word.encode() + b"\xff" for word in words]
@@ -399,9 +424,10 @@ def words_case(runs, chance):
     done = subprocess.run([runs.program, *words], cwd=runs.folder, capture_output=True, timeout=LONGEST)
     runs.runs += 1
     runs.count("command lines", f"status {done.returncode}")
-    is_fault = done.returncode in (2, 3) and done.stdout == b"" and done.stderr.endswith(b"\n")
-    is_line = done.stderr.count(b"\n") == 1 or done.stderr.startswith(b"error: ") or done.stderr.startswith(b"Usage")
-    if not (is_fault and is_line or done.returncode in (0, 1) and done.stdout != b"" and done.stderr == b""):
+    err = re.sub(rb"\A(\r\d+ of \d+ (products|pairs))+\n", b"", done.stderr) if b"--progress" in words else done.stderr
+    is_fault = done.returncode in (2, 3) and done.stdout == b"" and err.endswith(b"\n")
+    is_line = err.count(b"\n") == 1 or err.startswith(b"error: ") or err.startswith(b"Usage")
+    if not (is_fault and is_line or done.returncode in (0, 1) and done.stdout != b"" and err == b""):
         if not (done.returncode == 0 and b"match" in words):
             raise Failed(f"{words}: {done.returncode} {done.stdout} {done.stderr}")
 
@@ -450,15 +476,17 @@ class Cases:
         chance, seed = self.chance, self.chance.choice(self.seeds)
         signatures, priorities = self.changed_table(seed)
         self.runs.put_table(signatures, priorities)
-        kind = chance.randrange(4)
+        kind = chance.randrange(5)
         if kind == 0:
             matched(self.runs, "tables, match", signatures, self.file())
         elif kind == 1:
             shown(self.runs, "tables, show")
         elif kind == 2:
             judged(self.runs, "tables, check", signatures, priorities, chance.choice(seed.certificates))
-        else:
+        elif kind == 3:
             searched(self.runs, "tables, find", signatures, chance.choice([1, 2, 10, 300]))
+        else:
+            settled(self.runs, "tables, conflicts", chance.choice([1, 2, 10, 300]))
 
     def matching(self):
         seed = self.chance.choice(self.seeds)
@@ -469,6 +497,7 @@ class Cases:
         seed = random_seed(self.chance)
         self.runs.put_table(seed.signatures, seed.priorities)
         searched(self.runs, "searches", seed.signatures, self.chance.choice([1, 3, 10, 50, 300, 2000]))
+        settled(self.runs, "searches of all pairs", self.chance.choice([1, 3, 10, 50, 300, 2000]))
 
     def words(self):
         words_case(self.runs, self.chance)

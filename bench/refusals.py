@@ -9,7 +9,8 @@ does its reads and writes by `read` and `write`. A small library that is loaded 
 on, until a run meets no refusal. What each command must answer with ample memory was worked out by hand.
 
 - Growths: the answer is the one with ample memory, or status 3, the line `out of memory` on standard
-  error and nothing on standard output; `find` then makes no OUT.
+  error and nothing on standard output; `find` then makes no OUT. Of `conflicts` whole lines from the
+  front may stand, and not the last one.
 - Reads, whole and in pieces of one byte: status 3 and `read failed`, with nothing on standard output.
 - Openings: status 3 and `cannot open NAME`, with the name that was refused.
 - Writes, whole and in pieces of one byte: status 3 and `write failed`, behind nothing more on standard
@@ -125,6 +126,11 @@ SHOWN = "fmt/1,1,BOF,0,0,[4142:4241]{0-1}43\nfmt/2,2,BOF,0,0,[4142:4241](43|44)*
 REFUSED = (HEADER + "fmt/1,1,BOF,0,,41 42\n", PAIRS)
 VERSION_2 = OF_BLOCKED.replace(" 01 00000003", " 02 00000003")
 FIND = ["find", "--budget", "100", "--out", "out"]
+SETTLE = ["conflicts", "--budget", "100", "--hex"]
+# The file `41` leaves any two of them.
+THREE_ALIKE = (HEADER + "fmt/1,1,BOF,0,,41\nfmt/2,2,BOF,0,,41\nfmt/3,3,BOF,0,,41\n", PAIRS)
+THREE_PAIRS = ("ambiguous fmt/1 fmt/2 1 2 1 41\nambiguous fmt/1 fmt/3 1 3 1 41\nambiguous fmt/2 fmt/3 2 3 1 41\n"
+               "pairs 3 decided 0 ambiguous 3 unknown 0\n")
 
 # A name, a table, a file, the words before the table, and what is answered: status, output, error output.
 CASES = [
@@ -144,6 +150,9 @@ CASES = [
     ("both ends", BOTH_ENDS, b"AB", ["witness"], (1, "not ambiguous\n", "")),
     ("both ends", BOTH_ENDS, None, [*FIND, "--hex"], (0, "witness fmt/1 fmt/2\n41\n", "")),
     ("both ends", BOTH_ENDS, None, ["find", "--budget", "1", "--out", "out"], (1, "gave up 1 2\n", "")),
+    ("both ends", BOTH_ENDS, None, SETTLE, (1, "ambiguous fmt/1 fmt/2 1 2 1 41\npairs 1 decided 0 ambiguous 1 unknown 0\n", "")),
+    ("three alike", THREE_ALIKE, None, SETTLE, (1, THREE_PAIRS, "")),
+    ("two blockers", TWO_BLOCKERS, None, SETTLE, (0, "pairs 2 decided 2 ambiguous 0 unknown 0\n", "")),
     ("one blocker", BLOCKED, b"AB", ["match"], (0, "fmt/3 3\n", "")),
     ("one blocker", BLOCKED, b"AB", ["match", "--all"], (0, "fmt/1 1\nfmt/2 2\nfmt/3 3\n", "")),
     ("one blocker", BLOCKED, bytes.fromhex(OF_BLOCKED), ["check"], (0, "accepted\n", "")),
@@ -161,7 +170,7 @@ CASES = [
 ]
 
 # Command lines that open nothing, or nothing that is there, with their status.
-LINES = [(["--version"], 0), (["--help"], 0), (["find", "--help"], 0), ([], 2), (["nothing"], 2), (["match", "none"], 2),
+LINES = [(["--version"], 0), (["--help"], 0), (["find", "--help"], 0), (["conflicts", "--help"], 0), ([], 2), (["nothing"], 2), (["match", "none"], 2),
          (["find", "--budget", "0", "--out", "out", "none", "none"], 2), (["match", "none", "none", "none"], 3)]
 
 
@@ -237,7 +246,10 @@ class Case:
 
     def without_memory(self, _, answer, written):
         is_ample = (answer, written) == (self.ample, self.written)
-        return is_ample or (answer, written) == ((3, "", "out of memory\n"), None)
+        lines = self.ample[1].splitlines(True) if self.words[0] == "conflicts" else [""]
+        fronts = ["".join(lines[:count]) for count in range(len(lines))]
+        status, out, err = answer
+        return is_ample or (status, err, written) == (3, "out of memory\n", None) and out in fronts
 
     def without_read(self, _, answer, written):
         return (answer, written) == ((3, "", "read failed\n"), None)

@@ -1,20 +1,20 @@
 -- The bytes that lead on from a state, and the cuts between them: of a tree from its branches.
-use Rattle.std.proofs.Common.{◌≡◌, ◌↔◌, ◌⊎◌, ◌≢◌, ℕ, ◌+◌, ◌-◌, ◌<◌, ◌≤◌, ◌==◌, ◌&&◌, ◌||◌, Bool, true, false, is_some, Option, None, Some, subst, sym, ap, ◌∙◌, refl, inl, inr, arith}
+use Rattle.std.proofs.Common.{◌≡◌, ◌↔◌, ◌⊎◌, ℕ, ◌+◌, ◌-◌, ◌<◌, ◌≤◌, true, false, is_some, Option, None, Some, subst, sym, ap, ◌∙◌, refl, inl, inr, arith}
 use Rattle.std.proofs.lemmas.Bool.{cases_lt, eq-eqb, eqb-true, false≢true, ne_eqb}
 use Rattle.sig_bits.specs.ByteClasses.{Holds}
 use Rattle.sig_bits.specs.declared.byte_class.ByteClass.{ByteClass}
 use Rattle.sig_auto.specs.declared.class.Class.{Class}
 use Rattle.sig_auto.specs.Classes.{InClass}
 use Rattle.sig_auto.specs.Cuts.{AddsCuts, AddsLive}
-use Rattle.sig_auto.specs.Local.{is_first, is_last, follows, is_nullable, loops}
-use Rattle.sig_auto.specs.Sides.{SameSide, SameSides}
+use Rattle.sig_auto.specs.Local.{is_first, is_last, follows, is_nullable}
+use Rattle.sig_auto.specs.Sides.{SameSide}
 use Rattle.sig_auto.specs.Successions.{BeginsOn, GoesOn}
 use Rattle.sig_auto.specs.Tracks.{Follows}
 use Rattle.sig_auto.specs.Trees.{Tree, Slot, Gap, Then, Or}
 use Rattle.sig_auto.specs.TreeSlots.{Takes, class_of, slots_of}
 use Rattle.sig_auto.specs.Trim.{IsTrim}
 use Rattle.sig_table.specs.Slots.{gap_slots}
-use Rattle.sig_auto.proofs.LocalLemmas.{IsSlot, is_first-slot, is_last-slot, follows-slots, gap_begins, gap_goes_some, gap_next}
+use Rattle.sig_auto.proofs.LocalLemmas.{IsSlot, is_first-slot, is_last-slot, follows-slots, gap_begins, gap_next}
 use Rattle.sig_auto.proofs.StepLemmas.{class_in_gap, gap_last}
 use Rattle.sig_auto.proofs.SuccessorLemmas.{begins_or, begins_then, goes_or, goes_then}
 use Rattle.sig_auto.proofs.TrimLemmas.{follows_slot, follows_start}

@@ -1,4 +1,5 @@
 -- Lemmas of this crate.
+mod AlikeLemmas
 mod BeginLemmas
 mod ByteLemmas
 mod ClassLemmas

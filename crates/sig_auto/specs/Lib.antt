@@ -5,6 +5,7 @@ pub mod Trees
 pub mod TreeSlots
 pub mod Tracks
 pub mod Runs
+pub mod ByteCuts
 pub mod Remaining
 -- These are words of the proofs.
 pub mod Begins

@@ -29,6 +29,10 @@ pub record EndsIn (tree : Tree) (file : List ℕ) (q : ℕ) : Type 0 where
   pub front : List ℕ
   pub run : Run tree file (front ++ q ∷ [])
 
+-- some run of the file goes on to q, which takes the byte
+abbrev pub GoesOnTo : Tree → List ℕ → ℕ → ℕ → Type 0
+GoesOnTo tree file byte q = (p : ℕ) × EndsIn tree file p × Follows tree p q × Takes tree q byte
+
 -- the set has the states in which the runs of the file end, and no others
 abbrev pub IsSetOf : Tree → List ℕ → List ℕ → Type 0
 IsSetOf tree set file = (q : ℕ) → HasBit set q ↔ EndsIn tree file q
@@ -36,6 +40,14 @@ IsSetOf tree set file = (q : ℕ) → HasBit set q ↔ EndsIn tree file q
 -- q follows p and takes the byte
 abbrev pub FollowsOn : Tree → ℕ → ℕ → ℕ → Type 0
 FollowsOn tree p byte q = Follows tree p q × Takes tree q byte
+
+-- some state follows p and takes the byte
+abbrev pub LeadsOn : Tree → ℕ → ℕ → Type 0
+LeadsOn tree p byte = (q : ℕ) × Follows tree p q × Takes tree q byte
+
+-- the same states follow p on both bytes
+abbrev pub LeadsAlike : Tree → ℕ → ℕ → ℕ → Type 0
+LeadsAlike tree p a b = (q : ℕ) → FollowsOn tree p a q ↔ FollowsOn tree p b q
 
 -- q follows a state of the set and takes the byte
 abbrev pub IsStepOf : Tree → List ℕ → ℕ → ℕ → Type 0

@@ -1,5 +1,5 @@
 -- The slots that follow a state on a byte, in order.
-use Rattle.std.specs.Prelude.{◌≡◌, ℕ, zero, suc, ◌+◌, ◌-◌, ◌<◌, ◌==◌, ◌&&◌, ◌||◌, nat_le, nat_lt, Bool, true, if◌then◌else◌, List, [], ◌∷◌, Option, Some, None}
+use Rattle.std.specs.Prelude.{◌≡◌, ℕ, zero, suc, ◌+◌, ◌-◌, ◌<◌, ◌==◌, ◌&&◌, ◌||◌, nat_le, nat_lt, Bool, true, if◌then◌else◌, List, [], ◌∷◌, Option, Some, None, MatchOption}
 use Rattle.sig_auto.specs.declared.class.Class.{Class}
 use Rattle.sig_auto.specs.declared.class.Class.TheVariants.{Within, Outside}
 use Rattle.sig_auto.specs.Classes.{InClass}
@@ -37,3 +37,8 @@ passing test above (suc n) = if test (above + 1) then (above + 1) ∷ passing te
 -- the slots above this one that follow p and take the byte
 abbrev pub successors_above : Tree → ℕ → ℕ → ℕ → List ℕ
 successors_above tree p byte above = passing (succeeds tree p byte) above (slots_of tree - above)
+
+-- the first of the slots above this one that follow p and take the byte, and behind it are those above it; or there is none
+abbrev pub IsNextAbove : Tree → ℕ → ℕ → ℕ → Option ℕ → Type 0
+IsNextAbove tree p byte above next =
+    MatchOption next (successors_above tree p byte above ≡ []) (λ q. successors_above tree p byte above ≡ q ∷ successors_above tree p byte q)

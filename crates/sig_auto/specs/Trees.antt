@@ -35,12 +35,16 @@ rows_tree (r ∷ rs) = Or (row_tree r) (rows_tree rs)
 abbrev pub bracket_tree : List ℕ → Class → List (List Class) → Tree
 bracket_tree a one rows = if length a == 1 then Slot one else rows_tree rows
 
+-- a bracket that excludes: as many bytes that are before the first ones or after the second
+abbrev pub outside_tree : List ℕ → List ℕ → Tree
+outside_tree a b = bracket_tree a (Outside (slice_index a 0) (slice_index b 0)) (below a ++ above b)
+
 -- a part of an alternative
 abbrev pub atom_tree : Atom → Tree
 atom_tree (atom.Byte b) = Slot (only b)
 atom_tree (atom.Range a b) = bracket_tree a (Within (slice_index a 0) (slice_index b 0)) (between a b)
-atom_tree (atom.Not a) = bracket_tree a (Outside (slice_index a 0) (slice_index a 0)) (below a ++ above a)
-atom_tree (atom.NotRange a b) = bracket_tree a (Outside (slice_index a 0) (slice_index b 0)) (below a ++ above b)
+atom_tree (atom.Not a) = outside_tree a a
+atom_tree (atom.NotRange a b) = outside_tree a b
 
 -- an alternative: its parts, one after the other
 abbrev pub atoms_tree : List Atom → Tree

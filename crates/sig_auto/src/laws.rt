@@ -1,10 +1,10 @@
 //! Laws of the automaton.
 
 ghost use Rattle.std.specs.Prelude.{◌≡◌, ◌↔◌, ◌⊎◌, ◌<◌, ◌≤◌, ℕ, List, [], ◌∷◌, ◌++◌};
-ghost use Rattle.sig_auto.specs.Runs.{Accepts, EndsIn, IsStepOf};
+ghost use Rattle.sig_auto.specs.Runs.{Accepts, EndsIn, GoesOnTo, IsStepOf};
 ghost use Rattle.sig_auto.specs.Tracks.{Accepting, Follows};
 ghost use Rattle.sig_auto.specs.Trees.{Tree, whole_tree};
-ghost use Rattle.sig_auto.specs.TreeSlots.{Takes, slots_of};
+ghost use Rattle.sig_auto.specs.TreeSlots.{slots_of};
 ghost use Rattle.sig_bits.specs.Bytes.{IsBytes};
 ghost use Rattle.sig_table.specs.Views.{SequenceView};
 ghost use Rattle.sig_table.specs.Slots.{slot_count};
@@ -28,7 +28,7 @@ pub fn runs_begin()
 
 /// The runs of a file and one more byte go on from those of the file.
 pub fn runs_go_on()
-    ensures { (tree : Tree) (file : List ℕ) (b q : ℕ) → EndsIn tree (file ++ b ∷ []) q ↔ ((p : ℕ) × EndsIn tree file p × Follows tree p q × Takes tree q b) }
+    ensures { (tree : Tree) (file : List ℕ) (b q : ℕ) → EndsIn tree (file ++ b ∷ []) q ↔ GoesOnTo tree file b q }
 {}
 
 /// A file is accepted exactly where some run of it ends in an accepting state.

@@ -3,6 +3,7 @@
 //! Some run of a file accepts exactly where the sequence stands in it (`specs/Runs.antt`).
 #![tactic(auto)]
 
+mod alike;
 mod auto;
 mod behind;
 mod class;
@@ -12,8 +13,6 @@ mod node;
 mod start;
 mod step;
 mod successors;
-#[cfg(test)]
-mod tests;
 mod unroll;
 
 pub use auto::Auto;

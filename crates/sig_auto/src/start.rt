@@ -7,9 +7,10 @@ ghost use Rattle.std.specs.Prelude.{◌≡◌, ◌⊎◌, ◌&&◌, ◌↔◌, �
 ghost use Rattle.sig_auto.specs.Begins.{Begins, BeginsOutside};
 ghost use Rattle.sig_auto.specs.Local.{is_nullable};
 ghost use Rattle.sig_auto.specs.Rows.{above, below};
-ghost use Rattle.sig_auto.specs.Tracks.{Accepting, Follows};
+ghost use Rattle.sig_auto.specs.Runs.{LeadsOn};
+ghost use Rattle.sig_auto.specs.Tracks.{Accepting};
 ghost use Rattle.sig_auto.specs.Trees.{Tree, alternatives_tree, atom_tree, atoms_tree, back_tree, front_tree, item_tree, items_tree, whole_tree};
-ghost use Rattle.sig_auto.specs.TreeSlots.{Takes, slots_of};
+ghost use Rattle.sig_auto.specs.TreeSlots.{slots_of};
 ghost use Rattle.sig_bits.specs.ByteClasses.{Holds};
 ghost use Rattle.sig_expr.specs.Profile.{AlternativesSound, AtomSound, AtomsSound, ItemSound, ItemsSound};
 
@@ -19,7 +20,7 @@ use sig_table::{Position, Sequence};
 
 /// The bytes on which the start of the sequence's automaton has a successor.
 pub fn first_bytes(sequence: &Sequence) -> ByteClass
-    ensures { (b : ℕ) → b < 256 → (Holds result b ↔ ((q : ℕ) × Follows (whole_tree sequence.now) 0 q × Takes (whole_tree sequence.now) q b)) }
+    ensures { (b : ℕ) → b < 256 → (Holds result b ↔ LeadsOn (whole_tree sequence.now) 0 b) }
 {
     let expr = sequence.expr();
     if has_bytes_before(sequence.position()) {

@@ -4,11 +4,11 @@
 //! most one slot begins a gap, and at most one of its slots goes behind another, so no gap is walked
 //! slot by slot.
 
-ghost use Rattle.std.specs.Prelude.{◌≡◌, ◌↔◌, ℕ, ◌+◌, ◌≤◌, [], ◌∷◌, Contains, IfSome, MatchOption};
+ghost use Rattle.std.specs.Prelude.{◌≡◌, ◌↔◌, ℕ, ◌+◌, ◌≤◌, Contains, IfSome};
 ghost use Rattle.sig_auto.specs.Counted.{IsCounted, IsCounted-prop};
 ghost use Rattle.sig_auto.specs.Runs.{FollowsOn};
 ghost use Rattle.sig_auto.specs.Seen.{seen};
-ghost use Rattle.sig_auto.specs.Successions.{BeginsOn, GoesOn, IsLeastAbove, successors_above};
+ghost use Rattle.sig_auto.specs.Successions.{BeginsOn, GoesOn, IsLeastAbove, IsNextAbove};
 ghost use Rattle.sig_auto.specs.TreeSlots.{slots_of};
 ghost use Rattle.sig_auto.specs.Trim.{IsTrim};
 
@@ -86,7 +86,7 @@ impl Node {
     fn next_state(&self, state: usize, byte: u8, above: usize) -> Option<usize>
         requires counted { IsCounted self.now }
         requires few { slots_of (seen self.now) ≤ 65535 }
-        ensures next { MatchOption result (successors_above (seen self.now) state byte above ≡ []) (λ q. successors_above (seen self.now) state byte above ≡ q ∷ successors_above (seen self.now) state byte q) }
+        ensures next { IsNextAbove (seen self.now) state byte above result }
         ensures within { IfSome result (λ q. q ≤ slots_of (seen self.now)) }
     {
         if state == 0 {

@@ -5,13 +5,11 @@
 //!
 //! `[4142:4241]` has the rows `41 42`, `41 43-FF`, `42 00-40` and `42 41`.
 
-ghost use Rattle.std.specs.Prelude.{◌≡◌, ◌<◌, ◌++◌, IfOk, None, Some, length, map, slice_index};
-ghost use Rattle.sig_auto.specs.declared.class.Class.{Class};
+ghost use Rattle.std.specs.Prelude.{◌≡◌, ◌<◌, IfOk, None, Some, length, map};
 ghost use Rattle.sig_auto.specs.Counted.{IsCounted};
-ghost use Rattle.sig_auto.specs.Rows.{above, below, between};
 ghost use Rattle.sig_auto.specs.Same.{IsSame, ors, thens};
 ghost use Rattle.sig_auto.specs.Seen.{seen};
-ghost use Rattle.sig_auto.specs.Trees.{atom_tree, atoms_tree, back_tree, bracket_tree, front_tree, item_tree, row_tree, rows_tree, whole_tree, Gap};
+ghost use Rattle.sig_auto.specs.Trees.{atom_tree, atoms_tree, back_tree, front_tree, item_tree, outside_tree, row_tree, rows_tree, whole_tree, Gap};
 
 use crate::class::Class;
 use crate::class_word::{ClassWord, outside_rows, range_rows};
@@ -167,7 +165,7 @@ fn atom_node(alloc: Global, atom: &Atom) -> Result<Node, AllocError>
 fn outside_node(alloc: Global, a: &[u8], b: &[u8]) -> Result<Node, AllocError>
     requires a { 0 < length a.now }
     requires b { 0 < length b.now }
-    ensures tree { IfOk result (λ node. IsSame (seen node) (bracket_tree a.now (Class.Outside (slice_index a.now 0) (slice_index b.now 0)) (below a.now ++ above b.now))) }
+    ensures tree { IfOk result (λ node. IsSame (seen node) (outside_tree a.now b.now)) }
     ensures counted { IfOk result IsCounted }
 {
     if a.len() == 1 {

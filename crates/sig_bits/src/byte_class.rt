@@ -1,7 +1,7 @@
 //! Sets of bytes, one bit for each of the 256.
 
-ghost use Rattle.std.specs.Prelude.{◌≡◌, ◌⊎◌, ℕ, ◌<◌, ◌≤◌, ◌↔◌, IsTrue, MatchOption};
-ghost use Rattle.sig_bits.specs.ByteClasses.{Holds};
+ghost use Rattle.std.specs.Prelude.{◌≡◌, ◌⊎◌, ℕ, ◌<◌, ◌≤◌, ◌↔◌, IsTrue};
+ghost use Rattle.sig_bits.specs.ByteClasses.{Holds, IsLowestFrom};
 
 use crate::bit_sets::{get_bit, or_into, set_bit, subset};
 
@@ -93,7 +93,7 @@ impl ByteClass {
 
     /// The lowest byte in it that is not below this one.
     pub fn lowest_from(&self, from: usize) -> Option<u8>
-        ensures { MatchOption result ((b : ℕ) → from ≤ b → ¬ Holds self.now b) (λ b. (from ≤ b) × Holds self.now b × ((a : ℕ) → from ≤ a → a < b → ¬ Holds self.now a)) }
+        ensures { IsLowestFrom self.now from result }
     {
         let mut b = from;
         while b < 256 {

@@ -74,8 +74,11 @@ impl<R: Read> Input for FromRead<R> {
         ensures stays { OnErr result (self.new.budget ≡ self.old.budget) }
         ensures ends { IfOk result (λ n. n ≡ 0 → 0 < length buf.new → IsAtEnd (R.remaining self.new.reader)) }
 
-        // A reader that failed is not read again.
+        // A reader that failed is not read again, and one that gave all bytes that are taken is not
+        // read at all.
         ensures idle { IsTrue self.old.failed → self.new ≡ self.old }
+        ensures spent { self.old.budget ≡ 0 → IsErr result }
+        ensures unread { self.old.budget ≡ 0 → self.new.reader ≡ self.old.reader }
     {
         if self.failed {
             return Err(DeviceFault);

@@ -13,8 +13,6 @@ mod input;
 mod lanes;
 pub mod laws;
 mod output;
-#[cfg(test)]
-mod tests;
 mod whole;
 
 pub use bit_ranges::{any_between, shift_into};

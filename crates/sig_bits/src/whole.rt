@@ -23,6 +23,7 @@ const PIECE: usize = 1 << 16;
 pub fn read_whole<R: Input>(alloc: Global, input: &mut R) -> Result<Vec<u8>, ReadWholeError>
     ensures whole { IfOk result (λ bytes. IfSome (R.to_come input.old) (λ all. bytes.items ≡ all)) }
     ensures at_end { OnOk result (IsAtEnd (R.to_come input.new)) }
+    ensures lowers { IfOk result (λ bytes. R.limit input.old ≡ vec_len bytes + R.limit input.new) }
 
     // A failed read is reported, and only a failed read.
     ensures stays_failed { IsTrue (R.failed input.old) → IsErr result }

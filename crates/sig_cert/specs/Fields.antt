@@ -1,8 +1,16 @@
 -- Fields that a reading takes.
-use Rattle.std.specs.Prelude.{◌≡◌, ℕ, ◌≤◌, List, length, take, drop}
+use Rattle.std.specs.Prelude.{◌≡◌, ℕ, ◌<◌, ◌≤◌, List, MatchResult, Result, length, take, drop}
+use Rattle.sig_cert.specs.declared.error.CheckError.{CheckError}
+use Rattle.sig_cert.specs.declared.error.CheckError.TheVariants.{Truncated}
+use Rattle.sig_cert.specs.Verdicts.{number_of}
 
 -- the field is the next so many bytes, and what is left are those behind it
 pub record Took (n : ℕ) (before field after : List ℕ) : Type 0 where
   pub whole : n ≤ length before
   pub is_field : field ≡ take n before
   pub behind : after ≡ drop n before
+
+-- the number that the next so many bytes write, and what is left are those behind them; or there are fewer
+abbrev pub TookNumber : ℕ → List ℕ → List ℕ → Result ℕ CheckError → Type 0
+TookNumber n before after answer =
+    MatchResult answer (λ number. (number ≡ number_of (take n before)) × (n ≤ length before) × (after ≡ drop n before)) (λ fault. (fault ≡ Truncated) × (length before < n))

@@ -1,8 +1,7 @@
 //! The fields of a certificate: numbers of two and of four bytes, the highest first.
 
-ghost use Rattle.std.specs.Prelude.{◌≡◌, ◌+◌, ◌<◌, ◌≤◌, ◌++◌, length, take, drop, IsErrOf, IfOk, MatchResult};
-ghost use Rattle.sig_cert.specs.Fields.{Took};
-ghost use Rattle.sig_cert.specs.Verdicts.{number_of};
+ghost use Rattle.std.specs.Prelude.{◌≡◌, ◌<◌, length, MatchResult};
+ghost use Rattle.sig_cert.specs.Fields.{Took, TookNumber};
 
 use crate::error::CheckError;
 use crate::view::CertView;
@@ -16,7 +15,7 @@ pub(crate) fn field<'a>(view: &mut CertView<'a>, n: usize) -> Result<&'a [u8], C
 
 /// A number of two bytes.
 pub(crate) fn number_of_two(view: &mut CertView<'_>) -> Result<u16, CheckError>
-    ensures { MatchResult result (λ n. (n ≡ number_of (take 2 view.old)) × (2 ≤ length view.old) × (view.new ≡ drop 2 view.old)) (λ e. (e ≡ CheckError.Truncated) × (length view.old < 2)) }
+    ensures { TookNumber 2 view.old view.new result }
 {
     let bytes = field(view, 2)?;
     Ok(bytes[0] as u16 * 256 + bytes[1] as u16)
@@ -24,7 +23,7 @@ pub(crate) fn number_of_two(view: &mut CertView<'_>) -> Result<u16, CheckError>
 
 /// A number of four bytes.
 pub(crate) fn number_of_four(view: &mut CertView<'_>) -> Result<u32, CheckError>
-    ensures { MatchResult result (λ n. (n ≡ number_of (take 4 view.old)) × (4 ≤ length view.old) × (view.new ≡ drop 4 view.old)) (λ e. (e ≡ CheckError.Truncated) × (length view.old < 4)) }
+    ensures { TookNumber 4 view.old view.new result }
 {
     let bytes = field(view, 4)?;
     Ok(((bytes[0] as u32 * 256 + bytes[1] as u32) * 256 + bytes[2] as u32) * 256 + bytes[3] as u32)

@@ -15,8 +15,6 @@ mod rows;
 mod search;
 mod site;
 mod tables;
-#[cfg(test)]
-mod tests;
 mod version;
 mod view;
 mod witness;

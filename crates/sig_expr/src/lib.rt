@@ -16,8 +16,6 @@ mod lexer;
 mod parser;
 mod printer;
 mod short;
-#[cfg(test)]
-mod tests;
 
 pub use error::ExprError;
 pub use expr::Expr;

@@ -1,8 +1,9 @@
--- The lemmas of this crate; those that other crates may use are in PairLaws.
+-- The lemmas of this crate.
 mod AllBlockerLemmas
 mod AloneLemmas
 mod ByteLemmas
 mod ExpandLemmas
+pub mod Exports
 mod FoundLemmas
 mod FrontierLemmas
 mod HitLemmas
@@ -10,7 +11,7 @@ mod KeptLemmas
 mod KeyLemmas
 mod LeavingLemmas
 mod OrderLemmas
-pub mod PairLaws
+mod PairLaws
 mod PlaceLemmas
 mod ProjectionLemmas
 mod RisingLemmas

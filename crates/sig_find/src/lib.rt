@@ -11,22 +11,21 @@ mod found;
 mod frontier;
 mod kept;
 mod laws;
+mod observer;
 mod pair;
-#[cfg(test)]
-mod pair_tests;
 mod search;
 #[cfg(test)]
 mod search_tests;
-#[cfg(test)]
-mod tests;
+mod tally;
 mod writer;
 
 pub use decision::{Decision, decide_product};
-pub use finder::find;
+pub use finder::{find, find_observed};
 pub use found::Found;
 pub use laws::{
     bad_rows_are_unblocked, closed_products_leave_none, decided_pairs_decide,
-    formats_left_leave_pair, pair_left_leaves_formats, rows_over_some_are_over_all,
-    unblocked_files_lead_to_bad_rows,
+    formats_left_leave_pair, pair_left_leaves_formats, related_pairs_leave_none,
+    rows_over_some_are_over_all, unblocked_files_lead_to_bad_rows,
 };
+pub use observer::{Observer, Unobserved};
 pub use pair::{PairDecision, decide_pair};

@@ -15,4 +15,6 @@ mod ReachLemmas
 mod RestLemmas
 mod RunLemmas
 mod ScanLemmas
+mod SieveLemmas
+mod SpanLemmas
 mod StandLemmas

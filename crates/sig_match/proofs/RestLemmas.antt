@@ -108,10 +108,6 @@ due_stepped tree set next file left b step due q = (
       (due q).1 (before.0, before.1, (h.0, before.2, before.3, h.2)),
 )
 
--- bytes that are passed over
-pub due_passed : (tree : Tree) (set file left : List ℕ) (n : ℕ) → ((q : ℕ) → IsReached tree set left q ↔ IsReached tree set (drop n left) q) → IsDue tree set file left → IsDue tree set file (drop n left)
-due_passed tree set file left n same due q = (λ ends. (same q).0 ((due q).0 ends), λ reached. (due q).1 ((same q).1 reached))
-
 fits_more : (f b : ℕ) (front bytes : List ℕ) → b ≡ f → ((j : ℕ) → j < length front → j < length bytes → get_or bytes j 0 ≡ get_or front j 0) → (j : ℕ) → j < length (f ∷ front) → j < length (b ∷ bytes) → get_or (b ∷ bytes) j 0 ≡ get_or (f ∷ front) j 0
 fits_more f b front bytes same fits zero below within = same
 fits_more f b front bytes same fits (suc j) below within = fits j (omega arith) (omega arith)
@@ -330,12 +326,6 @@ pub record IsDueScan (file : List ℕ) (s : SequenceView) (scan : SequenceScanVi
 pub scan_begins : (file piece : List ℕ) (s : SequenceView) (scan : SequenceScanView) → IsSequenceScanOf file s scan → IsDueScan (file ++ piece) s scan piece
 scan_begins file piece s scan is = record { sequence_is = is.sequence_is; due = due_begins (whole_tree s) scan.set file piece is.set_is }
 
--- behind bytes that are passed over
-pub scan_passes : (file left : List ℕ) (n : ℕ) (s : SequenceView) (scan : SequenceScanView) → ((q : ℕ) → IsReached (whole_tree scan.sequence) scan.set left q ↔ IsReached (whole_tree scan.sequence) scan.set (drop n left) q) → IsDueScan file s scan left → IsDueScan file s scan (drop n left)
-scan_passes file left n s scan same is =
-    let P : SequenceView → Type 0 = λ t. (q : ℕ) → IsReached (whole_tree t) scan.set left q ↔ IsReached (whole_tree t) scan.set (drop n left) q in
-    record { sequence_is = is.sequence_is; due = due_passed (whole_tree s) scan.set file left n (subst P is.sequence_is same) is.due }
-
 -- behind one byte
 pub scan_steps : (file left : List ℕ) (b : ℕ) (s : SequenceView) (scan new : SequenceScanView) → new.sequence ≡ scan.sequence → ((q : ℕ) → HasBit new.set q ↔ IsStepOf (whole_tree scan.sequence) scan.set b q) → IsDueScan file s scan (b ∷ left) → IsDueScan file s new left
 scan_steps file left b s scan new same step is =
@@ -371,14 +361,49 @@ passed_view view scan rest exits front n bytes same set_is is are passed =
     let P : SequenceScanView → Type 0 = λ v. (q : ℕ) → IsReached (whole_tree v.sequence) v.set bytes q ↔ IsReached (whole_tree v.sequence) v.set (drop n bytes) q in
     subst P same (passed_both (whole_tree view.sequence) view.set rest exits front n bytes set_is is are passed)
 
--- one byte of a piece and then bytes that are passed over
-pub scan_goes_on_by : (file piece : List ℕ) (from m n to : ℕ) (s : SequenceView) (scan new : SequenceScanView) → from < length piece → m ≡ length piece - (from + 1) → to ≡ from + 1 + n → new.sequence ≡ scan.sequence → ((q : ℕ) → HasBit new.set q ↔ IsStepOf (whole_tree scan.sequence) scan.set (get_or piece from 0) q) → ((q : ℕ) → IsReached (whole_tree new.sequence) new.set (take m (drop (from + 1) piece)) q ↔ IsReached (whole_tree new.sequence) new.set (drop n (take m (drop (from + 1) piece))) q) → IsDueScan file s scan (drop from piece) → IsDueScan file s new (drop to piece)
-scan_goes_on_by file piece from m n to s scan new within long end same step passed is =
+pub below_or : (x at : ℕ) → (x < at) ⊎ (at ≤ x)
+below_or x zero = inr (omega arith)
+below_or zero (suc at) = inl (omega arith)
+below_or (suc x) (suc at) = ⊎_elim (λ below. inl (omega arith)) (λ behind. inr (omega arith)) (below_or x at)
+
+pub bytes_behind : (n : ℕ) (bytes : List ℕ) → IsBytes bytes → IsBytes (drop n bytes)
+bytes_behind zero bytes are = are
+bytes_behind (suc n) [] are = are
+bytes_behind (suc n) (b ∷ bytes) are = bytes_behind n bytes (All-tail (λ x. x < 256) b bytes are)
+
+-- the same, of a part of the bytes
+pub passed_to : (view scan : SequenceScanView) (rest : List ℕ) (exits : ByteClass) (front bytes : List ℕ) (from to : ℕ) → view ≡ scan → view.set ≡ rest → IsRest (whole_tree view.sequence) rest exits front → IsBytes bytes → from ≤ to → ((x : ℕ) → from ≤ x → x < to → IsPassed exits front (drop x bytes)) → (q : ℕ) → IsReached (whole_tree scan.sequence) scan.set (drop from bytes) q ↔ IsReached (whole_tree scan.sequence) scan.set (drop to bytes) q
+passed_to view scan rest exits front bytes from to same set_is is are after passed =
+    let n : ℕ = to - from in
+    let end : to ≡ from + n = omega arith in
+    let here : (x : ℕ) → x < n → IsPassed exits front (drop x (drop from bytes)) = λ x below. subst (λ l. IsPassed exits front l) (sym (drop_further bytes from x (from + x) refl)) (passed (from + x) (omega arith) (omega arith)) in
+    let P : List ℕ → Type 0 = λ l. (q : ℕ) → IsReached (whole_tree scan.sequence) scan.set (drop from bytes) q ↔ IsReached (whole_tree scan.sequence) scan.set l q in
+    subst P (drop_further bytes from n to end) (passed_view view scan rest exits front n (drop from bytes) same set_is is (bytes_behind from bytes are) here)
+
+-- a place before what is known, or before the next one behind it
+pub passed_in : (exits : ByteClass) (front bytes known : List ℕ) (at n x : ℕ) → known ≡ bytes → (x < at → Misses front (drop x bytes)) → ((y : ℕ) → y < n → IsPassed exits front (drop y (take (length known - at) (drop at known)))) → x < at + n → IsPassed exits front (drop x bytes)
+passed_in exits front bytes known at n x same missed passed before =
+    ⊎_elim
+    (λ below. passed_by_miss exits front (drop x bytes) (missed below))
+    (λ (behind : at ≤ x).
+    let y : ℕ = x - at in
+    let further : drop y (drop at bytes) ≡ drop x bytes = drop_further bytes at y x (omega arith) in
+    let P : List ℕ → Type 0 = λ l. IsPassed exits front (drop y (drop at l)) in
+    let there : P known = subst (λ l. IsPassed exits front (drop y l)) (take_rest known at) (passed y (omega arith)) in
+    subst (λ l. IsPassed exits front l) further (subst P same there))
+    (below_or x at)
+
+-- a scan on its way, where what is left leads to the same
+pub scan_moves : (file left to : List ℕ) (s : SequenceView) (scan : SequenceScanView) → ((q : ℕ) → IsReached (whole_tree scan.sequence) scan.set left q ↔ IsReached (whole_tree scan.sequence) scan.set to q) → IsDueScan file s scan left → IsDueScan file s scan to
+scan_moves file left to s scan same is =
+    let P : SequenceView → Type 0 = λ t. (q : ℕ) → IsReached (whole_tree t) scan.set left q ↔ IsReached (whole_tree t) scan.set to q in
+    let moved : P s = subst P is.sequence_is same in
+    record { sequence_is = is.sequence_is; due = λ q. (λ ends. (moved q).0 ((is.due q).0 ends), λ reached. (is.due q).1 ((moved q).1 reached)) }
+
+-- one byte of a piece, and then those up to a place
+pub scan_steps_on : (file piece : List ℕ) (from to b : ℕ) (s : SequenceView) (scan new : SequenceScanView) → from < length piece → b ≡ get_or piece from 0 → new.sequence ≡ scan.sequence → ((q : ℕ) → HasBit new.set q ↔ IsStepOf (whole_tree scan.sequence) scan.set b q) → ((q : ℕ) → IsReached (whole_tree new.sequence) new.set (drop (from + 1) piece) q ↔ IsReached (whole_tree new.sequence) new.set (drop to piece) q) → IsDueScan file s scan (drop from piece) → IsDueScan file s new (drop to piece)
+scan_steps_on file piece from to b s scan new within byte same step passed is =
     let P : List ℕ → Type 0 = λ l. IsDueScan file s scan l in
     let head : drop from piece ≡ get_or piece from 0 ∷ drop (from + 1) piece = rw add-one (drop-cons piece from 0 within) in
-    let stepped : IsDueScan file s new (drop (from + 1) piece) = scan_steps file (drop (from + 1) piece) (get_or piece from 0) s scan new same step (subst P head is) in
-    let Q : List ℕ → Type 0 = λ l. (q : ℕ) → IsReached (whole_tree new.sequence) new.set l q ↔ IsReached (whole_tree new.sequence) new.set (drop n l) q in
-    let rest : take m (drop (from + 1) piece) ≡ drop (from + 1) piece = ap (λ k. take k (drop (from + 1) piece)) long ∙ take_rest piece (from + 1) in
-    let R : List ℕ → Type 0 = λ l. IsDueScan file s new l in
-    let far : drop n (drop (from + 1) piece) ≡ drop to piece = drop_further piece (from + 1) n to end in
-    subst R far (scan_passes file (drop (from + 1) piece) n s new (subst Q rest passed) stepped)
+    let first : drop from piece ≡ b ∷ drop (from + 1) piece = head ∙ ap (λ k. k ∷ drop (from + 1) piece) (sym byte) in
+    scan_moves file (drop (from + 1) piece) (drop to piece) s new passed (scan_steps file (drop (from + 1) piece) b s scan new same step (subst P first is))

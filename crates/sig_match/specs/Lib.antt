@@ -19,4 +19,6 @@ pub mod Hitting
 pub mod Parts
 pub mod Rests
 pub mod Runs
+pub mod Sieves
+pub mod Spans
 pub use Rattle.memchr.specs.Find

@@ -22,24 +22,32 @@ use sig_table::{SigId, Table};
 use std::alloc::{AllocError, Global};
 use std::marker::Model;
 
+mod entry;
+mod piece;
 #[cfg(test)]
 mod plain;
 mod rest;
 mod sequence_scan;
+mod sieve;
 mod signature_scan;
+mod span;
 #[cfg(test)]
 mod tests;
 mod way;
 
+use piece::Piece;
+use sieve::Sieve;
 use signature_scan::SignatureScan;
 
 /// A file on its way past a table.
 ///
-/// All memory is taken at the start: for each sequence its automaton and two sets of a bit for each
-/// state, and the room of the answer.
+/// All memory is taken at the start: for each sequence its automaton and three sets of a bit for
+/// each state, the sieve of all fronts, and the room of the answer.
 #[derive(Debug, Drop)]
 pub struct Scan<'t> {
     table: &'t Table,
+    sieve: Sieve,
+    known: Vec<usize>,
     signatures: Vec<SignatureScan>,
     marks: Vec<bool>,
     hits: Vec<Hit>,
@@ -58,7 +66,8 @@ impl<'t> Model for Scan<'t> {
     ghost invariant = { λ s. IsTable s.table.now
         × (length s.signatures.items ≡ length s.table.now.signatures)
         × (length s.marks.items ≡ length s.table.now.signatures)
-        × (length s.table.now.formats ≤ vec_capacity s.hits) };
+        × (length s.table.now.formats ≤ vec_capacity s.hits)
+        × (length s.known.items ≡ length s.sieve) };
 }
 
 impl<'t> Scan<'t> {
@@ -68,9 +77,14 @@ impl<'t> Scan<'t> {
         ensures empty { IfOk result (λ scan. IsScanOf scan []) }
     {
         let count = table.signature_count();
+        let mut sieve = Sieve::new(alloc)?;
+        let signatures = scans_of(alloc, table, &mut sieve)?;
+        let known = vec![in alloc; 0; sieve.len()]?;
         Ok(Scan {
             table,
-            signatures: scans_of(alloc, table)?,
+            sieve,
+            known,
+            signatures,
             marks: vec![in alloc; false; count]?,
             hits: Vec::with_capacity(alloc, table.format_count())?,
         })
@@ -81,7 +95,9 @@ impl<'t> Scan<'t> {
         ensures table { self.new.table ≡ self.old.table }
         ensures goes_on { (file : List ℕ) → IsScanOf self.old file → IsScanOf self.new (file ++ piece.now) }
     {
-        feed_each(&mut self.signatures, piece);
+        self.sieve.look(piece, &mut self.known);
+        let piece = Piece::new(piece, &self.sieve, &self.known);
+        feed_each(&mut self.signatures, &piece);
     }
 
     /// Answers which formats the file hits, each with its first signature that hits. It takes no
@@ -94,6 +110,8 @@ impl<'t> Scan<'t> {
             signatures,
             mut marks,
             mut hits,
+            sieve: _,
+            known: _,
         } = self;
         mark_hits(&signatures, &mut marks);
         list_hits(table, &marks, &mut hits).unwrap();
@@ -102,20 +120,24 @@ impl<'t> Scan<'t> {
 }
 
 // A scan of each signature, at the start of a file.
-fn scans_of(alloc: Global, table: &Table) -> Result<Vec<SignatureScan>, AllocError>
+fn scans_of(
+    alloc: Global,
+    table: &Table,
+    sieve: &mut Sieve,
+) -> Result<Vec<SignatureScan>, AllocError>
     ensures { IfOk result (λ scans. AllZip (IsSignatureScanOf []) table.now.signatures scans.items) }
 {
     let count = table.signature_count();
     let mut scans = Vec::with_capacity(alloc, count)?;
     for index in 0..count {
         let sequences = table.sequences_of(SigId(index as u16));
-        scans.push(SignatureScan::of(alloc, sequences)?)?;
+        scans.push(SignatureScan::of(alloc, sequences, sieve)?)?;
     }
     Ok(scans)
 }
 
 // Goes on by the piece in each signature.
-fn feed_each(signatures: &mut [SignatureScan], piece: &[u8])
+fn feed_each(signatures: &mut [SignatureScan], piece: &Piece<'_>)
     ensures { (file : List ℕ) (known : List SignatureView) → AllZip (IsSignatureScanOf file) known signatures.old → AllZip (IsSignatureScanOf (file ++ piece.now)) known signatures.new }
 {
     for signature in signatures.iter_mut() {

@@ -22,8 +22,6 @@ mod signatures_of;
 mod slots;
 mod spans;
 mod table;
-#[cfg(test)]
-mod tests;
 mod writer;
 
 pub use error::{OutError, TableError, TableFile};

@@ -12,9 +12,13 @@ ghost use Rattle.sig_table.specs.Standing.{Stands};
 ghost use Rattle.sig_table.specs.Tables.{IsSequence};
 ghost use Rattle.sig_table.specs.Views.{SequenceView};
 
+use crate::scan::piece::Piece;
 use crate::scan::rest::way_of;
-use crate::scan::way::Way;
+use crate::scan::sieve::Sieve;
+use crate::scan::span::climbs;
+use crate::scan::way::{Way, same_bytes};
 use sig_auto::Auto;
+use sig_bits::{and_any, get_bit};
 use sig_table::Sequence;
 use std::alloc::{AllocError, Global};
 use std::marker::Model;
@@ -26,9 +30,10 @@ const PAUSE: usize = 64;
 // So many bytes of two sets may be compared for each byte that is stepped.
 const COMPARED: usize = 64;
 
-// The set, the room of the next one, and the set in which the sequence rested last, with the way out
-// of it. At first that is the empty set, which is never left. `resting` tells that it is in that set
-// now, and `pause` how many bytes are stepped before that is asked again.
+// The set, the room of the next one, and a set in which the sequence can rest, with the way out of it:
+// at first the one in which most files leave it, then the one in which it rested last. `number` is the
+// place of the first front in the sieve. `resting` tells that it is in that set now, and `pause` how
+// many bytes are stepped before that is asked again.
 #[derive(Debug, Drop)]
 pub(crate) struct SequenceScan {
     auto: Auto,
@@ -36,6 +41,8 @@ pub(crate) struct SequenceScan {
     next: Vec<u8>,
     rest: Vec<u8>,
     way: Way,
+    number: usize,
+    climbs: bool,
     resting: bool,
     pause: usize,
 }
@@ -46,6 +53,7 @@ impl Model for SequenceScan {
     ghost use Rattle.sig_auto.specs.TreeSlots.{set_len};
     ghost use Rattle.sig_match.specs.Rests.{IsRest};
     ghost use Rattle.sig_match.specs.Scans.{SequenceScanView};
+    ghost use Rattle.sig_match.specs.Spans.{Climbs};
 
     ghost Value = { SequenceScanView };
 
@@ -55,12 +63,17 @@ impl Model for SequenceScan {
         × (length s.next.items ≡ set_len (whole_tree s.auto))
         × (length s.rest.items ≡ set_len (whole_tree s.auto))
         × IsRest (whole_tree s.auto) s.rest.items s.way.exits (take s.way.len s.way.front)
-        × (s.resting ≡ true → s.set.items ≡ s.rest.items) };
+        × (s.resting ≡ true → s.set.items ≡ s.rest.items)
+        × (s.climbs ≡ true → Climbs (whole_tree s.auto)) };
 }
 
 impl SequenceScan {
     // At the start of a file.
-    pub(crate) fn of(alloc: Global, sequence: &Sequence) -> Result<SequenceScan, AllocError>
+    pub(crate) fn of(
+        alloc: Global,
+        sequence: &Sequence,
+        sieve: &mut Sieve,
+    ) -> Result<SequenceScan, AllocError>
         ensures { IfOk result (IsSequenceScanOf [] sequence.now) }
     {
         let auto = Auto::of(alloc, sequence)?;
@@ -68,40 +81,98 @@ impl SequenceScan {
         let next = empty_set(alloc, &auto)?;
         let rest = empty_set(alloc, &auto)?;
         auto.start_set(&mut set);
-        let way = Way::none();
-        Ok(SequenceScan {
+        let mut scan = SequenceScan {
             auto,
             set,
             next,
             rest,
-            way,
+            way: Way::none(),
+            number: usize::MAX,
+            climbs: climbs(sequence),
             resting: false,
             pause: 0,
-        })
+        };
+        scan.look_ahead(alloc, sieve)?;
+        Ok(scan)
     }
 
-    // Goes on by the piece.
-    pub(crate) fn feed(&mut self, piece: &[u8])
-        ensures { (file : List ℕ) (s : SequenceView) → IsSequenceScanOf file s self.old → IsSequenceScanOf (file ++ piece.now) s self.new }
+    // Finds out where the sequence will rest behind bytes that mean nothing to it, and puts the front of
+    // the way out into the sieve.
+    fn look_ahead(&mut self, alloc: Global, sieve: &mut Sieve) -> Result<(), AllocError>
+        ensures { self.new ≡ self.old }
     {
-        let mut from = self.passed(piece);
-        while from < piece.len() {
-            self.step(piece[from]);
-            self.settle();
-            from += 1;
-            from += self.passed(&piece[from..]);
+        let mut ahead = empty_set(alloc, &self.auto)?;
+        self.rest_behind(0x00, &mut ahead);
+        if self.way.len == 0 {
+            self.rest_behind(0xFF, &mut ahead);
+        }
+        self.number = self.way.put_into(sieve)?;
+        Ok(())
+    }
+
+    // Remembers the set behind two of these bytes and the way out of it, if the sequence can rest in it
+    // and some state is left.
+    fn rest_behind(&mut self, byte: u8, ahead: &mut [u8])
+        requires { length ahead.old ≡ set_len (whole_tree self.old.sequence) }
+        ensures { self.new ≡ self.old }
+    {
+        self.auto.step_set(&self.set, byte, &mut self.next);
+        if !and_any(&self.next, &self.next) {
+            return;
+        }
+        self.auto.step_set(&self.next, byte, ahead);
+        if !same_bytes(&self.next, ahead) {
+            return;
+        }
+        if let Some(way) = way_of(&self.auto, ahead, &mut self.next) {
+            self.rest.copy_from_slice(ahead);
+            self.way = way;
+            self.resting = false;
         }
     }
 
-    // How many of the bytes leave the set as it is, as far as the others then show.
-    fn passed(&self, bytes: &[u8]) -> usize
-        ensures within { result ≤ length bytes.now }
-        ensures same { (q : ℕ) → IsReached (whole_tree self.now.sequence) self.now.set bytes.now q ↔ IsReached (whole_tree self.now.sequence) self.now.set (drop result bytes.now) q }
+    // Goes on by the piece.
+    pub(crate) fn feed(&mut self, piece: &Piece<'_>)
+        ensures { (file : List ℕ) (s : SequenceView) → IsSequenceScanOf file s self.old → IsSequenceScanOf (file ++ piece.now) s self.new }
+    {
+        let bytes = piece.bytes();
+        let mut from = self.next_place(piece, 0);
+        while from < bytes.len() {
+            self.step(bytes[from]);
+            self.settle();
+            from = self.next_place(piece, from + 1);
+        }
+    }
+
+    // The next place to be stepped: the bytes up to it leave the set as it is, as far as the others
+    // then show.
+    fn next_place(&self, piece: &Piece<'_>, from: usize) -> usize
+        requires { from ≤ length piece.now }
+        ensures after { from ≤ result }
+        ensures within { result ≤ length piece.now }
+        ensures same { (q : ℕ) → IsReached (whole_tree self.now.sequence) self.now.set (drop from piece.now) q ↔ IsReached (whole_tree self.now.sequence) self.now.set (drop result piece.now) q }
     {
         if self.resting {
-            self.way.next(bytes)
+            self.way
+                .next_in(self.number, piece, self.late_place(piece, from))
         } else {
-            0
+            from
+        }
+    }
+
+    // The place from which a way out can still be under way at the end of the piece, if each comes to
+    // its end.
+    fn late_place(&self, piece: &Piece<'_>, from: usize) -> usize
+        requires { from ≤ length piece.now }
+        ensures after { from ≤ result }
+        ensures within { result ≤ length piece.now }
+        ensures same { (q : ℕ) → IsReached (whole_tree self.now.sequence) self.now.set (drop from piece.now) q ↔ IsReached (whole_tree self.now.sequence) self.now.set (drop result piece.now) q }
+    {
+        let bytes = piece.bytes();
+        if self.resting && self.climbs && get_bit(&self.rest, 1) {
+            from.max(bytes.len().saturating_sub(self.auto.slots() as usize))
+        } else {
+            from
         }
     }
 
@@ -158,10 +229,4 @@ fn empty_set(alloc: Global, auto: &Auto) -> Result<Vec<u8>, AllocError>
 {
     let bits = vec![in alloc; 0; auto.set_len()]?;
     Ok(bits)
-}
-
-fn same_bytes(a: &[u8], b: &[u8]) -> bool
-    ensures { IsTrue result → a.now ≡ b.now }
-{
-    a == b
 }

@@ -8,7 +8,9 @@ ghost use Rattle.sig_table.specs.Standing.{Stands};
 ghost use Rattle.sig_table.specs.Tables.{IsSequence};
 ghost use Rattle.sig_table.specs.Views.{SequenceView};
 
+use crate::scan::piece::Piece;
 use crate::scan::sequence_scan::SequenceScan;
+use crate::scan::sieve::Sieve;
 use sig_table::Sequence;
 use std::alloc::{AllocError, Global};
 use std::marker::Model;
@@ -29,18 +31,22 @@ impl Model for SignatureScan {
 
 impl SignatureScan {
     // At the start of a file.
-    pub(crate) fn of(alloc: Global, sequences: &[Sequence]) -> Result<SignatureScan, AllocError>
+    pub(crate) fn of(
+        alloc: Global,
+        sequences: &[Sequence],
+        sieve: &mut Sieve,
+    ) -> Result<SignatureScan, AllocError>
         ensures { IfOk result (AllZip (IsSequenceScanOf []) sequences.now) }
     {
         let mut scans = Vec::with_capacity(alloc, sequences.len())?;
         for sequence in sequences {
-            scans.push(SequenceScan::of(alloc, sequence)?)?;
+            scans.push(SequenceScan::of(alloc, sequence, sieve)?)?;
         }
         Ok(SignatureScan { sequences: scans })
     }
 
     // Goes on by the piece.
-    pub(crate) fn feed(&mut self, piece: &[u8])
+    pub(crate) fn feed(&mut self, piece: &Piece<'_>)
         ensures { (file : List ℕ) (sequences : List SequenceView) → AllZip (IsSequenceScanOf file) sequences self.old → AllZip (IsSequenceScanOf (file ++ piece.now)) sequences self.new }
     {
         feed_each(&mut self.sequences, piece);
@@ -55,7 +61,7 @@ impl SignatureScan {
 }
 
 // A signature has at most eight sequences, so this is not deep.
-fn feed_each(scans: &mut [SequenceScan], piece: &[u8])
+fn feed_each(scans: &mut [SequenceScan], piece: &Piece<'_>)
     ensures { (file : List ℕ) (sequences : List SequenceView) → AllZip (IsSequenceScanOf file) sequences scans.old → AllZip (IsSequenceScanOf (file ++ piece.now)) sequences scans.new }
 {
     let Some((first, later)) = scans.split_first_mut() else {

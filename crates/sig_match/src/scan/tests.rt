@@ -1,7 +1,9 @@
-ghost use Rattle.std.specs.Prelude.{◌<◌};
+ghost use Rattle.std.specs.Prelude.{◌≡◌, ◌<◌, length};
 
+use crate::scan::piece::Piece;
 use crate::scan::plain::PlainScan;
 use crate::scan::sequence_scan::SequenceScan;
+use crate::scan::sieve::Sieve;
 use crate::{Hit, Scan};
 use sig_bits::FromRead;
 use sig_table::{FormatId, Sequence, SigId, Table};
@@ -193,6 +195,14 @@ fn letters(alloc: Global, seed: u32, len: usize) -> Result<Vec<u8>, AllocError> 
     Ok(bytes)
 }
 
+// Looks at the piece, and feeds it.
+fn look_and_feed(scan: &mut SequenceScan, sieve: &Sieve, known: &mut [usize], piece: &[u8])
+    requires { length known.old ≡ length sieve.now }
+{
+    sieve.look(piece, known);
+    scan.feed(&Piece::new(piece, sieve, known));
+}
+
 // Whether the scan and the plain one agree behind each piece of the file.
 fn agree_by(
     alloc: Global,
@@ -202,10 +212,12 @@ fn agree_by(
 ) -> Result<bool, AllocError>
     requires { 0 < piece }
 {
-    let mut scan = SequenceScan::of(alloc, sequence)?;
+    let mut sieve = Sieve::new(alloc)?;
+    let mut scan = SequenceScan::of(alloc, sequence, &mut sieve)?;
     let mut plain = PlainScan::of(alloc, sequence)?;
     for bytes in file.chunks(piece) {
-        scan.feed(bytes);
+        let mut known = vec![in alloc; 0; sieve.len()]?;
+        look_and_feed(&mut scan, &sieve, &mut known, bytes);
         plain.feed(bytes);
         if scan.stands() != plain.stands() {
             return Ok(false);
@@ -252,5 +264,60 @@ fn the_plain_scan_agrees_on_gaps_and_lists(rt: HostRuntime) -> Result<(), Fail> 
     assert!(rt; agree(rt.alloc(), "BOF,0,9,41{0-3}42*4100", &file)?);
     assert!(rt; agree(rt.alloc(), "BOF,0,60,414200", &file)?);
     assert!(rt; agree(rt.alloc(), "EOF,0,0,4142*", &file)?);
+    Ok(())
+}
+
+// Whether the scan of these sequences, each of a signature of its own, hits the signatures that the
+// plain scans say, in pieces of this length.
+fn all_agree_by(alloc: Global, table: &Table, file: &[u8], piece: usize) -> Result<bool, Fail>
+    requires { 0 < piece }
+{
+    let mut scan = Scan::new(alloc, table)?;
+    for bytes in file.chunks(piece) {
+        scan.feed(bytes);
+    }
+    let results = scan.finish();
+    for index in 0..table.signature_count() {
+        let mut stands = true;
+        for sequence in table.sequences_of(SigId(index as u16)) {
+            let mut plain = PlainScan::of(alloc, sequence)?;
+            plain.feed(file);
+            stands = stands && plain.stands();
+        }
+        let hit = results
+            .hits()
+            .iter()
+            .any(|hit| hit.signature.0 as usize == index);
+        if hit != stands {
+            return Ok(false);
+        }
+    }
+    Ok(true)
+}
+
+#[test]
+fn many_fronts_are_told_apart_in_one_look(rt: HostRuntime) -> Result<(), Fail> {
+    let rows = "puid,signature,position,offset,max_offset,expression\n\
+        fmt/1,1,Variable,,,4142\n\
+        fmt/2,2,Variable,,,41420000\n\
+        fmt/3,3,Variable,,,4142420041414242\n\
+        fmt/4,4,EOF,0,1,4241\n\
+        fmt/5,5,Variable,,,424142{1-2}4242\n\
+        fmt/6,6,EOF,0,0,000041\n\
+        fmt/7,7,BOF,0,,41*424100\n\
+        fmt/8,8,Variable,,,4241424200004241\n";
+    let table = Table::load(
+        rt.alloc(),
+        &mut FromRead::new(rows.as_bytes()),
+        &mut FromRead::new(b"higher,lower\n".as_slice()),
+    )?;
+    for seed in 0..6 {
+        let file = letters(rt.alloc(), seed, 90)?;
+        assert!(rt; all_agree_by(rt.alloc(), &table, &file, 1)?, "{seed}");
+        assert!(rt; all_agree_by(rt.alloc(), &table, &file, 2)?, "{seed}");
+        assert!(rt; all_agree_by(rt.alloc(), &table, &file, 3)?, "{seed}");
+        assert!(rt; all_agree_by(rt.alloc(), &table, &file, 7)?, "{seed}");
+        assert!(rt; all_agree_by(rt.alloc(), &table, &file, 90)?, "{seed}");
+    }
     Ok(())
 }

@@ -4,12 +4,16 @@
 //! that byte and those that have to follow. So the file is searched for them and not stepped
 //! through.
 
-ghost use Rattle.std.specs.Prelude.{◌≡◌, ℕ, ◌<◌, ◌≤◌, false, drop, length, slice_index, take};
+ghost use Rattle.std.specs.Prelude.{◌≡◌, ℕ, ◌<◌, ◌≤◌, false, IsTrue, drop, length, slice_index, take};
 ghost use Rattle.sig_bits.specs.ByteClasses.{Holds};
+ghost use Rattle.sig_bits.specs.Bytes.{IsBytes};
 ghost use Rattle.sig_match.specs.Rests.{IsPassed, Misses};
 
+use crate::scan::piece::Piece;
+use crate::scan::sieve::Sieve;
 use memchr::memmem;
 use sig_bits::ByteClass;
+use std::alloc::AllocError;
 
 // How many bytes of a way out are known at most.
 pub(crate) const FRONT: usize = 8;
@@ -36,6 +40,28 @@ impl Way {
             front: [0; FRONT],
             len: 0,
         }
+    }
+
+    /// Puts the front into the sieve, if it has two bytes and more. Answers its number there.
+    pub(crate) fn put_into(&self, sieve: &mut Sieve) -> Result<usize, AllocError> {
+        if self.len < 2 {
+            return Ok(usize::MAX);
+        }
+        sieve.add(self.front, self.len)
+    }
+
+    /// The first place of the piece, from this one on, at which a way out may begin, or its end.
+    pub(crate) fn next_in(&self, number: usize, piece: &Piece<'_>, from: usize) -> usize
+        requires { from ≤ length piece.now }
+        ensures after { from ≤ result }
+        ensures within { result ≤ length piece.now }
+        ensures bytes { IsBytes piece.now }
+        ensures passed { (x : ℕ) → from ≤ x → x < result → IsPassed self.now.exits (take self.now.len self.now.front) (drop x piece.now) }
+    {
+        let bytes = piece.bytes();
+        let known = piece.known_of(number, &self.front[..self.len]);
+        let at = from.max(known.min(bytes.len()));
+        at + self.next(&bytes[at..])
     }
 
     /// The first place of the bytes at which a way out may begin, or their end.
@@ -86,8 +112,8 @@ fn next_front(front: &[u8], bytes: &[u8]) -> usize
     bytes.len()
 }
 
-// Whether the two agree as far as both go.
-fn may_begin(front: &[u8], bytes: &[u8]) -> bool
+/// Whether the two agree as far as both go.
+pub(crate) fn may_begin(front: &[u8], bytes: &[u8]) -> bool
     ensures { result ≡ false → Misses front.now bytes.now }
 {
     let (Some((first, rest)), Some((byte, later))) = (front.split_first(), bytes.split_first())
@@ -95,4 +121,10 @@ fn may_begin(front: &[u8], bytes: &[u8]) -> bool
         return true;
     };
     *first == *byte && may_begin(rest, later)
+}
+
+pub(crate) fn same_bytes(a: &[u8], b: &[u8]) -> bool
+    ensures { IsTrue result → a.now ≡ b.now }
+{
+    a == b
 }

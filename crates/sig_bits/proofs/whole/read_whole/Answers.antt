@@ -20,6 +20,7 @@ pieces-preserved g c =
     record {
       within = fits;
       failed = c.in-Ok.ensures.fails ∙ sym sound ∙ c.pieces.invariant.failed;
+      lowered = omega (arith, c.in-Ok.ensures.lowers, c.pieces.invariant.lowered);
       given =
           rw (take-read c.pieces.filled c.in-Ok.n c.make_room.new.bytes.len _ c.read.new.buf _ _ at within fits, front)
           (Gives-more _ _ _ _ _ c.pieces.invariant.given c.in-Ok.ensures.gives);

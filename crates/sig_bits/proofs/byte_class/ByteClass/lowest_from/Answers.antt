@@ -1,4 +1,4 @@
-use Rattle.std.proofs.Common.{◌≡◌, ◌+◌, ◌/◌, ◌%◌, ◌<◌, ◌≤◌, get_or, ⊎_elim, sym, subst, ap, ◌∙◌, refl, length, ◌*◌, arith}
+use Rattle.std.proofs.Common.{◌≡◌, ◌/◌, ◌<◌, ◌≤◌, get_or, ⊎_elim, sym, subst, ap, ◌∙◌, length, ◌*◌, arith}
 use Rattle.std.proofs.lemmas.Bool.{cases_lt, false≢true}
 use Rattle.sig_bits.specs.BitSets.{HasBit}
 use Rattle.sig_bits.specs.ByteClasses.{Holds}

@@ -1,15 +1,18 @@
-use Rattle.std.proofs.Common.{◌≡◌, ◌∙◌, ap, length}
+use Rattle.std.proofs.Common.{◌≡◌, ◌∙◌, ap, length, subst, sym}
 use Rattle.std.proofs.lemmas.Bool.{false≢true}
+use Rattle.sig_auto.specs.Trees.{whole_tree}
+use Rattle.sig_match.specs.Spans.{Climbs}
 use Rattle.sig_match.proofs.RestLemmas.{IsRest-none}
 use Rattle.sig_match.proofs.ScanLemmas.{written}
 use Rattle.sig_match.proofs.scan.sequence_scan.SequenceScan.of.Goals as goal
 
-pub invariant_of-result : goal.invariant_of-result
-invariant_of-result c =
+pub invariant_of-scan : goal.invariant_of-scan
+invariant_of-scan c =
     let long : length c.start_set.new.set ≡ c.in_ok-set.set.len = c.start_set.auto.set ∙ c.deref_mut.ensures.len in (
       ap length (written _ _ _ long) ∙ c.start_set.auto.set ∙ ap length c.deref_mut.ensures.value ∙ c.in_ok-set.ensures.len,
       c.in_ok-next.ensures.len,
       c.in_ok-rest.ensures.len,
       IsRest-none _ _ _ _ c.in_ok-rest.ensures.none,
       λ yes'. absurd (false≢true yes'),
+      λ yes'. subst (λ t. Climbs (whole_tree t)) (sym c.in_ok-auto.ensures) (c.climbs.ensures yes'),
     )

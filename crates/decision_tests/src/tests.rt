@@ -1,0 +1,5 @@
+mod automata;
+mod certificates;
+mod finding;
+mod pairs;
+mod products;

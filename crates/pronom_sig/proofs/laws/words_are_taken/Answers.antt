@@ -1,7 +1,0 @@
-use Rattle.std.proofs.Common.{refl}
-use Rattle.clap.proofs.OnLiterals.{clap_on_literals}
-use Rattle.pronom_sig.proofs.laws.words_are_taken.Goals as goal
-
-pub returns : goal.returns
-unfolding clap_on_literals
-returns c = record { shown = refl; shown_no_help = refl; matched = refl; matched_no_help = refl; all = refl; found = refl; budget_wanted = refl; checked = refl; checked_no_help = refl; witnessed = refl; witnessed_no_help = refl; help = refl; version = refl }

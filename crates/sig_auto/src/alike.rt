@@ -1,0 +1,51 @@
+//! Slots that go on alike: those that follow the one are those that follow the other. So do the last
+//! slots of the alternatives of a list.
+
+ghost use Rattle.std.specs.Prelude.{◌≡◌, ◌+◌, ◌≤◌, ℕ, IsTrue};
+ghost use Rattle.sig_auto.specs.Counted.{IsCounted};
+ghost use Rattle.sig_auto.specs.Local.{follows};
+ghost use Rattle.sig_auto.specs.Seen.{seen};
+ghost use Rattle.sig_auto.specs.TreeSlots.{slots_of};
+
+use crate::node::Node;
+
+impl Node {
+    // Whether the slots that follow p are found to be those that follow q. A slot that the tree does
+    // not have goes nowhere in it. Of two slots of a gap nothing is found, nor of two that stand one
+    // behind the other: most questions end where the ways to the two part.
+    pub(crate) fn go_on_alike(&self, before: usize, p: usize, q: usize) -> bool
+        requires counted { IsCounted self.now }
+        requires few { before + slots_of (seen self.now) ≤ 65535 }
+        ensures { IsTrue result → (r : ℕ) → follows (seen self.now) before p r ≡ follows (seen self.now) before q r }
+    {
+        if p == q {
+            return true;
+        }
+        if !self.has_slot(before, p) && !self.has_slot(before, q) {
+            return true;
+        }
+        match self {
+            Node::Never | Node::Empty | Node::Slot(_) => true,
+            Node::Gap { .. } => false,
+            Node::Then(a, b, _) => {
+                let has_p = a.has_slot(before, p);
+                let has_q = a.has_slot(before, q);
+                if !has_p && !has_q {
+                    return b.go_on_alike(before + a.slots(), p, q);
+                }
+                if b.slots() == 0 {
+                    return a.go_on_alike(before, p, q);
+                }
+                if !has_p || !has_q {
+                    return false;
+                }
+                let within = a.go_on_alike(before, p, q);
+                within && a.is_last(before, p) == a.is_last(before, q)
+            }
+            Node::Or(a, b, _) => {
+                let first = a.go_on_alike(before, p, q);
+                first && b.go_on_alike(before + a.slots(), p, q)
+            }
+        }
+    }
+}

@@ -1,3 +1,0 @@
-mod byte_classes;
-mod devices;
-mod sets;

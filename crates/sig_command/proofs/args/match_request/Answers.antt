@@ -1,0 +1,39 @@
+use Rattle.std.proofs.Common.{◌≡◌, ◌∙◌, ◌∷◌, codes, refl, sym, None, Some}
+use Rattle.clap.specs.Matches.{found_of}
+use Rattle.clap.specs.Words.{rows_of}
+use Rattle.sig_command.proofs.RequestLemmas.{no_match}
+use Rattle.sig_command.proofs.RowLemmas.{all_of-rows, flag_is_read, many_named, none_named, one_named}
+use Rattle.sig_command.proofs.args.match_request.Goals as goal
+
+pub returns-in_err-table-clause-none : goal.returns-in_err-table-clause-none
+returns-in_err-table-clause-none c = λ is.
+    no_match (rows_of (found_of c.args.matches.now)) (λ table text texts named are. c.in_err-table.ensures.none refl table named)
+
+pub returns-in_err-files-clause-none : goal.returns-in_err-files-clause-none
+returns-in_err-files-clause-none c = λ is.
+    no_match (rows_of (found_of c.args.matches.now)) (λ table text texts named are.
+    let none : None ≡ Some (text ∷ texts) = c.in_err-files.ensures ∙ sym (all_of-rows (found_of c.args.matches.now) (codes "FILE")) ∙ are in
+    cc)
+
+pub returns-in-empty-clause-none : goal.returns-in-empty-clause-none
+returns-in-empty-clause-none c = λ is.
+    no_match (rows_of (found_of c.args.matches.now)) (λ table text texts named are.
+    none_named (found_of c.args.matches.now) _ c.in-empty.len_below c.in_ok-files.ensures text texts are)
+
+pub returns-in-len1-clause-asked : goal.returns-in-len1-clause-asked
+returns-in-len1-clause-asked c = (
+  rows_of (found_of c.args.matches.now),
+  refl,
+  c.in_ok-table.ensures.named,
+  one_named (found_of c.args.matches.now) c.in_ok-files.files.now _ c.in-len1.len_at_least c.in-len1.len_below c.in_ok-files.ensures,
+  flag_is_read (found_of c.args.matches.now) (codes "all") _ c.get_flag-all.ensures.value c.get_flag-all.ensures.other c.get_flag-all.ensures.none,
+)
+
+pub returns-in_default-clause-asked : goal.returns-in_default-clause-asked
+returns-in_default-clause-asked c = (
+  rows_of (found_of c.args.matches.now),
+  refl,
+  c.in_ok-table.ensures.named,
+  many_named (found_of c.args.matches.now) c.in_ok-files.files.now c.in_default.len_at_least c.in_ok-files.ensures,
+  flag_is_read (found_of c.args.matches.now) (codes "all") _ c.get_flag-all.ensures.value c.get_flag-all.ensures.other c.get_flag-all.ensures.none,
+)

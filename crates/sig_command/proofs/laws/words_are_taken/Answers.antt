@@ -1,0 +1,7 @@
+use Rattle.std.proofs.Common.{refl}
+use Rattle.clap.proofs.OnLiterals.{clap_on_literals}
+use Rattle.sig_command.proofs.laws.words_are_taken.Goals as goal
+
+pub returns : goal.returns
+unfolding clap_on_literals
+returns c = record { shown = refl; shown_no_help = refl; matched = refl; matched_no_help = refl; many = refl; many_no_help = refl; all = refl; found = refl; found_shown = refl; budget_wanted = refl; settled = refl; settled_shown = refl; checked = refl; checked_no_help = refl; witnessed = refl; witnessed_no_help = refl; help = refl; version = refl }

@@ -1,0 +1,121 @@
+-- The command line in clap's words, and what its words ask for.
+use Rattle.std.specs.Prelude.{◌≡◌, ◌⊎◌, ◌<◌, ◌^◌, ℕ, pos, Bool, true, false, List, [], ◌∷◌, Option, None, Some, codes, length, map}
+use Rattle.std.specs.Borrow.{Bor}
+use Rattle.std.specs.Str.Parse.{IsNumeral, digits_value, without_leading_plus}
+use Rattle.clap.specs.Lexer.{usize_max}
+use Rattle.clap.specs.Simple.{on_top}
+use Rattle.clap.specs.Words.{App, IsAmong, Row, Rule, Text, all_of, app_of, fault_of, first_of, found_of, one_of, new_app, new_rule, rows_of, subcommand_of, takes, with_rule, with_subcommand}
+use Rattle.clap.specs.declared.Command.{Command}
+use Rattle.clap.specs.declared.Command.TheViews.{out-Command as fields_of}
+use Rattle.clap.specs.declared.parser.matches.ArgMatches.{ArgMatches}
+use Rattle.clap.specs.declared.builder.action.ArgAction.TheVariants.{SetTrue}
+use Rattle.clap.specs.declared.builder.value_parser.ValueParser.TheVariants.{Signed}
+use Rattle.clap.specs.declared.error.kind.ErrorKind.TheVariants.{DisplayHelp, DisplayVersion}
+use Rattle.sig_command.specs.declared.args.Request.{Request}
+use Rattle.sig_command.specs.declared.args.Request.TheVariants.{Check, Conflicts, Find, Match, MatchMany, Show, Witness}
+use Rattle.sig_engines.specs.declared.store.TablePaths.{TablePaths}
+
+-- the command is this one, and has no global argument
+pub record IsLine (app : App) (command : Command) : Type 0 where
+  pub is_app : app_of command ≡ app
+  pub has_no_globals : (fields_of command).has_globals ≡ false
+
+-- an argument that must be there
+abbrev pub wanted : Text → Rule
+wanted name = record (new_rule name) { required = true }
+
+-- a command with the two arguments that name a table
+abbrev pub of_table : App → App
+of_table app = with_rule (with_rule app (wanted (codes "SIGS"))) (wanted (codes "PRIOS"))
+
+-- `show SIGS PRIOS`
+abbrev pub show_command : App
+show_command = of_table (new_app (codes "show"))
+
+-- a flag, with two hyphens before its name
+abbrev pub given : Text → Rule
+given name = record (new_rule name) { long = Some name; action = Some SetTrue }
+
+-- an argument that must be there, of one value or more
+abbrev pub several : Text → Rule
+several name = record (wanted name) { range = Some (record { start_inclusive = 1; end_inclusive = usize_max }) }
+
+-- `match [--all] SIGS PRIOS FILE..`
+abbrev pub match_command : App
+match_command = with_rule (with_rule (of_table (new_app (codes "match"))) (several (codes "FILE"))) (given (codes "all"))
+
+-- an option that must be there: two hyphens and its name, and a value behind it
+abbrev pub named : Text → Text → Rule
+named name value = record (new_rule value) { long = Some name; required = true }
+
+-- `--budget N`, of a number from 1 to 4,294,967,295
+abbrev pub budget_rule : Rule
+budget_rule = record (named (codes "budget") (codes "N")) { parser = Some (Signed (pos 1) (pos 4294967295)) }
+
+-- `find --budget N --out OUT [--hex] [--progress] SIGS PRIOS`
+abbrev pub find_command : App
+find_command = with_rule (with_rule (with_rule (with_rule (of_table (new_app (codes "find"))) budget_rule) (named (codes "out") (codes "OUT"))) (given (codes "hex"))) (given (codes "progress"))
+
+-- `conflicts --budget N [--hex] [--progress] SIGS PRIOS`
+abbrev pub conflicts_command : App
+conflicts_command = with_rule (with_rule (with_rule (of_table (new_app (codes "conflicts"))) budget_rule) (given (codes "hex"))) (given (codes "progress"))
+
+-- `check SIGS PRIOS CERT`
+abbrev pub check_command : App
+check_command = with_rule (of_table (new_app (codes "check"))) (wanted (codes "CERT"))
+
+-- `witness SIGS PRIOS FILE`
+abbrev pub witness_command : App
+witness_command = with_rule (of_table (new_app (codes "witness"))) (wanted (codes "FILE"))
+
+-- the program, whose first word is a subcommand, with `--version`
+abbrev pub program : App
+program =
+    let top = on_top (λ s. record s { has_version = true; no_binary_name = true; subcommand_required = true }) (new_app (codes "pronom_sig")) in
+    with_subcommand (with_subcommand (with_subcommand (with_subcommand (with_subcommand (with_subcommand top show_command.top) match_command.top) find_command.top) conflicts_command.top) check_command.top) witness_command.top
+
+-- the subcommand of this name with these arguments
+abbrev pub asking : Text → ArgMatches → Option (Text × List Row)
+asking name matches = Some (name, rows_of (found_of matches))
+
+-- the two files of a table are the first values of their arguments
+pub record NamesTable (paths : TablePaths) (rows : List Row) : Type 0 where
+  pub signatures : first_of (codes "SIGS") rows ≡ Some paths.signatures.now
+  pub priorities : first_of (codes "PRIOS") rows ≡ Some paths.priorities.now
+
+-- the files are the values of their argument, in their order, and there are two at least
+pub record NamesMany (files : List (Bor Text)) (rows : List Row) : Type 0 where
+  pub are : all_of (codes "FILE") rows ≡ Some (map (λ f. f.now) files)
+  pub many : 1 < length files
+
+-- the value of `--budget` writes this number in decimal, perhaps behind a plus
+pub record NamesBudget (budget : ℕ) (rows : List Row) : Type 0 where
+  pub digits : Text
+  pub given : one_of (codes "N") rows ≡ Some digits
+  pub numeral : IsNumeral 10 (without_leading_plus digits)
+  pub value : digits_value 10 (without_leading_plus digits) ≡ budget
+  pub within : budget < 2 ^ 32
+
+-- whether the flag is among the words
+pub record HasFlag (name : Text) (is_given : Bool) (rows : List Row) : Type 0 where
+  pub given : one_of name rows ≡ Some (codes "true") → is_given ≡ true
+  pub left_out : one_of name rows ≡ Some (codes "false") → is_given ≡ false
+  pub absent : one_of name rows ≡ None → is_given ≡ false
+
+-- the subcommand and its arguments ask for this
+abbrev pub Asks : Option (Text × List Row) → Request → Type 0
+Asks found (Show table) = (rows : List Row) × (found ≡ Some (codes "show", rows)) × NamesTable table rows
+Asks found (Match all table file) = (rows : List Row) × (found ≡ Some (codes "match", rows)) × NamesTable table rows × (all_of (codes "FILE") rows ≡ Some (file.now ∷ [])) × HasFlag (codes "all") all rows
+Asks found (MatchMany all table files) = (rows : List Row) × (found ≡ Some (codes "match", rows)) × NamesTable table rows × NamesMany files.now rows × HasFlag (codes "all") all rows
+Asks found (Find table budget out hex progress) = (rows : List Row) × (found ≡ Some (codes "find", rows)) × NamesTable table rows × NamesBudget budget rows × (first_of (codes "OUT") rows ≡ Some out.now) × HasFlag (codes "hex") hex rows × HasFlag (codes "progress") progress rows
+Asks found (Conflicts table budget hex progress) = (rows : List Row) × (found ≡ Some (codes "conflicts", rows)) × NamesTable table rows × NamesBudget budget rows × HasFlag (codes "hex") hex rows × HasFlag (codes "progress") progress rows
+Asks found (Check table certificate) = (rows : List Row) × (found ≡ Some (codes "check", rows)) × NamesTable table rows × (first_of (codes "CERT") rows ≡ Some certificate.now)
+Asks found (Witness table file) = (rows : List Row) × (found ≡ Some (codes "witness", rows)) × NamesTable table rows × (first_of (codes "FILE") rows ≡ Some file.now)
+
+-- the words are taken, and they ask for something
+abbrev pub AreTaken : List Text → Type 0
+AreTaken words = (takes program words ≡ true) × ((request : Request) × Asks (subcommand_of program words) request)
+
+-- the words ask for help, or for the version
+abbrev pub IsHelpAsked : List Text → Type 0
+IsHelpAsked words = IsAmong DisplayHelp (fault_of program words) ⊎ IsAmong DisplayVersion (fault_of program words)

@@ -1,0 +1,34 @@
+-- What the status of a run says: of the output, of the error output and of the words.
+use Rattle.std.specs.Prelude.{◌≡◌, ℕ, ◌<◌, ◌≤◌, ◌⊎◌, Bool, true, false, List, Option}
+use Rattle.clap.specs.Words.{Text}
+use Rattle.sig_command.specs.CommandLine.{AreTaken, IsHelpAsked}
+use Rattle.sig_command.specs.Faults.{Reports, ReportsFault}
+use Rattle.sig_command.specs.Requests.{AnswersWords, Behind, ReportsFaultOfWords}
+use Rattle.sig_engines.specs.Stores.{Holding}
+use Rattle.sig_engines.specs.declared.error.RunError.TheVariants.{OutOfMemory}
+use Rattle.sig_command.specs.declared.fault.Fault.TheVariants.{Run}
+
+-- with 0 and 1 no write to the output failed; with 2 it is as it was, and with 3 too, unless a write failed, or an answer was cut short
+pub record KeepsOutput {W : Type 0} (Cut : Type 0) (status : ℕ) (is_failed : Bool) (before after : W) : Type 0 where
+  pub shown : status < 2 → is_failed ≡ false
+  pub refused : status ≡ 2 → after ≡ before
+  pub whole : status ≡ 3 → is_failed ≡ false → (after ≡ before) ⊎ Cut
+
+-- with 0 and 1 the error output is as it was, or has what an answer shows; with 3 it has grown by the line of a fault, behind what is shown, unless a write failed
+pub record KeepsErrors {E : Type 0} (Shown : Bool → Bool → Option (List ℕ) → Option (List ℕ) → Type 0) (status : ℕ) (is_failed : Bool) (before after : E) (written written_after : Option (List ℕ)) : Type 0 where
+  pub quiet : status < 2 → (after ≡ before) ⊎ Shown true is_failed written written_after
+  pub reported : status ≡ 3 → is_failed ≡ false → Behind (Shown false false) (ReportsFault 3) written written_after
+
+-- with 0 the words ask for help, or are answered with a yes; with 1 they are answered with a no; and words that ask for something are not answered with help
+pub record AnswersBy (held : Holding) (words : List Text) (status : ℕ) (before after : Option (List ℕ)) : Type 0 where
+  pub answered : status ≡ 0 → IsHelpAsked words ⊎ AnswersWords held words true before after
+  pub denied : status ≡ 1 → AnswersWords held words false before after
+  pub taken : AreTaken words → status ≡ 0 → AnswersWords held words true before after
+
+-- with 2 and 3 words that ask for something get the line of a fault of just that, unless a write to the error output failed
+abbrev pub ReportsBy : {R : Type 0} → (R → Bool) → Holding → List Text → ℕ → Bool → (before after err_before err_after : Option (List ℕ)) → Type 0
+ReportsBy failed held words status is_failed before after err_before err_after = AreTaken words → 2 ≤ status → is_failed ≡ false → ReportsFaultOfWords failed held words status before after err_before err_after
+
+-- the line of want of memory is reported
+abbrev pub ReportsMemory : Option (List ℕ) → Option (List ℕ) → Type 0
+ReportsMemory before after = Reports (Run OutOfMemory) 3 before after

@@ -1,0 +1,174 @@
+-- What comes of what the words ask for: its answers, and its faults.
+use Rattle.std.specs.Borrow.{Bor}
+use Rattle.std.specs.Prelude.{◌≡◌, ℕ, ◌⊎◌, Bool, false, true, List, Option, ⊤, ◌<◌, length, map}
+use Rattle.clap.specs.Words.{Text, subcommand_of}
+use Rattle.sig_bits.specs.Device.{Adds}
+use Rattle.sig_table.specs.Views.{TableView}
+use Rattle.sig_command.specs.CommandLine.{Asks, program}
+use Rattle.sig_engines.specs.Conflicts.{AddsConflicts, AddsFirstPairs}
+use Rattle.sig_command.specs.Faults.{Reports}
+use Rattle.sig_command.specs.Several.{AddsFaults, AddsLinesOfEach, AddsLinesOfSome}
+use Rattle.sig_engines.specs.Finding.{AddsFound}
+use Rattle.sig_engines.specs.Judged.{AddsVerdict}
+use Rattle.sig_engines.specs.Lines.{AddsLines}
+use Rattle.sig_engines.specs.ManyFiles.{AddsFiles, CutsFiles, IsPrinted}
+use Rattle.sig_engines.specs.Progress.{AddsProgress}
+use Rattle.sig_engines.specs.Shown.{show_text}
+use Rattle.sig_engines.specs.Stores.{Has, Holding, Holds, IsTableFault, IsTableOf, Lacks, SomeFailed}
+use Rattle.sig_engines.specs.Witnessed.{AddsWitness}
+use Rattle.sig_engines.specs.declared.error.FileFault.{FileFault}
+use Rattle.sig_engines.specs.declared.error.FileFault.TheVariants as file
+use Rattle.sig_engines.specs.declared.error.RunError.TheVariants.{OutOfMemory, Read, Write}
+use Rattle.sig_command.specs.declared.fault.Fault.{Fault}
+use Rattle.sig_command.specs.declared.fault.Fault.TheVariants.{CannotOpen, CutShort, NotText, Run, SomeFiles, Table}
+use Rattle.sig_command.specs.declared.args.Request.{Request}
+use Rattle.sig_command.specs.declared.args.Request.TheVariants.{Check, Conflicts, Find, Match, MatchMany, Show, Witness}
+use Rattle.sig_engines.specs.declared.store.TablePaths.{TablePaths}
+use Rattle.sig_engines.specs.declared.progress.Things.TheVariants.{Pairs, Products}
+
+-- there is no file of the name of the signatures; or there is one, and none of the name of the priorities
+abbrev pub IsUnopened : Holding → TablePaths → Bor (List ℕ) → Type 0
+IsUnopened held paths name = ((name ≡ paths.signatures) × Lacks held paths.signatures.now) ⊎ ((name ≡ paths.priorities) × Has held paths.signatures.now × Lacks held paths.priorities.now)
+
+-- a file of the table can't be opened, or there is no table
+abbrev pub IsLoadFault : {R : Type 0} → (R → Bool) → Holding → TablePaths → Fault → Type 0
+IsLoadFault failed held paths NotText = ⊥
+IsLoadFault failed held paths (CannotOpen name) = IsUnopened held paths name
+IsLoadFault failed held paths (Table error) = IsTableFault failed held paths error
+IsLoadFault failed held paths (Run error) = ⊥
+IsLoadFault failed held paths (CutShort error) = ⊥
+IsLoadFault failed held paths SomeFiles = ⊥
+
+-- there is no file of this name, or an engine gives no answer of it: a read failed only where a reader has
+abbrev pub IsFileFault : {R : Type 0} → (R → Bool) → Holding → Bor (List ℕ) → Fault → Type 0
+IsFileFault failed held name NotText = ⊥
+IsFileFault failed held name (CannotOpen other) = (other ≡ name) × Lacks held name.now
+IsFileFault failed held name (Table error) = ⊥
+IsFileFault failed held name (Run Read) = Has held name.now × SomeFailed failed
+IsFileFault failed held name (Run Write) = Has held name.now
+IsFileFault failed held name (Run OutOfMemory) = ⊤
+IsFileFault failed held name (CutShort error) = ⊥
+IsFileFault failed held name SomeFiles = ⊥
+
+-- why there is no answer of the file of this name
+abbrev pub file_fault : Bor (List ℕ) → FileFault → Fault
+file_fault name file.CannotOpen = CannotOpen name
+file_fault name (file.Run error) = Run error
+
+-- an engine stopped before its last line
+abbrev pub IsCutFault : Fault → Type 0
+IsCutFault NotText = ⊥
+IsCutFault (CannotOpen name) = ⊥
+IsCutFault (Table error) = ⊥
+IsCutFault (Run error) = ⊥
+IsCutFault (CutShort error) = ⊤
+IsCutFault SomeFiles = ⊥
+
+-- the table is not shown: nothing is read for that
+abbrev pub IsShowFault : Fault → Type 0
+IsShowFault fault = (fault ≡ Run Write) ⊎ (fault ≡ Run OutOfMemory)
+
+-- the faults of the table, of the file that is matched or judged, of some of several files, and of the engine
+abbrev pub IsFaultOf : {R : Type 0} → (R → Bool) → Holding → Request → Fault → Type 0
+IsFaultOf failed held (Show table) fault = IsLoadFault failed held table fault ⊎ IsShowFault fault
+IsFaultOf failed held (Match all table file) fault = IsLoadFault failed held table fault ⊎ IsFileFault failed held file fault
+IsFaultOf failed held (MatchMany all table files) fault = IsLoadFault failed held table fault ⊎ ((fault ≡ SomeFiles) ⊎ IsShowFault fault)
+IsFaultOf failed held (Find table budget out hex progress) fault = IsLoadFault failed held table fault ⊎ ((fault ≡ CannotOpen out) ⊎ IsShowFault fault)
+IsFaultOf failed held (Conflicts table budget hex progress) fault = IsLoadFault failed held table fault ⊎ ((fault ≡ Run OutOfMemory) ⊎ IsCutFault fault)
+IsFaultOf failed held (Check table certificate) fault = IsLoadFault failed held table fault ⊎ IsFileFault failed held certificate fault
+IsFaultOf failed held (Witness table file) fault = IsLoadFault failed held table fault ⊎ IsFileFault failed held file fault
+
+-- what is written grows by the canonical files of a table, by the lines that are asked for of what a file hits in a table, by those of each of several files, by the lines of what was found, by those of the pairs of formats of a table, by the line of the verdict on a certificate, or by that of a file that is ambiguous or not; the first three can't be a no
+abbrev pub Answers : Holding → Request → Bool → Option (List ℕ) → Option (List ℕ) → Type 0
+Answers held (Show table) is_yes before after = (is_yes ≡ true) × (t : TableView) × IsTableOf held table t × Adds before (show_text t) after
+Answers held (Match all table name) is_yes before after = (is_yes ≡ true) × (t : TableView) × IsTableOf held table t × (file : List ℕ) × Holds held name.now file × AddsLines all t file before after
+Answers held (MatchMany all table files) is_yes before after = (is_yes ≡ true) × (t : TableView) × IsTableOf held table t × AddsLinesOfEach all t held (map (λ n. n.now) files.now) before after
+Answers held (Find table budget out hex progress) is_yes before after = (t : TableView) × IsTableOf held table t × AddsFound is_yes hex t budget before after
+Answers held (Conflicts table budget hex progress) is_yes before after = (t : TableView) × IsTableOf held table t × AddsConflicts is_yes hex t budget before after
+Answers held (Check table name) is_yes before after = (t : TableView) × IsTableOf held table t × (certificate : List ℕ) × Holds held name.now certificate × AddsVerdict is_yes t certificate before after
+Answers held (Witness table name) is_yes before after = (t : TableView) × IsTableOf held table t × (file : List ℕ) × Holds held name.now file × AddsWitness is_yes t file before after
+
+-- what is written grows by an answer to what the words ask for, a yes or a no
+abbrev pub AnswersWords : Holding → List Text → Bool → Option (List ℕ) → Option (List ℕ) → Type 0
+AnswersWords held words is_yes before after = (request : Request) × Asks (subcommand_of program words) request × Answers held request is_yes before after
+
+-- the pairs of formats of a table are written one by one, so that the lines of the first ones can be all that is written; and of several files those without a fault can be all that are written
+abbrev pub IsCutRequest : {R : Type 0} → (R → Bool) → Holding → Request → Option (List ℕ) → Option (List ℕ) → Type 0
+IsCutRequest failed held (Show table) before after = ⊥
+IsCutRequest failed held (Match all table path) before after = ⊥
+IsCutRequest failed held (MatchMany all table files) before after = (t : TableView) × IsTableOf held table t × AddsLinesOfSome (IsPrinted failed all t held) (map (λ n. n.now) files.now) before after
+IsCutRequest failed held (Find table budget out hex progress) before after = ⊥
+IsCutRequest failed held (Conflicts table budget hex progress) before after = (t : TableView) × IsTableOf held table t × AddsFirstPairs hex t budget before after
+IsCutRequest failed held (Check table path) before after = ⊥
+IsCutRequest failed held (Witness table path) before after = ⊥
+
+-- the words ask for these pairs or files, and what is written grows by the lines of some of them
+abbrev pub CutsWords : {R : Type 0} → (R → Bool) → Holding → List Text → Option (List ℕ) → Option (List ℕ) → Type 0
+CutsWords failed held words before after = (request : Request) × Asks (subcommand_of program words) request × IsCutRequest failed held request before after
+
+-- unless a write failed, a search over products or over pairs shows its progress where that is asked for, and of several files each of the first that has a fault has a line, but only where there is no answer; nothing else shows any
+abbrev pub Shows : {R : Type 0} → (R → Bool) → Holding → Request → Bool → Bool → Option (List ℕ) → Option (List ℕ) → Type 0
+Shows failed held (Show table) is_answered is_failed before after = ⊥
+Shows failed held (Match all table path) is_answered is_failed before after = ⊥
+Shows failed held (MatchMany all table files) is_answered is_failed before after = (is_answered ≡ false) × (t : TableView) × IsTableOf held table t × (is_failed ≡ false → AddsFaults (IsPrinted failed all t held) (map (λ n. n.now) files.now) before after)
+Shows failed held (Find table budget out hex progress) is_answered is_failed before after = (progress ≡ true) × (is_failed ≡ false → AddsProgress Products before after)
+Shows failed held (Conflicts table budget hex progress) is_answered is_failed before after = (progress ≡ true) × (is_failed ≡ false → AddsProgress Pairs before after)
+Shows failed held (Check table path) is_answered is_failed before after = ⊥
+Shows failed held (Witness table path) is_answered is_failed before after = ⊥
+
+-- the words ask for progress or for several files, and this is shown
+abbrev pub ShowsWords : {R : Type 0} → (R → Bool) → Holding → List Text → Bool → Bool → Option (List ℕ) → Option (List ℕ) → Type 0
+ShowsWords failed held words is_answered is_failed before after = (request : Request) × Asks (subcommand_of program words) request × Shows failed held request is_answered is_failed before after
+
+-- the error output is as it was, or shows what the request shows
+abbrev pub TellsOf : {R E : Type 0} → (R → Bool) → Holding → Request → Bool → Bool → E → E → Option (List ℕ) → Option (List ℕ) → Type 0
+TellsOf failed held request is_answered is_failed before after written written_after = (after ≡ before) ⊎ Shows failed held request is_answered is_failed written written_after
+
+-- where some of several files have a fault, both outputs are of the same files, of all of them in their order; where a write failed, both are of the first ones; and before every other fault nothing is told
+abbrev pub TellsMany : {R : Type 0} → (R → Bool) → Bool → Holding → TablePaths → List (List ℕ) → Fault → (before after : Option (List ℕ)) (err_failed : Bool) (err_before err_after : Option (List ℕ)) → Type 0
+TellsMany failed all held table names SomeFiles before after err_failed err_before err_after = (t : TableView) × IsTableOf held table t × AddsFiles (IsPrinted failed all t held) names before after err_failed err_before err_after false
+TellsMany failed all held table names (Run Write) before after err_failed err_before err_after = (t : TableView) × IsTableOf held table t × CutsFiles (IsPrinted failed all t held) names before after err_failed err_before err_after
+TellsMany failed all held table names (Run Read) before after err_failed err_before err_after = err_after ≡ err_before
+TellsMany failed all held table names (Run OutOfMemory) before after err_failed err_before err_after = err_after ≡ err_before
+TellsMany failed all held table names NotText before after err_failed err_before err_after = err_after ≡ err_before
+TellsMany failed all held table names (CannotOpen name) before after err_failed err_before err_after = err_after ≡ err_before
+TellsMany failed all held table names (Table error) before after err_failed err_before err_after = err_after ≡ err_before
+TellsMany failed all held table names (CutShort error) before after err_failed err_before err_after = err_after ≡ err_before
+
+-- what both outputs are of before the line of a fault: where there are several files, of the same ones
+abbrev pub Joins : {R : Type 0} → (R → Bool) → Holding → Request → Fault → (before after : Option (List ℕ)) (err_failed : Bool) (err_before err_after : Option (List ℕ)) → Type 0
+Joins failed held (Show table) fault before after err_failed err_before err_after = ⊤
+Joins failed held (Match all table path) fault before after err_failed err_before err_after = ⊤
+Joins failed held (MatchMany all table files) fault before after err_failed err_before err_after = TellsMany failed all held table (map (λ n. n.now) files.now) fault before after err_failed err_before err_after
+Joins failed held (Find table budget out hex progress) fault before after err_failed err_before err_after = ⊤
+Joins failed held (Conflicts table budget hex progress) fault before after err_failed err_before err_after = ⊤
+Joins failed held (Check table path) fault before after err_failed err_before err_after = ⊤
+Joins failed held (Witness table path) fault before after err_failed err_before err_after = ⊤
+
+-- what is written grows by the rest, perhaps behind what is shown
+pub record Behind (Shown Rest : Option (List ℕ) → Option (List ℕ) → Type 0) (before after : Option (List ℕ)) : Type 0 where
+  pub mid : Option (List ℕ)
+  pub shown : (mid ≡ before) ⊎ Shown before mid
+  pub rest : Rest mid after
+
+-- what the error output has before the line of this fault of the request, and what the output has grown by then
+abbrev pub ShowsBefore : {R : Type 0} → (R → Bool) → Holding → Request → Fault → (before after err_before err_after : Option (List ℕ)) → Type 0
+ShowsBefore failed held request fault before after err_before err_after = ((err_after ≡ err_before) ⊎ Shows failed held request false false err_before err_after) × Joins failed held request fault before after false err_before err_after
+
+-- the line of a fault of the request is reported, behind what it shows
+abbrev pub ReportsFaultOf : {R : Type 0} → (R → Bool) → Holding → Request → ℕ → (before after err_before err_after : Option (List ℕ)) → Type 0
+ReportsFaultOf failed held request status before after err_before err_after = (reason : Fault) × IsFaultOf failed held request reason × (mid : Option (List ℕ)) × ShowsBefore failed held request reason before after err_before mid × Reports reason status mid err_after
+
+-- the line of a fault of what the words ask for is reported
+abbrev pub ReportsFaultOfWords : {R : Type 0} → (R → Bool) → Holding → List Text → ℕ → (before after err_before err_after : Option (List ℕ)) → Type 0
+ReportsFaultOfWords failed held words status before after err_before err_after = (request : Request) × Asks (subcommand_of program words) request × ReportsFaultOf failed held request status before after err_before err_after
+
+-- several files are there to be matched
+abbrev pub HasFiles : Request → Type 0
+HasFiles (Show table) = ⊤
+HasFiles (Match all table path) = ⊤
+HasFiles (MatchMany all table files) = 0 < length files.now
+HasFiles (Find table budget out hex progress) = ⊤
+HasFiles (Conflicts table budget hex progress) = ⊤
+HasFiles (Check table path) = ⊤
+HasFiles (Witness table path) = ⊤

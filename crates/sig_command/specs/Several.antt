@@ -1,0 +1,33 @@
+-- What is written of several files, each by its name.
+use Rattle.std.specs.Prelude.{◌≡◌, ℕ, false, List, [], ◌++◌, ◌∷◌, All, Bool, Option}
+use Rattle.sig_bits.specs.Device.{Adds}
+use Rattle.sig_table.specs.Views.{TableView}
+use Rattle.sig_engines.specs.ManyFiles.{AreLinesOf, Printed, PrintedFile, err_texts, is_whole, names_of, out_texts}
+use Rattle.sig_engines.specs.Stores.{Holding}
+
+-- the text is one of each name, in their order, one behind another
+abbrev pub AreTexts : (List ℕ → List ℕ → Type 0) → List (List ℕ) → List ℕ → Type 0
+AreTexts IsOf [] text = text ≡ []
+AreTexts IsOf (name ∷ names) text = (first : List ℕ) × (rest : List ℕ) × (text ≡ first ++ rest) × IsOf name first × AreTexts IsOf names rest
+
+-- what is written grows by the lines of each file, in the order of their names
+pub record AddsLinesOfEach (all : Bool) (table : TableView) (held : Holding) (names : List (List ℕ)) (before after : Option (List ℕ)) : Type 0 where
+  pub text : List ℕ
+  pub are_lines : AreTexts (AreLinesOf all table held) names text
+  pub adds : Adds before text after
+
+-- some of these files has a fault, and what is written grows by the lines of all that have none
+pub record AddsLinesOfSome (IsOf : List ℕ → Printed → Type 0) (names : List (List ℕ)) (before after : Option (List ℕ)) : Type 0 where
+  pub files : List PrintedFile
+  pub are : names_of files ≡ names
+  pub each : All (λ f. IsOf f.name f.printed) files
+  pub is : is_whole files ≡ false
+  pub adds : Adds before (out_texts files) after
+
+-- what is written grows by the lines of the faults of the first of these files
+pub record AddsFaults (IsOf : List ℕ → Printed → Type 0) (names : List (List ℕ)) (before after : Option (List ℕ)) : Type 0 where
+  pub files : List PrintedFile
+  pub others : List (List ℕ)
+  pub are_first : names ≡ names_of files ++ others
+  pub each : All (λ f. IsOf f.name f.printed) files
+  pub adds : Adds before (err_texts files) after

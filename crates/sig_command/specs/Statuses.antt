@@ -1,0 +1,21 @@
+-- The statuses that the program ends with.
+use Rattle.std.specs.Prelude.{ℕ}
+use Rattle.sig_command.specs.declared.fault.Fault.{Fault}
+use Rattle.sig_command.specs.declared.fault.Fault.TheVariants.{CannotOpen, CutShort, NotText, Run, SomeFiles, Table}
+use Rattle.sig_table.specs.declared.error.TableError.{TableError}
+use Rattle.sig_table.specs.declared.error.TableError.TheVariants.{OutOfMemory, Read}
+
+-- a table that is not read, or for which memory ran out, ends with 3, a refused one with 2
+abbrev pub table_status : TableError → ℕ
+table_status (Read file) = 3
+table_status OutOfMemory = 3
+table_status _ = 2
+
+-- 2 for the words and for a refused table, 3 for what is outside
+abbrev pub status_of : Fault → ℕ
+status_of NotText = 2
+status_of (CannotOpen name) = 3
+status_of (Table error) = table_status error
+status_of (Run error) = 3
+status_of (CutShort error) = 3
+status_of SomeFiles = 3

@@ -1,0 +1,378 @@
+//! All that the program does: it reads the words, opens the files, answers, and gives the status.
+
+ghost use Rattle.std.specs.Prelude.{None, Some, ◌≡◌, ◌≢◌, ◌<◌, ◌⊎◌, false, is_ok, length, List, map, string_bytes, true, IfErr, IfOk, OnOk};
+ghost use Rattle.clap.specs.Values.{kind_of};
+ghost use Rattle.clap.specs.Words.{Text};
+ghost use Rattle.sig_command.specs.Requests.{Answers, AnswersWords, CutsWords, HasFiles, IsCutRequest, IsFaultOf, IsLoadFault, Joins, ShowsWords, TellsOf, file_fault};
+ghost use Rattle.sig_engines.specs.Stores.{IsTableOf, Opens};
+ghost use Rattle.sig_command.specs.CommandLine.{IsHelpAsked};
+ghost use Rattle.sig_command.specs.Endings.{AnswersBy, KeepsErrors, KeepsOutput, ReportsBy, ReportsMemory};
+ghost use Rattle.sig_table.specs.Tables.{IsTable};
+
+use crate::args::{Request, read_args, request_of};
+use crate::fault::Fault;
+use clap::Error;
+use clap::error::ErrorKind;
+use sig_bits::{FromRead, Input, Output};
+use sig_engines::{
+    CutShort, FileFault, RunError, Store, SystemFiles, TablePaths, run_check, run_find, run_match,
+    run_match_many, run_show, run_witness, settle,
+};
+use sig_match::WholeCore;
+use sig_table::Table;
+use std::alloc::Global;
+use std::rt::{Env, Files};
+use std::{env, io};
+
+/// Runs the program on the words that it was started with, and answers the status.
+pub fn run<R: Env + Files + AllocGlobal, W: Output, E: Output>(
+    rt: &R,
+    out: &mut W,
+    err: &mut E,
+) -> u8
+    ensures known { result < 4 }
+    ensures output { KeepsOutput ((words : List Text) × CutsWords ⟦<FromRead<R::File> as Input>⟧.failed None words (W.written out.old) (W.written out.new)) result (W.failed out.new) out.old out.new }
+    ensures errors { KeepsErrors (λ is_answered is_failed before after. (words : List Text) × ShowsWords ⟦<FromRead<R::File> as Input>⟧.failed None words is_answered is_failed before after) result (E.failed err.new) err.old err.new (E.written err.old) (E.written err.new) }
+
+    // What is shown answers some words, or they ask for help.
+    ensures answered { result ≡ 0 → (words : List Text) × (IsHelpAsked words ⊎ AnswersWords None words true (W.written out.old) (W.written out.new)) }
+    ensures denied { result ≡ 1 → (words : List Text) × AnswersWords None words false (W.written out.old) (W.written out.new) }
+{
+    match words_of(rt) {
+        Ok(words) => command(rt, words.as_slice(), out, err),
+        Err(fault) => fault.report(err),
+    }
+}
+
+// The words behind the program's name.
+fn words_of<R: Env + AllocGlobal>(rt: &R) -> Result<Vec<String>, Fault<'static>>
+    ensures { IfErr result (λ fault. (fault ≡ Fault.NotText) ⊎ (fault ≡ Fault.Run RunError.OutOfMemory)) }
+{
+    let words = env::args(rt).map_err(fault_of_words)?;
+    words
+        .skip(1)
+        .collect(rt.alloc())
+        .map_err(|_| Fault::Run(RunError::OutOfMemory))
+}
+
+fn fault_of_words(error: io::Error) -> Fault<'static>
+    ensures { (result ≡ Fault.NotText) ⊎ (result ≡ Fault.Run RunError.OutOfMemory) }
+{
+    match error.kind() {
+        io::ErrorKind::InvalidData => Fault::NotText,
+        _ => Fault::Run(RunError::OutOfMemory),
+    }
+}
+
+/// Runs the program on its words, without its name, over the files of the system, and answers the
+/// status.
+pub fn command<R: Files + AllocGlobal, W: Output, E: Output>(
+    rt: &R,
+    words: &[String],
+    out: &mut W,
+    err: &mut E,
+) -> u8
+    ensures known { result < 4 }
+    ensures output { KeepsOutput (CutsWords ⟦<FromRead<R::File> as Input>⟧.failed None (map string_bytes words.now) (W.written out.old) (W.written out.new)) result (W.failed out.new) out.old out.new }
+    ensures errors { KeepsErrors (ShowsWords ⟦<FromRead<R::File> as Input>⟧.failed None (map string_bytes words.now)) result (E.failed err.new) err.old err.new (E.written err.old) (E.written err.new) }
+    ensures answers { AnswersBy None (map string_bytes words.now) result (W.written out.old) (W.written out.new) }
+    ensures faults { ReportsBy ⟦<FromRead<R::File> as Input>⟧.failed None (map string_bytes words.now) result (E.failed err.new) (W.written out.old) (W.written out.new) (E.written err.old) (E.written err.new) }
+{
+    command_over(&SystemFiles::new(rt), rt.alloc(), words, out, err)
+}
+
+/// Runs the program on its words, without its name, over the files of a store, and answers the
+/// status.
+///
+/// The answer and the help go to `out`; a fault is one line on `err`, and a usage fault is the text
+/// of `clap`. With `--progress` a search tells `err` how much of it is done, and of several files each
+/// that has a fault is one line there. A failed write to `err` changes no status.
+pub fn command_over<S: Store, W: Output, E: Output>(
+    store: &S,
+    alloc: Global,
+    words: &[String],
+    out: &mut W,
+    err: &mut E,
+) -> u8
+    ensures known { result < 4 }
+    ensures output { KeepsOutput (CutsWords S.Reader.failed (S.held store.now) (map string_bytes words.now) (W.written out.old) (W.written out.new)) result (W.failed out.new) out.old out.new }
+    ensures errors { KeepsErrors (ShowsWords S.Reader.failed (S.held store.now) (map string_bytes words.now)) result (E.failed err.new) err.old err.new (E.written err.old) (E.written err.new) }
+    ensures answers { AnswersBy (S.held store.now) (map string_bytes words.now) result (W.written out.old) (W.written out.new) }
+    ensures faults { ReportsBy S.Reader.failed (S.held store.now) (map string_bytes words.now) result (E.failed err.new) (W.written out.old) (W.written out.new) (E.written err.old) (E.written err.new) }
+{
+    let matches = match read_args(alloc, words) {
+        Ok(matches) => matches,
+        Err(error) => return show_usage(alloc, &error, out, err),
+    };
+    let Some(request) = request_of(&matches) else {
+        unreachable!();
+    };
+    match answer(store, alloc, request, out, err) {
+        Ok(true) => 0,
+        Ok(false) => 1,
+        Err(fault) => fault.report(err),
+    }
+}
+
+// Whether the answer is a yes.
+fn answer<'m, 'a, S: Store, W: Output, E: Output>(
+    store: &S,
+    alloc: Global,
+    request: Request<'m, 'a>,
+    out: &mut W,
+    err: &mut E,
+) -> Result<bool, Fault<'a>>
+    ensures told { TellsOf S.Reader.failed (S.held store.now) request.entry (is_ok result) (E.failed err.new) err.old err.new (E.written err.old) (E.written err.new) }
+    ensures joined { IfErr result (λ fault. Joins S.Reader.failed (S.held store.now) request.entry fault (W.written out.old) (W.written out.new) (E.failed err.new) (E.written err.old) (E.written err.new)) }
+    ensures shown { OnOk result (HasFiles request.entry → W.failed out.new ≡ false) }
+    ensures answers { IfOk result (λ is_yes. Answers (S.held store.now) request.entry is_yes (W.written out.old) (W.written out.new)) }
+    ensures faults { IfErr result (λ fault. IsFaultOf S.Reader.failed (S.held store.now) request.entry fault) }
+    ensures untouched { IfErr result (λ fault. fault ≢ Fault.Run RunError.Write → ((e : CutShort) → fault ≢ Fault.CutShort e) → fault ≢ Fault.SomeFiles → out.new ≡ out.old) }
+    ensures whole { IfErr result (λ fault. W.failed out.new ≡ false → (out.new ≡ out.old) ⊎ IsCutRequest S.Reader.failed (S.held store.now) request.entry (W.written out.old) (W.written out.new)) }
+{
+    match request {
+        Request::Show { table } => show_table(store, alloc, table, out),
+        Request::Match { all, table, file } => match_file(store, alloc, all, table, file, out),
+        Request::MatchMany { all, table, files } => {
+            match_many(store, alloc, all, table, files, out, err)
+        }
+        Request::Find {
+            table,
+            budget,
+            out: name,
+            hex,
+            progress,
+        } => find_in_table(store, alloc, table, budget, name, hex, progress, out, err),
+        Request::Conflicts {
+            table,
+            budget,
+            hex,
+            progress,
+        } => settle_pairs(store, alloc, table, budget, hex, progress, out, err),
+        Request::Check { table, certificate } => {
+            check_certificate(store, alloc, table, certificate, out)
+        }
+        Request::Witness { table, file } => judge_file(store, alloc, table, file, out),
+    }
+}
+
+fn show_table<'a, S: Store, W: Output>(
+    store: &S,
+    alloc: Global,
+    table: TablePaths<'a>,
+    out: &mut W,
+) -> Result<bool, Fault<'a>>
+    ensures answers { IfOk result (λ is_yes. Answers (S.held store.now) (Request.Show table.entry) is_yes (W.written out.old) (W.written out.new)) }
+    ensures shown { OnOk result (W.failed out.new ≡ false) }
+    ensures faults { IfErr result (IsFaultOf S.Reader.failed (S.held store.now) (Request.Show table.entry)) }
+    ensures untouched { IfErr result (λ fault. fault ≢ Fault.Run RunError.Write → out.new ≡ out.old) }
+    ensures whole { IfErr result (λ fault. W.failed out.new ≡ false → out.new ≡ out.old) }
+{
+    match run_show(alloc, &load(store, alloc, table)?, out) {
+        Ok(()) => Ok(true),
+        Err(error) => Err(Fault::Run(error)),
+    }
+}
+
+fn match_file<'a, S: Store, W: Output>(
+    store: &S,
+    alloc: Global,
+    all: bool,
+    table: TablePaths<'a>,
+    name: &'a str,
+    out: &mut W,
+) -> Result<bool, Fault<'a>>
+    ensures answers { IfOk result (λ is_yes. Answers (S.held store.now) (Request.Match all table.entry name.entry) is_yes (W.written out.old) (W.written out.new)) }
+    ensures shown { OnOk result (W.failed out.new ≡ false) }
+    ensures faults { IfErr result (IsFaultOf S.Reader.failed (S.held store.now) (Request.Match all table.entry name.entry)) }
+    ensures untouched { IfErr result (λ fault. fault ≢ Fault.Run RunError.Write → out.new ≡ out.old) }
+    ensures whole { IfErr result (λ fault. W.failed out.new ≡ false → out.new ≡ out.old) }
+{
+    let core = WholeCore::new(alloc, load(store, alloc, table)?);
+    let mut file = open(store, name)?;
+    match run_match(alloc, &core, all, &mut file, out) {
+        Ok(()) => Ok(true),
+        Err(error) => Err(Fault::Run(error)),
+    }
+}
+
+// Of several files: the lines of each, or of some and the faults of the others.
+fn match_many<'m, 'a, S: Store, W: Output, E: Output>(
+    store: &S,
+    alloc: Global,
+    all: bool,
+    table: TablePaths<'a>,
+    files: &'m [&'a str],
+    out: &mut W,
+    err: &mut E,
+) -> Result<bool, Fault<'a>>
+    ensures told { TellsOf S.Reader.failed (S.held store.now) (Request.MatchMany all table.entry files.entry) (is_ok result) (E.failed err.new) err.old err.new (E.written err.old) (E.written err.new) }
+    ensures joined { IfErr result (λ fault. Joins S.Reader.failed (S.held store.now) (Request.MatchMany all table.entry files.entry) fault (W.written out.old) (W.written out.new) (E.failed err.new) (E.written err.old) (E.written err.new)) }
+    ensures shown { OnOk result (0 < length files.now → W.failed out.new ≡ false) }
+    ensures answers { IfOk result (λ is_yes. Answers (S.held store.now) (Request.MatchMany all table.entry files.entry) is_yes (W.written out.old) (W.written out.new)) }
+    ensures faults { IfErr result (λ fault. IsFaultOf S.Reader.failed (S.held store.now) (Request.MatchMany all table.entry files.entry) fault) }
+    ensures untouched { IfErr result (λ fault. fault ≢ Fault.Run RunError.Write → fault ≢ Fault.SomeFiles → out.new ≡ out.old) }
+    ensures whole { IfErr result (λ fault. W.failed out.new ≡ false → (out.new ≡ out.old) ⊎ IsCutRequest S.Reader.failed (S.held store.now) (Request.MatchMany all table.entry files.entry) (W.written out.old) (W.written out.new)) }
+{
+    let table = load(store, alloc, table)?;
+    let core = WholeCore::new(alloc, table);
+    match run_match_many(alloc, store, &core, all, files, out, err) {
+        Ok(true) => Ok(true),
+        Ok(false) => Err(Fault::SomeFiles),
+        Err(error) => Err(Fault::Run(error)),
+    }
+}
+
+fn find_in_table<'a, S: Store, W: Output, E: Output>(
+    store: &S,
+    alloc: Global,
+    table: TablePaths<'a>,
+    budget: u32,
+    name: &'a str,
+    hex: bool,
+    progress: bool,
+    out: &mut W,
+    err: &mut E,
+) -> Result<bool, Fault<'a>>
+    ensures told { TellsOf S.Reader.failed (S.held store.now) (Request.Find table.entry budget name.entry hex progress) (is_ok result) (E.failed err.new) err.old err.new (E.written err.old) (E.written err.new) }
+    ensures answers { IfOk result (λ is_yes. Answers (S.held store.now) (Request.Find table.entry budget name.entry hex progress) is_yes (W.written out.old) (W.written out.new)) }
+    ensures shown { OnOk result (W.failed out.new ≡ false) }
+    ensures faults { IfErr result (IsFaultOf S.Reader.failed (S.held store.now) (Request.Find table.entry budget name.entry hex progress)) }
+    ensures untouched { IfErr result (λ fault. fault ≢ Fault.Run RunError.Write → out.new ≡ out.old) }
+    ensures whole { IfErr result (λ fault. W.failed out.new ≡ false → out.new ≡ out.old) }
+{
+    let table = load(store, alloc, table)?;
+    match run_find(alloc, store, &table, budget, hex, progress, name, out, err) {
+        Ok(is_yes) => Ok(is_yes),
+        Err(fault) => Err(file_fault(name, fault)),
+    }
+}
+
+fn settle_pairs<'a, S: Store, W: Output, E: Output>(
+    store: &S,
+    alloc: Global,
+    table: TablePaths<'a>,
+    budget: u32,
+    hex: bool,
+    progress: bool,
+    out: &mut W,
+    err: &mut E,
+) -> Result<bool, Fault<'a>>
+    ensures told { TellsOf S.Reader.failed (S.held store.now) (Request.Conflicts table.entry budget hex progress) (is_ok result) (E.failed err.new) err.old err.new (E.written err.old) (E.written err.new) }
+    ensures answers { IfOk result (λ is_yes. Answers (S.held store.now) (Request.Conflicts table.entry budget hex progress) is_yes (W.written out.old) (W.written out.new)) }
+    ensures shown { OnOk result (W.failed out.new ≡ false) }
+    ensures faults { IfErr result (IsFaultOf S.Reader.failed (S.held store.now) (Request.Conflicts table.entry budget hex progress)) }
+    ensures untouched { IfErr result (λ fault. ((e : CutShort) → fault ≢ Fault.CutShort e) → out.new ≡ out.old) }
+    ensures whole { IfErr result (λ fault. W.failed out.new ≡ false → (out.new ≡ out.old) ⊎ IsCutRequest S.Reader.failed (S.held store.now) (Request.Conflicts table.entry budget hex progress) (W.written out.old) (W.written out.new)) }
+{
+    let table = load(store, alloc, table)?;
+    match settle(alloc, &table, budget, hex, progress, out, err) {
+        Ok(is_yes) => Ok(is_yes),
+        Err(error) => Err(Fault::CutShort(error)),
+    }
+}
+
+fn check_certificate<'a, S: Store, W: Output>(
+    store: &S,
+    alloc: Global,
+    table: TablePaths<'a>,
+    name: &'a str,
+    out: &mut W,
+) -> Result<bool, Fault<'a>>
+    ensures answers { IfOk result (λ is_yes. Answers (S.held store.now) (Request.Check table.entry name.entry) is_yes (W.written out.old) (W.written out.new)) }
+    ensures shown { OnOk result (W.failed out.new ≡ false) }
+    ensures faults { IfErr result (IsFaultOf S.Reader.failed (S.held store.now) (Request.Check table.entry name.entry)) }
+    ensures untouched { IfErr result (λ fault. fault ≢ Fault.Run RunError.Write → out.new ≡ out.old) }
+    ensures whole { IfErr result (λ fault. W.failed out.new ≡ false → out.new ≡ out.old) }
+{
+    let table = load(store, alloc, table)?;
+    let mut certificate = open(store, name)?;
+    match run_check(alloc, &table, &mut certificate, out) {
+        Ok(is_accepted) => Ok(is_accepted),
+        Err(error) => Err(Fault::Run(error)),
+    }
+}
+
+fn judge_file<'a, S: Store, W: Output>(
+    store: &S,
+    alloc: Global,
+    table: TablePaths<'a>,
+    name: &'a str,
+    out: &mut W,
+) -> Result<bool, Fault<'a>>
+    ensures answers { IfOk result (λ is_yes. Answers (S.held store.now) (Request.Witness table.entry name.entry) is_yes (W.written out.old) (W.written out.new)) }
+    ensures shown { OnOk result (W.failed out.new ≡ false) }
+    ensures faults { IfErr result (IsFaultOf S.Reader.failed (S.held store.now) (Request.Witness table.entry name.entry)) }
+    ensures untouched { IfErr result (λ fault. fault ≢ Fault.Run RunError.Write → out.new ≡ out.old) }
+    ensures whole { IfErr result (λ fault. W.failed out.new ≡ false → out.new ≡ out.old) }
+{
+    let table = load(store, alloc, table)?;
+    let mut file = open(store, name)?;
+    match run_witness(alloc, &table, &mut file, out) {
+        Ok(is_ambiguous) => Ok(is_ambiguous),
+        Err(error) => Err(Fault::Run(error)),
+    }
+}
+
+// Why there is no answer of the file of this name.
+fn file_fault(name: &str, fault: FileFault) -> Fault<'_>
+    ensures { result ≡ file_fault name.entry fault }
+{
+    match fault {
+        FileFault::CannotOpen => Fault::CannotOpen(name),
+        FileFault::Run(error) => Fault::Run(error),
+    }
+}
+
+// Opens both files of a table before either is read. It stands in a frame of its own, as the engines
+// do: the buffers of all of them in one frame would double the stack that the program needs.
+#[inline(never)]
+fn load<'a, S: Store>(store: &S, alloc: Global, paths: TablePaths<'a>) -> Result<Table, Fault<'a>>
+    ensures read { IfOk result (IsTableOf (S.held store.now) paths.entry) }
+    ensures faults { IfErr result (IsLoadFault S.Reader.failed (S.held store.now) paths.entry) }
+{
+    let mut signatures = open(store, paths.signatures)?;
+    let mut priorities = open(store, paths.priorities)?;
+    match Table::load(alloc, &mut signatures, &mut priorities) {
+        Ok(table) => {
+            let is_within = table.format_count() <= 1000;
+            prove!(is_within);
+            Ok(table)
+        }
+        Err(error) => Err(Fault::Table(error)),
+    }
+}
+
+fn open<'a, S: Store>(store: &S, name: &'a str) -> Result<S::Reader, Fault<'a>>
+    ensures opens { IfOk result (λ file. Opens (S.held store.now) name.entry.now (Some (S.Reader.to_come file))) }
+    ensures unopened { IfErr result (λ fault. (fault ≡ Fault.CannotOpen name.entry) × Opens (S.held store.now) name.entry.now None) }
+{
+    match store.open(name) {
+        Some(file) => Ok(file),
+        None => Err(Fault::CannotOpen(name)),
+    }
+}
+
+// What `clap` says: help is an answer, and all else a fault of the words, unless memory ran out.
+fn show_usage<W: Output, E: Output>(alloc: Global, error: &Error, out: &mut W, err: &mut E) -> u8
+    ensures known { (result ≡ 0) ⊎ ((result ≡ 2) ⊎ (result ≡ 3)) }
+    ensures output { KeepsOutput ⊥ result (W.failed out.new) out.old out.new }
+    ensures errors { KeepsErrors (λ is_answered is_failed before after. ⊥) result (E.failed err.new) err.old err.new (E.written err.old) (E.written err.new) }
+    ensures memory { kind_of error.now ≡ ErrorKind.OutOfMemory → result ≡ 3 }
+    ensures memory_reported { kind_of error.now ≡ ErrorKind.OutOfMemory → E.failed err.new ≡ false → ReportsMemory (E.written err.old) (E.written err.new) }
+    ensures help { result ≡ 0 → (kind_of error.now ≡ ErrorKind.DisplayHelp) ⊎ (kind_of error.now ≡ ErrorKind.DisplayVersion) }
+    ensures usage { result ≡ 2 → (kind_of error.now ≢ ErrorKind.DisplayHelp) × (kind_of error.now ≢ ErrorKind.DisplayVersion) }
+{
+    let text = match error.to_string(alloc) {
+        Ok(text) if error.kind() != ErrorKind::OutOfMemory => text,
+        _ => return Fault::Run(RunError::OutOfMemory).report(err),
+    };
+    if error.use_stderr() {
+        let _ = err.write_all(text.as_bytes());
+        return 2;
+    }
+    match out.write_all(text.as_bytes()) {
+        Ok(()) => 0,
+        Err(_) => Fault::Run(RunError::Write).report(err),
+    }
+}

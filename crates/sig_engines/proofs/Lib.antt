@@ -1,0 +1,10 @@
+-- Lemmas of this crate.
+pub mod Exports
+mod FoundLemmas
+mod HitLemmas
+mod JudgedLemmas
+mod ManyLemmas
+mod ProgressLemmas
+mod SettledLemmas
+mod TellingLemmas
+mod WriteLemmas

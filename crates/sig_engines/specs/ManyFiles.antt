@@ -1,0 +1,88 @@
+-- What is printed of many files, each by its name.
+use Rattle.std.specs.Prelude.{◌≡◌, ℕ, Bool, false, List, [], ◌∷◌, ◌++◌, All, codes, flat_map, is_ok, map, Option, Some, Result, Ok, Err}
+use Rattle.std.specs.List.{list_all}
+use Rattle.sig_bits.specs.Device.{Adds, AddsFront}
+use Rattle.sig_match.specs.declared.results.Hit.{Hit}
+use Rattle.sig_table.specs.Views.{TableView}
+use Rattle.sig_engines.specs.Writing.{run_text}
+use Rattle.sig_engines.specs.Lines.{AreAsked, file_lines}
+use Rattle.sig_engines.specs.Stores.{Has, Holding, Holds, Lacks, SomeFailed}
+use Rattle.sig_engines.specs.declared.error.RunError.TheVariants.{OutOfMemory, Read, Write}
+use Rattle.sig_engines.specs.declared.error.FileFault.{FileFault}
+use Rattle.sig_engines.specs.declared.error.FileFault.TheVariants.{CannotOpen, Run}
+
+-- ---- one file
+
+-- what is printed of a file: its lines, or its fault
+abbrev pub Printed : Type 0
+Printed = Result (List ℕ) FileFault
+
+-- these are the lines of the hits that are asked for, of the file of this name
+pub record AreLinesOf (all : Bool) (table : TableView) (held : Holding) (name lines : List ℕ) : Type 0 where
+  pub file : List ℕ
+  pub holds : Holds held name file
+  pub hits : List Hit
+  pub are_asked : AreAsked all table file hits
+  pub are_lines : lines ≡ file_lines (Some name) table hits
+
+-- this is printed of the file of this name: its lines; or there is no such file, a reader of it failed, or memory ran out
+abbrev pub IsPrinted : {R : Type 0} → (R → Bool) → Bool → TableView → Holding → List ℕ → Printed → Type 0
+IsPrinted failed all table held name (Ok lines) = AreLinesOf all table held name lines
+IsPrinted failed all table held name (Err CannotOpen) = Lacks held name
+IsPrinted failed all table held name (Err (Run Read)) = Has held name × SomeFailed failed
+IsPrinted failed all table held name (Err (Run Write)) = ⊥
+IsPrinted failed all table held name (Err (Run OutOfMemory)) = Has held name
+
+-- what is written to the output
+abbrev pub out_text : Printed → List ℕ
+out_text (Ok lines) = lines
+out_text (Err fault) = []
+
+-- the line of a fault of the file of this name: `cannot open NAME`, `NAME: read failed` or `NAME: out of memory`
+abbrev pub file_fault_line : List ℕ → FileFault → List ℕ
+file_fault_line name CannotOpen = codes "cannot open " ++ name ++ 10 ∷ []
+file_fault_line name (Run error) = name ++ codes ": " ++ run_text error ++ 10 ∷ []
+
+-- what is written to the error output
+abbrev pub err_text : List ℕ → Printed → List ℕ
+err_text name (Ok lines) = []
+err_text name (Err fault) = file_fault_line name fault
+
+-- ---- many files
+
+-- a file, by its name, and what is printed of it
+pub record PrintedFile : Type 0 where
+  pub name : List ℕ
+  pub printed : Printed
+
+abbrev pub names_of : List PrintedFile → List (List ℕ)
+names_of files = map (λ f. f.name) files
+
+-- what is written of files, in their order
+abbrev pub out_texts : List PrintedFile → List ℕ
+out_texts files = flat_map (λ f. out_text f.printed) files
+
+abbrev pub err_texts : List PrintedFile → List ℕ
+err_texts files = flat_map (λ f. err_text f.name f.printed) files
+
+-- whether no file has a fault
+abbrev pub is_whole : List PrintedFile → Bool
+is_whole files = list_all (λ f. is_ok f.printed) files
+
+-- of each name this is printed, in their order, on both outputs, as far as the error output did not fail
+pub record AddsFiles (IsOf : List ℕ → Printed → Type 0) (names : List (List ℕ)) (before after : Option (List ℕ)) (err_failed : Bool) (err_before err_after : Option (List ℕ)) (whole : Bool) : Type 0 where
+  pub files : List PrintedFile
+  pub are : names_of files ≡ names
+  pub each : All (λ f. IsOf f.name f.printed) files
+  pub is : whole ≡ is_whole files
+  pub adds : Adds before (out_texts files) after
+  pub reports : err_failed ≡ false → Adds err_before (err_texts files) err_after
+
+-- of each of the first names this is printed, but of what is written to the output only a front
+pub record CutsFiles (IsOf : List ℕ → Printed → Type 0) (names : List (List ℕ)) (before after : Option (List ℕ)) (err_failed : Bool) (err_before err_after : Option (List ℕ)) : Type 0 where
+  pub files : List PrintedFile
+  pub others : List (List ℕ)
+  pub are_first : names ≡ names_of files ++ others
+  pub each : All (λ f. IsOf f.name f.printed) files
+  pub adds : AddsFront before (out_texts files) after
+  pub reports : err_failed ≡ false → Adds err_before (err_texts files) err_after

@@ -1,0 +1,58 @@
+-- What a store holds, and what it gives.
+use Rattle.std.specs.Prelude.{◌≡◌, ℕ, ⊤, Bool, true, List, [], Option, None, Some, IsSome, option_map, Result, Ok, Err}
+use Rattle.sig_table.specs.Judging.{is_judged, is_read}
+use Rattle.sig_table.specs.Loading.{records_of, table_of}
+use Rattle.sig_table.specs.Tables.{IsTable}
+use Rattle.sig_table.specs.Views.{TableView}
+use Rattle.sig_table.specs.declared.error.TableError.{TableError}
+use Rattle.sig_engines.specs.declared.store.TablePaths.{TablePaths}
+
+-- the bytes of the file of each name, and nothing for a name without a file, where that is known
+abbrev pub Holding : Type 0
+Holding = Option (List ℕ → Option (List ℕ))
+
+-- the file of this name has these bytes, where that is known
+abbrev pub Holds : Holding → List ℕ → List ℕ → Type 0
+Holds None name bytes = ⊤
+Holds (Some files) name bytes = files name ≡ Some bytes
+
+-- there is a file of this name, or there is none, where that is known
+abbrev pub Has : Holding → List ℕ → Type 0
+Has None name = ⊤
+Has (Some files) name = IsSome (files name)
+
+abbrev pub Lacks : Holding → List ℕ → Type 0
+Lacks None name = ⊤
+Lacks (Some files) name = files name ≡ None
+
+-- a name that has a file is opened, with the file's bytes to come, and no other name is
+abbrev pub Opens : Holding → List ℕ → Option (Option (List ℕ)) → Type 0
+Opens None name opened = ⊤
+Opens (Some files) name opened = opened ≡ option_map Some (files name)
+
+-- of a file that is made nothing is written yet
+abbrev pub Makes : Holding → Option (List ℕ) → Type 0
+Makes None written = ⊤
+Makes (Some files) written = written ≡ Some []
+
+-- a reader has failed
+pub record SomeFailed {R : Type 0} (failed : R → Bool) : Type 0 where
+  pub reader : R
+  pub has_failed : failed reader ≡ true
+
+-- the two files of these names are read as this table, or as this fault of one, where it is known what they hold
+abbrev pub ReadsAs : Holding → TablePaths → Result TableView TableError → Type 0
+ReadsAs None paths read = ⊤
+ReadsAs (Some files) paths read = (signatures priorities : List ℕ) × (files paths.signatures.now ≡ Some signatures) × (files paths.priorities.now ≡ Some priorities) × (table_of (records_of signatures) (records_of priorities) ≡ read)
+
+-- the table of the two files of these names
+pub record IsTableOf (held : Holding) (paths : TablePaths) (table : TableView) : Type 0 where
+  pub limits : IsTable table
+  pub read : ReadsAs held paths (Ok table)
+
+-- why there is no table of the two files of these names: what they hold has this fault, a reader failed, or memory ran out
+pub record IsTableFault {R : Type 0} (failed : R → Bool) (held : Holding) (paths : TablePaths) (error : TableError) : Type 0 where
+  pub has_signatures : Has held paths.signatures.now
+  pub has_priorities : Has held paths.priorities.now
+  pub judged : is_judged error ≡ true → ReadsAs held paths (Err error)
+  pub unread : is_read error ≡ true → SomeFailed failed

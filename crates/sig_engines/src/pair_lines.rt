@@ -1,0 +1,100 @@
+//! The lines of `conflicts`.
+
+ghost use Rattle.std.specs.Prelude.{◌≡◌, ◌+◌, ◌++◌, ◌^◌, ◌<◌, IfOk, OnOk, string_bytes};
+ghost use Rattle.sig_engines.specs.Conflicts.{counts_line, decision_line, hex_text, product_text};
+ghost use Rattle.sig_engines.specs.Finding.{AreSignatures};
+ghost use Rattle.sig_cert.specs.Deciding.{AreFormats};
+ghost use Rattle.sig_find.specs.FormatPairs.{NamesSignatures};
+
+use crate::counts::Counts;
+use crate::lines::push_numbered;
+use sig_find::PairDecision;
+use sig_table::{FormatId, SigId, Table};
+use std::alloc::{AllocError, Global};
+use std::fmt::Write;
+
+/// The line of two formats that are not decided, and nothing for others. With `with_hex` the line of
+/// an ambiguous pair has the bytes of its file.
+pub(crate) fn line_of_pair(
+    alloc: Global,
+    table: &Table,
+    a: FormatId,
+    b: FormatId,
+    decision: &PairDecision,
+    with_hex: bool,
+) -> Result<String, AllocError>
+    requires formats { AreFormats table.now (a, b) }
+    requires signatures { NamesSignatures table.now (a.0, b.0) decision.now }
+    ensures { IfOk result (λ line. string_bytes line ≡ decision_line with_hex table.now (a.0, b.0) decision.now) }
+{
+    let mut line = String::new(alloc);
+    match decision {
+        PairDecision::Decided => {}
+        PairDecision::Ambiguous { s, t, file } => {
+            line.push_str("ambiguous")?;
+            push_product(&mut line, table, a, b, *s, *t)?;
+            let length = file.len();
+            write!(line, " {length}")?;
+            push_hex(alloc, &mut line, with_hex, file)?;
+            line.push_str("\n")?;
+        }
+        PairDecision::Unknown { s, t } => {
+            line.push_str("unknown")?;
+            push_product(&mut line, table, a, b, *s, *t)?;
+            line.push_str("\n")?;
+        }
+    }
+    Ok(line)
+}
+
+// Two formats and a signature of each, with a space before each.
+fn push_product(
+    line: &mut String,
+    table: &Table,
+    a: FormatId,
+    b: FormatId,
+    s: SigId,
+    t: SigId,
+) -> Result<(), AllocError>
+    requires formats { AreFormats table.now (a, b) }
+    requires signatures { AreSignatures table.now s t }
+    ensures { OnOk result (string_bytes line.new ≡ string_bytes line.old ++ product_text table.now (a.0, b.0) s.0 t.0) }
+{
+    let first = table.puid(a);
+    let second = table.puid(b);
+    let first_number = table.number_of(s);
+    let second_number = table.number_of(t);
+    write!(line, " {first} {second} {first_number} {second_number}")?;
+    Ok(())
+}
+
+// A space and the bytes in lower case hexadecimal, where they are asked for and there are any.
+fn push_hex(
+    alloc: Global,
+    line: &mut String,
+    with_hex: bool,
+    bytes: &[u8],
+) -> Result<(), AllocError>
+    ensures { OnOk result (string_bytes line.new ≡ string_bytes line.old ++ hex_text with_hex bytes.now) }
+{
+    if with_hex && !bytes.is_empty() {
+        let digits = hex::encode(alloc, bytes)?;
+        line.push_str(" ")?;
+        line.push_str(digits.as_str())?;
+    }
+    Ok(())
+}
+
+/// The last line: how many pairs there are, and how many of each kind.
+pub(crate) fn line_of_counts(alloc: Global, counts: Counts) -> Result<String, AllocError>
+    requires { counts.decided + counts.ambiguous + counts.unknown < 2 ^ 32 }
+    ensures { IfOk result (λ line. string_bytes line ≡ counts_line counts) }
+{
+    let mut line = String::new(alloc);
+    push_numbered(&mut line, "pairs ", counts.pairs())?;
+    push_numbered(&mut line, " decided ", counts.decided)?;
+    push_numbered(&mut line, " ambiguous ", counts.ambiguous)?;
+    push_numbered(&mut line, " unknown ", counts.unknown)?;
+    line.push_str("\n")?;
+    Ok(line)
+}

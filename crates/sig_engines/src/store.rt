@@ -1,0 +1,74 @@
+//! Files by their names.
+//!
+//! What the program reads and makes by name it asks of a store, so what it does with the files of a
+//! store that tells what it holds can be said in a contract. The files of the system tell nothing.
+
+ghost use Rattle.std.specs.Prelude.{◌≡◌, false, IfSome, None, option_map};
+ghost use Rattle.sig_engines.specs.Stores.{Holding, Makes, Opens};
+
+use sig_bits::{FromRead, FromWrite, Input, Output};
+use std::fs;
+use std::rt::Files;
+
+/// A store of files.
+pub trait Store {
+    type Reader: Input + Drop;
+
+    type Writer: Output + Drop;
+
+    /// The bytes of the file of each name, where they are known.
+    ghost held: { Self → Holding };
+
+    /// Opens the file of this name, from its front.
+    fn open(&self, name: &str) -> Option<Self::Reader>
+        ensures opens { Opens (held self.now) name.now (option_map (λ file. Self.Reader.to_come file) result) }
+        ensures fresh { IfSome result (λ file. Self.Reader.failed file ≡ false) };
+
+    /// Makes a file of this name, in place of one that is there.
+    ///
+    /// What is written to it is not among what the store is known to hold.
+    fn create(&self, name: &str) -> Option<Self::Writer>
+        ensures makes { IfSome result (λ file. Makes (held self.now) (Self.Writer.written file)) }
+        ensures fresh { IfSome result (λ file. Self.Writer.failed file ≡ false) };
+}
+
+/// The names of the two files of a table.
+#[derive(Clone, Copy, Debug, PartialEq, Eq)]
+pub struct TablePaths<'a> {
+    pub signatures: &'a str,
+    pub priorities: &'a str,
+}
+
+/// The files of the system.
+#[derive(Clone, Copy)]
+pub struct SystemFiles<'a, R> {
+    rt: &'a R,
+}
+
+impl<'a, R: Files> SystemFiles<'a, R> {
+    pub fn new(rt: &'a R) -> SystemFiles<'a, R> {
+        SystemFiles { rt }
+    }
+}
+
+impl<R: Files> Store for SystemFiles<'_, R> {
+    type Reader = FromRead<R::File>;
+
+    type Writer = FromWrite<R::File>;
+
+    ghost held = { λ _. None };
+
+    fn open(&self, name: &str) -> Option<FromRead<R::File>> {
+        match fs::open(self.rt, name) {
+            Ok(file) => Some(FromRead::new(file)),
+            Err(_) => None,
+        }
+    }
+
+    fn create(&self, name: &str) -> Option<FromWrite<R::File>> {
+        match fs::create(self.rt, name) {
+            Ok(file) => Some(FromWrite::new(file)),
+            Err(_) => None,
+        }
+    }
+}

@@ -1,0 +1,46 @@
+//! `witness`, over any input and any output.
+//!
+//! The file is judged whole before a byte is written.
+
+ghost use Rattle.std.specs.Prelude.{◌≡◌, false, true, IfOk, IsErrOf, OnOk};
+ghost use Rattle.sig_bits.specs.Device.{IsAtEnd};
+ghost use Rattle.sig_engines.specs.Witnessed.{AddsWitnessOfSome};
+
+use crate::error::RunError;
+use crate::lines::line_of_witness;
+use sig_bits::{Input, Output, read_whole};
+use sig_cert::check_witness;
+use sig_table::Table;
+use std::alloc::Global;
+
+/// Writes `ambiguous` and the first two formats left for the file, or `not ambiguous`, and answers
+/// whether the file is ambiguous.
+///
+/// Where the input does not tell its bytes, the answer is that on some bytes.
+#[inline(never)]
+pub fn run_witness<R: Input, W: Output>(
+    alloc: Global,
+    table: &Table,
+    file: &mut R,
+    out: &mut W,
+) -> Result<bool, RunError>
+    ensures answers { IfOk result (λ is_ambiguous. AddsWitnessOfSome is_ambiguous table.now (R.to_come file.old) (W.written out.old) (W.written out.new)) }
+    ensures at_end { OnOk result (IsAtEnd (R.to_come file.new)) }
+
+    // Each refusal, and when.
+    ensures reads { OnOk result (R.failed file.new ≡ false) }
+    ensures writes { OnOk result (W.failed out.new ≡ false) }
+    ensures read { IsErrOf result RunError.Read → R.failed file.new ≡ true }
+    ensures write { IsErrOf result RunError.Write → W.failed out.new ≡ true }
+    ensures memory { IsErrOf result RunError.OutOfMemory → R.failed file.old ≡ false → R.failed file.new ≡ false }
+
+    // Before the answer is known nothing is written.
+    ensures read_stays { IsErrOf result RunError.Read → out.new ≡ out.old }
+    ensures memory_stays { IsErrOf result RunError.OutOfMemory → out.new ≡ out.old }
+{
+    let bytes = read_whole(alloc, file)?;
+    let two = check_witness(alloc, table, &bytes).map_err(|_| RunError::OutOfMemory)?;
+    let line = line_of_witness(alloc, table, two).map_err(|_| RunError::OutOfMemory)?;
+    out.write_all(line.as_bytes()).map_err(|_| RunError::Write)?;
+    Ok(two.is_some())
+}

@@ -1,0 +1,269 @@
+-- Tables of fronts, and what is known of where they stand.
+use Rattle.std.proofs.Common.{◌≡◌, ◌≢◌, ◌⊎◌, ⊎_elim, ℕ, zero, suc, ◌+◌, ◌-◌, ◌*◌, ◌<◌, ◌≤◌, List, [], ◌∷◌, ◌++◌, length, get_or, take, drop, Some, None, subst, sym, ap, refl, ◌∙◌, arith, inl, inr, length-drop, length-take, length-append, length-set, replicate, set}
+use Rattle.std.specs.Prelude.{slice_get}
+use Rattle.std.proofs.lemmas.Bool.{cases_eq}
+use Rattle.std.proofs.lemmas.List.{get_or-drop, get_or-replicate, get_or_past, get_or-set_same, get_or-set_other, get_or-take}
+use Rattle.std.proofs.Math.ListN.{length-replicate}
+use Rattle.std.proofs.lemmas.Option.{slice_get_within}
+use Rattle.sig_match.specs.Rests.{Misses}
+use Rattle.sig_match.proofs.RestLemmas.{misses_or_fits}
+use Rattle.sig_match.specs.Sieves.{IsKnown, IsKnownAt, IsKnownBelow, IsSieve, IsWithinPiece, pair_at, pair_of, text_of}
+use Rattle.sig_match.specs.declared.scan.entry.Entry.{Entry}
+
+-- a front that begins with other bytes does not stand
+pub misses_by_pair : (f : Entry) (bytes : List ℕ) (x : ℕ) → 2 ≤ f.len → f.len ≤ 8 → length f.front ≡ 8 → x + 1 < length bytes → pair_of f ≢ pair_at bytes x → Misses (text_of f) (drop x bytes)
+misses_by_pair f bytes x some few wide within differs =
+    let long : length (take f.len f.front) ≡ f.len = omega (arith, length-take {A = ℕ}) in
+    let rest = length-drop x bytes in
+    let far : 1 < length (drop x bytes) = omega arith in
+    ⊎_elim
+    (λ misses. misses)
+    (λ fits.
+    let zero_on : x + 0 ≡ x = omega arith in
+    let first : get_or bytes x 0 ≡ get_or f.front 0 0 = ap (λ k. get_or bytes k 0) (sym zero_on) ∙ sym (get_or-drop x bytes 0 0) ∙ fits 0 (omega arith) (omega arith) ∙ get_or-take f.len f.front 0 0 (omega arith) in
+    let second : get_or bytes (x + 1) 0 ≡ get_or f.front 1 0 = sym (get_or-drop x bytes 1 0) ∙ fits 1 (omega arith) (omega arith) ∙ get_or-take f.len f.front 1 0 (omega arith) in
+    absurd (differs (omega arith)))
+    (misses_or_fits (take f.len f.front) (drop x bytes))
+
+below_or : (x at : ℕ) → (x < at) ⊎ (at ≤ x)
+below_or x zero = inr (omega arith)
+below_or zero (suc at) = inl (omega arith)
+below_or (suc x) (suc at) = ⊎_elim (λ below. inl (omega arith)) (λ behind. inr (omega arith)) (below_or x at)
+
+apart_of : (at d e : ℕ) → e + 1 ≡ at → d ≢ e → (at ≤ d) ⊎ (d < e)
+apart_of at d e end other = ⊎_elim (λ below. inr (omega arith)) (λ behind. inl behind) (below_or d at)
+
+-- an element of a list with one more is of the list, or the new one
+more_at : (xs : List Entry) (f g : Entry) (e : ℕ) → slice_get (xs ++ f ∷ []) e ≡ Some g → (slice_get xs e ≡ Some g) ⊎ ((e ≡ length xs) × (f ≡ g))
+more_at [] f g zero at = inr (refl, (cc))
+more_at [] f g (suc e) at = (let e : None ≡ Some g = at in (cc))
+more_at (x ∷ xs) f g zero at = inl at
+more_at (x ∷ xs) f g (suc e) at = ⊎_elim (λ old. inl old) (λ new. inr (omega arith, new.1)) (more_at xs f g e at)
+
+-- no front at all
+pub IsSieve-none : (heads : List ℕ) → length heads ≡ 65536 → ((k : ℕ) → get_or heads k 0 ≡ 0) → IsSieve heads []
+IsSieve-none heads long none = record {
+  long = long;
+  some = λ e f at. (let no : None ≡ Some f = at in (cc));
+  few = λ e f at. (let no : None ≡ Some f = at in (cc));
+  wide = λ e f at. (let no : None ≡ Some f = at in (cc));
+  within = λ k. omega (arith, none k);
+  headed = λ e f at. (let no : None ≡ Some f = at in (cc));
+  heads_are = λ k e f end at. (let no : None ≡ Some f = at in (cc));
+  falls = λ e f at. (let no : None ≡ Some f = at in (cc));
+  next_is = λ e d f g at. (let no : None ≡ Some f = at in (cc));
+  skips = λ e d f g at. (let no : None ≡ Some f = at in (cc));
+}
+
+-- on the way along the entries that begin with the bytes at place x
+pub record Visited (entries : List Entry) (bytes first known : List ℕ) (x at : ℕ) : Type 0 where
+  pub long : length known ≡ length entries
+  pub within : at ≤ length entries
+  pub less : (e : ℕ) → get_or known e 0 ≤ get_or first e 0
+  pub at_is : (e : ℕ) (f : Entry) → e + 1 ≡ at → slice_get entries e ≡ Some f → pair_of f ≡ pair_at bytes x
+  pub done : (e : ℕ) (f : Entry) → slice_get entries e ≡ Some f → at ≤ e → pair_of f ≡ pair_at bytes x → x < get_or known e 0 → Misses (text_of f) (drop x bytes)
+
+pub visit_begins : (heads : List ℕ) (entries : List Entry) (bytes known : List ℕ) (x : ℕ) → IsSieve heads entries → length known ≡ length entries → Visited entries bytes known known x (get_or heads (pair_at bytes x) 0)
+visit_begins heads entries bytes known x is long = record {
+  long = long;
+  within = is.within (pair_at bytes x);
+  less = λ e. omega arith;
+  at_is = λ e f end at. is.heads_are (pair_at bytes x) e f end at;
+  done = λ e f at behind same below.
+      let head = is.headed e f at in
+      let there : e < get_or heads (pair_at bytes x) 0 = subst (λ k. e < get_or heads k 0) same head in
+      absurd (omega arith);
+}
+
+-- one more entry
+pub visit_goes_on : (heads : List ℕ) (entries : List Entry) (bytes first known new : List ℕ) (x at e : ℕ) (f : Entry) → IsSieve heads entries → Visited entries bytes first known x at → e + 1 ≡ at → slice_get entries e ≡ Some f → length new ≡ length known → ((d : ℕ) → get_or new d 0 ≤ get_or known d 0) → (x < get_or new e 0 → Misses (text_of f) (drop x bytes)) → Visited entries bytes first new x f.next
+visit_goes_on heads entries bytes first known new x at e f is before end here long less missed = record {
+  long = long ∙ before.long;
+  within = (let falls = is.falls e f here in let within = before.within in omega arith);
+  less = λ d. omega (arith, less d, before.less d);
+  at_is = λ d g next there. is.next_is e d f g here there next ∙ before.at_is e f end here;
+  done = λ d g there behind same below.
+      ⊎_elim
+      (λ (is_e : d ≡ e).
+      let one : Some g ≡ Some f = sym there ∙ ap (slice_get entries) is_e ∙ here in
+      let entry : g ≡ f = (cc) in
+      subst (λ (h : Entry). Misses (text_of h) (drop x bytes)) (sym entry) (missed (subst (λ k. x < get_or new k 0) is_e below)))
+      (λ other.
+      ⊎_elim
+      (λ (far : at ≤ d). before.done d g there far same (omega (arith, less d)))
+      (λ (near : d < e). absurd (is.skips e d f g here there behind near (same ∙ sym (before.at_is e f end here))))
+      (let apart : (at ≤ d) ⊎ (d < e) = apart_of at d e end other in apart))
+      (cases_eq d e);
+}
+
+-- none is left
+pub visit_ends : (heads : List ℕ) (entries : List Entry) (bytes first known : List ℕ) (x at : ℕ) → IsSieve heads entries → x + 1 < length bytes → at ≡ 0 → Visited entries bytes first known x at → IsKnownAt entries bytes known x
+visit_ends heads entries bytes first known x at is within none visited e f there below =
+    ⊎_elim
+    (λ (same : pair_of f ≡ pair_at bytes x). visited.done e f there (omega arith) same below)
+    (λ differs. misses_by_pair f bytes x (is.some e f there) (is.few e f there) (is.wide e f there) within differs)
+    (cases_eq (pair_of f) (pair_at bytes x))
+
+-- on the way through the bytes
+pub record Looked (entries : List Entry) (bytes known : List ℕ) (at : ℕ) : Type 0 where
+  pub long : length known ≡ length entries
+  pub at_most : at ≤ length bytes
+  pub ends : IsWithinPiece entries known (length bytes)
+  pub below : IsKnownBelow entries bytes known at
+
+pub look_begins : (entries : List Entry) (bytes known : List ℕ) → length known ≡ length entries → IsWithinPiece entries known (length bytes) → Looked entries bytes known 0
+look_begins entries bytes known long ends = record {
+  long = long;
+  at_most = omega arith;
+  ends = ends;
+  below = λ e x f there before less. absurd (omega arith);
+}
+
+-- behind places at which no entry begins
+pub look_passes : (heads : List ℕ) (entries : List Entry) (bytes known : List ℕ) (at to : ℕ) → IsSieve heads entries → to ≤ length bytes → ((x : ℕ) → at ≤ x → x < to → x + 1 < length bytes → get_or heads (pair_at bytes x) 0 ≡ 0) → Looked entries bytes known at → Looked entries bytes known to
+look_passes heads entries bytes known at to is within none looked = record {
+  long = looked.long;
+  at_most = within;
+  ends = looked.ends;
+  below = λ e x f there before less.
+      ⊎_elim
+      (λ (old : x < at). looked.below e x f there old less)
+      (λ (new : at ≤ x).
+      let some = is.some e f there in
+      let end = looked.ends e f there in
+      let far : x + 1 < length bytes = omega arith in
+      let empty = none x new before far in
+      let head = is.headed e f there in
+      misses_by_pair f bytes x some (is.few e f there) (is.wide e f there) far (λ same. (let at_x : e < get_or heads (pair_at bytes x) 0 = subst (λ k. e < get_or heads k 0) same head in absurd (omega arith))))
+      (below_or x at);
+}
+
+-- behind a place at which the entries are compared
+pub look_goes_on : (entries : List Entry) (bytes known new : List ℕ) (at : ℕ) → at + 1 < length bytes → length new ≡ length known → ((e : ℕ) → get_or new e 0 ≤ get_or known e 0) → IsKnownAt entries bytes new at → Looked entries bytes known at → Looked entries bytes new (at + 1)
+look_goes_on entries bytes known new at within long less here looked = record {
+  long = long ∙ looked.long;
+  at_most = omega arith;
+  ends = λ e f there. omega (arith, less e, looked.ends e f there);
+  below = λ e x f there before under.
+      ⊎_elim
+      (λ (last : x ≡ at). subst (λ k. Misses (text_of f) (drop k bytes)) (sym last) (here e f there (subst (λ k. k < get_or new e 0) last under)))
+      (λ other. looked.below e x f there (omega arith) (omega (arith, less e)))
+      (cases_eq x at);
+}
+
+pub look_ends : (heads : List ℕ) (entries : List Entry) (bytes known : List ℕ) (at : ℕ) → IsSieve heads entries → length bytes ≤ at + 1 → Looked entries bytes known at → IsKnown entries bytes known
+look_ends heads entries bytes known at is all looked e x f there under =
+    let some = is.some e f there in
+    let end = looked.ends e f there in
+    looked.below e x f there (omega arith) under
+
+-- one more front
+pub IsSieve-more : (heads : List ℕ) (entries : List Entry) (f : Entry) (k : ℕ) → IsSieve heads entries → k ≡ pair_of f → k < 65536 → f.next ≡ get_or heads k 0 → 2 ≤ f.len → f.len ≤ 8 → length f.front ≡ 8 → IsSieve (set heads k (length entries + 1)) (entries ++ f ∷ [])
+IsSieve-more heads entries f k is pair few_pairs next some few wide =
+    let more = more_at entries f in
+    let here : get_or (set heads k (length entries + 1)) k 0 ≡ length entries + 1 = get_or-set_same heads k (length entries + 1) 0 (omega (arith, is.long)) in
+    let there = λ (j : ℕ) (other : j ≢ k). get_or-set_other heads k j (length entries + 1) 0 other in
+    record {
+      long = length-set heads k (length entries + 1) ∙ is.long;
+      some = λ e g at. ⊎_elim (λ old. is.some e g old) (λ new. subst (λ (h : Entry). 2 ≤ h.len) new.1 some) (more g e at);
+      few = λ e g at. ⊎_elim (λ old. is.few e g old) (λ new. subst (λ (h : Entry). h.len ≤ 8) new.1 few) (more g e at);
+      wide = λ e g at. ⊎_elim (λ old. is.wide e g old) (λ new. subst (λ (h : Entry). length h.front ≡ 8) new.1 wide) (more g e at);
+      within = λ j.
+          let long = length-append entries (f ∷ []) in
+          ⊎_elim
+          (λ (same : j ≡ k). (let at_j : get_or (set heads k (length entries + 1)) j 0 ≡ length entries + 1 = ap (λ i. get_or (set heads k (length entries + 1)) i 0) same ∙ here in omega arith))
+          (λ other. omega (arith, there j other, is.within j))
+          (cases_eq j k);
+      headed = λ e g at.
+          ⊎_elim
+          (λ (same : pair_of g ≡ k).
+          let at_k : get_or (set heads k (length entries + 1)) (pair_of g) 0 ≡ length entries + 1 = ap (λ i. get_or (set heads k (length entries + 1)) i 0) same ∙ here in
+          ⊎_elim (λ old. (let in_list = slice_get_within entries e g old in omega arith)) (λ new. omega (arith, new.0)) (more g e at))
+          (λ other.
+          ⊎_elim
+          (λ old. omega (arith, there (pair_of g) other, is.headed e g old))
+          (λ new. absurd (other (sym (ap pair_of new.1) ∙ sym pair)))
+          (more g e at))
+          (cases_eq (pair_of g) k);
+      heads_are = λ j e g end at.
+          ⊎_elim
+          (λ (same : j ≡ k).
+          let at_j : get_or (set heads k (length entries + 1)) j 0 ≡ length entries + 1 = ap (λ i. get_or (set heads k (length entries + 1)) i 0) same ∙ here in
+          ⊎_elim
+          (λ old. (let in_list = slice_get_within entries e g old in absurd (omega arith)))
+          (λ new. sym (ap pair_of new.1) ∙ sym pair ∙ sym same)
+          (more g e at))
+          (λ other.
+          let old_head : e + 1 ≡ get_or heads j 0 = end ∙ there j other in
+          ⊎_elim
+          (λ old. is.heads_are j e g old_head old)
+          (λ new. (let in_list = is.within j in absurd (omega (arith, new.0))))
+          (more g e at))
+          (cases_eq j k);
+      falls = λ e g at.
+          ⊎_elim
+          (λ old. is.falls e g old)
+          (λ new. subst (λ (h : Entry). h.next ≤ e) new.1 (omega (arith, new.0, is.within k)))
+          (more g e at);
+      next_is = λ e d g h at_e at_d end.
+          ⊎_elim
+          (λ old.
+          ⊎_elim
+          (λ old_d. is.next_is e d g h old old_d end)
+          (λ new_d. (let in_list = slice_get_within entries e g old in let falls = is.falls e g old in absurd (omega (arith, new_d.0))))
+          (more h d at_d))
+          (λ new.
+          let next_of : d + 1 ≡ get_or heads k 0 = end ∙ ap (λ (i : Entry). i.next) (sym new.1) ∙ next in
+          ⊎_elim
+          (λ old_d. is.heads_are k d h next_of old_d ∙ pair ∙ ap pair_of new.1)
+          (λ new_d. ap pair_of (sym new_d.1 ∙ new.1))
+          (more h d at_d))
+          (more g e at_e);
+      skips = λ e d g h at_e at_d after before same.
+          ⊎_elim
+          (λ old.
+          ⊎_elim
+          (λ old_d. is.skips e d g h old old_d after before same)
+          (λ new_d. (let in_list = slice_get_within entries e g old in absurd (omega (arith, new_d.0))))
+          (more h d at_d))
+          (λ new.
+          ⊎_elim
+          (λ old_d.
+          let next_of : get_or heads k 0 ≤ d = subst (λ n. n ≤ d) next (subst (λ (i : Entry). i.next ≤ d) (sym new.1) after) in
+          let head = is.headed d h old_d in
+          let to_k : pair_of h ≡ k = same ∙ sym (ap pair_of new.1) ∙ sym pair in
+          let under : d < get_or heads k 0 = subst (λ i. d < get_or heads i 0) to_k head in
+          absurd (omega arith))
+          (λ new_d. absurd (omega (arith, new.0, new_d.0)))
+          (more h d at_d))
+          (more g e at_e);
+    }
+
+-- a lower element
+pub set_less : (xs : List ℕ) (i n : ℕ) → n ≤ get_or xs i 0 → (length (set xs i n) ≡ length xs) × ((d : ℕ) → get_or (set xs i n) d 0 ≤ get_or xs d 0) × ((x : ℕ) → i < length xs → x < get_or (set xs i n) i 0 → x < n)
+set_less xs i n less = (
+  length-set xs i n,
+  λ d.
+      ⊎_elim
+      (λ (same : d ≡ i).
+      ⊎_elim
+      (λ (inside : i < length xs). (let at_i = get_or-set_same xs i n 0 inside in subst (λ k. get_or (set xs i n) k 0 ≤ get_or xs k 0) (sym same) (omega arith)))
+      (λ (past : length xs ≤ i). (let none : get_or (set xs i n) d 0 ≡ 0 = get_or_past (set xs i n) d 0 (omega (arith, length-set xs i n)) in omega arith))
+      (below_or i (length xs)))
+      (λ other. omega (arith, get_or-set_other xs i d n 0 other))
+      (cases_eq d i),
+  λ x inside below. omega (arith, get_or-set_same xs i n 0 inside),
+)
+
+zeros_read : (n k z : ℕ) → z ≡ 0 → get_or (replicate n z) k 0 ≡ 0
+zeros_read n k z none = ⊎_elim (λ below. get_or-replicate n k z 0 below ∙ none) (λ past. get_or_past (replicate n z) k 0 (let long = length-replicate n z in omega arith)) (below_or k n)
+
+no_heads_by : (heads : List ℕ) (n z : ℕ) → n ≡ 65536 → z ≡ 0 → heads ≡ replicate n z → IsSieve heads []
+no_heads_by heads n z many none zeros =
+    IsSieve-none heads (ap length zeros ∙ length-replicate n z ∙ many) (λ k. ap (λ l. get_or l k 0) zeros ∙ zeros_read n k z none)
+
+pub no_heads : (heads : List ℕ) (entries : List Entry) → heads ≡ replicate 65536 0 → entries ≡ [] → IsSieve heads entries
+no_heads heads entries zeros none = rw none (no_heads_by heads 65536 0 refl refl zeros)
+
+pub added : (heads : List ℕ) (entries new : List Entry) (f : Entry) (k n : ℕ) → IsSieve heads entries → new ≡ entries ++ f ∷ [] → n ≡ length entries + 1 → k ≡ pair_of f → k < 65536 → f.next ≡ get_or heads k 0 → 2 ≤ f.len → f.len ≤ 8 → length f.front ≡ 8 → IsSieve (set heads k n) new
+added heads entries new f k n is more count pair few_pairs next some few wide = rw (more, count) (IsSieve-more heads entries f k is pair few_pairs next some few wide)

@@ -1,0 +1,61 @@
+//! A piece of a file, and what one look at it tells of many sequences.
+
+ghost use Rattle.std.specs.Prelude.{◌≡◌, ℕ, ◌<◌, drop};
+ghost use Rattle.sig_bits.specs.Bytes.{IsBytes};
+ghost use Rattle.sig_match.specs.Rests.{Misses};
+ghost use Rattle.sig_match.specs.Sieves.{IsKnown};
+
+use crate::scan::sieve::Sieve;
+use std::marker::Model;
+
+/// The bytes, and of each front of a sieve a place before which it does not stand in them.
+#[derive(Debug, Drop)]
+pub(crate) struct Piece<'p> {
+    bytes: &'p [u8],
+    sieve: &'p Sieve,
+    known: &'p [usize],
+}
+
+impl<'p> Model for Piece<'p> {
+    ghost use Rattle.std.specs.Prelude.{List, ℕ};
+    ghost use Rattle.sig_bits.specs.Bytes.{IsBytes};
+    ghost use Rattle.sig_match.specs.Sieves.{IsKnown};
+
+    ghost Value = { List ℕ };
+
+    ghost view = { λ p. p.bytes.now };
+
+    ghost invariant = { λ p. IsBytes p.bytes.now × IsKnown p.sieve.now p.bytes.now p.known.now };
+}
+
+impl<'p> Piece<'p> {
+    pub(crate) fn new(bytes: &'p [u8], sieve: &'p Sieve, known: &'p [usize]) -> Piece<'p>
+        requires { IsKnown sieve.now bytes.now known.now }
+        ensures { result ≡ bytes.now }
+    {
+        Piece {
+            bytes,
+            sieve,
+            known,
+        }
+    }
+
+    pub(crate) fn bytes(&self) -> &[u8]
+        ensures value { result.now ≡ self.now }
+        ensures bytes { IsBytes self.now }
+    {
+        self.bytes
+    }
+
+    /// A place before which the front does not stand: 0, where the sieve does not have it under this
+    /// number.
+    pub(crate) fn known_of(&self, number: usize, front: &[u8]) -> usize
+        ensures { (x : ℕ) → x < result → Misses front.now (drop x self.now) }
+    {
+        if number < self.known.len() && self.sieve.has(number, front) {
+            self.known[number]
+        } else {
+            0
+        }
+    }
+}

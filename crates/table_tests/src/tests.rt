@@ -1,0 +1,5 @@
+mod byte_classes;
+mod devices;
+mod expressions;
+mod sets;
+mod tables;

@@ -1,0 +1,241 @@
+//! Inputs and outputs.
+
+use sig_bits::{DeviceFault, FromRead, FromWrite, Input, Output, ReadWholeError, read_whole};
+use std::io::{Error, ErrorKind, Read, Result as IoResult, Write};
+use std::test::Fail;
+
+// Gives the byte 0x41 so often, one a read, is then interrupted once, and then gives the end.
+#[derive(Drop)]
+struct Interrupted {
+    before: u8,
+    done: bool,
+}
+
+impl Read for Interrupted {
+    fn read(&mut self, buf: &mut [u8]) -> IoResult<usize> {
+        if self.before > 0 && !buf.is_empty() {
+            self.before -= 1;
+            buf[0] = 0x41;
+            return Ok(1);
+        }
+        if self.done {
+            return Ok(0);
+        }
+        self.done = true;
+        Err(Error::from(ErrorKind::Interrupted))
+    }
+}
+
+// Takes one byte a write, so many in all, and then says that it took none. It counts its calls.
+#[derive(Drop)]
+struct Narrow {
+    room: u8,
+    taken: u8,
+    calls: u8,
+}
+
+impl Write for Narrow {
+    fn write(&mut self, buf: &[u8]) -> IoResult<usize> {
+        self.calls = self.calls.saturating_add(1);
+        if self.room == 0 || buf.is_empty() {
+            return Ok(0);
+        }
+        self.room -= 1;
+        self.taken = self.taken.saturating_add(1);
+        Ok(1)
+    }
+
+    fn flush(&mut self) -> IoResult<()> {
+        self.calls = self.calls.saturating_add(1);
+        Ok(())
+    }
+}
+
+// Takes all of a write, and fails to see it through.
+#[derive(Drop)]
+struct NeverFlushed;
+
+impl Write for NeverFlushed {
+    fn write(&mut self, buf: &[u8]) -> IoResult<usize> {
+        Ok(buf.len())
+    }
+
+    fn flush(&mut self) -> IoResult<()> {
+        Err(Error::from(ErrorKind::Other))
+    }
+}
+
+// Is interrupted once, and then takes all of each write.
+#[derive(Drop)]
+struct InterruptedOnce {
+    done: bool,
+}
+
+impl Write for InterruptedOnce {
+    fn write(&mut self, buf: &[u8]) -> IoResult<usize> {
+        if self.done {
+            return Ok(buf.len());
+        }
+        self.done = true;
+        Err(Error::from(ErrorKind::Interrupted))
+    }
+
+    fn flush(&mut self) -> IoResult<()> {
+        Ok(())
+    }
+}
+
+// Gives 0, 1, 2 and so on up to a byte, one a read.
+#[derive(Drop)]
+struct OneByOne {
+    next: u8,
+    end: u8,
+}
+
+impl Read for OneByOne {
+    fn read(&mut self, buf: &mut [u8]) -> IoResult<usize> {
+        if buf.is_empty() || self.next >= self.end {
+            return Ok(0);
+        }
+        buf[0] = self.next;
+        self.next += 1;
+        Ok(1)
+    }
+}
+
+// Fails each read, and counts them.
+#[derive(Drop)]
+struct Failing<'a> {
+    reads: &'a mut u8,
+}
+
+impl Read for Failing<'_> {
+    fn read(&mut self, _buf: &mut [u8]) -> IoResult<usize> {
+        *self.reads = (*self.reads).saturating_add(1);
+        Err(Error::from(ErrorKind::Other))
+    }
+}
+
+#[test]
+fn a_failed_reader_is_not_read_again(rt: HostRuntime) {
+    let mut reads = 0;
+    {
+        let mut input = FromRead::new(Failing { reads: &mut reads });
+        let mut buf = [0u8; 3];
+        for _ in 0..3u8 {
+            assert_eq!(rt; input.read(&mut buf), Err(DeviceFault));
+        }
+        let refused = read_whole(rt.alloc(), &mut input).err();
+        assert_eq!(rt; refused, Some(ReadWholeError::Read));
+    }
+    assert_eq!(rt; reads, 1);
+}
+
+#[test]
+fn an_empty_buffer_takes_nothing(rt: HostRuntime) {
+    let mut input = FromRead::new(&b"\x41\x42"[..]);
+    let mut buf = [0u8; 2];
+    assert_eq!(rt; input.read(&mut []), Ok(0));
+    assert_eq!(rt; input.read(&mut buf), Ok(2));
+    assert_eq!(rt; buf, [0x41, 0x42]);
+    assert_eq!(rt; input.read(&mut []), Ok(0));
+}
+
+#[test]
+fn a_reader_that_gives_one_byte_a_read_is_read_whole(rt: HostRuntime) -> Result<(), Fail> {
+    let mut input = FromRead::new(OneByOne { next: 0, end: 255 });
+    let whole = read_whole(rt.alloc(), &mut input)?;
+    assert_eq!(rt; whole.len(), 255);
+    for (i, byte) in whole.as_slice().iter().enumerate() {
+        assert_eq!(rt; *byte as usize, i);
+    }
+    Ok(())
+}
+
+#[test]
+fn a_reader_is_read_to_its_end(rt: HostRuntime) {
+    let mut input = FromRead::new(&b"\x41\x42\x43\x44"[..]);
+    let mut buf = [0u8; 3];
+    assert_eq!(rt; input.read(&mut buf), Ok(3));
+    assert_eq!(rt; buf, [0x41, 0x42, 0x43]);
+    assert_eq!(rt; input.read(&mut buf), Ok(1));
+    assert_eq!(rt; buf[0], 0x44);
+    assert_eq!(rt; input.read(&mut buf), Ok(0));
+    assert_eq!(rt; input.read(&mut buf), Ok(0));
+}
+
+#[test]
+fn an_interrupted_read_is_final(rt: HostRuntime) {
+    let mut input = FromRead::new(Interrupted {
+        before: 1,
+        done: false,
+    });
+    let mut buf = [0u8; 3];
+    assert_eq!(rt; input.read(&mut buf), Ok(1));
+    assert_eq!(rt; input.read(&mut buf), Err(DeviceFault));
+    assert_eq!(rt; input.read(&mut buf), Err(DeviceFault));
+}
+
+#[test]
+fn a_reader_is_read_whole(rt: HostRuntime) -> Result<(), Fail> {
+    let long = vec![in rt.alloc(); 0x42; 200_000]?;
+    let mut input = FromRead::new(long.as_slice());
+    let whole = read_whole(rt.alloc(), &mut input)?;
+    assert_eq!(rt; whole.as_slice(), long.as_slice());
+    let mut one_a_read = FromRead::new(Interrupted {
+        before: 5,
+        done: true,
+    });
+    let whole = read_whole(rt.alloc(), &mut one_a_read)?;
+    assert_eq!(rt; whole.as_slice(), b"AAAAA".as_slice());
+    let mut failing = FromRead::new(Interrupted {
+        before: 5,
+        done: false,
+    });
+    let refused = read_whole(rt.alloc(), &mut failing).err();
+    assert_eq!(rt; refused, Some(ReadWholeError::Read));
+    Ok(())
+}
+
+#[test]
+fn writes_follow_one_another(rt: HostRuntime) -> Result<(), Fail> {
+    let mut output = FromWrite::new(Vec::new(rt.alloc()));
+    output.write_all(b"ab")?;
+    output.write_all(b"")?;
+    output.write_all(b"c")?;
+    assert_eq!(rt; output.into_inner().as_slice(), b"abc".as_slice());
+    Ok(())
+}
+
+#[test]
+fn a_short_write_goes_on_and_a_failed_one_is_final(rt: HostRuntime) {
+    let mut output = FromWrite::new(Narrow {
+        room: 3,
+        taken: 0,
+        calls: 0,
+    });
+    assert_eq!(rt; output.write_all(b"ab"), Ok(()));
+    assert_eq!(rt; output.write_all(b"cd"), Err(DeviceFault));
+    assert_eq!(rt; output.write_all(b""), Err(DeviceFault));
+    assert_eq!(rt; output.write_all(b"ef"), Err(DeviceFault));
+    let writer = output.into_inner();
+    assert_eq!(rt; writer.taken, 3);
+    assert_eq!(rt;
+        writer.calls,
+        5,
+        "two writes and a flush, and then two writes"
+    );
+}
+
+#[test]
+fn a_failed_flush_is_a_failed_write(rt: HostRuntime) {
+    let mut output = FromWrite::new(NeverFlushed);
+    assert_eq!(rt; output.write_all(b"ab"), Err(DeviceFault));
+}
+
+#[test]
+fn an_interrupted_write_is_final(rt: HostRuntime) {
+    let mut output = FromWrite::new(InterruptedOnce { done: false });
+    assert_eq!(rt; output.write_all(b"ab"), Err(DeviceFault));
+    assert_eq!(rt; output.write_all(b"ab"), Err(DeviceFault));
+}
