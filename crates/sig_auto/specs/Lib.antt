@@ -12,6 +12,7 @@ pub mod Begins
 pub mod Counted
 pub mod Cuts
 pub mod Local
+pub mod Notes
 pub mod Same
 pub mod Seen
 pub mod Sides

@@ -1,11 +1,12 @@
 //! The states that follow one state on a byte, in order, without memory of their own.
 //!
-//! The next one is found from the tree's root, past the branches that have no slot above the last. At
+//! Where the automaton has a note of the state, they are read from it. Else the next one is found from the tree's root, past the branches that have no slot above the last. At
 //! most one slot begins a gap, and at most one of its slots goes behind another, so no gap is walked
 //! slot by slot.
 
 ghost use Rattle.std.specs.Prelude.{◌≡◌, ◌↔◌, ℕ, ◌+◌, ◌≤◌, Contains, IfSome};
 ghost use Rattle.sig_auto.specs.Counted.{IsCounted, IsCounted-prop};
+ghost use Rattle.sig_auto.specs.Notes.{taking};
 ghost use Rattle.sig_auto.specs.Runs.{FollowsOn};
 ghost use Rattle.sig_auto.specs.Seen.{seen};
 ghost use Rattle.sig_auto.specs.Successions.{BeginsOn, GoesOn, IsLeastAbove, IsNextAbove};
@@ -13,6 +14,7 @@ ghost use Rattle.sig_auto.specs.TreeSlots.{slots_of};
 ghost use Rattle.sig_auto.specs.Trim.{IsTrim};
 
 use crate::node::Node;
+use crate::notes::{Next, next_taking};
 use std::alloc::AllocError;
 
 /// An iterator over the states that follow a state and take a byte, rising.
@@ -22,6 +24,8 @@ pub struct Successors<'a> {
     state: usize,
     byte: u8,
     above: usize,
+    is_noted: bool,
+    noted: &'a [Next],
     ghost counted: { IsCounted root.now } by { IsCounted-prop root.now },
     ghost few: { slots_of (seen root.now) ≤ 65535 },
 }
@@ -42,6 +46,24 @@ impl<'a> Successors<'a> {
             state,
             byte,
             above: 0,
+            is_noted: false,
+            noted: &[],
+        }
+    }
+
+    // The same from the note of the state.
+    pub(crate) fn noted(root: &'a Node, noted: &'a [Next], byte: u8) -> Successors<'a>
+        requires counted { IsCounted root.now }
+        requires few { slots_of (seen root.now) ≤ 65535 }
+        ensures { remaining_of result ≡ taking byte noted.now }
+    {
+        Successors {
+            root,
+            state: 0,
+            byte,
+            above: 0,
+            is_noted: true,
+            noted,
         }
     }
 }
@@ -60,6 +82,8 @@ impl Clone for Successors<'_> {
             state: self.state,
             byte: self.byte,
             above: self.above,
+            is_noted: self.is_noted,
+            noted: self.noted,
         })
     }
 }
@@ -75,6 +99,11 @@ impl Iterator for Successors<'_> {
     ghost remaining = { item_count remaining_of };
 
     fn next(&mut self) -> Option<u32> {
+        if self.is_noted {
+            let (slot, later) = next_taking(self.noted, self.byte)?;
+            self.noted = later;
+            return Some(slot);
+        }
         let q = self.root.next_state(self.state, self.byte, self.above)?;
         self.above = q;
         Some(q as u32)
