@@ -6,6 +6,7 @@
 
 ghost use Rattle.std.specs.Prelude.{◌≡◌, ◌↔◌, ℕ, ◌+◌, ◌≤◌, Contains, IfSome};
 ghost use Rattle.sig_auto.specs.Counted.{IsCounted, IsCounted-prop};
+ghost use Rattle.sig_auto.specs.Local.{is_last};
 ghost use Rattle.sig_auto.specs.Runs.{FollowsOn};
 ghost use Rattle.sig_auto.specs.Seen.{seen};
 ghost use Rattle.sig_auto.specs.Successions.{BeginsOn, GoesOn, IsLeastAbove, IsNextAbove};
@@ -92,7 +93,7 @@ impl Node {
         if state == 0 {
             self.next_begin(0, byte, above)
         } else {
-            self.next_gone(0, state, byte, above)
+            self.next_gone(0, state, byte, above).0
         }
     }
 
@@ -144,23 +145,27 @@ impl Node {
         }
     }
 
-    // The least slot above this one that goes behind p and takes the byte.
-    fn next_gone(&self, before: usize, p: usize, byte: u8, above: usize) -> Option<usize>
+    // The least slot above this one that goes behind p and takes the byte, and whether some track ends
+    // with p.
+    fn next_gone(&self, before: usize, p: usize, byte: u8, above: usize) -> (Option<usize>, bool)
         requires counted { IsCounted self.now }
         requires few { before + slots_of (seen self.now) ≤ 65535 }
-        ensures least { IsLeastAbove above (GoesOn (seen self.now) before p byte) result }
-        ensures within { IfSome result (λ q. q ≤ before + slots_of (seen self.now)) }
+        ensures least { IsLeastAbove above (GoesOn (seen self.now) before p byte) result.0 }
+        ensures within { IfSome result.0 (λ q. q ≤ before + slots_of (seen self.now)) }
+        ensures last { result.1 ≡ is_last (seen self.now) before p }
     {
         match self {
-            Node::Never | Node::Empty | Node::Slot(_) => None,
+            Node::Never | Node::Empty => (None, false),
+            Node::Slot(_) => (None, p == before + 1),
             Node::Gap { max, .. } => {
                 let last = before + self.slots();
+                let ended = self.is_last(before, p);
                 if before < p && p < last && above <= p {
-                    Some(p + 1)
+                    (Some(p + 1), ended)
                 } else if max.is_none() && p == last && above < p {
-                    Some(p)
+                    (Some(p), ended)
                 } else {
-                    None
+                    (None, ended)
                 }
             }
             Node::Then(a, b, _) => {
@@ -168,15 +173,13 @@ impl Node {
                 if between < p {
                     return b.next_gone(between, p, byte, above);
                 }
-                if above < between {
-                    if let Some(q) = a.next_gone(before, p, byte, above) {
-                        return Some(q);
-                    }
+                let (next, ended) = a.next_gone(before, p, byte, above);
+                if !ended {
+                    return (next, false);
                 }
-                if a.is_last(before, p) {
-                    b.next_begin(between, byte, above)
-                } else {
-                    None
+                match next {
+                    Some(q) => (Some(q), b.is_nullable()),
+                    None => (b.next_begin(between, byte, above), b.is_nullable()),
                 }
             }
             Node::Or(a, b, _) => {

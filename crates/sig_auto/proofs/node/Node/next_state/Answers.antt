@@ -9,5 +9,5 @@ returns-then-state-eq0-clause-next c =
 
 pub returns-else-state-eq0-clause-next : goal.returns-else-state-eq0-clause-next
 returns-else-state-eq0-clause-next c =
-    left_next (seen c.args.self.now) c.args.state c.args.byte c.args.above c.next_gone.result c.next_gone.ensures.within
-    (succeeds_slot (seen c.args.self.now) c.args.state c.args.byte c.args.above c.next_gone.result c.if-state-eq0.false c.next_gone.ensures.least)
+    left_next (seen c.args.self.now) c.args.state c.args.byte c.args.above c.next_gone.result.0 c.next_gone.ensures.within
+    (succeeds_slot (seen c.args.self.now) c.args.state c.args.byte c.args.above c.next_gone.result.0 c.if-state-eq0.false c.next_gone.ensures.least)
