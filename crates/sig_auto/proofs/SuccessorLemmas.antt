@@ -233,7 +233,7 @@ passing_some test above (suc n) q m more sum passes none = elim (cases_eq q (abo
 ]
 
 -- what is left, from the next
-left_none : (tree : Tree) (p byte above : ℕ) → IsLeastAbove above (λ q. succeeds tree p byte q ≡ true) None → successors_above tree p byte above ≡ []
+pub left_none : (tree : Tree) (p byte above : ℕ) → IsLeastAbove above (λ q. succeeds tree p byte q ≡ true) None → successors_above tree p byte above ≡ []
 left_none tree p byte above h = passing_none (succeeds tree p byte) above (slots_of tree - above) h
 
 left_some : (tree : Tree) (p byte above q : ℕ) → q ≤ slots_of tree → IsLeastAbove above (λ q. succeeds tree p byte q ≡ true) (Some q) → successors_above tree p byte above ≡ q ∷ successors_above tree p byte q

@@ -13,7 +13,7 @@ ghost use Rattle.sig_auto.specs.TreeSlots.{Takes, slots_of};
 ghost use Rattle.sig_auto.specs.Trim.{IsTrim};
 ghost use Rattle.sig_bits.specs.ByteClasses.{Holds};
 
-use crate::node::Node;
+use crate::node::{Node, ends_gap};
 use sig_bits::ByteClass;
 
 impl Node {
@@ -108,11 +108,12 @@ impl Node {
         match self {
             Node::Never | Node::Empty => false,
             Node::Slot(_) => p == before + 1,
-            Node::Gap { max, .. } => {
-                if p < before + self.slots() || max.is_none() {
+            Node::Gap { min, max } => {
+                let end = before + self.slots();
+                if p < end || max.is_none() {
                     *live = ByteClass::all();
                 }
-                self.is_last(before, p)
+                ends_gap(before, *min, end, p)
             }
             Node::Then(a, b, _) => {
                 let between = before + a.slots();

@@ -8,7 +8,7 @@ use Rattle.sig_auto.specs.TreeSlots.{slots_of}
 use Rattle.sig_auto.proofs.CutLemmas.{cuts_as, cuts_both, cuts_none, gap_goes_live, gap_goes_none_live, goes_inside, goes_inside_one, goes_over, goes_past, goes_past_one, live_as, live_both, live_none, out_of_slots}
 use Rattle.sig_auto.proofs.PruneLemmas.{ends_out, or_ends_first, or_ends_second, then_ends_first, then_ends_second}
 use Rattle.sig_auto.proofs.node.Node.+add_behind.Goals as goal
-use Rattle.sig_auto.proofs.node.Node.+add_behind.Goals.{then-p-before, then-p-before-via-then-p-before, then-p-before-via-else-p-before+then-is_none, else-p-before+else-is_none}
+use Rattle.sig_auto.proofs.node.Node.+add_behind.Goals.{then-p-end, then-p-end-via-then-p-end, then-p-end-via-else-p-end+then-is_none, else-p-end+else-is_none}
 
 pub returns-then-not-has_slot-clause-live : goal.returns-then-not-has_slot-clause-live
 returns-then-not-has_slot-clause-live t c =
@@ -24,20 +24,20 @@ pub returns-then-not-has_slot-clause-last : goal.returns-then-not-has_slot-claus
 returns-then-not-has_slot-clause-last t c =
     ends_out (seen c.args.self.now) c.args.before c.args.p (λ slot. false≢true (sym c.if-not-has_slot.true ∙ c.has_slot.ensures.1 slot))
 
-pub returns-after-p-before-clause-live : goal.returns-after-p-before-clause-live
-returns-after-p-before-clause-live t c =
-    elim c.if-p-before.branch [
-      | then-p-before w ↦
+pub returns-after-p-end-clause-live : goal.returns-after-p-end-clause-live
+returns-after-p-end-clause-live t c =
+    elim c.if-p-end.branch [
+      | then-p-end w ↦
           subst (λ l. AddsLive c.args.live.now l (GoesOn (seen c.args.self.now) c.args.before c.args.p)) (sym w.live-is)
           (gap_goes_live (seen c.args.self.now) c.in-Gap.min c.in-Gap.max c.slots.result c.args.live.now w.all.result c.args.before c.args.p (ap seen c.in-Gap.is) c.slots.ensures (c.has_slot.ensures.0 c.if-not-has_slot.false)
-          (elim w.then-p-before.branch [
-            | then-p-before-via-then-p-before v ↦ inl v.if-p-before.true
-            | then-p-before-via-else-p-before+then-is_none v ↦ inr (v.is_none.ensures ∙ ap not v.if-is_none.true)
+          (elim w.then-p-end.branch [
+            | then-p-end-via-then-p-end v ↦ inl v.if-p-end.true
+            | then-p-end-via-else-p-end+then-is_none v ↦ inr (v.is_none.ensures ∙ ap not v.if-is_none.true)
           ])
           w.all.ensures)
-      | else-p-before+else-is_none w ↦
+      | else-p-end+else-is_none w ↦
           subst (λ l. AddsLive c.args.live.now l (GoesOn (seen c.args.self.now) c.args.before c.args.p)) (sym w.live-is)
-          (gap_goes_none_live (seen c.args.self.now) c.in-Gap.min c.in-Gap.max c.slots.result c.args.live.now c.args.before c.args.p (ap seen c.in-Gap.is) c.slots.ensures w.if-p-before.false (w.is_none.ensures ∙ ap not w.if-is_none.false))
+          (gap_goes_none_live (seen c.args.self.now) c.in-Gap.min c.in-Gap.max c.slots.result c.args.live.now c.args.before c.args.p (ap seen c.in-Gap.is) c.slots.ensures w.if-p-end.false (w.is_none.ensures ∙ ap not w.if-is_none.false))
     ]
 
 pub returns-then-between-p-clause-live : goal.returns-then-between-p-clause-live
