@@ -1,11 +1,9 @@
 -- That no slot follows above one that was found: of a tree from its branches.
-use Rattle.std.proofs.Common.{◌≡◌, ℕ, ◌+◌, ◌-◌, ◌<◌, ◌≤◌, ◌&&◌, ◌==◌, Bool, true, false, not, List, [], Option, Some, None, IsTrue, nat_le, nat_lt, refl, subst, sym, ap, ◌∙◌, inl, inr, arith}
-use Rattle.std.proofs.lemmas.Bool.{and_parts, false≢true}
-use Rattle.sig_auto.specs.Classes.{InClass}
-use Rattle.sig_auto.specs.Local.{is_first, is_last, is_nullable}
-use Rattle.sig_auto.specs.Successions.{BeginsOn, GoesOn, IsLeastAbove, NoneLater, succeeds, successors_above}
-use Rattle.sig_auto.specs.Trees.{Tree, Gap, Then, Or}
-use Rattle.sig_auto.specs.TreeSlots.{class_of, slots_of}
+use Rattle.std.proofs.Common.{◌≡◌, ℕ, ◌+◌, true, false, [], Option, Some, None, refl, subst, sym, ◌∙◌, inl, inr, arith}
+use Rattle.sig_auto.specs.Local.{is_last, is_nullable}
+use Rattle.sig_auto.specs.Successions.{BeginsOn, GoesOn, IsLeastAbove, NoneLater, successors_above}
+use Rattle.sig_auto.specs.Trees.{Tree, Then, Or}
+use Rattle.sig_auto.specs.TreeSlots.{slots_of}
 use Rattle.sig_auto.proofs.CutLemmas.{begins_first}
 use Rattle.sig_auto.proofs.LocalLemmas.{is_first-slot, is_last-slot, follows-slots}
 use Rattle.sig_auto.proofs.SuccessorLemmas.{begins_or, begins_then, goes_then, left_none, succeeds_slot, succeeds_start}

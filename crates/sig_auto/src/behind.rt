@@ -95,7 +95,13 @@ impl Node {
 
     // Adds the bytes on which a slot goes behind p, and the cuts between them. Answers whether some track
     // ends with p.
-    fn add_behind(&self, before: usize, p: usize, live: &mut ByteClass, cuts: &mut ByteClass) -> bool
+    fn add_behind(
+        &self,
+        before: usize,
+        p: usize,
+        live: &mut ByteClass,
+        cuts: &mut ByteClass,
+    ) -> bool
         requires counted { IsCounted self.now }
         requires few { before + slots_of (seen self.now) ≤ 65535 }
         ensures live { AddsLive live.old live.new (GoesOn (seen self.now) before p) }

@@ -1,4 +1,4 @@
-use Rattle.std.proofs.Common.{◌≡◌, ◌+◌, ◌&&◌, Bool, true, false, not, inl, inr, refl, subst, sym, ap, ◌∙◌}
+use Rattle.std.proofs.Common.{◌≡◌, ◌+◌, ◌&&◌, true, false, not, inl, inr, subst, sym, ap, ◌∙◌}
 use Rattle.std.proofs.lemmas.Bool.{false≢true}
 use Rattle.sig_auto.specs.Cuts.{AddsLive}
 use Rattle.sig_auto.specs.Local.{is_last, is_nullable}

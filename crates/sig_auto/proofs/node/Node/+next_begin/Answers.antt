@@ -1,4 +1,4 @@
-use Rattle.std.proofs.Common.{◌≡◌, ◌+◌, None, Some, arith, true, false, not, refl, subst, sym, ap, ◌∙◌}
+use Rattle.std.proofs.Common.{◌≡◌, None, arith, true, false, not, refl, subst, sym, ap, ◌∙◌}
 use Rattle.std.proofs.lemmas.Bool.{and_parts, not-true}
 use Rattle.sig_auto.specs.Seen.{seen}
 use Rattle.sig_auto.specs.Successions.{BeginsOn, IsLeastAbove}

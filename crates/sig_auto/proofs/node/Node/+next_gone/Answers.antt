@@ -1,4 +1,4 @@
-use Rattle.std.proofs.Common.{◌≡◌, ◌+◌, ◌&&◌, None, Some, arith, false, true, refl, subst, sym, ap, ◌∙◌}
+use Rattle.std.proofs.Common.{◌≡◌, ◌+◌, ◌&&◌, None, arith, false, true, refl, subst, sym, ap, ◌∙◌}
 use Rattle.sig_auto.specs.Local.{is_last, is_nullable}
 use Rattle.sig_auto.specs.Seen.{seen}
 use Rattle.sig_auto.specs.Successions.{GoesOn, IsLeastAbove}
