@@ -342,6 +342,20 @@ fed_all scan table before at after none hits empty gives end finish fed =
       hit_formats = subst Q fed.table_is (finish fed.file fed.is_of);
     }
 
+-- all is fed
+pub fed_to_end : (scan : ScanView) (table : TableView) (before at : Option (List ℕ)) (hits : List Hit) → IsAtEnd at → ((file : List ℕ) → IsScanOf scan file → HitFormats scan.table file hits) → IsFed scan table before at → HitFormatsOfSome table before hits
+fed_to_end scan table before at hits end finish fed =
+    let Q : TableView → Type 0 = λ t. HitFormats t fed.file hits in
+    record {
+      file = fed.file;
+      is_to_come = gives_all before at fed.file fed.given end;
+      hit_formats = subst Q fed.table_is (finish fed.file fed.is_of);
+    }
+
+-- all is read at once
+pub hits_at_once : (table : TableView) (before at : Option (List ℕ)) (file : List ℕ) (hits : List Hit) → Gives before file at → IsAtEnd at → HitFormats table file hits → HitFormatsOfSome table before hits
+hits_at_once table before at file hits gives end are = record { file = file; is_to_come = gives_all before at file gives end; hit_formats = are }
+
 -- what is not true is false
 pub false_from_not : (b : Bool) → (b ≡ true → ⊥) → b ≡ false
 false_from_not true never = absurd (never refl)

@@ -111,8 +111,8 @@ pub fn signature_hits(
     Ok(hits)
 }
 
-// The formats that a file hits.
-fn hits_in(alloc: Global, table: &Table, file: &[u8]) -> Result<Results, AllocError>
+/// The formats that a file hits.
+pub(crate) fn hits_in(alloc: Global, table: &Table, file: &[u8]) -> Result<Results, AllocError>
     ensures { IfOk result (λ hits. HitFormats table.now file.now hits) }
 {
     let marks = which_hit(alloc, table, file)?;
