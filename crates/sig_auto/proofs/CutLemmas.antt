@@ -14,7 +14,8 @@ use Rattle.sig_auto.specs.Trees.{Tree, Slot, Gap, Then, Or}
 use Rattle.sig_auto.specs.TreeSlots.{Takes, class_of, slots_of}
 use Rattle.sig_auto.specs.Trim.{IsTrim}
 use Rattle.sig_table.specs.Slots.{gap_slots}
-use Rattle.sig_auto.proofs.LocalLemmas.{IsSlot, is_first-slot, is_last-slot, follows-slots, gap_begins, gap_next}
+use Rattle.sig_auto.proofs.LocalLemmas.{IsSlot, is_first-slot, is_last-slot, follows-slots, gap_begins, gap_goes_some, gap_next}
+use Rattle.sig_auto.proofs.PruneLemmas.{ends_out}
 use Rattle.sig_auto.proofs.StepLemmas.{class_in_gap, gap_last}
 use Rattle.sig_auto.proofs.SuccessorLemmas.{begins_or, begins_then, goes_or, goes_then}
 use Rattle.sig_auto.proofs.TrimLemmas.{follows_slot, follows_start}
@@ -134,6 +135,16 @@ gap_goes_live tree min max n old new before p is many slot more holds =
     let found = gap_leads min max before p here.0 here.1 (subst (λ k. (p < before + k) ⊎ (is_some max ≡ false)) slots more) in
     live_all old new (GoesOn tree before p) found.0 holds (λ b small. rw is (found.1, in_any min max (found.0 - before) b small))
 
+-- none comes behind the last of a bounded one
+gap_stops : (min : ℕ) (max : Option ℕ) (before p q : ℕ) → before + gap_slots min max ≤ p → is_some max ≡ true → follows (Gap min max) before p q ≡ true → ⊥
+gap_stops min None before p q past bounded h = false≢true bounded
+gap_stops min (Some max) before p q past bounded h = let inside = (gap_goes_some min max before p q h).1 in omega arith
+
+pub gap_goes_none_live : (tree : Tree) (min : ℕ) (max : Option ℕ) (n : ℕ) (old : ByteClass) (before p : ℕ) → tree ≡ Gap min max → n ≡ slots_of tree → before + n ≤ p → is_some max ≡ true → AddsLive old old (GoesOn tree before p)
+gap_goes_none_live tree min max n old before p is many past bounded =
+    let slots : n ≡ gap_slots min max = many ∙ ap slots_of is in
+    live_none old (GoesOn tree before p) (λ b q h. gap_stops min max before p q (omega arith) bounded (subst (λ t. follows t before p q ≡ true) is h.0))
+
 pub gap_goes_cuts : (tree : Tree) (min : ℕ) (max : Option ℕ) (old : ByteClass) (before p : ℕ) → tree ≡ Gap min max → AddsCuts old old (GoesOn tree before p)
 gap_goes_cuts tree min max old before p is =
     cuts_all old (GoesOn tree before p) (λ q. follows tree before p q ≡ true) (λ b q small. rw is (λ h. h.0, λ h. (h, in_any min max (q - before) b small)))
@@ -194,6 +205,27 @@ goes_on tree a b x y n before p byte q is one two many more =
 
 pub goes_either : (tree a b x y : Tree) (n before p byte q : ℕ) → tree ≡ Or a b → x ≡ a → y ≡ b → n ≡ slots_of a → GoesOn tree before p byte q ↔ (GoesOn x before p byte q ⊎ GoesOn y (before + n) p byte q)
 goes_either tree a b x y n before p byte q is one two many = rw (is, one, two, many) (goes_or a b before p byte q)
+
+-- of two branches, the one that has the slot says what goes behind it
+pub goes_past : (tree a b y : Tree) (n before p byte q : ℕ) → tree ≡ Then a b → y ≡ b → n ≡ slots_of a → before + n < p → GoesOn tree before p byte q ↔ GoesOn y (before + n) p byte q
+goes_past tree a b y n before p byte q is two many far =
+    let law = goes_on tree a b a y n before p byte q is refl two many (sym (ends_out a before p (λ slot. omega arith))) in
+    (λ h. elim (law.0 h) [ inl first ↦ absurd (out_of_slots a before p (λ slot. omega arith) byte q first) | inr second ↦ second ], λ h. law.1 (inr h))
+
+pub goes_inside : (tree a b x : Tree) (n before p byte q : ℕ) → tree ≡ Then a b → x ≡ a → n ≡ slots_of a → p ≤ before + n → is_last x before p ≡ false → GoesOn tree before p byte q ↔ GoesOn x before p byte q
+goes_inside tree a b x n before p byte q is one many near more =
+    let law = goes_on tree a b x b n before p byte q is one refl many more in
+    (λ h. elim (law.0 h) [ inl first ↦ first | inr second ↦ absurd (out_of_slots b (before + n) p (λ slot. omega arith) byte q second) ], λ h. law.1 (inl h))
+
+pub goes_past_one : (tree a b y : Tree) (n before p byte q : ℕ) → tree ≡ Or a b → y ≡ b → n ≡ slots_of a → before + n < p → GoesOn tree before p byte q ↔ GoesOn y (before + n) p byte q
+goes_past_one tree a b y n before p byte q is two many far =
+    let law = goes_either tree a b a y n before p byte q is refl two many in
+    (λ h. elim (law.0 h) [ inl first ↦ absurd (out_of_slots a before p (λ slot. omega arith) byte q first) | inr second ↦ second ], λ h. law.1 (inr h))
+
+pub goes_inside_one : (tree a b x : Tree) (n before p byte q : ℕ) → tree ≡ Or a b → x ≡ a → n ≡ slots_of a → p ≤ before + n → GoesOn tree before p byte q ↔ GoesOn x before p byte q
+goes_inside_one tree a b x n before p byte q is one many near =
+    let law = goes_either tree a b x b n before p byte q is one refl many in
+    (λ h. elim (law.0 h) [ inl first ↦ first | inr second ↦ absurd (out_of_slots b (before + n) p (λ slot. omega arith) byte q second) ], λ h. law.1 (inl h))
 
 -- ---- the tests of the code, and what follows
 

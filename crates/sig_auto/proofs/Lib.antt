@@ -7,6 +7,7 @@ mod CutLemmas
 mod EndLemmas
 mod EndOrNotLemmas
 pub mod Exports
+mod LaterLemmas
 mod LocalLemmas
 mod PruneLemmas
 mod RowLemmas

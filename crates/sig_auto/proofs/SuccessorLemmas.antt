@@ -153,6 +153,21 @@ gone_or_alone tree a b x n before p byte above o is one many low h =
     ))
     (λ q more k. let slot = (follows-slots b (before + slots_of a) p q k.0).0 in omega arith) first)
 
+-- the first branch alone, where p is one of its slots and no last one
+pub gone_then_alone : (tree a b x : Tree) (n before p byte above : ℕ) (o : Option ℕ) → tree ≡ Then a b → x ≡ a → n ≡ slots_of a → p ≤ before + n → is_last a before p ≡ false → IsLeastAbove above (GoesOn x before p byte) o → IsLeastAbove above (GoesOn tree before p byte) o
+gone_then_alone tree a b x n before p byte above o is one many low more h =
+    let first : IsLeastAbove above (GoesOn a before p byte) o = subst (λ z. IsLeastAbove above (GoesOn z before p byte) o) one h in
+    subst (λ z. IsLeastAbove above (GoesOn z before p byte) o) (sym is)
+    (least_second above o (GoesOn (Then a b) before p byte) (GoesOn b (before + slots_of a) p byte) (GoesOn a before p byte)
+    (λ r. (
+      λ k. elim ((goes_then a b before p byte r).0 k) [
+        | inl at ↦ inr at
+        | inr at ↦ elim at.0 [ inl gone ↦ inl (gone, at.1) | inr over ↦ absurd (false≢true (sym more ∙ over.0)) ]
+      ],
+      λ k. (goes_then a b before p byte r).1 (elim k [ inl at ↦ inr (inl at.0, at.1) | inr at ↦ inl at ]),
+    ))
+    (λ q above k. let slot = (follows-slots b (before + slots_of a) p q k.0).0 in omega arith) first)
+
 -- the test of a class is whether the byte is in it
 in_class_exact : (c : Class) (byte : ℕ) → (in_class c byte ≡ true) ↔ InClass c byte
 in_class_exact (Within first last) byte = (
@@ -218,7 +233,7 @@ passing_some test above (suc n) q m more sum passes none = elim (cases_eq q (abo
 ]
 
 -- what is left, from the next
-left_none : (tree : Tree) (p byte above : ℕ) → IsLeastAbove above (λ q. succeeds tree p byte q ≡ true) None → successors_above tree p byte above ≡ []
+pub left_none : (tree : Tree) (p byte above : ℕ) → IsLeastAbove above (λ q. succeeds tree p byte q ≡ true) None → successors_above tree p byte above ≡ []
 left_none tree p byte above h = passing_none (succeeds tree p byte) above (slots_of tree - above) h
 
 left_some : (tree : Tree) (p byte above q : ℕ) → q ≤ slots_of tree → IsLeastAbove above (λ q. succeeds tree p byte q ≡ true) (Some q) → successors_above tree p byte above ≡ q ∷ successors_above tree p byte q

@@ -12,6 +12,10 @@ abbrev pub IsLeastAbove : ℕ → (ℕ → Type 0) → Option ℕ → Type 0
 IsLeastAbove above P None = (q : ℕ) → above < q → P q → ⊥
 IsLeastAbove above P (Some q) = (above < q) × P q × ((r : ℕ) → above < r → r < q → P r → ⊥)
 
+-- where there is a number, it holds of none above that one
+abbrev pub NoneLater : (ℕ → Type 0) → Option ℕ → Type 0
+NoneLater P o = (q r : ℕ) → o ≡ Some q → q < r → P r → ⊥
+
 -- slot q begins the tree and takes the byte
 abbrev pub BeginsOn : Tree → ℕ → ℕ → ℕ → Type 0
 BeginsOn tree before byte q = (is_first tree before q ≡ true) × InClass (class_of tree (q - before)) byte

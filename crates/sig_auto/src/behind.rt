@@ -2,9 +2,10 @@
 //! successors are others than on the byte below. So from a cut up to the next one, all bytes lead to
 //! the same states.
 
-ghost use Rattle.std.specs.Prelude.{◌↔◌, ℕ, ◌+◌, ◌≤◌, ◌<◌};
+ghost use Rattle.std.specs.Prelude.{◌≡◌, ◌↔◌, ℕ, ◌+◌, ◌≤◌, ◌<◌};
 ghost use Rattle.sig_auto.specs.Counted.{IsCounted};
 ghost use Rattle.sig_auto.specs.Cuts.{AddsAllCuts, AddsAlone, AddsCuts, AddsLive};
+ghost use Rattle.sig_auto.specs.Local.{is_last};
 ghost use Rattle.sig_auto.specs.Seen.{seen};
 ghost use Rattle.sig_auto.specs.Successions.{BeginsOn, GoesOn};
 ghost use Rattle.sig_auto.specs.Tracks.{Follows};
@@ -12,7 +13,7 @@ ghost use Rattle.sig_auto.specs.TreeSlots.{Takes, slots_of};
 ghost use Rattle.sig_auto.specs.Trim.{IsTrim};
 ghost use Rattle.sig_bits.specs.ByteClasses.{Holds};
 
-use crate::node::Node;
+use crate::node::{Node, ends_gap};
 use sig_bits::ByteClass;
 
 impl Node {
@@ -92,34 +93,52 @@ impl Node {
         }
     }
 
-    // Adds the bytes on which a slot goes behind p, and the cuts between them.
-    fn add_behind(&self, before: usize, p: usize, live: &mut ByteClass, cuts: &mut ByteClass)
+    // Adds the bytes on which a slot goes behind p, and the cuts between them. Answers whether some track
+    // ends with p.
+    fn add_behind(
+        &self,
+        before: usize,
+        p: usize,
+        live: &mut ByteClass,
+        cuts: &mut ByteClass,
+    ) -> bool
         requires counted { IsCounted self.now }
         requires few { before + slots_of (seen self.now) ≤ 65535 }
         ensures live { AddsLive live.old live.new (GoesOn (seen self.now) before p) }
         ensures cuts { AddsCuts cuts.old cuts.new (GoesOn (seen self.now) before p) }
+        ensures last { result ≡ is_last (seen self.now) before p }
     {
         if !self.has_slot(before, p) {
-            return;
+            return false;
         }
         match self {
-            Node::Never | Node::Empty | Node::Slot(_) => {}
-            Node::Gap { max, .. } => {
-                if p < before + self.slots() || max.is_none() {
+            Node::Never | Node::Empty => false,
+            Node::Slot(_) => p == before + 1,
+            Node::Gap { min, max } => {
+                let end = before + self.slots();
+                if p < end || max.is_none() {
                     *live = ByteClass::all();
                 }
+                ends_gap(before, *min, end, p)
             }
             Node::Then(a, b, _) => {
-                a.add_behind(before, p, live, cuts);
-                if a.is_last(before, p) {
-                    b.add_begin(live, cuts);
-                } else {
-                    b.add_behind(before + a.slots(), p, live, cuts);
+                let between = before + a.slots();
+                if between < p {
+                    return b.add_behind(between, p, live, cuts);
                 }
+                if !a.add_behind(before, p, live, cuts) {
+                    return false;
+                }
+                b.add_begin(live, cuts);
+                b.is_nullable()
             }
             Node::Or(a, b, _) => {
-                a.add_behind(before, p, live, cuts);
-                b.add_behind(before + a.slots(), p, live, cuts);
+                let between = before + a.slots();
+                if between < p {
+                    b.add_behind(between, p, live, cuts)
+                } else {
+                    a.add_behind(before, p, live, cuts)
+                }
             }
         }
     }

@@ -3,7 +3,7 @@
 //! After Glushkov: whether it is nullable, which slots may be the first and the last, and which follow
 //! each other. A question about a slot passes over the branches that do not have it.
 
-ghost use Rattle.std.specs.Prelude.{◌≡◌, ◌↔◌, ◌+◌, ◌-◌, ◌<◌, ◌≤◌, IfOk, IsTrue, min};
+ghost use Rattle.std.specs.Prelude.{◌≡◌, ◌↔◌, ◌+◌, ◌-◌, ◌<◌, ◌≤◌, ◌&&◌, nat_le, nat_lt, IfOk, IsTrue, min};
 ghost use Rattle.sig_auto.specs.Counted.{IsCounted};
 ghost use Rattle.sig_auto.specs.Local.{is_first, is_last, follows, is_nullable};
 ghost use Rattle.sig_auto.specs.Seen.{seen};
@@ -142,9 +142,7 @@ impl Node {
         match self {
             Node::Never | Node::Empty => false,
             Node::Slot(_) => p == before + 1,
-            Node::Gap { min, .. } => {
-                before < p && before as u64 + *min as u64 <= p as u64 && p <= before + self.slots()
-            }
+            Node::Gap { min, .. } => ends_gap(before, *min, before + self.slots(), p),
             Node::Then(a, b, _) => {
                 let between = before + a.slots();
                 if p <= between {
@@ -221,4 +219,12 @@ impl Node {
             Node::Then(x, y, _) | Node::Or(x, y, _) => x.same_side(a, b) && y.same_side(a, b),
         }
     }
+}
+
+// Whether some track ends with p in a gap of this least length, whose slots end at `end`.
+pub(crate) fn ends_gap(before: usize, min: u32, end: usize, p: usize) -> bool
+    requires { before ≤ 65535 }
+    ensures { result ≡ (nat_lt before p && (nat_le (before + min) p && nat_le p end)) }
+{
+    before < p && before as u64 + min as u64 <= p as u64 && p <= end
 }

@@ -1,18 +1,20 @@
 //! The states that follow one state on a byte, in order, without memory of their own.
 //!
-//! The next one is found from the tree's root, past the branches that have no slot above the last. At
-//! most one slot begins a gap, and at most one of its slots goes behind another, so no gap is walked
-//! slot by slot.
+//! The next one is found from the tree's root, past the branches that have no slot above the one
+//! before. At most one slot begins a gap, and at most one of its slots goes behind another, so no gap is
+//! walked slot by slot. A walk tells whether it passed a branch that may have a later one, and where it
+//! did not, the next call needs no walk.
 
-ghost use Rattle.std.specs.Prelude.{◌≡◌, ◌↔◌, ℕ, ◌+◌, ◌≤◌, Contains, IfSome};
+ghost use Rattle.std.specs.Prelude.{◌≡◌, ◌↔◌, ℕ, ◌+◌, ◌≤◌, [], None, Some, Contains, IfSome, IsTrue};
 ghost use Rattle.sig_auto.specs.Counted.{IsCounted, IsCounted-prop};
+ghost use Rattle.sig_auto.specs.Local.{is_last};
 ghost use Rattle.sig_auto.specs.Runs.{FollowsOn};
 ghost use Rattle.sig_auto.specs.Seen.{seen};
-ghost use Rattle.sig_auto.specs.Successions.{BeginsOn, GoesOn, IsLeastAbove, IsNextAbove};
+ghost use Rattle.sig_auto.specs.Successions.{BeginsOn, GoesOn, IsLeastAbove, IsNextAbove, NoneLater, successors_above};
 ghost use Rattle.sig_auto.specs.TreeSlots.{slots_of};
 ghost use Rattle.sig_auto.specs.Trim.{IsTrim};
 
-use crate::node::Node;
+use crate::node::{Node, ends_gap};
 use std::alloc::AllocError;
 
 /// An iterator over the states that follow a state and take a byte, rising.
@@ -75,68 +77,110 @@ impl Iterator for Successors<'_> {
     ghost remaining = { item_count remaining_of };
 
     fn next(&mut self) -> Option<u32> {
-        let q = self.root.next_state(self.state, self.byte, self.above)?;
-        self.above = q;
+        if self.above >= self.root.slots() {
+            return None;
+        }
+        let next = self.root.next_state(self.state, self.byte, self.above);
+        let q = next.slot?;
+        self.above = if next.last { self.root.slots() } else { q };
         Some(q as u32)
+    }
+}
+
+// What a walk found.
+#[derive(Drop)]
+struct Next {
+    // The least slot that was looked for, if there is one.
+    slot: Option<usize>,
+    // No greater one is there. Where this is not seen on the way, it is false.
+    last: bool,
+}
+
+impl Next {
+    fn none() -> Next
+        ensures { result.slot ≡ None }
+    {
+        Next {
+            slot: None,
+            last: true,
+        }
+    }
+
+    fn alone(q: usize) -> Next
+        ensures { result.slot ≡ Some q }
+    {
+        Next {
+            slot: Some(q),
+            last: true,
+        }
     }
 }
 
 impl Node {
     // The least slot above this one that follows the state and takes the byte.
-    fn next_state(&self, state: usize, byte: u8, above: usize) -> Option<usize>
+    fn next_state(&self, state: usize, byte: u8, above: usize) -> Next
         requires counted { IsCounted self.now }
         requires few { slots_of (seen self.now) ≤ 65535 }
-        ensures next { IsNextAbove (seen self.now) state byte above result }
-        ensures within { IfSome result (λ q. q ≤ slots_of (seen self.now)) }
+        ensures next { IsNextAbove (seen self.now) state byte above result.slot }
+        ensures within { IfSome result.slot (λ q. q ≤ slots_of (seen self.now)) }
+        ensures last { IsTrue result.last → (q : ℕ) → result.slot ≡ Some q → successors_above (seen self.now) state byte q ≡ [] }
     {
         if state == 0 {
             self.next_begin(0, byte, above)
         } else {
-            self.next_gone(0, state, byte, above)
+            self.next_gone(0, state, byte, above).0
         }
     }
 
     // The least slot above this one that begins the tree and takes the byte.
-    fn next_begin(&self, before: usize, byte: u8, above: usize) -> Option<usize>
+    fn next_begin(&self, before: usize, byte: u8, above: usize) -> Next
         requires counted { IsCounted self.now }
         requires few { before + slots_of (seen self.now) ≤ 65535 }
-        ensures least { IsLeastAbove above (BeginsOn (seen self.now) before byte) result }
-        ensures within { IfSome result (λ q. q ≤ before + slots_of (seen self.now)) }
+        ensures least { IsLeastAbove above (BeginsOn (seen self.now) before byte) result.slot }
+        ensures within { IfSome result.slot (λ q. q ≤ before + slots_of (seen self.now)) }
+        ensures last { IsTrue result.last → NoneLater (BeginsOn (seen self.now) before byte) result.slot }
     {
         match self {
-            Node::Never | Node::Empty => None,
+            Node::Never | Node::Empty => Next::none(),
             Node::Slot(class) => {
                 if above <= before && class.contains(byte) {
-                    Some(before + 1)
+                    Next::alone(before + 1)
                 } else {
-                    None
+                    Next::none()
                 }
             }
             Node::Gap { .. } => {
                 if above <= before && self.slots() > 0 {
-                    Some(before + 1)
+                    Next::alone(before + 1)
                 } else {
-                    None
+                    Next::none()
                 }
             }
             Node::Then(a, b, _) => {
                 let between = before + a.slots();
                 if above < between {
-                    if let Some(q) = a.next_begin(before, byte, above) {
-                        return Some(q);
+                    let next = a.next_begin(before, byte, above);
+                    if let Some(q) = next.slot {
+                        return Next {
+                            slot: Some(q),
+                            last: next.last & !a.is_nullable(),
+                        };
                     }
                 }
                 if a.is_nullable() {
                     b.next_begin(between, byte, above)
                 } else {
-                    None
+                    Next::none()
                 }
             }
             Node::Or(a, b, _) => {
                 let between = before + a.slots();
                 if above < between {
-                    if let Some(q) = a.next_begin(before, byte, above) {
-                        return Some(q);
+                    if let Some(q) = a.next_begin(before, byte, above).slot {
+                        return Next {
+                            slot: Some(q),
+                            last: false,
+                        };
                     }
                 }
                 b.next_begin(between, byte, above)
@@ -144,23 +188,28 @@ impl Node {
         }
     }
 
-    // The least slot above this one that goes behind p and takes the byte.
-    fn next_gone(&self, before: usize, p: usize, byte: u8, above: usize) -> Option<usize>
+    // The least slot above this one that goes behind p and takes the byte, and whether some track ends
+    // with p.
+    fn next_gone(&self, before: usize, p: usize, byte: u8, above: usize) -> (Next, bool)
         requires counted { IsCounted self.now }
         requires few { before + slots_of (seen self.now) ≤ 65535 }
-        ensures least { IsLeastAbove above (GoesOn (seen self.now) before p byte) result }
-        ensures within { IfSome result (λ q. q ≤ before + slots_of (seen self.now)) }
+        ensures least { IsLeastAbove above (GoesOn (seen self.now) before p byte) result.0.slot }
+        ensures within { IfSome result.0.slot (λ q. q ≤ before + slots_of (seen self.now)) }
+        ensures last { IsTrue result.0.last → NoneLater (GoesOn (seen self.now) before p byte) result.0.slot }
+        ensures ended { result.1 ≡ is_last (seen self.now) before p }
     {
         match self {
-            Node::Never | Node::Empty | Node::Slot(_) => None,
-            Node::Gap { max, .. } => {
-                let last = before + self.slots();
-                if before < p && p < last && above <= p {
-                    Some(p + 1)
-                } else if max.is_none() && p == last && above < p {
-                    Some(p)
+            Node::Never | Node::Empty => (Next::none(), false),
+            Node::Slot(_) => (Next::none(), p == before + 1),
+            Node::Gap { min, max } => {
+                let end = before + self.slots();
+                let ended = ends_gap(before, *min, end, p);
+                if before < p && p < end && above <= p {
+                    (Next::alone(p + 1), ended)
+                } else if max.is_none() && p == end && above < p {
+                    (Next::alone(p), ended)
                 } else {
-                    None
+                    (Next::none(), ended)
                 }
             }
             Node::Then(a, b, _) => {
@@ -168,15 +217,19 @@ impl Node {
                 if between < p {
                     return b.next_gone(between, p, byte, above);
                 }
-                if above < between {
-                    if let Some(q) = a.next_gone(before, p, byte, above) {
-                        return Some(q);
-                    }
+                let (next, ended) = a.next_gone(before, p, byte, above);
+                if !ended {
+                    return (next, false);
                 }
-                if a.is_last(before, p) {
-                    b.next_begin(between, byte, above)
-                } else {
-                    None
+                match next.slot {
+                    Some(q) => (
+                        Next {
+                            slot: Some(q),
+                            last: false,
+                        },
+                        b.is_nullable(),
+                    ),
+                    None => (b.next_begin(between, byte, above), b.is_nullable()),
                 }
             }
             Node::Or(a, b, _) => {

@@ -1,12 +1,14 @@
-use Rattle.std.proofs.Common.{◌≡◌, ◌+◌, false, true, not, inl, inr, ap, sym, ◌∙◌}
+use Rattle.std.proofs.Common.{◌≡◌, ◌+◌, ◌&&◌, true, false, not, inl, inr, subst, sym, ap, ◌∙◌}
 use Rattle.std.proofs.lemmas.Bool.{false≢true}
-use Rattle.sig_auto.specs.Local.{is_last}
+use Rattle.sig_auto.specs.Cuts.{AddsLive}
+use Rattle.sig_auto.specs.Local.{is_last, is_nullable}
 use Rattle.sig_auto.specs.Seen.{seen}
 use Rattle.sig_auto.specs.Successions.{BeginsOn, GoesOn}
 use Rattle.sig_auto.specs.TreeSlots.{slots_of}
-use Rattle.sig_auto.proofs.CutLemmas.{cuts_both, cuts_none, gap_goes_live, goes_either, goes_on, goes_over, live_both, live_none, out_of_slots}
+use Rattle.sig_auto.proofs.CutLemmas.{cuts_as, cuts_both, cuts_none, gap_goes_live, gap_goes_none_live, goes_inside, goes_inside_one, goes_over, goes_past, goes_past_one, live_as, live_both, live_none, out_of_slots}
+use Rattle.sig_auto.proofs.PruneLemmas.{ends_out, or_ends_first, or_ends_second, then_ends_first, then_ends_second}
 use Rattle.sig_auto.proofs.node.Node.+add_behind.Goals as goal
-use Rattle.sig_auto.proofs.node.Node.+add_behind.Goals.{then-p-before-via-then-p-before, then-p-before-via-else-p-before+then-is_none}
+use Rattle.sig_auto.proofs.node.Node.+add_behind.Goals.{then-p-end, then-p-end-via-then-p-end, then-p-end-via-else-p-end+then-is_none, else-p-end+else-is_none}
 
 pub returns-then-not-has_slot-clause-live : goal.returns-then-not-has_slot-clause-live
 returns-then-not-has_slot-clause-live t c =
@@ -18,67 +20,126 @@ returns-then-not-has_slot-clause-cuts t c =
     cuts_none c.args.cuts.now (GoesOn (seen c.args.self.now) c.args.before c.args.p)
     (out_of_slots (seen c.args.self.now) c.args.before c.args.p (λ slot. false≢true (sym c.if-not-has_slot.true ∙ c.has_slot.ensures.1 slot)))
 
-pub returns-then-p-before-clause-live : goal.returns-then-p-before-clause-live
-returns-then-p-before-clause-live t c =
-    gap_goes_live (seen c.args.self.now) c.in-Gap.min c.in-Gap.max c.slots.result c.args.live.now c.all.result c.args.before c.args.p (ap seen c.in-Gap.is) c.slots.ensures (c.has_slot.ensures.0 c.if-not-has_slot.false)
-    (elim c.then-p-before.branch [
-      | then-p-before-via-then-p-before w ↦ inl w.if-p-before.true
-      | then-p-before-via-else-p-before+then-is_none w ↦ inr (w.is_none.ensures ∙ ap not w.if-is_none.true)
-    ])
-    c.all.ensures
+pub returns-then-not-has_slot-clause-last : goal.returns-then-not-has_slot-clause-last
+returns-then-not-has_slot-clause-last t c =
+    ends_out (seen c.args.self.now) c.args.before c.args.p (λ slot. false≢true (sym c.if-not-has_slot.true ∙ c.has_slot.ensures.1 slot))
 
-pub returns-then-is_last-clause-live : goal.returns-then-is_last-clause-live
-returns-then-is_last-clause-live t c =
-    let one : seen c.deref.result.now ≡ seen c.in-Then.a.value = ap seen c.deref.ensures in
-    let two : seen c.deref-then-is_last.result.now ≡ seen c.in-Then.b.value = ap seen c.deref-then-is_last.ensures in
-    let ended : is_last (seen c.deref.result.now) c.args.before c.args.p ≡ true = sym (c.is_last.ensures ∙ ap (λ node. is_last (seen node) c.args.before c.args.p) (c.deref-in-Then.ensures ∙ sym c.deref.ensures)) ∙ c.if-is_last.true in
-    live_both c.args.live.now c.add_behind.new.live c.add_begin.new.live (GoesOn (seen c.args.self.now) c.args.before c.args.p) (GoesOn (seen c.deref.result.now) c.args.before c.args.p) (BeginsOn (seen c.deref-then-is_last.result.now) (c.args.before + slots_of (seen c.deref.result.now)))
-    (λ b q. goes_over (seen c.args.self.now) (seen c.in-Then.a.value) (seen c.in-Then.b.value) (seen c.deref.result.now) (seen c.deref-then-is_last.result.now) c.args.before c.args.p b q (ap seen c.in-Then.is) one two ended)
-    c.add_behind.ensures.live (c.add_begin.ensures.live (c.args.before + slots_of (seen c.deref.result.now)))
+pub returns-after-p-end-clause-live : goal.returns-after-p-end-clause-live
+returns-after-p-end-clause-live t c =
+    elim c.if-p-end.branch [
+      | then-p-end w ↦
+          subst (λ l. AddsLive c.args.live.now l (GoesOn (seen c.args.self.now) c.args.before c.args.p)) (sym w.live-is)
+          (gap_goes_live (seen c.args.self.now) c.in-Gap.min c.in-Gap.max c.slots.result c.args.live.now w.all.result c.args.before c.args.p (ap seen c.in-Gap.is) c.slots.ensures (c.has_slot.ensures.0 c.if-not-has_slot.false)
+          (elim w.then-p-end.branch [
+            | then-p-end-via-then-p-end v ↦ inl v.if-p-end.true
+            | then-p-end-via-else-p-end+then-is_none v ↦ inr (v.is_none.ensures ∙ ap not v.if-is_none.true)
+          ])
+          w.all.ensures)
+      | else-p-end+else-is_none w ↦
+          subst (λ l. AddsLive c.args.live.now l (GoesOn (seen c.args.self.now) c.args.before c.args.p)) (sym w.live-is)
+          (gap_goes_none_live (seen c.args.self.now) c.in-Gap.min c.in-Gap.max c.slots.result c.args.live.now c.args.before c.args.p (ap seen c.in-Gap.is) c.slots.ensures w.if-p-end.false (w.is_none.ensures ∙ ap not w.if-is_none.false))
+    ]
 
-pub returns-then-is_last-clause-cuts : goal.returns-then-is_last-clause-cuts
-returns-then-is_last-clause-cuts t c =
-    let one : seen c.deref.result.now ≡ seen c.in-Then.a.value = ap seen c.deref.ensures in
-    let two : seen c.deref-then-is_last.result.now ≡ seen c.in-Then.b.value = ap seen c.deref-then-is_last.ensures in
-    let ended : is_last (seen c.deref.result.now) c.args.before c.args.p ≡ true = sym (c.is_last.ensures ∙ ap (λ node. is_last (seen node) c.args.before c.args.p) (c.deref-in-Then.ensures ∙ sym c.deref.ensures)) ∙ c.if-is_last.true in
-    cuts_both c.args.cuts.now c.add_behind.new.cuts c.add_begin.new.cuts (GoesOn (seen c.args.self.now) c.args.before c.args.p) (GoesOn (seen c.deref.result.now) c.args.before c.args.p) (BeginsOn (seen c.deref-then-is_last.result.now) (c.args.before + slots_of (seen c.deref.result.now)))
-    (λ b q. goes_over (seen c.args.self.now) (seen c.in-Then.a.value) (seen c.in-Then.b.value) (seen c.deref.result.now) (seen c.deref-then-is_last.result.now) c.args.before c.args.p b q (ap seen c.in-Then.is) one two ended)
-    c.add_behind.ensures.cuts (c.add_begin.ensures.cuts (c.args.before + slots_of (seen c.deref.result.now)))
+pub returns-then-between-p-clause-live : goal.returns-then-between-p-clause-live
+returns-then-between-p-clause-live t c =
+    let many : c.slots-in-Then.result ≡ slots_of (seen c.in-Then.a.value) = c.slots-in-Then.ensures ∙ ap (λ node. slots_of (seen node)) c.deref.ensures in
+    live_as c.args.live.now c.add_behind.new.live (GoesOn (seen c.args.self.now) c.args.before c.args.p) (GoesOn (seen c.deref-then-between-p.result.now) (c.args.before + c.slots-in-Then.result) c.args.p)
+    (λ b q. goes_past (seen c.args.self.now) (seen c.in-Then.a.value) (seen c.in-Then.b.value) (seen c.deref-then-between-p.result.now) c.slots-in-Then.result c.args.before c.args.p b q (ap seen c.in-Then.is) (ap seen c.deref-then-between-p.ensures) many c.if-between-p.true)
+    c.add_behind.ensures.live
 
-pub returns-else-is_last-clause-live : goal.returns-else-is_last-clause-live
-returns-else-is_last-clause-live t c =
-    let one : seen c.deref.result.now ≡ seen c.in-Then.a.value = ap seen c.deref.ensures in
-    let two : seen c.deref-else-is_last.result.now ≡ seen c.in-Then.b.value = ap seen c.deref-else-is_last.ensures in
-    let many : c.slots-else-is_last.result ≡ slots_of (seen c.in-Then.a.value) = c.slots-else-is_last.ensures ∙ ap (λ node. slots_of (seen node)) c.deref-else-is_last-2.ensures in
-    let more : is_last (seen c.deref.result.now) c.args.before c.args.p ≡ false = sym (c.is_last.ensures ∙ ap (λ node. is_last (seen node) c.args.before c.args.p) (c.deref-in-Then.ensures ∙ sym c.deref.ensures)) ∙ c.if-is_last.false in
-    live_both c.args.live.now c.add_behind.new.live c.add_behind-else-is_last.new.live (GoesOn (seen c.args.self.now) c.args.before c.args.p) (GoesOn (seen c.deref.result.now) c.args.before c.args.p) (GoesOn (seen c.deref-else-is_last.result.now) (c.args.before + c.slots-else-is_last.result) c.args.p)
-    (λ b q. goes_on (seen c.args.self.now) (seen c.in-Then.a.value) (seen c.in-Then.b.value) (seen c.deref.result.now) (seen c.deref-else-is_last.result.now) c.slots-else-is_last.result c.args.before c.args.p b q (ap seen c.in-Then.is) one two many more)
-    c.add_behind.ensures.live c.add_behind-else-is_last.ensures.live
+pub returns-then-between-p-clause-cuts : goal.returns-then-between-p-clause-cuts
+returns-then-between-p-clause-cuts t c =
+    let many : c.slots-in-Then.result ≡ slots_of (seen c.in-Then.a.value) = c.slots-in-Then.ensures ∙ ap (λ node. slots_of (seen node)) c.deref.ensures in
+    cuts_as c.args.cuts.now c.add_behind.new.cuts (GoesOn (seen c.args.self.now) c.args.before c.args.p) (GoesOn (seen c.deref-then-between-p.result.now) (c.args.before + c.slots-in-Then.result) c.args.p)
+    (λ b q. goes_past (seen c.args.self.now) (seen c.in-Then.a.value) (seen c.in-Then.b.value) (seen c.deref-then-between-p.result.now) c.slots-in-Then.result c.args.before c.args.p b q (ap seen c.in-Then.is) (ap seen c.deref-then-between-p.ensures) many c.if-between-p.true)
+    c.add_behind.ensures.cuts
 
-pub returns-else-is_last-clause-cuts : goal.returns-else-is_last-clause-cuts
-returns-else-is_last-clause-cuts t c =
-    let one : seen c.deref.result.now ≡ seen c.in-Then.a.value = ap seen c.deref.ensures in
-    let two : seen c.deref-else-is_last.result.now ≡ seen c.in-Then.b.value = ap seen c.deref-else-is_last.ensures in
-    let many : c.slots-else-is_last.result ≡ slots_of (seen c.in-Then.a.value) = c.slots-else-is_last.ensures ∙ ap (λ node. slots_of (seen node)) c.deref-else-is_last-2.ensures in
-    let more : is_last (seen c.deref.result.now) c.args.before c.args.p ≡ false = sym (c.is_last.ensures ∙ ap (λ node. is_last (seen node) c.args.before c.args.p) (c.deref-in-Then.ensures ∙ sym c.deref.ensures)) ∙ c.if-is_last.false in
-    cuts_both c.args.cuts.now c.add_behind.new.cuts c.add_behind-else-is_last.new.cuts (GoesOn (seen c.args.self.now) c.args.before c.args.p) (GoesOn (seen c.deref.result.now) c.args.before c.args.p) (GoesOn (seen c.deref-else-is_last.result.now) (c.args.before + c.slots-else-is_last.result) c.args.p)
-    (λ b q. goes_on (seen c.args.self.now) (seen c.in-Then.a.value) (seen c.in-Then.b.value) (seen c.deref.result.now) (seen c.deref-else-is_last.result.now) c.slots-else-is_last.result c.args.before c.args.p b q (ap seen c.in-Then.is) one two many more)
-    c.add_behind.ensures.cuts c.add_behind-else-is_last.ensures.cuts
+pub returns-then-between-p-clause-last : goal.returns-then-between-p-clause-last
+returns-then-between-p-clause-last t c =
+    let many : c.slots-in-Then.result ≡ slots_of (seen c.in-Then.a.value) = c.slots-in-Then.ensures ∙ ap (λ node. slots_of (seen node)) c.deref.ensures in
+    c.add_behind.ensures.last ∙ ap (λ node. is_last (seen node) (c.args.before + c.slots-in-Then.result) c.args.p) c.deref-then-between-p.ensures
+    ∙ then_ends_second (seen c.args.self.now) (seen c.in-Then.a.value) (seen c.in-Then.b.value) c.args.before c.slots-in-Then.result c.args.p (ap seen c.in-Then.is) many c.if-between-p.true
 
-pub returns-in-Or-clause-live : goal.returns-in-Or-clause-live
-returns-in-Or-clause-live t c =
-    let one : seen c.deref-in-Or.result.now ≡ seen c.in-Or.a.value = ap seen c.deref-in-Or.ensures in
-    let two : seen c.deref-in-Or-2.result.now ≡ seen c.in-Or.b.value = ap seen c.deref-in-Or-2.ensures in
-    let many : c.slots-in-Or.result ≡ slots_of (seen c.in-Or.a.value) = c.slots-in-Or.ensures ∙ ap (λ node. slots_of (seen node)) c.deref-in-Or-3.ensures in
-    live_both c.args.live.now c.add_behind-in-Or.new.live c.add_behind-in-Or-2.new.live (GoesOn (seen c.args.self.now) c.args.before c.args.p) (GoesOn (seen c.deref-in-Or.result.now) c.args.before c.args.p) (GoesOn (seen c.deref-in-Or-2.result.now) (c.args.before + c.slots-in-Or.result) c.args.p)
-    (λ b q. goes_either (seen c.args.self.now) (seen c.in-Or.a.value) (seen c.in-Or.b.value) (seen c.deref-in-Or.result.now) (seen c.deref-in-Or-2.result.now) c.slots-in-Or.result c.args.before c.args.p b q (ap seen c.in-Or.is) one two many)
-    c.add_behind-in-Or.ensures.live c.add_behind-in-Or-2.ensures.live
+pub returns-then-not-add_behind-clause-live : goal.returns-then-not-add_behind-clause-live
+returns-then-not-add_behind-clause-live t c =
+    let many : c.slots-in-Then.result ≡ slots_of (seen c.in-Then.a.value) = c.slots-in-Then.ensures ∙ ap (λ node. slots_of (seen node)) c.deref.ensures in
+    live_as c.args.live.now c.add_behind-in-Then.new.live (GoesOn (seen c.args.self.now) c.args.before c.args.p) (GoesOn (seen c.deref-in-Then.result.now) c.args.before c.args.p)
+    (λ b q. goes_inside (seen c.args.self.now) (seen c.in-Then.a.value) (seen c.in-Then.b.value) (seen c.deref-in-Then.result.now) c.slots-in-Then.result c.args.before c.args.p b q (ap seen c.in-Then.is) (ap seen c.deref-in-Then.ensures) many c.if-between-p.false (sym c.add_behind-in-Then.ensures.last ∙ c.if-not-add_behind.true))
+    c.add_behind-in-Then.ensures.live
 
-pub returns-in-Or-clause-cuts : goal.returns-in-Or-clause-cuts
-returns-in-Or-clause-cuts t c =
-    let one : seen c.deref-in-Or.result.now ≡ seen c.in-Or.a.value = ap seen c.deref-in-Or.ensures in
-    let two : seen c.deref-in-Or-2.result.now ≡ seen c.in-Or.b.value = ap seen c.deref-in-Or-2.ensures in
-    let many : c.slots-in-Or.result ≡ slots_of (seen c.in-Or.a.value) = c.slots-in-Or.ensures ∙ ap (λ node. slots_of (seen node)) c.deref-in-Or-3.ensures in
-    cuts_both c.args.cuts.now c.add_behind-in-Or.new.cuts c.add_behind-in-Or-2.new.cuts (GoesOn (seen c.args.self.now) c.args.before c.args.p) (GoesOn (seen c.deref-in-Or.result.now) c.args.before c.args.p) (GoesOn (seen c.deref-in-Or-2.result.now) (c.args.before + c.slots-in-Or.result) c.args.p)
-    (λ b q. goes_either (seen c.args.self.now) (seen c.in-Or.a.value) (seen c.in-Or.b.value) (seen c.deref-in-Or.result.now) (seen c.deref-in-Or-2.result.now) c.slots-in-Or.result c.args.before c.args.p b q (ap seen c.in-Or.is) one two many)
-    c.add_behind-in-Or.ensures.cuts c.add_behind-in-Or-2.ensures.cuts
+pub returns-then-not-add_behind-clause-cuts : goal.returns-then-not-add_behind-clause-cuts
+returns-then-not-add_behind-clause-cuts t c =
+    let many : c.slots-in-Then.result ≡ slots_of (seen c.in-Then.a.value) = c.slots-in-Then.ensures ∙ ap (λ node. slots_of (seen node)) c.deref.ensures in
+    cuts_as c.args.cuts.now c.add_behind-in-Then.new.cuts (GoesOn (seen c.args.self.now) c.args.before c.args.p) (GoesOn (seen c.deref-in-Then.result.now) c.args.before c.args.p)
+    (λ b q. goes_inside (seen c.args.self.now) (seen c.in-Then.a.value) (seen c.in-Then.b.value) (seen c.deref-in-Then.result.now) c.slots-in-Then.result c.args.before c.args.p b q (ap seen c.in-Then.is) (ap seen c.deref-in-Then.ensures) many c.if-between-p.false (sym c.add_behind-in-Then.ensures.last ∙ c.if-not-add_behind.true))
+    c.add_behind-in-Then.ensures.cuts
+
+pub returns-then-not-add_behind-clause-last : goal.returns-then-not-add_behind-clause-last
+returns-then-not-add_behind-clause-last t c =
+    let many : c.slots-in-Then.result ≡ slots_of (seen c.in-Then.a.value) = c.slots-in-Then.ensures ∙ ap (λ node. slots_of (seen node)) c.deref.ensures in
+    let more : false ≡ is_last (seen c.in-Then.a.value) c.args.before c.args.p = sym c.if-not-add_behind.true ∙ c.add_behind-in-Then.ensures.last ∙ ap (λ node. is_last (seen node) c.args.before c.args.p) c.deref-in-Then.ensures in
+    ap (λ x. x && is_nullable (seen c.in-Then.b.value)) more
+    ∙ then_ends_first (seen c.args.self.now) (seen c.in-Then.a.value) (seen c.in-Then.b.value) c.args.before c.slots-in-Then.result c.args.p (ap seen c.in-Then.is) many c.if-between-p.false
+
+pub returns-else-not-add_behind-clause-live : goal.returns-else-not-add_behind-clause-live
+returns-else-not-add_behind-clause-live t c =
+    let one : seen c.deref-in-Then.result.now ≡ seen c.in-Then.a.value = ap seen c.deref-in-Then.ensures in
+    let two : seen c.deref-in-Then-2.result.now ≡ seen c.in-Then.b.value = ap seen c.deref-in-Then-2.ensures in
+    live_both c.args.live.now c.add_behind-in-Then.new.live c.add_begin.new.live (GoesOn (seen c.args.self.now) c.args.before c.args.p) (GoesOn (seen c.deref-in-Then.result.now) c.args.before c.args.p) (BeginsOn (seen c.deref-in-Then-2.result.now) (c.args.before + slots_of (seen c.deref-in-Then.result.now)))
+    (λ b q. goes_over (seen c.args.self.now) (seen c.in-Then.a.value) (seen c.in-Then.b.value) (seen c.deref-in-Then.result.now) (seen c.deref-in-Then-2.result.now) c.args.before c.args.p b q (ap seen c.in-Then.is) one two (sym c.add_behind-in-Then.ensures.last ∙ c.if-not-add_behind.false))
+    c.add_behind-in-Then.ensures.live (c.add_begin.ensures.live (c.args.before + slots_of (seen c.deref-in-Then.result.now)))
+
+pub returns-else-not-add_behind-clause-cuts : goal.returns-else-not-add_behind-clause-cuts
+returns-else-not-add_behind-clause-cuts t c =
+    let one : seen c.deref-in-Then.result.now ≡ seen c.in-Then.a.value = ap seen c.deref-in-Then.ensures in
+    let two : seen c.deref-in-Then-2.result.now ≡ seen c.in-Then.b.value = ap seen c.deref-in-Then-2.ensures in
+    cuts_both c.args.cuts.now c.add_behind-in-Then.new.cuts c.add_begin.new.cuts (GoesOn (seen c.args.self.now) c.args.before c.args.p) (GoesOn (seen c.deref-in-Then.result.now) c.args.before c.args.p) (BeginsOn (seen c.deref-in-Then-2.result.now) (c.args.before + slots_of (seen c.deref-in-Then.result.now)))
+    (λ b q. goes_over (seen c.args.self.now) (seen c.in-Then.a.value) (seen c.in-Then.b.value) (seen c.deref-in-Then.result.now) (seen c.deref-in-Then-2.result.now) c.args.before c.args.p b q (ap seen c.in-Then.is) one two (sym c.add_behind-in-Then.ensures.last ∙ c.if-not-add_behind.false))
+    c.add_behind-in-Then.ensures.cuts (c.add_begin.ensures.cuts (c.args.before + slots_of (seen c.deref-in-Then.result.now)))
+
+pub returns-else-not-add_behind-clause-last : goal.returns-else-not-add_behind-clause-last
+returns-else-not-add_behind-clause-last t c =
+    let many : c.slots-in-Then.result ≡ slots_of (seen c.in-Then.a.value) = c.slots-in-Then.ensures ∙ ap (λ node. slots_of (seen node)) c.deref.ensures in
+    let ended : true ≡ is_last (seen c.in-Then.a.value) c.args.before c.args.p = sym c.if-not-add_behind.false ∙ c.add_behind-in-Then.ensures.last ∙ ap (λ node. is_last (seen node) c.args.before c.args.p) c.deref-in-Then.ensures in
+    c.is_nullable.ensures ∙ ap (λ node. is_nullable (seen node)) c.deref-in-Then-3.ensures ∙ ap (λ x. x && is_nullable (seen c.in-Then.b.value)) ended
+    ∙ then_ends_first (seen c.args.self.now) (seen c.in-Then.a.value) (seen c.in-Then.b.value) c.args.before c.slots-in-Then.result c.args.p (ap seen c.in-Then.is) many c.if-between-p.false
+
+pub returns-then-between-p-2-clause-live : goal.returns-then-between-p-2-clause-live
+returns-then-between-p-2-clause-live t c =
+    let many : c.slots-in-Or.result ≡ slots_of (seen c.in-Or.a.value) = c.slots-in-Or.ensures ∙ ap (λ node. slots_of (seen node)) c.deref-in-Or.ensures in
+    live_as c.args.live.now c.add_behind-then-between-p-2.new.live (GoesOn (seen c.args.self.now) c.args.before c.args.p) (GoesOn (seen c.deref-then-between-p-2.result.now) (c.args.before + c.slots-in-Or.result) c.args.p)
+    (λ b q. goes_past_one (seen c.args.self.now) (seen c.in-Or.a.value) (seen c.in-Or.b.value) (seen c.deref-then-between-p-2.result.now) c.slots-in-Or.result c.args.before c.args.p b q (ap seen c.in-Or.is) (ap seen c.deref-then-between-p-2.ensures) many c.if-between-p-2.true)
+    c.add_behind-then-between-p-2.ensures.live
+
+pub returns-else-between-p-2-clause-live : goal.returns-else-between-p-2-clause-live
+returns-else-between-p-2-clause-live t c =
+    let many : c.slots-in-Or.result ≡ slots_of (seen c.in-Or.a.value) = c.slots-in-Or.ensures ∙ ap (λ node. slots_of (seen node)) c.deref-in-Or.ensures in
+    live_as c.args.live.now c.add_behind-else-between-p-2.new.live (GoesOn (seen c.args.self.now) c.args.before c.args.p) (GoesOn (seen c.deref-else-between-p-2.result.now) c.args.before c.args.p)
+    (λ b q. goes_inside_one (seen c.args.self.now) (seen c.in-Or.a.value) (seen c.in-Or.b.value) (seen c.deref-else-between-p-2.result.now) c.slots-in-Or.result c.args.before c.args.p b q (ap seen c.in-Or.is) (ap seen c.deref-else-between-p-2.ensures) many c.if-between-p-2.false)
+    c.add_behind-else-between-p-2.ensures.live
+
+pub returns-then-between-p-2-clause-cuts : goal.returns-then-between-p-2-clause-cuts
+returns-then-between-p-2-clause-cuts t c =
+    let many : c.slots-in-Or.result ≡ slots_of (seen c.in-Or.a.value) = c.slots-in-Or.ensures ∙ ap (λ node. slots_of (seen node)) c.deref-in-Or.ensures in
+    cuts_as c.args.cuts.now c.add_behind-then-between-p-2.new.cuts (GoesOn (seen c.args.self.now) c.args.before c.args.p) (GoesOn (seen c.deref-then-between-p-2.result.now) (c.args.before + c.slots-in-Or.result) c.args.p)
+    (λ b q. goes_past_one (seen c.args.self.now) (seen c.in-Or.a.value) (seen c.in-Or.b.value) (seen c.deref-then-between-p-2.result.now) c.slots-in-Or.result c.args.before c.args.p b q (ap seen c.in-Or.is) (ap seen c.deref-then-between-p-2.ensures) many c.if-between-p-2.true)
+    c.add_behind-then-between-p-2.ensures.cuts
+
+pub returns-else-between-p-2-clause-cuts : goal.returns-else-between-p-2-clause-cuts
+returns-else-between-p-2-clause-cuts t c =
+    let many : c.slots-in-Or.result ≡ slots_of (seen c.in-Or.a.value) = c.slots-in-Or.ensures ∙ ap (λ node. slots_of (seen node)) c.deref-in-Or.ensures in
+    cuts_as c.args.cuts.now c.add_behind-else-between-p-2.new.cuts (GoesOn (seen c.args.self.now) c.args.before c.args.p) (GoesOn (seen c.deref-else-between-p-2.result.now) c.args.before c.args.p)
+    (λ b q. goes_inside_one (seen c.args.self.now) (seen c.in-Or.a.value) (seen c.in-Or.b.value) (seen c.deref-else-between-p-2.result.now) c.slots-in-Or.result c.args.before c.args.p b q (ap seen c.in-Or.is) (ap seen c.deref-else-between-p-2.ensures) many c.if-between-p-2.false)
+    c.add_behind-else-between-p-2.ensures.cuts
+
+pub returns-then-between-p-2-clause-last : goal.returns-then-between-p-2-clause-last
+returns-then-between-p-2-clause-last t c =
+    let many : c.slots-in-Or.result ≡ slots_of (seen c.in-Or.a.value) = c.slots-in-Or.ensures ∙ ap (λ node. slots_of (seen node)) c.deref-in-Or.ensures in
+    c.add_behind-then-between-p-2.ensures.last ∙ ap (λ node. is_last (seen node) (c.args.before + c.slots-in-Or.result) c.args.p) c.deref-then-between-p-2.ensures
+    ∙ or_ends_second (seen c.args.self.now) (seen c.in-Or.a.value) (seen c.in-Or.b.value) c.args.before c.slots-in-Or.result c.args.p (ap seen c.in-Or.is) many c.if-between-p-2.true
+
+pub returns-else-between-p-2-clause-last : goal.returns-else-between-p-2-clause-last
+returns-else-between-p-2-clause-last t c =
+    let many : c.slots-in-Or.result ≡ slots_of (seen c.in-Or.a.value) = c.slots-in-Or.ensures ∙ ap (λ node. slots_of (seen node)) c.deref-in-Or.ensures in
+    c.add_behind-else-between-p-2.ensures.last ∙ ap (λ node. is_last (seen node) c.args.before c.args.p) c.deref-else-between-p-2.ensures
+    ∙ or_ends_first (seen c.args.self.now) (seen c.in-Or.a.value) (seen c.in-Or.b.value) c.args.before c.slots-in-Or.result c.args.p (ap seen c.in-Or.is) many c.if-between-p-2.false
