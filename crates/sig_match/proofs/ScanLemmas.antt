@@ -1,9 +1,11 @@
 -- Scans that go on byte by byte, and what stands where they end.
+use borrow.Rule.Slice.PartMut.{post_of, put_mid}
 use Rattle.std.proofs.Common.{◌≡◌, ◌↔◌, ⊎_elim, ℕ, zero, suc, ◌+◌, ◌<◌, ◌≤◌, List, [], ◌∷◌, ◌++◌, length, get_or, set, take, append_assoc, take-add, subst, sym, ap, refl, ◌∙◌, arith, Bool, true, false, not, drop, Option, Some, None}
 use Rattle.std.specs.Prelude.{All, IfSome, IsTrue, IsSomeAnd, slice_get}
 use Rattle.std.specs.List.{AllZip}
 use Rattle.std.proofs.lemmas.Bool.{cases_lt, cases_eq, false≢true}
-use Rattle.std.proofs.lemmas.List.{get_or-set_same, get_or-set_other, append-nil, get_or_past, length-set, take-append-drop, take-append-le, take_all, take_more}
+use Rattle.std.proofs.Math.Seq.{take-append-add}
+use Rattle.std.proofs.lemmas.List.{get_or-set_same, get_or-set_other, append-nil, get_or_past, length-set, take-append-drop, take-append-le, take_all, take_more, length-take-le}
 use Rattle.std.proofs.lemmas.List.Elements.{All-append, All-cons, All-head, All-nil, All-tail}
 use Rattle.std.proofs.lemmas.Option.{get_or_from_slice_get, slice_get_within}
 use Rattle.sig_auto.specs.Runs.{IsSetOf}
@@ -355,6 +357,18 @@ fed_to_end scan table before at hits end finish fed =
 -- all is read at once
 pub hits_at_once : (table : TableView) (before at : Option (List ℕ)) (file : List ℕ) (hits : List Hit) → Gives before file at → IsAtEnd at → HitFormats table file hits → HitFormatsOfSome table before hits
 hits_at_once table before at file hits gives end are = record { file = file; is_to_come = gives_all before at file gives end; hit_formats = are }
+
+pub whole_front : (n : ℕ) (xs : List ℕ) → length xs ≤ n → take n xs ≡ xs
+whole_front n xs all = take_all n xs all
+
+-- the filled front of a room, and what was read behind it
+pub filled_more : (filled n k : ℕ) (room buf : List ℕ) → filled ≤ length room → n ≤ length buf → take (filled + n) (put_mid filled k room buf) ≡ take filled room ++ take n buf
+filled_more filled n k room buf low within =
+    let at : length (take filled room) ≡ filled = length-take-le filled room low in
+    ap (λ m. take (m + n) (put_mid filled k room buf)) (sym at) ∙ take-append-add (take filled room) (buf ++ post_of filled k room) n ∙ ap (λ l. take filled room ++ l) (take-append-le n buf (post_of filled k room) within)
+
+pub gives_on : (a b c : Option (List ℕ)) (x y z : List ℕ) → z ≡ x ++ y → Gives a x b → Gives b y c → Gives a z c
+gives_on a b c x y z is first second = subst (λ l. Gives a l c) (sym is) (gives_more a b c x y first second)
 
 -- what is not true is false
 pub false_from_not : (b : Bool) → (b ≡ true → ⊥) → b ≡ false

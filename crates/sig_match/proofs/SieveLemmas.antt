@@ -25,7 +25,7 @@ misses_by_pair f bytes x y inside few wide place within differs =
     absurd (differs (omega arith)))
     (misses_or_fits (take f.len f.front) (drop x bytes))
 
-below_or : (x at : ℕ) → (x < at) ⊎ (at ≤ x)
+pub below_or : (x at : ℕ) → (x < at) ⊎ (at ≤ x)
 below_or x zero = inr (omega arith)
 below_or zero (suc at) = inl (omega arith)
 below_or (suc x) (suc at) = ⊎_elim (λ below. inl (omega arith)) (λ behind. inr (omega arith)) (below_or x at)

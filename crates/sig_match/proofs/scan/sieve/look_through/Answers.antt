@@ -1,5 +1,5 @@
 use Rattle.std.proofs.Common.{◌+◌, arith}
-use Rattle.sig_match.proofs.SieveLemmas.{look_begins, look_ends, look_goes_on, look_passes}
+use Rattle.sig_match.proofs.SieveLemmas.{look_begins, look_ends, look_goes_on, look_passes, next_sample}
 use Rattle.sig_match.proofs.scan.sieve.look_through.Goals as goal
 
 pub loop-at-init : goal.loop-at-init
@@ -10,3 +10,6 @@ loop-at-preserved c = look_passes c.args.heads.now c.args.entries.now c.args.byt
 
 pub returns : goal.returns
 returns c = look_ends c.args.heads.now c.args.entries.now c.args.bytes.now c.loop-at.known c.loop-at.at c.requires.sieve (omega arith) c.loop-at.invariant
+
+pub next_marked-at-requires-in-loop-at-clause-sample : goal.next_marked-at-requires-in-loop-at-clause-sample
+next_marked-at-requires-in-loop-at-clause-sample c = next_sample c.loop-at.at c.loop-at.invariant.sample
