@@ -127,6 +127,11 @@ REFUSED = (HEADER + "fmt/1,1,BOF,0,,41 42\n", PAIRS)
 VERSION_2 = OF_BLOCKED.replace(" 01 00000003", " 02 00000003")
 FIND = ["find", "--budget", "100", "--out", "out"]
 SETTLE = ["conflicts", "--budget", "100", "--hex"]
+# Nine words that may stand anywhere, so many that one look at a file is for all of them.
+NINE_WORDS = (HEADER + "".join(f"fmt/{n},{n},Variable,,,4142434{n}\n" for n in range(1, 9))
+              + "fmt/9,9,Variable,,,4142434445\nfmt/10,10,BOF,0,,4142\nfmt/10,11,EOF,0,,5A\nfmt/11,12,BOF,0,9,41*5A\n", PAIRS)
+# A file of two pieces, with a word across the cut.
+TWO_PIECES = b"\0" * 262_142 + b"ABCDE" + b"\0" * 40_000 + b"Z"
 # The file `41` leaves any two of them.
 THREE_ALIKE = (HEADER + "fmt/1,1,BOF,0,,41\nfmt/2,2,BOF,0,,41\nfmt/3,3,BOF,0,,41\n", PAIRS)
 THREE_PAIRS = ("ambiguous fmt/1 fmt/2 1 2 1 41\nambiguous fmt/1 fmt/3 1 3 1 41\nambiguous fmt/2 fmt/3 2 3 1 41\n"
@@ -167,6 +172,8 @@ CASES = [
     ("two blockers", TWO_BLOCKERS, None, FIND, (0, "decided\n", "")),
     ("a refused text", REFUSED, None, ["show"], (2, "", "signatures row 1: L8 expression E2 at 2\n")),
     ("a long file", ONE_FORMAT, b"AB" + b"\0" * 100_000, ["match"], (0, "fmt/1 1\n", "")),
+    ("nine words", NINE_WORDS, b"ABCDE", ["match"], (0, "fmt/4 4\nfmt/9 9\nfmt/10 10\n", "")),
+    ("nine words in two pieces", NINE_WORDS, TWO_PIECES, ["match"], (0, "fmt/4 4\nfmt/9 9\nfmt/10 11\n", "")),
 ]
 
 # Command lines that open nothing, or nothing that is there, with their status.

@@ -13,10 +13,16 @@ Of each table and file the best of three runs counts. A line has the millisecond
 file, which are those of the start and of the table, and for each file the MB/s without them. The last
 line is one run that names 2,000 files of 16 KiB, with the table of 1,500 signatures. With `--keep`
 tables and files stay in that folder. The same seed makes the same ones anywhere.
+
+Where `yara` and `yarac` are installed, a second line has their MB/s, measured in the same way over the
+same files, with compiled rules that say what the table says. The few signatures with a range are left
+out of the rules, and of what stands behind an open gap only that it stands somewhere.
 """
 import argparse
 import os
 import random
+import re
+import shutil
 import subprocess
 import sys
 import tempfile
@@ -87,9 +93,56 @@ def write_file(rng, path, size, fronts):
             left -= min(left, len(block))
 
 
+def yara_text(part):
+    """The bytes and gaps of an expression without `*`, and how long a word without a gap is."""
+    words = re.findall(r"[0-9A-F]{2}|\?\?|\{[0-9-]+\}", part)
+    return " ".join(f"[{word[1:-1]}]" if word[0] == "{" else word for word in words), len(words)
+
+
+def yara_rule(number, rows):
+    """The rule of a signature, or nothing where a range stands in it."""
+    strings, conditions = [], []
+    for position, least, greatest, expression in rows:
+        if "[" in expression:
+            return ""
+        for at, part in enumerate(expression.split("*")):
+            text, length = yara_text(part)
+            name = f"$s{len(strings)}"
+            strings.append(f"{name} = {{ {text} }}")
+            greatest = greatest or least
+            if at > 0 or position == "Variable":
+                conditions.append(name)
+            elif position == "BOF":
+                conditions.append(f"{name} in (0..{greatest})" if greatest != "0" else f"{name} at 0")
+            elif greatest != "0":
+                conditions.append(f"{name} in (filesize-{length + int(greatest)}..filesize-{length})")
+            else:
+                conditions.append(f"{name} at filesize-{length}")
+    return f"rule s{number} {{ strings: {' '.join(strings)} condition: {' and '.join(conditions)} }}\n"
+
+
+def write_rules(folder, count):
+    """The compiled rules of a table, or nothing where YARA is not installed."""
+    if not shutil.which("yara") or not shutil.which("yarac"):
+        return None
+    signatures = {}
+    with open(os.path.join(folder, f"signatures{count}.csv")) as f:
+        for row in f.read().splitlines()[1:]:
+            _, number, *sequence = row.split(",")
+            signatures.setdefault(number, []).append(sequence)
+    text, rules = os.path.join(folder, f"rules{count}"), os.path.join(folder, f"rules{count}.compiled")
+    with open(text, "w") as f:
+        f.writelines(yara_rule(number, rows) for number, rows in signatures.items())
+    subprocess.run(["yarac", "-w", text, rules], check=True)
+    return rules
+
+
 def seconds(program, folder, count, *paths):
-    words = [program, "match", os.path.join(folder, f"signatures{count}.csv"),
-             os.path.join(folder, "priorities.csv"), *paths]
+    return best_of_three([program, "match", os.path.join(folder, f"signatures{count}.csv"),
+                          os.path.join(folder, "priorities.csv"), *paths])
+
+
+def best_of_three(words):
     best = None
     for _ in range(3):
         begin = time.perf_counter()
@@ -108,21 +161,38 @@ def measure(program, seed, large, folder):
     sizes = {"16 KiB": 16 << 10, "10 MiB": 10 * MIB, f"{large} MiB": large * MIB}
     empty = os.path.join(folder, "empty")
     open(empty, "wb").close()
-    print(f"{'signatures':>10} {'start ms':>9} " + " ".join(f"{name:>9}" for name in sizes))
+    print(f"{'signatures':>16} {'start ms':>9} " + " ".join(f"{name:>9}" for name in sizes))
     for count in (50, 300, 1500):
         fronts = write_table(rng, folder, count)
-        start = seconds(program, folder, count, empty)
-        line = f"{count:>10} {start * 1000:>9.1f}"
-        for name, size in sizes.items():
-            path = os.path.join(folder, f"file{count}_{size}")
+        rules = write_rules(folder, count)
+        paths = [os.path.join(folder, f"file{count}_{size}") for size in sizes.values()]
+        for path, size in zip(paths, sizes.values()):
             write_file(rng, path, size, fronts)
-            spent = seconds(program, folder, count, path) - start
-            line += f" {size / 1e6 / max(spent, 1e-6):>9.1f}"
-        print(line, flush=True)
+        print_line(f"{count}", lambda path: seconds(program, folder, count, path), empty, paths)
+        if rules:
+            print_line(f"{count} YARA", lambda path: best_of_three(["yara", "-p", "1", "-C", rules, path]), empty, paths)
     many = [os.path.join(folder, f"many{number}") for number in range(2000)]
     for path in many:
         write_file(rng, path, 16 << 10, fronts)
-    print(f"2,000 files of 16 KiB, {count} signatures: {seconds(program, folder, count, *many):.2f} s")
+    listed = os.path.join(folder, "many")
+    with open(listed, "w") as f:
+        f.write("".join(path + "\n" for path in many))
+    print_many("", count, seconds(program, folder, count, *many))
+    if rules:
+        print_many(" YARA", count, best_of_three(["yara", "-p", "1", "-C", "--scan-list", rules, listed]))
+
+
+def print_line(name, run, empty, paths):
+    """The milliseconds of a run on an empty file, and the MB/s of each other file without them."""
+    start = run(empty)
+    line = f"{name:>16} {start * 1000:>9.1f}"
+    for path in paths:
+        line += f" {os.path.getsize(path) / 1e6 / max(run(path) - start, 1e-6):>9.1f}"
+    print(line, flush=True)
+
+
+def print_many(name, count, spent):
+    print(f"2,000 files of 16 KiB, {count} signatures{name}: {spent:.2f} s, {2000 * (16 << 10) / 1e6 / spent:.0f} MB/s")
 
 
 def main():

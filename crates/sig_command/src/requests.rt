@@ -18,7 +18,7 @@ use sig_engines::{
     CutShort, FileFault, RunError, Store, SystemFiles, TablePaths, run_check, run_find, run_match,
     run_match_many, run_show, run_witness, settle,
 };
-use sig_match::WholeCore;
+use sig_match::StreamCore;
 use sig_table::Table;
 use std::alloc::Global;
 use std::rt::{Env, Files};
@@ -188,7 +188,7 @@ fn match_file<'a, S: Store, W: Output>(
     ensures untouched { IfErr result (λ fault. fault ≢ Fault.Run RunError.Write → out.new ≡ out.old) }
     ensures whole { IfErr result (λ fault. W.failed out.new ≡ false → out.new ≡ out.old) }
 {
-    let core = WholeCore::new(alloc, load(store, alloc, table)?);
+    let core = StreamCore::new(alloc, load(store, alloc, table)?);
     let mut file = open(store, name)?;
     match run_match(alloc, &core, all, &mut file, out) {
         Ok(()) => Ok(true),
@@ -215,7 +215,7 @@ fn match_many<'m, 'a, S: Store, W: Output, E: Output>(
     ensures whole { IfErr result (λ fault. W.failed out.new ≡ false → (out.new ≡ out.old) ⊎ IsCutRequest S.Reader.failed (S.held store.now) (Request.MatchMany all table.entry files.entry) (W.written out.old) (W.written out.new)) }
 {
     let table = load(store, alloc, table)?;
-    let core = WholeCore::new(alloc, table);
+    let core = StreamCore::new(alloc, table);
     match run_match_many(alloc, store, &core, all, files, out, err) {
         Ok(true) => Ok(true),
         Ok(false) => Err(Fault::SomeFiles),

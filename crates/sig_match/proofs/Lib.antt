@@ -1,5 +1,6 @@
 -- Lemmas of this crate.
 pub mod Exports
+mod FrontLemmas
 mod FrontierLemmas
 mod GapLemmas
 mod HitLaws
@@ -10,6 +11,7 @@ mod LeftLemmas
 mod ListingLemmas
 mod MarkLemmas
 mod OneListLemmas
+mod OutlookLemmas
 mod PartLemmas
 mod ReachLemmas
 mod RestLemmas

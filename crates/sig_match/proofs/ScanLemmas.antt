@@ -1,9 +1,11 @@
 -- Scans that go on byte by byte, and what stands where they end.
-use Rattle.std.proofs.Common.{◌≡◌, ◌↔◌, ⊎_elim, ℕ, zero, suc, ◌+◌, ◌<◌, ◌≤◌, List, [], ◌∷◌, ◌++◌, length, get_or, set, take, append_assoc, take-add, subst, sym, ap, refl, ◌∙◌, arith, Bool, true, false, not, drop, Option, Some, None}
+use borrow.Rule.Slice.PartMut.{post_of, put_mid}
+use Rattle.std.proofs.Common.{◌≡◌, ◌⊎◌, ◌↔◌, ⊎_elim, ℕ, zero, suc, ◌+◌, ◌<◌, ◌≤◌, List, [], ◌∷◌, ◌++◌, length, get_or, set, take, inl, inr, append_assoc, take-add, subst, sym, ap, refl, ◌∙◌, arith, Bool, true, false, not, drop, Option, Some, None}
 use Rattle.std.specs.Prelude.{All, IfSome, IsTrue, IsSomeAnd, slice_get}
 use Rattle.std.specs.List.{AllZip}
 use Rattle.std.proofs.lemmas.Bool.{cases_lt, cases_eq, false≢true}
-use Rattle.std.proofs.lemmas.List.{get_or-set_same, get_or-set_other, append-nil, get_or_past, length-set, take-append-drop, take-append-le, take_all, take_more}
+use Rattle.std.proofs.Math.Seq.{take-append-add}
+use Rattle.std.proofs.lemmas.List.{get_or-set_same, get_or-set_other, append-nil, get_or_past, length-set, take-append-drop, take-append-le, take_all, take_more, length-take-le}
 use Rattle.std.proofs.lemmas.List.Elements.{All-append, All-cons, All-head, All-nil, All-tail}
 use Rattle.std.proofs.lemmas.Option.{get_or_from_slice_get, slice_get_within}
 use Rattle.sig_auto.specs.Runs.{IsSetOf}
@@ -22,7 +24,8 @@ use Rattle.sig_match.specs.Hits.{HitFormats, HitFormatsOfSome}
 use Rattle.sig_match.specs.declared.results.Hit.{Hit}
 use Rattle.std.proofs.lemmas.Slice.Zip.{AllZip-long, all_zipped_more}
 use Rattle.sig_match.proofs.HitLemmas.{HitsOf-within}
-use Rattle.sig_match.specs.Scans.{IsScanOf, IsSequenceScanOf, IsSignatureScanOf, ScanView, SequenceScanView}
+use Rattle.sig_match.specs.Lates.{AreLateScansOf, IsFedBy, IsLateOf, IsLateScanOf, IsLateSignatureScanOf, IsMarkOf}
+use Rattle.sig_match.specs.Scans.{AreSequenceScansOf, IsScanOf, IsSequenceScanOf, IsSignatureScanOf, ScanView, SequenceScanView, SignatureScanView}
 
 -- the set of the start alone is that of the empty file
 pub set_begins : (tree : Tree) (set : List ℕ) → ((q : ℕ) → HasBit set q ↔ (q ≡ 0)) → IsSetOf tree set []
@@ -128,14 +131,18 @@ fed_cons piece scans x y xs ys is one rest file sequences zip = both sequences (
   both [] zip = absurd zip
   both (s ∷ ss) zip = (one file s zip.0, rest file ss zip.1)
 
+-- no signature
+pub no_scan : SignatureScanView
+no_scan = record { lost = false; scans = [] }
+
 -- the first ones are fed, and the others are as they were
-pub record FedBelow (piece : List ℕ) (n : ℕ) (old new : List (List SequenceScanView)) : Type 0 where
+pub record FedBelow (piece : List ℕ) (n : ℕ) (old new : List SignatureScanView) : Type 0 where
   pub len : length new ≡ length old
-  pub fed : (k : ℕ) → k < n → Fed piece (get_or old k []) (get_or new k [])
-  pub same : (k : ℕ) → n ≤ k → get_or new k [] ≡ get_or old k []
+  pub fed : (k : ℕ) → k < n → IsFedBy piece (get_or old k no_scan) (get_or new k no_scan)
+  pub same : (k : ℕ) → n ≤ k → get_or new k no_scan ≡ get_or old k no_scan
 
 -- none is fed yet
-pub FedBelow-none : (piece : List ℕ) (old : List (List SequenceScanView)) → FedBelow piece 0 old old
+pub FedBelow-none : (piece : List ℕ) (old : List SignatureScanView) → FedBelow piece 0 old old
 FedBelow-none piece old = record {
   len = refl;
   fed = λ k below. absurd (omega arith);
@@ -143,7 +150,7 @@ FedBelow-none piece old = record {
 }
 
 -- the next one is fed
-pub FedBelow-set : (piece : List ℕ) (n : ℕ) (old new : List (List SequenceScanView)) (scan : List SequenceScanView) → n < length old → Fed piece (get_or new n []) scan → FedBelow piece n old new → FedBelow piece (n + 1) old (set new n scan)
+pub FedBelow-set : (piece : List ℕ) (n : ℕ) (old new : List SignatureScanView) (scan : SignatureScanView) → n < length old → IsFedBy piece (get_or new n no_scan) scan → FedBelow piece n old new → FedBelow piece (n + 1) old (set new n scan)
 FedBelow-set piece n old new scan within step before =
     let here : n < length new = let e = before.len in omega arith in
     record {
@@ -151,42 +158,112 @@ FedBelow-set piece n old new scan within step before =
       fed = λ k below.
           ⊎_elim
           (λ (same : k ≡ n).
-          let P : ℕ → Type 0 = λ j. Fed piece (get_or old j []) (get_or (set new n scan) j []) in
-          let Q : List SequenceScanView → Type 0 = λ l. Fed piece l (get_or (set new n scan) n []) in
-          let R : List SequenceScanView → Type 0 = λ l. Fed piece (get_or new n []) l in
-          subst P (sym same) (subst Q (before.same n (omega arith)) (subst R (sym (get_or-set_same new n scan [] here)) step)))
+          let P : ℕ → Type 0 = λ j. IsFedBy piece (get_or old j no_scan) (get_or (set new n scan) j no_scan) in
+          let Q : SignatureScanView → Type 0 = λ l. IsFedBy piece l (get_or (set new n scan) n no_scan) in
+          let R : SignatureScanView → Type 0 = λ l. IsFedBy piece (get_or new n no_scan) l in
+          subst P (sym same) (subst Q (before.same n (omega arith)) (subst R (sym (get_or-set_same new n scan no_scan here)) step)))
           (λ other.
-          let R : List SequenceScanView → Type 0 = λ l. Fed piece (get_or old k []) l in
-          subst R (sym (get_or-set_other new n k scan [] other)) (before.fed k (omega arith)))
+          let R : SignatureScanView → Type 0 = λ l. IsFedBy piece (get_or old k no_scan) l in
+          subst R (sym (get_or-set_other new n k scan no_scan other)) (before.fed k (omega arith)))
           (cases_eq k n);
-      same = λ k above. get_or-set_other new n k scan [] (let h = above in omega arith) ∙ before.same k (omega arith);
+      same = λ k above. get_or-set_other new n k scan no_scan (let h = above in omega arith) ∙ before.same k (omega arith);
     }
 
+-- lists of one length that are related at each place
+zip_from_places : {A B : Type 0} (R : A → B → Type 0) (xs : List A) (ys : List B) (a : A) (b : B) → length ys ≡ length xs → ((k : ℕ) → k < length xs → R (get_or xs k a) (get_or ys k b)) → AllZip R xs ys
+zip_from_places R [] [] a b len each = tt
+zip_from_places R [] (y ∷ ys) a b len each = absurd (cc)
+zip_from_places R (x ∷ xs) [] a b len each = absurd (cc)
+zip_from_places R (x ∷ xs) (y ∷ ys) a b len each = (each 0 (omega arith), zip_from_places R xs ys a b (cc) (λ k within. each (suc k) (omega arith)))
+
 -- all are fed
-pub FedBelow-all : (file piece : List ℕ) (n : ℕ) (signatures : List SignatureView) (old new : List (List SequenceScanView)) → length old ≤ n → FedBelow piece n old new → AllZip (IsSignatureScanOf file) signatures old → AllZip (IsSignatureScanOf (file ++ piece)) signatures new
-FedBelow-all file piece n signatures old new all fed are = each signatures old new fed.len (λ k within. fed.fed k (omega arith)) are where
-  each : (signatures : List SignatureView) (old new : List (List SequenceScanView)) → length new ≡ length old → ((k : ℕ) → k < length old → Fed piece (get_or old k []) (get_or new k [])) → AllZip (IsSignatureScanOf file) signatures old → AllZip (IsSignatureScanOf (file ++ piece)) signatures new
-  each [] [] [] len step are = tt
-  each [] [] (y ∷ ys) len step are = absurd (cc)
-  each [] (x ∷ xs) ys len step are = absurd are
-  each (s ∷ ss) [] ys len step are = absurd are
-  each (s ∷ ss) (x ∷ xs) [] len step are = absurd (cc)
-  each (s ∷ ss) (x ∷ xs) (y ∷ ys) len step are = (
-    step 0 (omega arith) file s.sequences are.0,
-    each ss xs ys (cc) (λ k within. step (suc k) (omega arith)) are.1,
-  )
+pub FedBelow-all : (piece : List ℕ) (n : ℕ) (old new : List SignatureScanView) → length old ≤ n → FedBelow piece n old new → AllZip (IsFedBy piece) old new
+FedBelow-all piece n old new all fed = zip_from_places (IsFedBy piece) old new no_scan no_scan fed.len (λ k within. fed.fed k (omega arith))
+
+-- what is related to lists, and goes on from each of the one to that of the other
+zip_on : {A B : Type 0} (R S : A → B → Type 0) (F : B → B → Type 0) (xs : List A) (old new : List B) → ((x : A) (y z : B) → F y z → R x y → S x z) → AllZip F old new → AllZip R xs old → AllZip S xs new
+zip_on R S F [] [] [] step fed are = tt
+zip_on R S F [] [] (z ∷ zs) step fed are = absurd fed
+zip_on R S F [] (y ∷ ys) zs step fed are = absurd are
+zip_on R S F (x ∷ xs) [] zs step fed are = absurd are
+zip_on R S F (x ∷ xs) (y ∷ ys) [] step fed are = absurd fed
+zip_on R S F (x ∷ xs) (y ∷ ys) (z ∷ zs) step fed are = (step x y z fed.0 are.0, zip_on R S F xs ys zs step fed.1 are.1)
+
+-- a signature is fed
+signature_on : (file piece : List ℕ) (s : SignatureView) (old new : SignatureScanView) → IsFedBy piece old new → IsSignatureScanOf file s old → IsSignatureScanOf (file ++ piece) s new
+signature_on file piece s old new fed is = record { kept = fed.lost ∙ is.kept; each = fed.each file s.sequences is.each }
+
+-- so is one whose front is known
+late_signature_on : (front file piece : List ℕ) (s : SignatureView) (old new : SignatureScanView) → IsFedBy piece old new → IsLateSignatureScanOf front file s.sequences old → IsLateSignatureScanOf front (file ++ piece) s.sequences new
+late_signature_on front file piece s old new fed is = record {
+  lost = λ given_up. is.lost (sym fed.lost ∙ given_up);
+  kept = λ stays. (
+      let before = is.kept (sym fed.lost ∙ stays) in
+      record { left = before.left; are = before.are; each = fed.each file before.left before.each; same = before.same }
+      );
+}
 
 -- all scans of a table are fed
-pub scan_goes_on : (file piece : List ℕ) (view scan : ScanView) (old new signatures : List (List SequenceScanView)) → view ≡ scan → old ≡ view.signatures → signatures ≡ new → IsBytes piece → ((file : List ℕ) (known : List SignatureView) → AllZip (IsSignatureScanOf file) known old → AllZip (IsSignatureScanOf (file ++ piece)) known new) → IsScanOf scan file → IsScanOf (record { table = view.table; signatures = signatures }) (file ++ piece)
+pub scan_goes_on : (file piece : List ℕ) (view scan : ScanView) (old new signatures : List SignatureScanView) → view ≡ scan → old ≡ view.signatures → signatures ≡ new → IsBytes piece → AllZip (IsFedBy piece) old new → IsScanOf scan file → IsScanOf (record { table = view.table; signatures = signatures }) (file ++ piece)
 scan_goes_on file piece view scan old new signatures same old_is new_is bytes fed is =
     let P : ScanView → Type 0 = λ v. IsScanOf v file in
     let at : IsScanOf view file = subst P (sym same) is in
-    let Q : List (List SequenceScanView) → Type 0 = λ l. AllZip (IsSignatureScanOf file) view.table.signatures l in
-    let R : List (List SequenceScanView) → Type 0 = λ l. AllZip (IsSignatureScanOf (file ++ piece)) view.table.signatures l in
+    let Q : List SignatureScanView → Type 0 = λ l. AllZip (IsSignatureScanOf file) view.table.signatures l in
+    let R : List SignatureScanView → Type 0 = λ l. AllZip (IsSignatureScanOf (file ++ piece)) view.table.signatures l in
     record {
       bytes = All-append (λ b. b < 256) file piece at.bytes bytes;
-      each = subst R (sym new_is) (fed file view.table.signatures (subst Q (sym old_is) at.each));
+      each = subst R (sym new_is) (zip_on (IsSignatureScanOf file) (IsSignatureScanOf (file ++ piece)) (IsFedBy piece) view.table.signatures old new (signature_on file piece) fed (subst Q (sym old_is) at.each));
     }
+
+pub late_goes_on : (front file piece : List ℕ) (view scan : ScanView) (old new signatures : List SignatureScanView) → view ≡ scan → old ≡ view.signatures → signatures ≡ new → IsBytes piece → AllZip (IsFedBy piece) old new → IsLateOf front file scan → IsLateOf front (file ++ piece) (record { table = view.table; signatures = signatures })
+late_goes_on front file piece view scan old new signatures same old_is new_is bytes fed is =
+    let P : ScanView → Type 0 = λ v. IsLateOf front file v in
+    let at : IsLateOf front file view = subst P (sym same) is in
+    let Q : List SignatureScanView → Type 0 = λ l. AreLateScansOf front file view.table.signatures l in
+    let R : List SignatureScanView → Type 0 = λ l. AreLateScansOf front (file ++ piece) view.table.signatures l in
+    record {
+      bytes = All-append (λ b. b < 256) file piece at.bytes bytes;
+      each = subst R (sym new_is) (zip_on (λ (s : SignatureView). IsLateSignatureScanOf front file s.sequences) (λ (s : SignatureView). IsLateSignatureScanOf front (file ++ piece) s.sequences) (IsFedBy piece) view.table.signatures old new (late_signature_on front file piece) fed (subst Q (sym old_is) at.each));
+    }
+
+-- a scan of each sequence is one that leaves all of them open
+zip_late : (file : List ℕ) (signatures : List SignatureView) (scans : List SignatureScanView) → AllZip (IsSignatureScanOf file) signatures scans → AreLateScansOf [] file signatures scans
+zip_late file [] [] zip = tt
+zip_late file [] (y ∷ ys) zip = absurd zip
+zip_late file (s ∷ ss) [] zip = absurd zip
+zip_late file (s ∷ ss) (y ∷ ys) zip = (
+  record {
+    lost = λ given_up. absurd (false≢true (sym zip.0.kept ∙ given_up));
+    kept = λ _. record { left = s.sequences; are = λ all. all; each = zip.0.each; same = λ rest. (λ all. all, λ all. all) };
+  },
+  zip_late file ss ys zip.1,
+)
+
+pub late_from_exact : (scan : ScanView) (file : List ℕ) → IsScanOf scan file → IsLateScanOf scan file
+late_from_exact scan file is = record {
+  front = [];
+  rest = file;
+  begins = refl;
+  is = record { bytes = is.bytes; each = zip_late file scan.table.signatures scan.signatures is.each };
+}
+
+-- a late scan that is fed
+pub late_scan_on : (scan new : ScanView) (file piece : List ℕ) → ((front file : List ℕ) → IsLateOf front file scan → IsLateOf front (file ++ piece) new) → IsLateScanOf scan file → IsLateScanOf new (file ++ piece)
+late_scan_on scan new file piece step late = record {
+  front = late.front;
+  rest = late.rest ++ piece;
+  begins = ap (λ l. l ++ piece) late.begins ∙ append_assoc late.front late.rest piece;
+  is = step late.front file late.is;
+}
+
+-- one that is fed its front
+pub late_scan_begins : (scan new : ScanView) (front : List ℕ) → ((f file : List ℕ) → IsLateOf f file scan → IsLateOf f (file ++ front) new) → AreLateScansOf front [] scan.table.signatures scan.signatures → IsLateScanOf new front
+late_scan_begins scan new front step each = record {
+  front = front;
+  rest = [];
+  begins = sym (append-nil front);
+  is = step front [] (record { bytes = All-nil (λ b. b < 256); each = each });
+}
 
 -- a place of a list has an item
 pub item_at : {A : Type 0} (xs : List A) (i : ℕ) → i < length xs → (x : A) × (slice_get xs i ≡ Some x) × (x ≡ get_or xs i x)
@@ -195,11 +272,18 @@ item_at (x ∷ xs) zero within = (x, refl, refl)
 item_at (x ∷ xs) (suc i) within = item_at xs i (omega arith)
 
 -- one more signature has its scan
-pub scans_more : (signatures : List SignatureView) (scans : List (List SequenceScanView)) (i : ℕ) (sequences : List SequenceView) (scan : List SequenceScanView) → i < length signatures → ((s : SignatureView) → slice_get signatures i ≡ Some s → sequences ≡ s.sequences) → AllZip (IsSignatureScanOf []) (take i signatures) scans → AllZip (IsSequenceScanOf []) sequences scan → AllZip (IsSignatureScanOf []) (take (i + 1) signatures) (scans ++ scan ∷ [])
-scans_more signatures scans i sequences scan within read before one =
+pub scans_more : (signatures : List SignatureView) (scans : List SignatureScanView) (i : ℕ) (sequences : List SequenceView) (scan : SignatureScanView) → i < length signatures → ((s : SignatureView) → slice_get signatures i ≡ Some s → sequences ≡ s.sequences) → AllZip (IsSignatureScanOf []) (take i signatures) scans → scan.lost ≡ false → AreSequenceScansOf [] sequences scan.scans → AllZip (IsSignatureScanOf []) (take (i + 1) signatures) (scans ++ scan ∷ [])
+scans_more signatures scans i sequences scan within read before kept one =
     let at = item_at signatures i within in
-    let P : List SequenceView → Type 0 = λ l. AllZip (IsSequenceScanOf []) l scan in
-    zip_more (IsSignatureScanOf []) signatures scans i at.0 scan within at.2 before (subst P (read at.0 at.1) one)
+    let P : List SequenceView → Type 0 = λ l. AreSequenceScansOf [] l scan.scans in
+    zip_more (IsSignatureScanOf []) signatures scans i at.0 scan within at.2 before (record { kept = kept; each = subst P (read at.0 at.1) one })
+
+-- so behind a front
+pub late_scans_more : (front : List ℕ) (signatures : List SignatureView) (scans : List SignatureScanView) (i : ℕ) (sequences : List SequenceView) (scan : SignatureScanView) → i < length signatures → ((s : SignatureView) → slice_get signatures i ≡ Some s → sequences ≡ s.sequences) → AreLateScansOf front [] (take i signatures) scans → IsLateSignatureScanOf front [] sequences scan → AreLateScansOf front [] (take (i + 1) signatures) (scans ++ scan ∷ [])
+late_scans_more front signatures scans i sequences scan within read before one =
+    let at = item_at signatures i within in
+    let P : List SequenceView → Type 0 = λ l. IsLateSignatureScanOf front [] l scan in
+    zip_more (λ (s : SignatureView). IsLateSignatureScanOf front [] s.sequences) signatures scans i at.0 scan within at.2 before (subst P (read at.0 at.1) one)
 
 -- what a list of the same length has in a place
 zip_at : {A B : Type 0} (R : A → B → Type 0) (xs : List A) (ys : List B) (k : ℕ) (d : B) → AllZip R xs ys → k < length ys → (x : A) × (slice_get xs k ≡ Some x) × R x (get_or ys k d)
@@ -208,6 +292,17 @@ zip_at R [] (y ∷ ys) k d zip within = absurd zip
 zip_at R (x ∷ xs) [] k d zip within = absurd zip
 zip_at R (x ∷ xs) (y ∷ ys) zero d zip within = (x, refl, zip.0)
 zip_at R (x ∷ xs) (y ∷ ys) (suc k) d zip within = zip_at R xs ys k d zip.1 (omega arith)
+
+-- what is related in a place
+zip_places : {A B : Type 0} (R : A → B → Type 0) (xs : List A) (ys : List B) (k : ℕ) (a : A) (b : B) → AllZip R xs ys → k < length xs → R (get_or xs k a) (get_or ys k b)
+zip_places R [] ys k a b zip within = absurd (omega arith)
+zip_places R (x ∷ xs) [] k a b zip within = absurd zip
+zip_places R (x ∷ xs) (y ∷ ys) zero a b zip within = zip.0
+zip_places R (x ∷ xs) (y ∷ ys) (suc k) a b zip within = zip_places R xs ys k a b zip.1 (omega arith)
+
+true_or_false : (b : Bool) → (b ≡ true) ⊎ (b ≡ false)
+true_or_false true = inl refl
+true_or_false false = inr refl
 
 -- the mark says whether all sequences stand, whatever the file is
 abbrev pub IsMark : List SequenceScanView → Bool → Type 0
@@ -244,16 +339,16 @@ mark_not scans x xs one is first fails file sequences all bytes zip = asked sequ
       (λ t. absurd (false≢true (sym fails ∙ t)), λ each. absurd (false≢true (sym fails ∙ front.1 (All-head (λ s. Stands s file) s ss each))))
 
 -- the first signatures are marked
-pub record MarkedBelow (n : ℕ) (scans : List (List SequenceScanView)) (marks : List Bool) : Type 0 where
+pub record MarkedBelow (n : ℕ) (scans : List SignatureScanView) (marks : List Bool) : Type 0 where
   pub len : length marks ≡ length scans
-  pub each : (k : ℕ) → k < n → IsMark (get_or scans k []) (get_or marks k false)
+  pub each : (k : ℕ) → k < n → IsMarkOf (get_or scans k no_scan) (get_or marks k false)
 
 -- none is marked yet
-pub MarkedBelow-none : (scans : List (List SequenceScanView)) (marks : List Bool) → length marks ≡ length scans → MarkedBelow 0 scans marks
+pub MarkedBelow-none : (scans : List SignatureScanView) (marks : List Bool) → length marks ≡ length scans → MarkedBelow 0 scans marks
 MarkedBelow-none scans marks len = record { len = len; each = λ k below. absurd (omega arith) }
 
 -- the next one is marked
-pub MarkedBelow-set : (n : ℕ) (scans : List (List SequenceScanView)) (marks : List Bool) (mark : Bool) → n < length scans → IsMark (get_or scans n []) mark → MarkedBelow n scans marks → MarkedBelow (n + 1) scans (set marks n mark)
+pub MarkedBelow-set : (n : ℕ) (scans : List SignatureScanView) (marks : List Bool) (mark : Bool) → n < length scans → IsMarkOf (get_or scans n no_scan) mark → MarkedBelow n scans marks → MarkedBelow (n + 1) scans (set marks n mark)
 MarkedBelow-set n scans marks mark within is before =
     let here : n < length marks = let e = before.len in omega arith in
     record {
@@ -261,55 +356,80 @@ MarkedBelow-set n scans marks mark within is before =
       each = λ k below.
           ⊎_elim
           (λ (same : k ≡ n).
-          let P : ℕ → Type 0 = λ j. IsMark (get_or scans j []) (get_or (set marks n mark) j false) in
-          let Q : Bool → Type 0 = λ b. IsMark (get_or scans n []) b in
+          let P : ℕ → Type 0 = λ j. IsMarkOf (get_or scans j no_scan) (get_or (set marks n mark) j false) in
+          let Q : Bool → Type 0 = λ b. IsMarkOf (get_or scans n no_scan) b in
           subst P (sym same) (subst Q (sym (get_or-set_same marks n mark false here)) is))
           (λ other.
-          let Q : Bool → Type 0 = λ b. IsMark (get_or scans k []) b in
+          let Q : Bool → Type 0 = λ b. IsMarkOf (get_or scans k no_scan) b in
           subst Q (sym (get_or-set_other marks n k mark false other)) (before.each k (omega arith)))
           (cases_eq k n);
     }
 
--- the signature behind a scan of the file, and its sequences
-known_at : (table : TableView) (file : List ℕ) (scans : List (List SequenceScanView)) (k : ℕ) → IsTable table → AllZip (IsSignatureScanOf file) table.signatures scans → k < length scans → (s : SignatureView) × (slice_get table.signatures k ≡ Some s) × All IsSequence s.sequences × AllZip (IsSequenceScanOf file) s.sequences (get_or scans k [])
-known_at table file scans k is are within =
-    let at = zip_at (IsSignatureScanOf file) table.signatures scans k [] are within in
+-- all are
+pub MarkedBelow-all : (n : ℕ) (scans : List SignatureScanView) (marks : List Bool) → length scans ≤ n → MarkedBelow n scans marks → AllZip IsMarkOf scans marks
+MarkedBelow-all n scans marks all marked = zip_from_places IsMarkOf scans marks no_scan false marked.len (λ k within. marked.each k (omega arith))
+
+-- the mark of a late signature says whether it hits
+mark_is : (front rest : List ℕ) (s : SignatureView) (scan : SignatureScanView) (mark : Bool) → All IsSequence s.sequences → IsBytes (front ++ rest) → IsLateSignatureScanOf front (front ++ rest) s.sequences scan → IsMarkOf scan mark → IsTrue mark ↔ Hits s (front ++ rest)
+mark_is front rest s scan mark all bytes late is = (
+  λ t.
+      let of = late.kept (is.lost t) in
+      (of.same rest).0 ((is.each (is.lost t) (front ++ rest) of.left (of.are all) bytes of.each).0 t),
+  λ hits.
+      ⊎_elim
+      (λ (given_up : scan.lost ≡ true). absurd (late.lost given_up rest hits))
+      (λ (stays : scan.lost ≡ false). (let of = late.kept stays in (is.each stays (front ++ rest) of.left (of.are all) bytes of.each).1 ((of.same rest).1 hits)))
+      (true_or_false scan.lost),
+)
+
+-- the signature behind a scan, and its mark
+mark_at : (table : TableView) (front rest : List ℕ) (scans : List SignatureScanView) (marks : List Bool) (k : ℕ) → IsTable table → IsBytes (front ++ rest) → AreLateScansOf front (front ++ rest) table.signatures scans → AllZip IsMarkOf scans marks → k < length scans → (s : SignatureView) × (slice_get table.signatures k ≡ Some s) × (IsTrue (get_or marks k false) ↔ Hits s (front ++ rest))
+mark_at table front rest scans marks k is bytes are marked within =
+    let at = zip_at (λ (s : SignatureView). IsLateSignatureScanOf front (front ++ rest) s.sequences) table.signatures scans k no_scan are within in
+    let mark = zip_places IsMarkOf scans marks k no_scan false marked within in
     let P : SignatureView → Type 0 = λ s. All IsSequence s.sequences in
     let each = (is.each k at.0 (slice_get_within table.signatures k at.0 at.1)).sequences in
-    (at.0, at.1, subst P (get_or_from_slice_get table.signatures k at.0 at.0 at.1) each, at.2)
+    (at.0, at.1, mark_is front rest at.0 (get_or scans k no_scan) (get_or marks k false) (subst P (get_or_from_slice_get table.signatures k at.0 at.0 at.1) each) bytes at.2 mark)
 
 -- all signatures are marked
-pub MarksHits-from_marked : (table : TableView) (file : List ℕ) (n : ℕ) (scans : List (List SequenceScanView)) (marks : List Bool) → length scans ≤ n → IsTable table → IsBytes file → AllZip (IsSignatureScanOf file) table.signatures scans → MarkedBelow n scans marks → MarksHits table file marks
-MarksHits-from_marked table file n scans marks all is bytes are marked = record {
-  sound = λ index mark.
-      ⊎_elim
-      (λ (within : index < length marks).
-      let known = known_at table file scans index is are (omega (arith, marked.len)) in
-      let hits = (marked.each index (omega (arith, marked.len)) file known.0.sequences known.2 bytes known.3).0 mark in
-      let P : Option SignatureView → Type 0 = λ o. IsSomeAnd o (λ s. Hits s file) in
-      subst P (sym known.1) hits)
-      (λ past. absurd (false≢true (sym (get_or_past marks index false past) ∙ mark)))
-      (cases_lt index (length marks));
-  complete = λ index hit. (
-      let within : index < length table.signatures = HitsOf-within table file index hit in
-      let long = AllZip-long (IsSignatureScanOf file) table.signatures scans are in
-      let known = known_at table file scans index is are (omega arith) in
-      let P : Option SignatureView → Type 0 = λ o. IsSomeAnd o (λ s. Hits s file) in
-      (marked.each index (omega arith) file known.0.sequences known.2 bytes known.3).1 (subst P known.1 hit)
-      );
-}
+marks_hit : (table : TableView) (front rest : List ℕ) (scans : List SignatureScanView) (marks : List Bool) → IsTable table → IsBytes (front ++ rest) → AreLateScansOf front (front ++ rest) table.signatures scans → AllZip IsMarkOf scans marks → MarksHits table (front ++ rest) marks
+marks_hit table front rest scans marks is bytes are marked =
+    let long_marks = AllZip-long IsMarkOf scans marks marked in
+    record {
+      sound = λ index mark.
+          ⊎_elim
+          (λ (within : index < length marks).
+          let known = mark_at table front rest scans marks index is bytes are marked (omega arith) in
+          let P : Option SignatureView → Type 0 = λ o. IsSomeAnd o (λ s. Hits s (front ++ rest)) in
+          subst P (sym known.1) (known.2.0 mark))
+          (λ past. absurd (false≢true (sym (get_or_past marks index false past) ∙ mark)))
+          (cases_lt index (length marks));
+      complete = λ index hit. (
+          let within : index < length table.signatures = HitsOf-within table (front ++ rest) index hit in
+          let long = AllZip-long (λ (s : SignatureView). IsLateSignatureScanOf front (front ++ rest) s.sequences) table.signatures scans are in
+          let known = mark_at table front rest scans marks index is bytes are marked (omega arith) in
+          let P : Option SignatureView → Type 0 = λ o. IsSomeAnd o (λ s. Hits s (front ++ rest)) in
+          known.2.1 (subst P known.1 hit)
+          );
+    }
+
+pub MarksHits-from_late : (scan : ScanView) (file : List ℕ) (marks : List Bool) → IsTable scan.table → AllZip IsMarkOf scan.signatures marks → IsLateScanOf scan file → MarksHits scan.table file marks
+MarksHits-from_late scan file marks is marked late =
+    let P : List ℕ → Type 0 = λ l. IsBytes l in
+    let Q : List ℕ → Type 0 = λ l. AreLateScansOf late.front l scan.table.signatures scan.signatures in
+    let R : List ℕ → Type 0 = λ l. MarksHits scan.table l marks in
+    subst R (sym late.begins) (marks_hit scan.table late.front late.rest scan.signatures marks is (subst P late.begins late.is.bytes) (subst Q late.begins late.is.each) marked)
 
 -- what is fed so far is what the input has given
 pub record IsFed (scan : ScanView) (table : TableView) (before after : Option (List ℕ)) : Type 0 where
   pub table_is : scan.table ≡ table
   pub file : List ℕ
-  pub is_of : IsScanOf scan file
+  pub is_of : IsLateScanOf scan file
   pub given : Gives before file after
 
--- nothing is read yet
-pub fed_none : (scan : ScanView) (table : TableView) (before : Option (List ℕ)) → scan.table ≡ table → IsScanOf scan [] → IsFed scan table before before
-fed_none scan table None is of = record { table_is = is; file = []; is_of = of; given = tt }
-fed_none scan table (Some bytes) is of = record { table_is = is; file = []; is_of = of; given = refl }
+-- the front is
+pub fed_front : (scan : ScanView) (table : TableView) (before after : Option (List ℕ)) (front : List ℕ) → scan.table ≡ table → IsLateScanOf scan front → Gives before front after → IsFed scan table before after
+fed_front scan table before after front is of gives = record { table_is = is; file = front; is_of = of; given = gives }
 
 gives_more : (a b c : Option (List ℕ)) (x y : List ℕ) → Gives a x b → Gives b y c → Gives a (x ++ y) c
 gives_more None b c x y h k = tt
@@ -318,11 +438,11 @@ gives_more (Some xs) (Some ys) None x y h k = absurd k
 gives_more (Some xs) (Some ys) (Some zs) x y h k = h ∙ ap (λ l. x ++ l) k ∙ sym (append_assoc x y zs)
 
 -- one more piece is read
-pub fed_more : (scan new : ScanView) (table : TableView) (before at after : Option (List ℕ)) (piece : List ℕ) → new.table ≡ scan.table → ((file : List ℕ) → IsScanOf scan file → IsScanOf new (file ++ piece)) → Gives at piece after → IsFed scan table before at → IsFed new table before after
+pub fed_more : (scan new : ScanView) (table : TableView) (before at after : Option (List ℕ)) (piece : List ℕ) → new.table ≡ scan.table → ((front file : List ℕ) → IsLateOf front file scan → IsLateOf front (file ++ piece) new) → Gives at piece after → IsFed scan table before at → IsFed new table before after
 fed_more scan new table before at after piece same step gives fed = record {
   table_is = same ∙ fed.table_is;
   file = fed.file ++ piece;
-  is_of = step fed.file fed.is_of;
+  is_of = late_scan_on scan new fed.file piece step fed.is_of;
   given = gives_more before at after fed.file piece fed.given gives;
 }
 
@@ -331,16 +451,31 @@ gives_all None after file given end = tt
 gives_all (Some bytes) None file given end = absurd given
 gives_all (Some bytes) (Some rest) file given end = sym (given ∙ ap (λ l. file ++ l) end ∙ append-nil file)
 
--- a read of no byte
-pub fed_all : (scan : ScanView) (table : TableView) (before at after : Option (List ℕ)) (none : List ℕ) (hits : List Hit) → none ≡ [] → Gives at none after → IsAtEnd after → ((file : List ℕ) → IsScanOf scan file → HitFormats scan.table file hits) → IsFed scan table before at → HitFormatsOfSome table before hits
-fed_all scan table before at after none hits empty gives end finish fed =
-    let P : List ℕ → Type 0 = λ l. Gives before l after in
+-- all is fed
+pub fed_to_end : (scan : ScanView) (table : TableView) (before at : Option (List ℕ)) (hits : List Hit) → IsAtEnd at → ((file : List ℕ) → IsLateScanOf scan file → HitFormats scan.table file hits) → IsFed scan table before at → HitFormatsOfSome table before hits
+fed_to_end scan table before at hits end finish fed =
     let Q : TableView → Type 0 = λ t. HitFormats t fed.file hits in
     record {
       file = fed.file;
-      is_to_come = gives_all before after fed.file (subst P (append-nil fed.file) (gives_more before at after fed.file [] fed.given (subst (λ l. Gives at l after) empty gives))) end;
+      is_to_come = gives_all before at fed.file fed.given end;
       hit_formats = subst Q fed.table_is (finish fed.file fed.is_of);
     }
+
+-- all is read at once
+pub hits_at_once : (table : TableView) (before at : Option (List ℕ)) (file : List ℕ) (hits : List Hit) → Gives before file at → IsAtEnd at → HitFormats table file hits → HitFormatsOfSome table before hits
+hits_at_once table before at file hits gives end are = record { file = file; is_to_come = gives_all before at file gives end; hit_formats = are }
+
+pub whole_front : (n : ℕ) (xs : List ℕ) → length xs ≤ n → take n xs ≡ xs
+whole_front n xs all = take_all n xs all
+
+-- the filled front of a room, and what was read behind it
+pub filled_more : (filled n k : ℕ) (room buf : List ℕ) → filled ≤ length room → n ≤ length buf → take (filled + n) (put_mid filled k room buf) ≡ take filled room ++ take n buf
+filled_more filled n k room buf low within =
+    let at : length (take filled room) ≡ filled = length-take-le filled room low in
+    ap (λ m. take (m + n) (put_mid filled k room buf)) (sym at) ∙ take-append-add (take filled room) (buf ++ post_of filled k room) n ∙ ap (λ l. take filled room ++ l) (take-append-le n buf (post_of filled k room) within)
+
+pub gives_on : (a b c : Option (List ℕ)) (x y z : List ℕ) → z ≡ x ++ y → Gives a x b → Gives b y c → Gives a z c
+gives_on a b c x y z is first second = subst (λ l. Gives a l c) (sym is) (gives_more a b c x y first second)
 
 -- what is not true is false
 pub false_from_not : (b : Bool) → (b ≡ true → ⊥) → b ≡ false

@@ -1,5 +1,5 @@
 -- Tables of fronts, and what is known of where they stand.
-use Rattle.std.proofs.Common.{◌≡◌, ◌≢◌, ◌⊎◌, ⊎_elim, ℕ, zero, suc, ◌+◌, ◌-◌, ◌*◌, ◌<◌, ◌≤◌, List, [], ◌∷◌, ◌++◌, length, get_or, take, drop, Some, None, subst, sym, ap, refl, ◌∙◌, arith, inl, inr, length-drop, length-take, length-append, length-set, replicate, set}
+use Rattle.std.proofs.Common.{◌≡◌, ◌≢◌, ◌⊎◌, ⊎_elim, ℕ, zero, suc, ◌+◌, ◌*◌, ◌<◌, ◌≤◌, List, [], ◌∷◌, ◌++◌, length, get_or, take, drop, Some, None, subst, sym, ap, refl, ◌∙◌, arith, inl, inr, length-drop, length-take, length-append, length-set, replicate, set}
 use Rattle.std.specs.Prelude.{slice_get}
 use Rattle.std.proofs.lemmas.Bool.{cases_eq}
 use Rattle.std.proofs.lemmas.List.{get_or-drop, get_or-replicate, get_or_past, get_or-set_same, get_or-set_other, get_or-take}
@@ -7,25 +7,25 @@ use Rattle.std.proofs.Math.ListN.{length-replicate}
 use Rattle.std.proofs.lemmas.Option.{slice_get_within}
 use Rattle.sig_match.specs.Rests.{Misses}
 use Rattle.sig_match.proofs.RestLemmas.{misses_or_fits}
-use Rattle.sig_match.specs.Sieves.{IsKnown, IsKnownAt, IsKnownBelow, IsSieve, IsWithinPiece, pair_at, pair_of, text_of}
+use Rattle.sig_match.specs.Sieves.{IsKnown, IsKnownAt, IsKnownBelow, IsSample, IsSieve, IsWithinPiece, pair_at, pair_of, text_of}
 use Rattle.sig_match.specs.declared.scan.entry.Entry.{Entry}
 
--- a front that begins with other bytes does not stand
-pub misses_by_pair : (f : Entry) (bytes : List ℕ) (x : ℕ) → 2 ≤ f.len → f.len ≤ 8 → length f.front ≡ 8 → x + 1 < length bytes → pair_of f ≢ pair_at bytes x → Misses (text_of f) (drop x bytes)
-misses_by_pair f bytes x some few wide within differs =
+-- a front that has another pair there does not stand
+pub misses_by_pair : (f : Entry) (bytes : List ℕ) (x y : ℕ) → f.at + 1 < f.len → f.len ≤ 8 → length f.front ≡ 8 → x + f.at ≡ y → y + 1 < length bytes → pair_of f ≢ pair_at bytes y → Misses (text_of f) (drop x bytes)
+misses_by_pair f bytes x y inside few wide place within differs =
     let long : length (take f.len f.front) ≡ f.len = omega (arith, length-take {A = ℕ}) in
     let rest = length-drop x bytes in
-    let far : 1 < length (drop x bytes) = omega arith in
+    let far : f.at + 1 < length (drop x bytes) = omega arith in
     ⊎_elim
     (λ misses. misses)
     (λ fits.
-    let zero_on : x + 0 ≡ x = omega arith in
-    let first : get_or bytes x 0 ≡ get_or f.front 0 0 = ap (λ k. get_or bytes k 0) (sym zero_on) ∙ sym (get_or-drop x bytes 0 0) ∙ fits 0 (omega arith) (omega arith) ∙ get_or-take f.len f.front 0 0 (omega arith) in
-    let second : get_or bytes (x + 1) 0 ≡ get_or f.front 1 0 = sym (get_or-drop x bytes 1 0) ∙ fits 1 (omega arith) (omega arith) ∙ get_or-take f.len f.front 1 0 (omega arith) in
+    let next : x + (f.at + 1) ≡ y + 1 = omega arith in
+    let first : get_or bytes y 0 ≡ get_or f.front f.at 0 = ap (λ k. get_or bytes k 0) (sym place) ∙ sym (get_or-drop x bytes f.at 0) ∙ fits f.at (omega arith) (omega arith) ∙ get_or-take f.len f.front f.at 0 (omega arith) in
+    let second : get_or bytes (y + 1) 0 ≡ get_or f.front (f.at + 1) 0 = ap (λ k. get_or bytes k 0) (sym next) ∙ sym (get_or-drop x bytes (f.at + 1) 0) ∙ fits (f.at + 1) (omega arith) (omega arith) ∙ get_or-take f.len f.front (f.at + 1) 0 (omega arith) in
     absurd (differs (omega arith)))
     (misses_or_fits (take f.len f.front) (drop x bytes))
 
-below_or : (x at : ℕ) → (x < at) ⊎ (at ≤ x)
+pub below_or : (x at : ℕ) → (x < at) ⊎ (at ≤ x)
 below_or x zero = inr (omega arith)
 below_or zero (suc at) = inl (omega arith)
 below_or (suc x) (suc at) = ⊎_elim (λ below. inl (omega arith)) (λ behind. inr (omega arith)) (below_or x at)
@@ -44,7 +44,7 @@ more_at (x ∷ xs) f g (suc e) at = ⊎_elim (λ old. inl old) (λ new. inr (ome
 pub IsSieve-none : (heads : List ℕ) → length heads ≡ 65536 → ((k : ℕ) → get_or heads k 0 ≡ 0) → IsSieve heads []
 IsSieve-none heads long none = record {
   long = long;
-  some = λ e f at. (let no : None ≡ Some f = at in (cc));
+  inside = λ e f at. (let no : None ≡ Some f = at in (cc));
   few = λ e f at. (let no : None ≡ Some f = at in (cc));
   wide = λ e f at. (let no : None ≡ Some f = at in (cc));
   within = λ k. omega (arith, none k);
@@ -55,59 +55,61 @@ IsSieve-none heads long none = record {
   skips = λ e d f g at. (let no : None ≡ Some f = at in (cc));
 }
 
--- on the way along the entries that begin with the bytes at place x
-pub record Visited (entries : List Entry) (bytes first known : List ℕ) (x at : ℕ) : Type 0 where
+-- on the way along the entries that are found by the pair at place y
+pub record Visited (entries : List Entry) (bytes first known : List ℕ) (y at : ℕ) : Type 0 where
   pub long : length known ≡ length entries
   pub within : at ≤ length entries
   pub less : (e : ℕ) → get_or known e 0 ≤ get_or first e 0
-  pub at_is : (e : ℕ) (f : Entry) → e + 1 ≡ at → slice_get entries e ≡ Some f → pair_of f ≡ pair_at bytes x
-  pub done : (e : ℕ) (f : Entry) → slice_get entries e ≡ Some f → at ≤ e → pair_of f ≡ pair_at bytes x → x < get_or known e 0 → Misses (text_of f) (drop x bytes)
+  pub at_is : (e : ℕ) (f : Entry) → e + 1 ≡ at → slice_get entries e ≡ Some f → pair_of f ≡ pair_at bytes y
+  pub done : (e x : ℕ) (f : Entry) → slice_get entries e ≡ Some f → at ≤ e → pair_of f ≡ pair_at bytes y → x + f.at ≡ y → x < get_or known e 0 → Misses (text_of f) (drop x bytes)
 
-pub visit_begins : (heads : List ℕ) (entries : List Entry) (bytes known : List ℕ) (x : ℕ) → IsSieve heads entries → length known ≡ length entries → Visited entries bytes known known x (get_or heads (pair_at bytes x) 0)
-visit_begins heads entries bytes known x is long = record {
+pub visit_begins : (heads : List ℕ) (entries : List Entry) (bytes known : List ℕ) (y : ℕ) → IsSieve heads entries → length known ≡ length entries → Visited entries bytes known known y (get_or heads (pair_at bytes y) 0)
+visit_begins heads entries bytes known y is long = record {
   long = long;
-  within = is.within (pair_at bytes x);
+  within = is.within (pair_at bytes y);
   less = λ e. omega arith;
-  at_is = λ e f end at. is.heads_are (pair_at bytes x) e f end at;
-  done = λ e f at behind same below.
+  at_is = λ e f end at. is.heads_are (pair_at bytes y) e f end at;
+  done = λ e x f at behind same place below.
       let head = is.headed e f at in
-      let there : e < get_or heads (pair_at bytes x) 0 = subst (λ k. e < get_or heads k 0) same head in
+      let there : e < get_or heads (pair_at bytes y) 0 = subst (λ k. e < get_or heads k 0) same head in
       absurd (omega arith);
 }
 
 -- one more entry
-pub visit_goes_on : (heads : List ℕ) (entries : List Entry) (bytes first known new : List ℕ) (x at e : ℕ) (f : Entry) → IsSieve heads entries → Visited entries bytes first known x at → e + 1 ≡ at → slice_get entries e ≡ Some f → length new ≡ length known → ((d : ℕ) → get_or new d 0 ≤ get_or known d 0) → (x < get_or new e 0 → Misses (text_of f) (drop x bytes)) → Visited entries bytes first new x f.next
-visit_goes_on heads entries bytes first known new x at e f is before end here long less missed = record {
+pub visit_goes_on : (heads : List ℕ) (entries : List Entry) (bytes first known new : List ℕ) (y at e : ℕ) (f : Entry) → IsSieve heads entries → Visited entries bytes first known y at → e + 1 ≡ at → slice_get entries e ≡ Some f → length new ≡ length known → ((d : ℕ) → get_or new d 0 ≤ get_or known d 0) → ((x : ℕ) → x + f.at ≡ y → x < get_or new e 0 → Misses (text_of f) (drop x bytes)) → Visited entries bytes first new y f.next
+visit_goes_on heads entries bytes first known new y at e f is before end here long less missed = record {
   long = long ∙ before.long;
   within = (let falls = is.falls e f here in let within = before.within in omega arith);
   less = λ d. omega (arith, less d, before.less d);
   at_is = λ d g next there. is.next_is e d f g here there next ∙ before.at_is e f end here;
-  done = λ d g there behind same below.
+  done = λ d x g there behind same place below.
       ⊎_elim
       (λ (is_e : d ≡ e).
       let one : Some g ≡ Some f = sym there ∙ ap (slice_get entries) is_e ∙ here in
       let entry : g ≡ f = (cc) in
-      subst (λ (h : Entry). Misses (text_of h) (drop x bytes)) (sym entry) (missed (subst (λ k. x < get_or new k 0) is_e below)))
+      let here_too : x + f.at ≡ y = subst (λ (h : Entry). x + h.at ≡ y) entry place in
+      subst (λ (h : Entry). Misses (text_of h) (drop x bytes)) (sym entry) (missed x here_too (subst (λ k. x < get_or new k 0) is_e below)))
       (λ other.
       ⊎_elim
-      (λ (far : at ≤ d). before.done d g there far same (omega (arith, less d)))
+      (λ (far : at ≤ d). before.done d x g there far same place (omega (arith, less d)))
       (λ (near : d < e). absurd (is.skips e d f g here there behind near (same ∙ sym (before.at_is e f end here))))
       (let apart : (at ≤ d) ⊎ (d < e) = apart_of at d e end other in apart))
       (cases_eq d e);
 }
 
 -- none is left
-pub visit_ends : (heads : List ℕ) (entries : List Entry) (bytes first known : List ℕ) (x at : ℕ) → IsSieve heads entries → x + 1 < length bytes → at ≡ 0 → Visited entries bytes first known x at → IsKnownAt entries bytes known x
-visit_ends heads entries bytes first known x at is within none visited e f there below =
+pub visit_ends : (heads : List ℕ) (entries : List Entry) (bytes first known : List ℕ) (y at : ℕ) → IsSieve heads entries → y + 1 < length bytes → at ≡ 0 → Visited entries bytes first known y at → IsKnownAt entries bytes known y
+visit_ends heads entries bytes first known y at is within none visited e x f there place below =
     ⊎_elim
-    (λ (same : pair_of f ≡ pair_at bytes x). visited.done e f there (omega arith) same below)
-    (λ differs. misses_by_pair f bytes x (is.some e f there) (is.few e f there) (is.wide e f there) within differs)
-    (cases_eq (pair_of f) (pair_at bytes x))
+    (λ (same : pair_of f ≡ pair_at bytes y). visited.done e x f there (omega arith) same place below)
+    (λ differs. misses_by_pair f bytes x y (is.inside e f there) (is.few e f there) (is.wide e f there) place within differs)
+    (cases_eq (pair_of f) (pair_at bytes y))
 
 -- on the way through the bytes
 pub record Looked (entries : List Entry) (bytes known : List ℕ) (at : ℕ) : Type 0 where
   pub long : length known ≡ length entries
-  pub at_most : at ≤ length bytes
+  pub at_most : at ≤ length bytes + 2
+  pub sample : IsSample at
   pub ends : IsWithinPiece entries known (length bytes)
   pub below : IsKnownBelow entries bytes known at
 
@@ -115,57 +117,100 @@ pub look_begins : (entries : List Entry) (bytes known : List ℕ) → length kno
 look_begins entries bytes known long ends = record {
   long = long;
   at_most = omega arith;
+  sample = (0, refl);
   ends = ends;
-  below = λ e x f there before less. absurd (omega arith);
+  below = λ e x f there sample before less. absurd (omega arith);
 }
 
--- behind places at which no entry begins
-pub look_passes : (heads : List ℕ) (entries : List Entry) (bytes known : List ℕ) (at to : ℕ) → IsSieve heads entries → to ≤ length bytes → ((x : ℕ) → at ≤ x → x < to → x + 1 < length bytes → get_or heads (pair_at bytes x) 0 ≡ 0) → Looked entries bytes known at → Looked entries bytes known to
-look_passes heads entries bytes known at to is within none looked = record {
+-- behind places at which no entry is found
+pub look_passes : (heads : List ℕ) (entries : List Entry) (bytes known : List ℕ) (at to : ℕ) → IsSieve heads entries → to ≤ length bytes + 2 → IsSample to → ((y : ℕ) → at ≤ y → y < to → IsSample y → y + 1 < length bytes → get_or heads (pair_at bytes y) 0 ≡ 0) → Looked entries bytes known at → Looked entries bytes known to
+look_passes heads entries bytes known at to is within sample none looked = record {
   long = looked.long;
   at_most = within;
+  sample = sample;
   ends = looked.ends;
-  below = λ e x f there before less.
+  below = λ e x f there here before less.
       ⊎_elim
-      (λ (old : x < at). looked.below e x f there old less)
-      (λ (new : at ≤ x).
-      let some = is.some e f there in
+      (λ (old : x + f.at < at). looked.below e x f there here old less)
+      (λ (new : at ≤ x + f.at).
+      let inside = is.inside e f there in
       let end = looked.ends e f there in
-      let far : x + 1 < length bytes = omega arith in
-      let empty = none x new before far in
+      let far : x + f.at + 1 < length bytes = omega arith in
+      let empty = none (x + f.at) new before here far in
       let head = is.headed e f there in
-      misses_by_pair f bytes x some (is.few e f there) (is.wide e f there) far (λ same. (let at_x : e < get_or heads (pair_at bytes x) 0 = subst (λ k. e < get_or heads k 0) same head in absurd (omega arith))))
-      (below_or x at);
+      misses_by_pair f bytes x (x + f.at) inside (is.few e f there) (is.wide e f there) refl far (λ same. (let at_y : e < get_or heads (pair_at bytes (x + f.at)) 0 = subst (λ k. e < get_or heads k 0) same head in absurd (omega arith))))
+      (below_or (x + f.at) at);
 }
 
+-- between a sample and the next there is none
+samples_apart : (i j : ℕ) → 3 * i < 3 * j + 3 → i ≤ j
+samples_apart i j low = omega arith
+
+pub next_sample : (y : ℕ) → IsSample y → IsSample (y + 3)
+next_sample y (k, is) = (k + 1, omega arith)
+
+pub sample_below : (y z : ℕ) → IsSample y → IsSample z → z < y + 3 → z ≤ y
+sample_below y z (i, is_y) (j, is_z) low = let apart = samples_apart j i (omega arith) in omega arith
+
 -- behind a place at which the entries are compared
-pub look_goes_on : (entries : List Entry) (bytes known new : List ℕ) (at : ℕ) → at + 1 < length bytes → length new ≡ length known → ((e : ℕ) → get_or new e 0 ≤ get_or known e 0) → IsKnownAt entries bytes new at → Looked entries bytes known at → Looked entries bytes new (at + 1)
+pub look_goes_on : (entries : List Entry) (bytes known new : List ℕ) (at : ℕ) → at + 1 < length bytes → length new ≡ length known → ((e : ℕ) → get_or new e 0 ≤ get_or known e 0) → IsKnownAt entries bytes new at → Looked entries bytes known at → Looked entries bytes new (at + 3)
 look_goes_on entries bytes known new at within long less here looked = record {
   long = long ∙ looked.long;
   at_most = omega arith;
+  sample = next_sample at looked.sample;
   ends = λ e f there. omega (arith, less e, looked.ends e f there);
-  below = λ e x f there before under.
+  below = λ e x f there sample before under.
+      let low = sample_below at (x + f.at) looked.sample sample before in
       ⊎_elim
-      (λ (last : x ≡ at). subst (λ k. Misses (text_of f) (drop k bytes)) (sym last) (here e f there (subst (λ k. k < get_or new e 0) last under)))
-      (λ other. looked.below e x f there (omega arith) (omega (arith, less e)))
-      (cases_eq x at);
+      (λ (last : x + f.at ≡ at). here e x f there last under)
+      (λ other. looked.below e x f there sample (omega arith) (omega (arith, less e)))
+      (cases_eq (x + f.at) at);
 }
 
 pub look_ends : (heads : List ℕ) (entries : List Entry) (bytes known : List ℕ) (at : ℕ) → IsSieve heads entries → length bytes ≤ at + 1 → Looked entries bytes known at → IsKnown entries bytes known
-look_ends heads entries bytes known at is all looked e x f there under =
-    let some = is.some e f there in
+look_ends heads entries bytes known at is all looked e x f there sample under =
+    let inside = is.inside e f there in
     let end = looked.ends e f there in
-    looked.below e x f there (omega arith) under
+    looked.below e x f there sample (omega arith) under
+
+-- of three places in a row one is a sample
+pub one_of_three : (x : ℕ) → IsSample (x + 0) ⊎ (IsSample (x + 1) ⊎ IsSample (x + 2))
+one_of_three zero = inl (0, refl)
+one_of_three (suc x) =
+    ⊎_elim
+    (λ (first : IsSample (x + 0)). inr (inr (first.0 + 1, (let is = first.1 in omega arith))))
+    (λ later.
+    ⊎_elim
+    (λ (second : IsSample (x + 1)). inl (second.0, (let is = second.1 in omega arith)))
+    (λ (third : IsSample (x + 2)). inr (inl (third.0, (let is = third.1 in omega arith))))
+    later)
+    (one_of_three x)
+
+-- four samples in a row
+pub four_samples : (at y : ℕ) → IsSample at → IsSample y → at ≤ y → y < at + 12 → (y ≡ at) ⊎ ((y ≡ at + 3) ⊎ ((y ≡ at + 6) ⊎ (y ≡ at + 9)))
+four_samples at y (i, is_at) (j, is_y) low high =
+    ⊎_elim
+    (λ (one : j < i + 1). inl (omega arith))
+    (λ past_one.
+    ⊎_elim
+    (λ (two : j < i + 2). inr (inl (omega arith)))
+    (λ past_two.
+    ⊎_elim
+    (λ (three : j < i + 3). inr (inr (inl (omega arith))))
+    (λ past_three. inr (inr (inr (omega arith))))
+    (below_or j (i + 3)))
+    (below_or j (i + 2)))
+    (below_or j (i + 1))
 
 -- one more front
-pub IsSieve-more : (heads : List ℕ) (entries : List Entry) (f : Entry) (k : ℕ) → IsSieve heads entries → k ≡ pair_of f → k < 65536 → f.next ≡ get_or heads k 0 → 2 ≤ f.len → f.len ≤ 8 → length f.front ≡ 8 → IsSieve (set heads k (length entries + 1)) (entries ++ f ∷ [])
-IsSieve-more heads entries f k is pair few_pairs next some few wide =
+pub IsSieve-more : (heads : List ℕ) (entries : List Entry) (f : Entry) (k : ℕ) → IsSieve heads entries → k ≡ pair_of f → k < 65536 → f.next ≡ get_or heads k 0 → f.at + 1 < f.len → f.len ≤ 8 → length f.front ≡ 8 → IsSieve (set heads k (length entries + 1)) (entries ++ f ∷ [])
+IsSieve-more heads entries f k is pair few_pairs next inside few wide =
     let more = more_at entries f in
     let here : get_or (set heads k (length entries + 1)) k 0 ≡ length entries + 1 = get_or-set_same heads k (length entries + 1) 0 (omega (arith, is.long)) in
     let there = λ (j : ℕ) (other : j ≢ k). get_or-set_other heads k j (length entries + 1) 0 other in
     record {
       long = length-set heads k (length entries + 1) ∙ is.long;
-      some = λ e g at. ⊎_elim (λ old. is.some e g old) (λ new. subst (λ (h : Entry). 2 ≤ h.len) new.1 some) (more g e at);
+      inside = λ e g at. ⊎_elim (λ old. is.inside e g old) (λ new. subst (λ (h : Entry). h.at + 1 < h.len) new.1 inside) (more g e at);
       few = λ e g at. ⊎_elim (λ old. is.few e g old) (λ new. subst (λ (h : Entry). h.len ≤ 8) new.1 few) (more g e at);
       wide = λ e g at. ⊎_elim (λ old. is.wide e g old) (λ new. subst (λ (h : Entry). length h.front ≡ 8) new.1 wide) (more g e at);
       within = λ j.
@@ -265,5 +310,5 @@ no_heads_by heads n z many none zeros =
 pub no_heads : (heads : List ℕ) (entries : List Entry) → heads ≡ replicate 65536 0 → entries ≡ [] → IsSieve heads entries
 no_heads heads entries zeros none = rw none (no_heads_by heads 65536 0 refl refl zeros)
 
-pub added : (heads : List ℕ) (entries new : List Entry) (f : Entry) (k n : ℕ) → IsSieve heads entries → new ≡ entries ++ f ∷ [] → n ≡ length entries + 1 → k ≡ pair_of f → k < 65536 → f.next ≡ get_or heads k 0 → 2 ≤ f.len → f.len ≤ 8 → length f.front ≡ 8 → IsSieve (set heads k n) new
-added heads entries new f k n is more count pair few_pairs next some few wide = rw (more, count) (IsSieve-more heads entries f k is pair few_pairs next some few wide)
+pub added : (heads : List ℕ) (entries new : List Entry) (f : Entry) (k n : ℕ) → IsSieve heads entries → new ≡ entries ++ f ∷ [] → n ≡ length entries + 1 → k ≡ pair_of f → k < 65536 → f.next ≡ get_or heads k 0 → f.at + 1 < f.len → f.len ≤ 8 → length f.front ≡ 8 → IsSieve (set heads k n) new
+added heads entries new f k n is more count pair few_pairs next inside few wide = rw (more, count) (IsSieve-more heads entries f k is pair few_pairs next inside few wide)

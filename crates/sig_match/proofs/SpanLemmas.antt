@@ -1,23 +1,20 @@
 -- Ways out of a set that come to their end: in a tree with no open gap a state leads to later ones alone.
-use Rattle.std.proofs.Common.{◌≡◌, ◌⊎◌, ⊎_elim, ℕ, zero, suc, ◌+◌, ◌-◌, ◌<◌, ◌≤◌, List, [], ◌∷◌, ◌++◌, length, take, drop, replicate, Option, Some, None, subst, sym, ap, refl, ◌∙◌, arith, inl, inr, length-drop}
+use Rattle.std.proofs.Common.{◌≡◌, ◌⊎◌, ⊎_elim, ℕ, zero, suc, ◌+◌, ◌-◌, ◌<◌, ◌≤◌, List, [], ◌∷◌, ◌++◌, length, drop, replicate, Some, None, subst, sym, ap, refl, ◌∙◌, arith, inl, inr, length-drop}
 use Rattle.std.specs.Prelude.{⊤, Bool, false, true, ◌==◌, if◌then◌else◌, ◌↔◌, slice_get}
-use Rattle.std.proofs.lemmas.List.Elements.{All-head, All-tail}
-use Rattle.sig_auto.specs.Tracks.{Follows, GapTrack, Track, slots_from}
+use Rattle.sig_auto.specs.Tracks.{Follows, Track, slots_from}
 use Rattle.sig_auto.specs.Trees.{Tree, Never, Empty, Slot, Gap, Then, Or}
-use Rattle.sig_auto.specs.TreeSlots.{Takes, slots_of}
-use Rattle.sig_auto.specs.Runs.{IsStepOf}
+use Rattle.sig_auto.specs.TreeSlots.{slots_of}
 use Rattle.sig_auto.proofs.Exports.{follows_to_a_slot}
 use Rattle.sig_bits.specs.BitSets.{HasBit}
 use Rattle.sig_bits.specs.Bytes.{IsBytes}
 use Rattle.sig_auto.specs.Trees.{alternatives_tree, atom_tree, atoms_tree, back_tree, bracket_tree, front_tree, item_tree, items_tree, row_tree, rows_tree, whole_tree}
-use Rattle.sig_auto.specs.Rows.{above, below, between}
+use Rattle.sig_auto.specs.Rows.{above}
 use Rattle.sig_auto.specs.declared.class.Class.{Class}
 use Rattle.sig_bits.specs.declared.byte_class.ByteClass.{ByteClass}
 use Rattle.sig_expr.specs.declared.item.Atom.{Atom}
 use Rattle.sig_expr.specs.declared.item.Atom.TheVariants as atom
 use Rattle.sig_expr.specs.declared.item.Item.{Item}
 use Rattle.sig_expr.specs.declared.item.Item.TheVariants as item
-use Rattle.sig_table.specs.declared.position.Position.{Position}
 use Rattle.sig_table.specs.declared.position.Position.TheVariants as position
 use Rattle.sig_table.specs.Views.{SequenceView}
 use Rattle.sig_match.specs.Rests.{IsReached, IsRest, Reaches}

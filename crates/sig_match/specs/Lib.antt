@@ -14,8 +14,10 @@ pub use Rattle.sig_table.specs.Tables
 -- The vocabulary of proofs: frontiers of offsets, and the first hits of the formats.
 pub mod FirstHits
 pub mod Frontiers
+pub mod Fronts
 pub mod Gaps
 pub mod Hitting
+pub mod Lates
 pub mod Parts
 pub mod Rests
 pub mod Runs

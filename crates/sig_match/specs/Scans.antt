@@ -1,5 +1,5 @@
 -- Scans: the states of each sequence of a table after the bytes so far.
-use Rattle.std.specs.Prelude.{◌≡◌, ℕ, List}
+use Rattle.std.specs.Prelude.{◌≡◌, ℕ, Bool, false, List}
 use Rattle.std.specs.List.{AllZip}
 use Rattle.sig_auto.specs.Runs.{IsSetOf}
 use Rattle.sig_auto.specs.Trees.{whole_tree}
@@ -11,19 +11,29 @@ pub record SequenceScanView : Type 0 where
   pub sequence : SequenceView
   pub set : List ℕ
 
--- a table, and for each of its signatures its sequences with their current sets
+-- sequences of a signature with their current sets, and whether the signature is given up
+pub record SignatureScanView : Type 0 where
+  pub lost : Bool
+  pub scans : List SequenceScanView
+
+-- a table, and for each of its signatures the scans of its sequences
 pub record ScanView : Type 0 where
   pub table : TableView
-  pub signatures : List (List SequenceScanView)
+  pub signatures : List SignatureScanView
 
 -- the current set of the sequence is that of the states in which runs of the file end
 pub record IsSequenceScanOf (file : List ℕ) (sequence : SequenceView) (scan : SequenceScanView) : Type 0 where
   pub sequence_is : scan.sequence ≡ sequence
   pub set_is : IsSetOf (whole_tree sequence) scan.set file
 
--- so for each sequence of the signature
-abbrev pub IsSignatureScanOf : List ℕ → SignatureView → List SequenceScanView → Type 0
-IsSignatureScanOf file signature scans = AllZip (IsSequenceScanOf file) signature.sequences scans
+-- so for each of the sequences
+abbrev pub AreSequenceScansOf : List ℕ → List SequenceView → List SequenceScanView → Type 0
+AreSequenceScansOf file sequences scans = AllZip (IsSequenceScanOf file) sequences scans
+
+-- the signature is not given up, and so it is for each of its sequences
+pub record IsSignatureScanOf (file : List ℕ) (signature : SignatureView) (scan : SignatureScanView) : Type 0 where
+  pub kept : scan.lost ≡ false
+  pub each : AreSequenceScansOf file signature.sequences scan.scans
 
 -- the scan is of the file: the current set of each sequence of its table is that of the states in which runs of the file end
 pub record IsScanOf (scan : ScanView) (file : List ℕ) : Type 0 where

@@ -1,5 +1,5 @@
 -- Tables of fronts, and the places of a piece before which none of them stands.
-use Rattle.std.specs.Prelude.{◌≡◌, ◌≢◌, ◌⊎◌, ℕ, ◌+◌, ◌-◌, ◌*◌, ◌<◌, ◌≤◌, List, Some, drop, get_or, length, slice_get, take}
+use Rattle.std.specs.Prelude.{◌≡◌, ◌≢◌, ℕ, ◌+◌, ◌-◌, ◌*◌, ◌<◌, ◌≤◌, List, Some, drop, get_or, length, slice_get, take}
 use Rattle.sig_match.specs.declared.scan.entry.Entry.{Entry}
 use Rattle.sig_match.specs.Rests.{Misses}
 
@@ -7,18 +7,22 @@ use Rattle.sig_match.specs.Rests.{Misses}
 abbrev pub text_of : Entry → List ℕ
 text_of f = take f.len f.front
 
--- its first two bytes, as one number
+-- the two bytes by which it is found, as one number
 abbrev pub pair_of : Entry → ℕ
-pair_of f = get_or f.front 0 0 + 256 * get_or f.front 1 0
+pair_of f = get_or f.front f.at 0 + 256 * get_or f.front (f.at + 1) 0
 
--- the two bytes at place x, so
+-- the two bytes at place y, so
 abbrev pub pair_at : List ℕ → ℕ → ℕ
-pair_at bytes x = get_or bytes x 0 + 256 * get_or bytes (x + 1) 0
+pair_at bytes y = get_or bytes y 0 + 256 * get_or bytes (y + 1) 0
 
--- of each pair, the head is one more than the place of the last entry that begins with it, and each entry tells so of the one before; where there is none, it is 0
+-- the places that are looked at
+abbrev pub IsSample : ℕ → Type 0
+IsSample y = (k : ℕ) × (y ≡ 3 * k)
+
+-- of each pair, the head is one more than the place of the last entry that is found by it, and each entry tells so of the one before; where there is none, it is 0
 pub record IsSieve (heads : List ℕ) (entries : List Entry) : Type 0 where
   pub long : length heads ≡ 65536
-  pub some : (e : ℕ) (f : Entry) → slice_get entries e ≡ Some f → 2 ≤ f.len
+  pub inside : (e : ℕ) (f : Entry) → slice_get entries e ≡ Some f → f.at + 1 < f.len
   pub few : (e : ℕ) (f : Entry) → slice_get entries e ≡ Some f → f.len ≤ 8
   pub wide : (e : ℕ) (f : Entry) → slice_get entries e ≡ Some f → length f.front ≡ 8
   pub within : (k : ℕ) → get_or heads k 0 ≤ length entries
@@ -28,17 +32,17 @@ pub record IsSieve (heads : List ℕ) (entries : List Entry) : Type 0 where
   pub next_is : (e d : ℕ) (f g : Entry) → slice_get entries e ≡ Some f → slice_get entries d ≡ Some g → d + 1 ≡ f.next → pair_of g ≡ pair_of f
   pub skips : (e d : ℕ) (f g : Entry) → slice_get entries e ≡ Some f → slice_get entries d ≡ Some g → f.next ≤ d → d < e → pair_of g ≢ pair_of f
 
--- no front stands before the place that is known of it
+-- before the place that is known of an entry, its front stands at none of the places that the entry is for
 abbrev pub IsKnown : List Entry → List ℕ → List ℕ → Type 0
-IsKnown entries bytes known = (e x : ℕ) (f : Entry) → slice_get entries e ≡ Some f → x < get_or known e 0 → Misses (text_of f) (drop x bytes)
+IsKnown entries bytes known = (e x : ℕ) (f : Entry) → slice_get entries e ≡ Some f → IsSample (x + f.at) → x < get_or known e 0 → Misses (text_of f) (drop x bytes)
 
--- nor among the places before n
+-- nor at those whose pair stands before place n
 abbrev pub IsKnownBelow : List Entry → List ℕ → List ℕ → ℕ → Type 0
-IsKnownBelow entries bytes known n = (e x : ℕ) (f : Entry) → slice_get entries e ≡ Some f → x < n → x < get_or known e 0 → Misses (text_of f) (drop x bytes)
+IsKnownBelow entries bytes known n = (e x : ℕ) (f : Entry) → slice_get entries e ≡ Some f → IsSample (x + f.at) → x + f.at < n → x < get_or known e 0 → Misses (text_of f) (drop x bytes)
 
--- at place x each front that may stand is known to
+-- each front whose pair stands at place y is known to, if it may stand
 abbrev pub IsKnownAt : List Entry → List ℕ → List ℕ → ℕ → Type 0
-IsKnownAt entries bytes known x = (e : ℕ) (f : Entry) → slice_get entries e ≡ Some f → x < get_or known e 0 → Misses (text_of f) (drop x bytes)
+IsKnownAt entries bytes known y = (e x : ℕ) (f : Entry) → slice_get entries e ≡ Some f → x + f.at ≡ y → x < get_or known e 0 → Misses (text_of f) (drop x bytes)
 
 -- what is known ends where a front reaches over the end of n bytes
 abbrev pub IsWithinPiece : List Entry → List ℕ → ℕ → Type 0

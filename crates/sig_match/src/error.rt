@@ -1,5 +1,6 @@
 ghost use Rattle.std.specs.Prelude.{◌≡◌};
 
+use sig_bits::DeviceFault;
 use std::alloc::AllocError;
 use thiserror::Error;
 
@@ -21,5 +22,15 @@ impl From<AllocError> for CoreError {
 
     fn from(_: AllocError) -> CoreError {
         CoreError::OutOfMemory
+    }
+}
+
+impl From<DeviceFault> for CoreError {
+    ghost use Rattle.sig_match.specs.declared.error.CoreError.{CoreError};
+
+    ghost from_gives = { λ _ e. e ≡ CoreError.Read };
+
+    fn from(_: DeviceFault) -> CoreError {
+        CoreError::Read
     }
 }

@@ -2,14 +2,16 @@
 //!
 //! The hit formats and those left after priorities are in `specs/Hits.antt`. What every matcher
 //! shares stands at the top: the list of hits (`hits`), what priorities take out of it (`removal`)
-//! and what a matcher is (`droid_core`). `whole` is the matcher that keeps the file in memory. `scan`
-//! passes over a file once and keeps no byte of it, and `stream` is the matcher that reads so.
+//! and what a matcher is (`droid_core`). `outlook` tells from the first bytes of a file which sequences
+//! can still come. `whole` is the matcher that keeps the file in memory. `scan` passes over a file once
+//! and keeps no byte of it, and `stream` is the matcher that reads so.
 #![tactic(auto)]
 
 mod droid_core;
 mod error;
 mod hits;
 mod laws;
+mod outlook;
 mod removal;
 mod results;
 mod scan;

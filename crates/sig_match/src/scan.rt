@@ -6,15 +6,15 @@
 //! passed over from there. A file ends where no more is fed, and each sequence then stands in
 //! it exactly where some state of its set accepts. Of `41{1-2}42` at the start of a file the bytes
 //! `41 42 42` lead through the sets {0}, {1}, {2} and {3, 4}, and 4 accepts.
+//!
+//! A scan that begins behind a front of the file (`Scan::behind`) has automata only for the sequences of
+//! which the front leaves open whether they stand. What it says of the file is the same.
 
-ghost use Rattle.std.specs.Prelude.{◌≡◌, ◌++◌, ℕ, [], List, All, IfOk, length};
+ghost use Rattle.std.specs.Prelude.{◌≡◌, ◌++◌, ℕ, [], List, IfOk, length};
 ghost use Rattle.std.specs.List.{AllZip};
-ghost use Rattle.sig_bits.specs.Bytes.{IsBytes};
-ghost use Rattle.sig_match.specs.FirstHits.{MarksHits};
 ghost use Rattle.sig_match.specs.Hits.{HitFormats};
+ghost use Rattle.sig_match.specs.Lates.{AreLateScansOf, IsFedBy, IsLateOf, IsLateScanOf, IsMarkOf};
 ghost use Rattle.sig_match.specs.Scans.{IsScanOf, IsSignatureScanOf};
-ghost use Rattle.sig_table.specs.Tables.{IsTable};
-ghost use Rattle.sig_table.specs.Views.{SignatureView, TableView};
 
 use crate::hits::list_hits;
 use crate::results::{Hit, Results};
@@ -35,14 +35,15 @@ mod span;
 mod tests;
 mod way;
 
-use piece::Piece;
-use sieve::Sieve;
+pub(crate) use piece::Piece;
+pub(crate) use sieve::{STRIDE, Sieve};
 use signature_scan::SignatureScan;
+pub(crate) use way::FRONT;
 
 /// A file on its way past a table.
 ///
-/// All memory is taken at the start: for each sequence its automaton and three sets of a bit for
-/// each state, the sieve of all fronts, and the room of the answer.
+/// All memory is taken at the start: for each sequence that is looked for its automaton and three sets
+/// of a bit for each state, the sieve of fronts, and the room of the answer.
 #[derive(Debug, Drop)]
 pub struct Scan<'t> {
     table: &'t Table,
@@ -76,16 +77,46 @@ impl<'t> Scan<'t> {
         ensures table { IfOk result (λ scan. scan.table ≡ table.now) }
         ensures empty { IfOk result (λ scan. IsScanOf scan []) }
     {
-        let count = table.signature_count();
         let mut sieve = Sieve::new(alloc)?;
         let signatures = scans_of(alloc, table, &mut sieve)?;
+        Scan::with(alloc, table, sieve, signatures)
+    }
+
+    /// Behind the front of a file. What the front settles, however the file goes on, is not looked for
+    /// any more: that is most sequences that begin at the start of a file.
+    pub(crate) fn behind(
+        alloc: Global,
+        table: &'t Table,
+        front: &[u8],
+    ) -> Result<Scan<'t>, AllocError>
+        ensures table { IfOk result (λ scan. scan.table ≡ table.now) }
+        ensures late { IfOk result (λ scan. IsLateScanOf scan front.now) }
+    {
+        let mut sieve = Sieve::new(alloc)?;
+        let signatures = scans_behind(alloc, table, front, &mut sieve)?;
+        let mut scan = Scan::with(alloc, table, sieve, signatures)?;
+        scan.feed(front);
+        Ok(scan)
+    }
+
+    // With these scans of the signatures.
+    fn with(
+        alloc: Global,
+        table: &'t Table,
+        sieve: Sieve,
+        signatures: Vec<SignatureScan>,
+    ) -> Result<Scan<'t>, AllocError>
+        requires { length signatures.items ≡ length table.now.signatures }
+        ensures table { IfOk result (λ scan. scan.table ≡ table.now) }
+        ensures signatures { IfOk result (λ scan. scan.signatures ≡ signatures.items) }
+    {
         let known = vec![in alloc; 0; sieve.len()]?;
         Ok(Scan {
             table,
             sieve,
             known,
             signatures,
-            marks: vec![in alloc; false; count]?,
+            marks: vec![in alloc; false; table.signature_count()]?,
             hits: Vec::with_capacity(alloc, table.format_count())?,
         })
     }
@@ -94,6 +125,7 @@ impl<'t> Scan<'t> {
     pub fn feed(&mut self, piece: &[u8])
         ensures table { self.new.table ≡ self.old.table }
         ensures goes_on { (file : List ℕ) → IsScanOf self.old file → IsScanOf self.new (file ++ piece.now) }
+        ensures late { (front file : List ℕ) → IsLateOf front file self.old → IsLateOf front (file ++ piece.now) self.new }
     {
         self.sieve.look(piece, &mut self.known);
         let piece = Piece::new(piece, &self.sieve, &self.known);
@@ -103,7 +135,8 @@ impl<'t> Scan<'t> {
     /// Answers which formats the file hits, each with its first signature that hits. It takes no
     /// memory.
     pub fn finish(self) -> Results
-        ensures { (file : List ℕ) → IsScanOf self.entry file → HitFormats self.entry.table file result }
+        ensures exact { (file : List ℕ) → IsScanOf self.entry file → HitFormats self.entry.table file result }
+        ensures late { (file : List ℕ) → IsLateScanOf self.entry file → HitFormats self.entry.table file result }
     {
         let Scan {
             table,
@@ -136,9 +169,27 @@ fn scans_of(
     Ok(scans)
 }
 
+// A scan of each signature, at the start of a file that begins with the front.
+fn scans_behind(
+    alloc: Global,
+    table: &Table,
+    front: &[u8],
+    sieve: &mut Sieve,
+) -> Result<Vec<SignatureScan>, AllocError>
+    ensures { IfOk result (λ scans. AreLateScansOf front.now [] table.now.signatures scans.items) }
+{
+    let count = table.signature_count();
+    let mut scans = Vec::with_capacity(alloc, count)?;
+    for index in 0..count {
+        let sequences = table.sequences_of(SigId(index as u16));
+        scans.push(SignatureScan::behind(alloc, front, sequences, sieve)?)?;
+    }
+    Ok(scans)
+}
+
 // Goes on by the piece in each signature.
 fn feed_each(signatures: &mut [SignatureScan], piece: &Piece<'_>)
-    ensures { (file : List ℕ) (known : List SignatureView) → AllZip (IsSignatureScanOf file) known signatures.old → AllZip (IsSignatureScanOf (file ++ piece.now)) known signatures.new }
+    ensures { AllZip (IsFedBy piece.now) signatures.old signatures.new }
 {
     for signature in signatures.iter_mut() {
         signature.feed(piece);
@@ -148,7 +199,7 @@ fn feed_each(signatures: &mut [SignatureScan], piece: &Piece<'_>)
 // Marks each signature that hits the file, if it ends here.
 fn mark_hits(signatures: &[SignatureScan], marks: &mut [bool])
     requires { length marks.old ≡ length signatures.now }
-    ensures { (table : TableView) (file : List ℕ) → IsTable table → IsBytes file → AllZip (IsSignatureScanOf file) table.signatures signatures.now → MarksHits table file marks.new }
+    ensures { AllZip IsMarkOf signatures.now marks.new }
 {
     for (index, signature) in signatures.iter().enumerate() {
         marks[index] = signature.hits();

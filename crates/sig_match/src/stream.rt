@@ -1,7 +1,7 @@
-//! The matcher that reads a file once, piece by piece, and keeps no byte of it.
+//! The matcher that reads a file once, piece by piece, and keeps no more of it than one piece.
 
-ghost use Rattle.std.specs.Prelude.{◌≡◌, false, true, IfErr, IfOk, IsErrOf, OnOk};
-ghost use Rattle.sig_bits.specs.Device.{IsAtEnd};
+ghost use Rattle.std.specs.Prelude.{◌≡◌, ◌+◌, ◌<◌, ◌≤◌, false, true, IfErr, IfOk, IsErrOf, OnOk, is_err, length, take};
+ghost use Rattle.sig_bits.specs.Device.{Gives, IsAtEnd};
 ghost use Rattle.sig_match.specs.Hits.{HitFormats, HitFormatsOfSome};
 ghost use Rattle.sig_table.specs.Views.{TableView};
 
@@ -9,7 +9,8 @@ use crate::droid_core::DroidCore;
 use crate::error::CoreError;
 use crate::results::Results;
 use crate::scan::Scan;
-use sig_bits::Input;
+use crate::whole::hits_in;
+use sig_bits::{DeviceFault, Input};
 use sig_table::{Puid, Table};
 use std::alloc::Global;
 use std::marker::Model;
@@ -19,8 +20,10 @@ const PIECE: usize = 1 << 18;
 
 /// A matcher that scans a file while it reads it.
 ///
-/// Its memory is that of a scan and of one piece of 256 KiB, taken before the first read, however
-/// long the file is.
+/// A file shorter than a piece of 256 KiB is searched where it lies, as `WholeCore` does: that takes less
+/// time than a scan takes to begin. The first piece of a longer one settles most sequences that begin at
+/// the start of a file, and the rest is scanned for the others. No byte is kept behind its piece, and the
+/// memory is that of a scan and of one piece, however long the file is.
 #[derive(Debug, Drop)]
 pub struct StreamCore {
     table: Table,
@@ -80,15 +83,37 @@ fn scan_input<R: Input>(alloc: Global, table: &Table, input: &mut R) -> Result<R
     ensures read { IsErrOf result CoreError.Read → R.failed input.new ≡ true }
     ensures memory { IsErrOf result CoreError.OutOfMemory → R.failed input.new ≡ R.failed input.old }
 {
-    let mut scan = Scan::new(alloc, table)?;
     let mut piece = vec![in alloc; 0; PIECE]?;
+    let first = fill(input, &mut piece)?;
+    if first < PIECE {
+        return Ok(hits_in(alloc, table, &piece[..first])?);
+    }
+    let mut scan = Scan::behind(alloc, table, &piece)?;
     'pieces: loop {
-        let Ok(n) = input.read(&mut piece) else {
-            return Err(CoreError::Read);
-        };
-        if n == 0 {
+        let n = fill(input, &mut piece)?;
+        scan.feed(&piece[..n]);
+        if n < PIECE {
             return Ok(scan.finish());
         }
-        scan.feed(&piece[..n]);
+    }
+}
+
+// Reads until the room is full, or nothing more is to come. Answers how many bytes came.
+fn fill<R: Input>(input: &mut R, room: &mut [u8]) -> Result<usize, DeviceFault>
+    requires { 0 < length room.old }
+    ensures within { IfOk result (λ n. n ≤ length room.new) }
+    ensures gives { IfOk result (λ n. Gives (R.to_come input.old) (take n room.new) (R.to_come input.new)) }
+    ensures at_end { IfOk result (λ n. n < length room.new → IsAtEnd (R.to_come input.new)) }
+    ensures lowers { IfOk result (λ n. R.limit input.old ≡ n + R.limit input.new) }
+    ensures fails { R.failed input.new ≡ is_err result }
+    ensures sound { OnOk result (R.failed input.old ≡ false) }
+{
+    let mut filled = 0;
+    'reads: loop {
+        let n = input.read(&mut room[filled..])?;
+        filled += n;
+        if n == 0 || filled == room.len() {
+            return Ok(filled);
+        }
     }
 }

@@ -1,6 +1,8 @@
 //! The matcher that keeps the file in memory.
 //!
-//! Each sequence is searched by itself, from a frontier of offsets to the next (`frontier`). A run
+//! Of most sequences one byte tells that they do not stand (`crate::outlook`), and of those that may
+//! begin anywhere one look at the file tells which fronts it does not have (`fronts`). Each other
+//! sequence is searched by itself, from a frontier of offsets to the next (`frontier`). A run
 //! of fixed bytes is looked for whole, and any other item, or part of an alternative, costs at most
 //! the file's length, whatever the table and the file. An EOF sequence whose words are bounded is
 //! looked for near the end of the file alone. A frontier has at most about half as many intervals as
@@ -23,6 +25,7 @@ use std::marker::Model;
 mod advance;
 mod anchored;
 mod frontier;
+mod fronts;
 mod longest;
 mod part;
 mod run;
@@ -30,6 +33,8 @@ mod search;
 #[cfg(test)]
 mod tests;
 
+pub(crate) use anchored::stands;
+pub(crate) use longest::longest_of;
 use search::{is_hit, which_hit};
 
 /// A matcher that reads a file whole before it searches it.
@@ -111,8 +116,8 @@ pub fn signature_hits(
     Ok(hits)
 }
 
-// The formats that a file hits.
-fn hits_in(alloc: Global, table: &Table, file: &[u8]) -> Result<Results, AllocError>
+/// The formats that a file hits.
+pub(crate) fn hits_in(alloc: Global, table: &Table, file: &[u8]) -> Result<Results, AllocError>
     ensures { IfOk result (λ hits. HitFormats table.now file.now hits) }
 {
     let marks = which_hit(alloc, table, file)?;

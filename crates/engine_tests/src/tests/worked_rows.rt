@@ -5,7 +5,8 @@ use crate::tests::table_of;
 use fixtures::Pieces;
 use sig_bits::FromWrite;
 use sig_engines::run_match;
-use sig_match::{DroidCore, StreamCore, WholeCore};
+use sig_match::{DroidCore, Results, Scan, StreamCore, WholeCore};
+use sig_table::Table;
 use std::test::Fail;
 
 // Signature rows, priority rows, a file, the lines of all hits, and those of what is left.
@@ -187,6 +188,37 @@ fn the_stream_core_answers_the_worked_rows(rt: HostRuntime) -> Result<(), Fail> 
     for WorkedRow(rows, pairs, file, all, left) in TABLES {
         let core = StreamCore::new(rt.alloc(), table_of(&rt, rows, pairs)?);
         assert!(rt; answers(&rt, &core, file, all, left)?, "{rows}{file:?}");
+    }
+    Ok(())
+}
+
+// What a scan finds in a file that is fed in pieces of so many bytes.
+fn scanned(rt: &HostRuntime, table: &Table, file: &[u8], most: usize) -> Result<Results, Fail> {
+    let mut scan = Scan::new(rt.alloc(), table)?;
+    for piece in file.chunks(most.max(1)) {
+        scan.feed(piece);
+    }
+    Ok(scan.finish())
+}
+
+// A core scans only what is longer than its first piece, so the rows are fed to a scan by themselves.
+#[test]
+fn a_scan_answers_the_worked_rows(rt: HostRuntime) -> Result<(), Fail> {
+    for (sequences, file, hits) in ONE_SIGNATURE {
+        let rows = format!(in rt.alloc(); "fmt/1,1,{sequences}")?;
+        let table = table_of(&rt, rows.as_str(), "")?;
+        for most in CUTS {
+            let found = scanned(&rt, &table, file, most)?;
+            assert_eq!(rt; found.hits().len() == 1, hits, "{rows}{file:?}");
+        }
+    }
+    for WorkedRow(rows, pairs, file, _, _) in TABLES {
+        let core = WholeCore::new(rt.alloc(), table_of(&rt, rows, pairs)?);
+        let whole = core.match_bytes(file)?;
+        for most in CUTS {
+            let found = scanned(&rt, core.table(), file, most)?;
+            assert!(rt; found.hits() == whole.hits(), "{rows}{file:?}");
+        }
     }
     Ok(())
 }

@@ -1,9 +1,9 @@
 //! A piece of a file, and what one look at it tells of many sequences.
 
-ghost use Rattle.std.specs.Prelude.{◌≡◌, ℕ, ◌<◌, drop};
+ghost use Rattle.std.specs.Prelude.{◌≡◌, ℕ, ◌+◌, ◌<◌, drop};
 ghost use Rattle.sig_bits.specs.Bytes.{IsBytes};
 ghost use Rattle.sig_match.specs.Rests.{Misses};
-ghost use Rattle.sig_match.specs.Sieves.{IsKnown};
+ghost use Rattle.sig_match.specs.Sieves.{IsKnown, IsSample};
 
 use crate::scan::sieve::Sieve;
 use std::marker::Model;
@@ -47,13 +47,26 @@ impl<'p> Piece<'p> {
         self.bytes
     }
 
-    /// A place before which the front does not stand: 0, where the sieve does not have it under this
-    /// number.
+    /// A place before which the front does not stand: 0, where the sieve does not have it from this number
+    /// on.
     pub(crate) fn known_of(&self, number: usize, front: &[u8]) -> usize
         ensures { (x : ℕ) → x < result → Misses front.now (drop x self.now) }
     {
-        if number < self.known.len() && self.sieve.has(number, front) {
-            self.known[number]
+        if number >= self.known.len() {
+            return 0;
+        }
+        let first = self.known_by(number, 0, front);
+        let second = self.known_by(number + 1, 1, front);
+        let third = self.known_by(number + 2, 2, front);
+        first.min(second).min(third)
+    }
+
+    // The same of the places by whose byte `at` places on the entry finds it.
+    fn known_by(&self, place: usize, at: usize, front: &[u8]) -> usize
+        ensures { (x : ℕ) → IsSample (x + at) → x < result → Misses front.now (drop x self.now) }
+    {
+        if place < self.known.len() && self.sieve.has(place, at, front) {
+            self.known[place]
         } else {
             0
         }

@@ -97,7 +97,7 @@ impl SequenceScan {
     }
 
     // Finds out where the sequence will rest behind bytes that mean nothing to it, and puts the front of
-    // the way out into the sieve.
+    // the way out into the sieve, unless pieces are passed over without it.
     fn look_ahead(&mut self, alloc: Global, sieve: &mut Sieve) -> Result<(), AllocError>
         ensures { self.new ≡ self.old }
     {
@@ -106,7 +106,9 @@ impl SequenceScan {
         if self.way.len == 0 {
             self.rest_behind(0xFF, &mut ahead);
         }
-        self.number = self.way.put_into(sieve)?;
+        if !self.climbs {
+            self.number = self.way.put_into(sieve)?;
+        }
         Ok(())
     }
 

@@ -1,11 +1,13 @@
 //! Where the fronts of many sequences stand in a piece, found in one look for all.
 //!
-//! Most places of a piece begin with two bytes with which no front begins, so a table of all pairs of
-//! bytes passes over them. At the others the fronts that begin so are compared, one by one.
+//! Every third place of a piece is looked at. A front of four bytes and more that stands in the piece has
+//! one of these places at its first, second or third byte, so it is in the table three times, by the pair
+//! of bytes at each of them. Most pairs of a piece are those of no front, so a table of all pairs passes
+//! over them. At the others the fronts that are found by the pair are compared, one by one.
 
 ghost use Rattle.std.specs.Prelude.{◌≡◌, ◌⊎◌, ◌+◌, ◌*◌, ◌^◌, [], ℕ, ◌<◌, ◌≤◌, false, IfOk, IsTrue, Some, drop, get_or, length, slice_get};
 ghost use Rattle.sig_match.specs.Rests.{Misses};
-ghost use Rattle.sig_match.specs.Sieves.{IsKnown, IsKnownAt, IsSieve, IsWithinPiece, pair_at, text_of};
+ghost use Rattle.sig_match.specs.Sieves.{IsKnown, IsKnownAt, IsSample, IsSieve, IsWithinPiece, pair_at, text_of};
 
 use crate::scan::entry::Entry;
 use crate::scan::way::{FRONT, may_begin, same_bytes};
@@ -18,10 +20,13 @@ const PAIRS: usize = 65_536;
 // How many entries a sieve has at most.
 const ENTRIES: usize = 65_535;
 
-/// Fronts of two bytes and more.
+/// Each so manyth place is looked at, and each front has so many entries.
+pub(crate) const STRIDE: usize = 3;
+
+/// Fronts of four bytes and more, each with three entries.
 #[derive(Debug, Drop)]
 pub(crate) struct Sieve {
-    // Of each two bytes, one more than the place of the last entry that begins with them, or 0.
+    // Of each two bytes, one more than the place of the last entry that is found by them, or 0.
     heads: Vec<u16>,
     entries: Vec<Entry>,
 }
@@ -51,41 +56,60 @@ impl Sieve {
         })
     }
 
-    /// How many fronts it has.
+    /// How many entries it has.
     pub(crate) fn len(&self) -> usize
         ensures { result ≡ length self.now }
     {
         self.entries.len()
     }
 
-    /// Whether this is the front at this place.
-    pub(crate) fn has(&self, place: usize, front: &[u8]) -> bool
-        ensures { IsTrue result → (f : Entry) × (slice_get self.now place ≡ Some f) × (text_of f ≡ front.now) }
+    /// Whether the entry at this place is this front, found by the two bytes from `at` on.
+    pub(crate) fn has(&self, place: usize, at: usize, front: &[u8]) -> bool
+        ensures { IsTrue result → (f : Entry) × (slice_get self.now place ≡ Some f) × (text_of f ≡ front.now) × (f.at ≡ at) }
     {
         match self.entries.get(place) {
-            Some(entry) => same_bytes(&entry.front[..entry.len], front),
+            Some(entry) => entry.at == at && same_bytes(&entry.front[..entry.len], front),
             None => false,
         }
     }
 
-    /// Adds a front, unless there are too many. Answers its place.
+    /// Adds the entries of a front, unless there are too many. Answers the place of the first.
     pub(crate) fn add(&mut self, front: [u8; FRONT], len: usize) -> Result<usize, AllocError>
-        requires some { 2 ≤ len }
+        requires some { 4 ≤ len }
         requires few { len ≤ 8 }
     {
         let place = self.entries.len();
-        if place >= ENTRIES {
+        if place + STRIDE > ENTRIES {
             return Ok(place);
         }
-        let pair = pair(front[0], front[1]);
-        let next = self.heads[pair] as usize;
-        self.entries.push(Entry { front, len, next })?;
-        self.heads[pair] = place as u16 + 1;
+        self.add_by(front, len, 0)?;
+        self.add_by(front, len, 1)?;
+        self.add_by(front, len, 2)?;
         Ok(place)
     }
 
-    /// Finds of each front a place of the bytes before which it does not stand: mostly that where it
-    /// first stands.
+    // Adds the entry by which the front is found at the two bytes from `at` on.
+    fn add_by(&mut self, front: [u8; FRONT], len: usize, at: usize) -> Result<(), AllocError>
+        requires inside { at + 1 < len }
+        requires few { len ≤ 8 }
+        requires room { length self.old < 65535 }
+        ensures { length self.new ≤ length self.old + 1 }
+    {
+        let place = self.entries.len();
+        let pair = pair(front[at], front[at + 1]);
+        let next = self.heads[pair] as usize;
+        self.entries.push(Entry {
+            front,
+            len,
+            at,
+            next,
+        })?;
+        self.heads[pair] = place as u16 + 1;
+        Ok(())
+    }
+
+    /// Finds of each entry a place of the bytes before which its front stands at no place that the entry is
+    /// for: mostly that where it first stands at such a place.
     pub(crate) fn look(&self, bytes: &[u8], known: &mut [usize])
         requires { length known.old ≡ length self.now }
         ensures { IsKnown self.now bytes.now known.new }
@@ -104,7 +128,7 @@ fn look_through(heads: &[u16], entries: &[Entry], bytes: &[u8], known: &mut [usi
     let mut at = next_marked(heads, bytes, 0);
     while at + 1 < bytes.len() {
         visit(heads, entries, bytes, at, known);
-        at = next_marked(heads, bytes, at + 1);
+        at = next_marked(heads, bytes, at + STRIDE);
     }
 }
 
@@ -127,55 +151,69 @@ fn begin(entries: &[Entry], len: usize, known: &mut [usize])
     }
 }
 
-// The next place at which an entry may begin, or one near the end.
+// The next place to be looked at by whose pair an entry is found, or one near the end.
 fn next_marked(heads: &[u16], bytes: &[u8], from: usize) -> usize
     requires heads { length heads.now ≡ 65536 }
-    requires from { from ≤ length bytes.now }
+    requires from { from ≤ length bytes.now + 2 }
+    requires sample { IsSample from }
     ensures from { from ≤ result }
-    ensures within { result ≤ length bytes.now }
-    ensures none { (x : ℕ) → from ≤ x → x < result → x + 1 < length bytes.now → get_or heads.now (pair_at bytes.now x) 0 ≡ 0 }
+    ensures sample { IsSample result }
+    ensures within { result ≤ length bytes.now + 2 }
+    ensures none { (y : ℕ) → from ≤ y → y < result → IsSample y → y + 1 < length bytes.now → get_or heads.now (pair_at bytes.now y) 0 ≡ 0 }
 {
     let mut at = from;
-    while at + 4 < bytes.len() {
-        let near = heads[pair(bytes[at], bytes[at + 1])] as u32
-            + heads[pair(bytes[at + 1], bytes[at + 2])] as u32;
-        let far = heads[pair(bytes[at + 2], bytes[at + 3])] as u32
-            + heads[pair(bytes[at + 3], bytes[at + 4])] as u32;
+    while at + 3 * STRIDE + 1 < bytes.len() {
+        let near = head(heads, bytes, at) + head(heads, bytes, at + STRIDE);
+        let far = head(heads, bytes, at + 2 * STRIDE) + head(heads, bytes, at + 3 * STRIDE);
         if near + far > 0 {
             break;
         }
-        at += 4;
+        at += 4 * STRIDE;
     }
-    while at + 1 < bytes.len() && heads[pair(bytes[at], bytes[at + 1])] == 0 {
-        at += 1;
+    while at + 1 < bytes.len() && head(heads, bytes, at) == 0 {
+        at += STRIDE;
     }
     at
 }
 
-// Compares the entries that begin with the two bytes at this place.
-fn visit(heads: &[u16], entries: &[Entry], bytes: &[u8], x: usize, known: &mut [usize])
+// The head of the pair at this place.
+fn head(heads: &[u16], bytes: &[u8], at: usize) -> u32
+    requires heads { length heads.now ≡ 65536 }
+    requires place { at + 1 < length bytes.now }
+    ensures head { result ≡ get_or heads.now (pair_at bytes.now at) 0 }
+    ensures few { result < 65536 }
+{
+    heads[pair(bytes[at], bytes[at + 1])] as u32
+}
+
+// Compares the entries that are found by the two bytes at this place.
+fn visit(heads: &[u16], entries: &[Entry], bytes: &[u8], y: usize, known: &mut [usize])
     requires sieve { IsSieve heads.now entries.now }
     requires known { length known.old ≡ length entries.now }
-    requires place { x + 1 < length bytes.now }
+    requires place { y + 1 < length bytes.now }
     ensures less { (e : ℕ) → get_or known.new e 0 ≤ get_or known.old e 0 }
-    ensures here { IsKnownAt entries.now bytes.now known.new x }
+    ensures here { IsKnownAt entries.now bytes.now known.new y }
 {
-    let mut at = heads[pair(bytes[x], bytes[x + 1])] as usize;
+    let mut at = heads[pair(bytes[y], bytes[y + 1])] as usize;
     while at > 0 {
         let place = at - 1;
         let entry = &entries[place];
-        known[place] = known_of(entry, bytes, x, known[place]);
+        known[place] = known_of(entry, bytes, y, known[place]);
         at = entry.next;
     }
 }
 
-// What is known of an entry, and of this place.
-fn known_of(entry: &Entry, bytes: &[u8], x: usize, known: usize) -> usize
+// What is known of an entry, and of the front that has its pair at this place.
+fn known_of(entry: &Entry, bytes: &[u8], y: usize, known: usize) -> usize
     requires few { entry.now.len ≤ 8 }
-    requires place { x ≤ length bytes.now }
+    requires place { y ≤ length bytes.now }
     ensures less { result ≤ known }
-    ensures here { x < result → Misses (text_of entry.now) (drop x bytes.now) }
+    ensures here { (x : ℕ) → x + entry.now.at ≡ y → x < result → Misses (text_of entry.now) (drop x bytes.now) }
 {
+    if y < entry.at {
+        return known;
+    }
+    let x = y - entry.at;
     if known > x && may_begin(&entry.front[..entry.len], &bytes[x..]) {
         x
     } else {

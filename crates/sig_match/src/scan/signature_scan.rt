@@ -1,13 +1,13 @@
 //! The sequences of one signature of a scan.
 
-ghost use Rattle.std.specs.Prelude.{◌↔◌, ◌++◌, ℕ, [], List, All, IfOk, IsTrue};
-ghost use Rattle.std.specs.List.{AllZip};
+ghost use Rattle.std.specs.Prelude.{◌≡◌, ◌↔◌, ◌++◌, ℕ, true, false, [], List, All, IfOk, IsTrue};
 ghost use Rattle.sig_bits.specs.Bytes.{IsBytes};
-ghost use Rattle.sig_match.specs.Scans.{IsSequenceScanOf};
-ghost use Rattle.sig_table.specs.Standing.{Stands};
+ghost use Rattle.sig_match.specs.Lates.{AllStand, IsLateSignatureScanOf};
+ghost use Rattle.sig_match.specs.Scans.{AreSequenceScansOf};
 ghost use Rattle.sig_table.specs.Tables.{IsSequence};
 ghost use Rattle.sig_table.specs.Views.{SequenceView};
 
+use crate::outlook::{Outlook, outlook_of};
 use crate::scan::piece::Piece;
 use crate::scan::sequence_scan::SequenceScan;
 use crate::scan::sieve::Sieve;
@@ -15,18 +15,19 @@ use sig_table::Sequence;
 use std::alloc::{AllocError, Global};
 use std::marker::Model;
 
+// The sequences that are looked for. A signature is lost where one of its sequences can't come any more.
 #[derive(Debug, Drop)]
 pub(crate) struct SignatureScan {
+    lost: bool,
     sequences: Vec<SequenceScan>,
 }
 
 impl Model for SignatureScan {
-    ghost use Rattle.std.specs.Prelude.{List};
-    ghost use Rattle.sig_match.specs.Scans.{SequenceScanView};
+    ghost use Rattle.sig_match.specs.Scans.{SignatureScanView};
 
-    ghost Value = { List SequenceScanView };
+    ghost Value = { SignatureScanView };
 
-    ghost view = { λ s. s.sequences.items };
+    ghost view = { λ s. record { lost = s.lost; scans = s.sequences.items } };
 }
 
 impl SignatureScan {
@@ -36,33 +37,72 @@ impl SignatureScan {
         sequences: &[Sequence],
         sieve: &mut Sieve,
     ) -> Result<SignatureScan, AllocError>
-        ensures { IfOk result (AllZip (IsSequenceScanOf []) sequences.now) }
+        ensures kept { IfOk result (λ s. s.lost ≡ false) }
+        ensures each { IfOk result (λ s. AreSequenceScansOf [] sequences.now s.scans) }
     {
         let mut scans = Vec::with_capacity(alloc, sequences.len())?;
         for sequence in sequences {
             scans.push(SequenceScan::of(alloc, sequence, sieve)?)?;
         }
-        Ok(SignatureScan { sequences: scans })
+        Ok(SignatureScan {
+            lost: false,
+            sequences: scans,
+        })
+    }
+
+    // At the start of a file that begins with the front. What the front settles is not looked for.
+    pub(crate) fn behind(
+        alloc: Global,
+        front: &[u8],
+        sequences: &[Sequence],
+        sieve: &mut Sieve,
+    ) -> Result<SignatureScan, AllocError>
+        ensures { IfOk result (IsLateSignatureScanOf front.now [] sequences.now) }
+    {
+        let mut scans = Vec::new(alloc);
+        for sequence in sequences {
+            match outlook_of(alloc, front, sequence)? {
+                Outlook::Never => return Ok(SignatureScan::lost(alloc)),
+                Outlook::Always => {}
+                Outlook::Open => scans.push(SequenceScan::of(alloc, sequence, sieve)?)?,
+            }
+        }
+        Ok(SignatureScan {
+            lost: false,
+            sequences: scans,
+        })
+    }
+
+    // One that is given up.
+    fn lost(alloc: Global) -> SignatureScan
+        ensures { result.lost ≡ true }
+    {
+        SignatureScan {
+            lost: true,
+            sequences: Vec::new(alloc),
+        }
     }
 
     // Goes on by the piece.
     pub(crate) fn feed(&mut self, piece: &Piece<'_>)
-        ensures { (file : List ℕ) (sequences : List SequenceView) → AllZip (IsSequenceScanOf file) sequences self.old → AllZip (IsSequenceScanOf (file ++ piece.now)) sequences self.new }
+        ensures lost { self.new.lost ≡ self.old.lost }
+        ensures each { (file : List ℕ) (sequences : List SequenceView) → AreSequenceScansOf file sequences self.old.scans → AreSequenceScansOf (file ++ piece.now) sequences self.new.scans }
     {
         feed_each(&mut self.sequences, piece);
     }
 
     // Whether the signature hits the file, if it ends here.
     pub(crate) fn hits(&self) -> bool
-        ensures { (file : List ℕ) (sequences : List SequenceView) → All IsSequence sequences → IsBytes file → AllZip (IsSequenceScanOf file) sequences self.now → (IsTrue result ↔ All (λ s. Stands s file) sequences) }
+        ensures lost { IsTrue result → self.now.lost ≡ false }
+        ensures each { self.now.lost ≡ false → (file : List ℕ) (sequences : List SequenceView) → All IsSequence sequences → IsBytes file → AreSequenceScansOf file sequences self.now.scans → (IsTrue result ↔ AllStand file sequences) }
     {
-        all_stand(&self.sequences)
+        !self.lost && all_stand(&self.sequences)
     }
 }
 
 // A signature has at most eight sequences, so this is not deep.
 fn feed_each(scans: &mut [SequenceScan], piece: &Piece<'_>)
-    ensures { (file : List ℕ) (sequences : List SequenceView) → AllZip (IsSequenceScanOf file) sequences scans.old → AllZip (IsSequenceScanOf (file ++ piece.now)) sequences scans.new }
+    ensures { (file : List ℕ) (sequences : List SequenceView) → AreSequenceScansOf file sequences scans.old → AreSequenceScansOf (file ++ piece.now) sequences scans.new }
 {
     let Some((first, later)) = scans.split_first_mut() else {
         return;
@@ -72,7 +112,7 @@ fn feed_each(scans: &mut [SequenceScan], piece: &Piece<'_>)
 }
 
 fn all_stand(scans: &[SequenceScan]) -> bool
-    ensures { (file : List ℕ) (sequences : List SequenceView) → All IsSequence sequences → IsBytes file → AllZip (IsSequenceScanOf file) sequences scans.now → (IsTrue result ↔ All (λ s. Stands s file) sequences) }
+    ensures { (file : List ℕ) (sequences : List SequenceView) → All IsSequence sequences → IsBytes file → AreSequenceScansOf file sequences scans.now → (IsTrue result ↔ AllStand file sequences) }
 {
     let Some((first, later)) = scans.split_first() else {
         return true;

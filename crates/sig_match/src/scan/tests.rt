@@ -4,7 +4,7 @@ use crate::scan::piece::Piece;
 use crate::scan::plain::PlainScan;
 use crate::scan::sequence_scan::SequenceScan;
 use crate::scan::sieve::Sieve;
-use crate::{Hit, Scan};
+use crate::{Hit, Scan, left_in};
 use sig_bits::FromRead;
 use sig_table::{FormatId, Sequence, SigId, Table};
 use std::alloc::{AllocError, Global};
@@ -267,8 +267,8 @@ fn the_plain_scan_agrees_on_gaps_and_lists(rt: HostRuntime) -> Result<(), Fail> 
     Ok(())
 }
 
-// Whether the scan of these sequences, each of a signature of its own, hits the signatures that the
-// plain scans say, in pieces of this length.
+// Whether the scan of these sequences, each of a signature of its own, and the search of the whole file
+// hit the signatures that the plain scans say, the scan in pieces of this length.
 fn all_agree_by(alloc: Global, table: &Table, file: &[u8], piece: usize) -> Result<bool, Fail>
     requires { 0 < piece }
 {
@@ -277,6 +277,9 @@ fn all_agree_by(alloc: Global, table: &Table, file: &[u8], piece: usize) -> Resu
         scan.feed(bytes);
     }
     let results = scan.finish();
+    if left_in(alloc, table, file)?.hits() != results.hits() {
+        return Ok(false);
+    }
     for index in 0..table.signature_count() {
         let mut stands = true;
         for sequence in table.sequences_of(SigId(index as u16)) {
@@ -305,7 +308,13 @@ fn many_fronts_are_told_apart_in_one_look(rt: HostRuntime) -> Result<(), Fail> {
         fmt/5,5,Variable,,,424142{1-2}4242\n\
         fmt/6,6,EOF,0,0,000041\n\
         fmt/7,7,BOF,0,,41*424100\n\
-        fmt/8,8,Variable,,,4241424200004241\n";
+        fmt/8,8,Variable,,,4241424200004241\n\
+        fmt/9,9,Variable,,,00004142\n\
+        fmt/10,10,Variable,,,41414141*00\n\
+        fmt/11,11,Variable,,,4242424242\n\
+        fmt/12,12,Variable,,,4141420000\n\
+        fmt/13,13,Variable,,,00410042[!00]\n\
+        fmt/14,14,Variable,,,42410000\n";
     let table = Table::load(
         rt.alloc(),
         &mut FromRead::new(rows.as_bytes()),
@@ -318,6 +327,48 @@ fn many_fronts_are_told_apart_in_one_look(rt: HostRuntime) -> Result<(), Fail> {
         assert!(rt; all_agree_by(rt.alloc(), &table, &file, 3)?, "{seed}");
         assert!(rt; all_agree_by(rt.alloc(), &table, &file, 7)?, "{seed}");
         assert!(rt; all_agree_by(rt.alloc(), &table, &file, 90)?, "{seed}");
+    }
+    Ok(())
+}
+
+// Whether a scan behind each front of the file answers what a scan of the whole file does.
+fn each_front_agrees(alloc: Global, table: &Table, file: &[u8]) -> Result<bool, Fail> {
+    let mut whole = Scan::new(alloc, table)?;
+    whole.feed(file);
+    let wanted = whole.finish();
+    for len in 0..=file.len() {
+        let mut scan = Scan::behind(alloc, table, &file[..len])?;
+        scan.feed(&file[len..]);
+        if scan.finish().hits() != wanted.hits() {
+            return Ok(false);
+        }
+    }
+    Ok(true)
+}
+
+#[test]
+fn a_front_of_any_length_settles_no_more_than_it_can(rt: HostRuntime) -> Result<(), Fail> {
+    let rows = "puid,signature,position,offset,max_offset,expression\n\
+        fmt/1,1,BOF,0,,41\n\
+        fmt/2,2,BOF,0,,42{1-3}41\n\
+        fmt/3,3,BOF,2,9,4142\n\
+        fmt/4,4,BOF,0,,41*4200\n\
+        fmt/5,5,BOF,1,,(41|42[00:41])00\n\
+        fmt/6,6,EOF,0,1,42\n\
+        fmt/6,6,BOF,0,,00\n\
+        fmt/7,7,BOF,0,,00\n\
+        fmt/7,7,EOF,0,3,4142\n\
+        fmt/8,8,Variable,,,414241\n\
+        fmt/8,8,BOF,0,30,0041\n\
+        fmt/9,9,BOF,3,3,*4241\n";
+    let table = Table::load(
+        rt.alloc(),
+        &mut FromRead::new(rows.as_bytes()),
+        &mut FromRead::new(b"higher,lower\n".as_slice()),
+    )?;
+    for seed in 0..12 {
+        let file = letters(rt.alloc(), seed, 24)?;
+        assert!(rt; each_front_agrees(rt.alloc(), &table, &file)?, "{seed}");
     }
     Ok(())
 }

@@ -42,9 +42,9 @@ impl Way {
         }
     }
 
-    /// Puts the front into the sieve, if it has two bytes and more. Answers its number there.
+    /// Puts the front into the sieve, if it has four bytes and more. Answers its number there.
     pub(crate) fn put_into(&self, sieve: &mut Sieve) -> Result<usize, AllocError> {
-        if self.len < 2 {
+        if self.len < 4 {
             return Ok(usize::MAX);
         }
         sieve.add(self.front, self.len)
@@ -99,8 +99,10 @@ fn next_front(front: &[u8], bytes: &[u8]) -> usize
     ensures within { result ≤ length bytes.now }
     ensures passed { (x : ℕ) → x < result → Misses front.now (drop x bytes.now) }
 {
-    if let Some(at) = memmem::find(bytes, front) {
-        return at;
+    if front.len() <= bytes.len() {
+        if let Some(at) = memmem::find(bytes, front) {
+            return at;
+        }
     }
     let mut at = (bytes.len() + 1).saturating_sub(front.len());
     while at < bytes.len() {

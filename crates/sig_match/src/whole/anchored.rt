@@ -4,6 +4,7 @@ ghost use Rattle.std.specs.Prelude.{◌≡◌, ◌-◌, ◌↔◌, ◌≤◌, �
 ghost use Rattle.sig_match.specs.Frontiers.{IsWithin, MayBegin, MayEnd, Meets};
 ghost use Rattle.sig_table.specs.Standing.{Stands};
 
+use crate::outlook::is_never;
 use crate::whole::advance::advance;
 use crate::whole::frontier::{Interval, add};
 use crate::whole::longest::longest_of;
@@ -16,6 +17,9 @@ use std::mem::swap;
 pub(crate) fn stands(alloc: Global, file: &[u8], sequence: &Sequence) -> Result<bool, AllocError>
     ensures { IfOk result (λ b. IsTrue b ↔ Stands sequence.now file.now) }
 {
+    if is_never(file, sequence) {
+        return Ok(false);
+    }
     let position = sequence.position();
     let items = sequence.expr().items();
     let longest = longest_of(items);

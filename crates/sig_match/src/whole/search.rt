@@ -5,12 +5,32 @@ ghost use Rattle.sig_match.specs.FirstHits.{MarksHits};
 ghost use Rattle.sig_match.specs.Hits.{HitsOf};
 ghost use Rattle.sig_table.specs.Standing.{Stands};
 
+use crate::scan::{Piece, Sieve};
 use crate::whole::anchored::stands;
+use crate::whole::fronts::{add_fronts, has_fronts, some_front_is_missing};
 use sig_table::{Sequence, SigId, Table};
 use std::alloc::{AllocError, Global};
 
+// For fewer fronts a sieve is not worth its making.
+const MANY_FRONTS: usize = 8;
+
 /// Of each signature whether it hits the file.
 pub(crate) fn which_hit(alloc: Global, table: &Table, file: &[u8]) -> Result<Vec<bool>, AllocError>
+    ensures len { IfOk result (λ marks. vec_len marks ≡ length table.now.signatures) }
+    ensures marks { IfOk result (λ marks. MarksHits table.now file.now marks.items) }
+{
+    if !has_fronts(table, MANY_FRONTS) {
+        return searched(alloc, table, file);
+    }
+    let mut sieve = Sieve::new(alloc)?;
+    add_fronts(table, &mut sieve)?;
+    let mut known = vec![in alloc; 0; sieve.len()]?;
+    sieve.look(file, &mut known);
+    sieved(alloc, table, &Piece::new(file, &sieve, &known))
+}
+
+// The same, by a search for each sequence.
+fn searched(alloc: Global, table: &Table, file: &[u8]) -> Result<Vec<bool>, AllocError>
     ensures len { IfOk result (λ marks. vec_len marks ≡ length table.now.signatures) }
     ensures marks { IfOk result (λ marks. MarksHits table.now file.now marks.items) }
 {
@@ -19,6 +39,38 @@ pub(crate) fn which_hit(alloc: Global, table: &Table, file: &[u8]) -> Result<Vec
         marks.push(is_hit(alloc, table, SigId(index as u16), file)?)?;
     }
     Ok(marks)
+}
+
+// The same, by a search for each sequence whose front may be in the file.
+fn sieved(alloc: Global, table: &Table, file: &Piece<'_>) -> Result<Vec<bool>, AllocError>
+    ensures len { IfOk result (λ marks. vec_len marks ≡ length table.now.signatures) }
+    ensures marks { IfOk result (λ marks. MarksHits table.now file.now marks.items) }
+{
+    let mut marks = Vec::with_capacity(alloc, table.signature_count())?;
+    let mut number = 0;
+    for index in 0..table.signature_count() {
+        let hit = is_hit_by_sieve(alloc, table, SigId(index as u16), file, &mut number)?;
+        marks.push(hit)?;
+    }
+    Ok(marks)
+}
+
+// Whether the signature hits the file, whose sieve has its fronts from this number on.
+fn is_hit_by_sieve(
+    alloc: Global,
+    table: &Table,
+    signature: SigId,
+    file: &Piece<'_>,
+    number: &mut usize,
+) -> Result<bool, AllocError>
+    requires { signature.0 < length table.now.signatures }
+    ensures { IfOk result (λ b. IsTrue b ↔ HitsOf table.now signature.0 file.now) }
+{
+    let sequences = table.sequences_of(signature);
+    if some_front_is_missing(file, sequences, number) {
+        return Ok(false);
+    }
+    all_stand(alloc, file.bytes(), sequences)
 }
 
 /// Whether the signature hits the file.

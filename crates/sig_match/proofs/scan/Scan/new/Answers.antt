@@ -1,13 +1,7 @@
-use Rattle.std.proofs.Common.{[], ap, arith, length}
+use Rattle.std.proofs.Common.{[]}
 use Rattle.std.proofs.lemmas.Slice.Zip.{AllZip-long}
 use Rattle.sig_match.specs.Scans.{IsSignatureScanOf}
 use Rattle.sig_match.proofs.scan.Scan.new.Goals as goal
 
-pub invariant_of-result-2 : goal.invariant_of-result-2
-invariant_of-result-2 c = (
-  c.signature_count-count.ensures.table,
-  AllZip-long (IsSignatureScanOf []) c.args.table.now.signatures c.in_ok-signatures.signatures.items c.in_ok-signatures.ensures,
-  let ok = c.in_ok-vec.field-0.ok.0 in omega (arith, c.in_ok-vec.ensures.len, c.signature_count-count.ensures.count),
-  omega (arith, c.in_ok-with_capacity.ensures.capacity, c.format_count.ensures.count),
-  let ok = c.in_ok-known.known.ok.0 in let same = ap length c.sieve.view_is in omega (arith, c.in_ok-known.ensures.len, c.len.ensures),
-)
+pub with-requires : goal.with-requires
+with-requires c = AllZip-long (IsSignatureScanOf []) c.args.table.now.signatures c.in_ok-signatures.signatures.items c.in_ok-signatures.ensures

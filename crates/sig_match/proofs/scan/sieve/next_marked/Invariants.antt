@@ -1,13 +1,14 @@
 use Rattle.std.proofs.Common.{◌≡◌, ℕ, ◌+◌, ◌-◌, ◌<◌, ◌≤◌, get_or, length}
-use Rattle.sig_match.specs.Sieves.{pair_at}
+use Rattle.sig_match.specs.Sieves.{IsSample, pair_at}
 use Rattle.sig_match.proofs.scan.sieve.next_marked.Given as goal
 
--- no entry begins at the places so far
+-- no entry is found at the places so far
 abbrev pub invariant-loop-at : goal.invariant-loop-at
 invariant-loop-at l = record {
   from : l.from ≤ l.at;
-  within : l.at ≤ length l.bytes;
-  none : (x : ℕ) → l.from ≤ x → x < l.at → x + 1 < length l.bytes → get_or l.heads (pair_at l.bytes x) 0 ≡ 0;
+  within : l.at ≤ length l.bytes + 2;
+  sample : IsSample l.at;
+  none : (y : ℕ) → l.from ≤ y → y < l.at → IsSample y → y + 1 < length l.bytes → get_or l.heads (pair_at l.bytes y) 0 ≡ 0;
 }
 
 abbrev pub decreases-loop-at : goal.decreases-loop-at
@@ -17,8 +18,9 @@ decreases-loop-at l = length l.bytes - l.at
 abbrev pub invariant-loop-at-2 : goal.invariant-loop-at-2
 invariant-loop-at-2 l = record {
   from : l.from ≤ l.at;
-  within : l.at ≤ length l.bytes;
-  none : (x : ℕ) → l.from ≤ x → x < l.at → x + 1 < length l.bytes → get_or l.heads (pair_at l.bytes x) 0 ≡ 0;
+  within : l.at ≤ length l.bytes + 2;
+  sample : IsSample l.at;
+  none : (y : ℕ) → l.from ≤ y → y < l.at → IsSample y → y + 1 < length l.bytes → get_or l.heads (pair_at l.bytes y) 0 ≡ 0;
 }
 
 abbrev pub decreases-loop-at-2 : goal.decreases-loop-at-2

@@ -1,4 +1,4 @@
-use Rattle.std.proofs.Common.{arith, ap, subst, sym, ◌∙◌, ◌≡◌, ◌+◌, ℕ, List, get_or, length, ◌↔◌}
+use Rattle.std.proofs.Common.{arith, ap, subst, sym, ◌∙◌, ◌≡◌, ℕ, List, get_or, length, ◌↔◌}
 use Rattle.sig_auto.specs.Runs.{IsStepOf}
 use Rattle.sig_auto.specs.Trees.{whole_tree}
 use Rattle.sig_bits.specs.BitSets.{HasBit}

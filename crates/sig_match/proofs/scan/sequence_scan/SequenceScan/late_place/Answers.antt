@@ -1,6 +1,4 @@
-use Rattle.std.proofs.Common.{◌≡◌, ◌+◌, ◌<◌, ◌≤◌, ℕ, ap, arith, length, subst}
-use Rattle.sig_auto.specs.TreeSlots.{slots_of}
-use Rattle.sig_auto.specs.Trees.{whole_tree}
+use Rattle.std.proofs.Common.{ap, arith, length, subst}
 use Rattle.sig_bits.specs.BitSets.{HasBit}
 use Rattle.sig_match.proofs.SpanLemmas.{span_both}
 use Rattle.sig_match.proofs.scan.sequence_scan.SequenceScan.late_place.Goals as goal

@@ -1,4 +1,3 @@
-use Rattle.std.proofs.Common.{arith}
 use Rattle.sig_match.proofs.RestLemmas.{passed_to}
 use Rattle.sig_match.proofs.scan.sequence_scan.SequenceScan.next_place.Goals as goal
 

@@ -1,4 +1,3 @@
-use Rattle.std.proofs.Common.{arith}
 use Rattle.sig_match.proofs.SieveLemmas.{no_heads}
 use Rattle.sig_match.proofs.scan.sieve.Sieve.new.Goals as goal
 

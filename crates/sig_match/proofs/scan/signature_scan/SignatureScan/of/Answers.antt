@@ -9,5 +9,5 @@ pub loop-sequence-preserved : goal.loop-sequence-preserved
 loop-sequence-preserved c =
     rw c.in_ok-push.ensures.items (zip_more (IsSequenceScanOf []) c.args.sequences.now c.loop-sequence.scans.items c.loop-sequence.sequence-index c.sequence-item.result _ (omega arith) c.sequence-item.is c.loop-sequence.invariant c.in_ok-of.ensures)
 
-pub returns : goal.returns
-returns c = subst (λ l. AllZip (IsSequenceScanOf []) l c.loop-sequence.scans.items) (take_all c.loop-sequence.sequence-index c.args.sequences.now (omega arith)) c.loop-sequence.invariant
+pub returns-clause-each : goal.returns-clause-each
+returns-clause-each c = subst (λ l. AllZip (IsSequenceScanOf []) l c.loop-sequence.scans.items) (take_all c.loop-sequence.sequence-index c.args.sequences.now (omega arith)) c.loop-sequence.invariant

@@ -1,6 +1,6 @@
 use Rattle.std.proofs.Common.{◌≡◌, vec_len}
 use Rattle.sig_match.proofs.MarkLemmas.{MarksBelow}
-use Rattle.sig_match.proofs.whole.search.which_hit.Given as goal
+use Rattle.sig_match.proofs.whole.search.sieved.Given as goal
 
 -- the signatures so far are marked
 abbrev pub invariant-loop-index : goal.invariant-loop-index

@@ -1,6 +1,6 @@
 use Rattle.std.proofs.Common.{◌≡◌, arith, length}
 use Rattle.sig_match.proofs.MarkLemmas.{MarksBelow-none, MarksBelow-push, MarksHits-from_below}
-use Rattle.sig_match.proofs.whole.search.which_hit.Goals as goal
+use Rattle.sig_match.proofs.whole.search.sieved.Goals as goal
 
 pub loop-index-init : goal.loop-index-init
 loop-index-init c = record { len = c.in_ok-marks.ensures.len; marks = MarksBelow-none c.args.table.now c.args.file.now c.in_ok-marks.marks.items }
@@ -11,7 +11,7 @@ loop-index-preserved c =
     let len : length c.loop-index.marks.items ≡ c.loop-index.index = let ok = c.loop-index.marks.ok.0 in omega arith in
     record {
       len = omega (arith, c.in_ok-push.ensures.len);
-      marks = rw c.in_ok-push.ensures.items (MarksBelow-push c.args.table.now c.args.file.now c.loop-index.index c.loop-index.marks.items c.in_ok-is_hit.field-0 len c.in_ok-is_hit.ensures.0 c.in_ok-is_hit.ensures.1 inv.marks);
+      marks = rw c.in_ok-push.ensures.items (MarksBelow-push c.args.table.now c.args.file.now c.loop-index.index c.loop-index.marks.items c.in_ok-hit.hit len c.in_ok-hit.ensures.0 c.in_ok-hit.ensures.1 inv.marks);
     }
 
 pub returns-clause-marks : goal.returns-clause-marks

@@ -1,0 +1,17 @@
+use Rattle.std.proofs.Common.{arith, subst}
+use Rattle.sig_match.specs.Lates.{IsOutlook}
+use Rattle.sig_match.proofs.OutlookLemmas.{left_always, left_open}
+use Rattle.sig_match.proofs.scan.signature_scan.SignatureScan.behind.Goals as goal
+use Rattle.sig_match.proofs.scan.signature_scan.SignatureScan.behind.Goals.{in-Always, in-Open+in_ok-of-in-Open+in_ok-push-in-Open}
+
+pub loop-sequence-preserved : goal.loop-sequence-preserved
+loop-sequence-preserved c =
+    let front = c.args.front.now in
+    let ss = c.args.sequences.now in
+    let i = c.loop-sequence.sequence-index in
+    let s = c.sequence-item.result in
+    let scans = c.loop-sequence.scans.items in
+    elim c.match-branch-2.branch [
+      | in-Always w ↦ rw w.scans-is (left_always front ss i s scans (omega arith) c.sequence-item.is c.loop-sequence.invariant (subst (λ o. IsOutlook front s o) w.in-Always.is c.in_ok-outlook_of.ensures))
+      | in-Open+in_ok-of-in-Open+in_ok-push-in-Open w ↦ rw (w.scans-is, w.in_ok-push-in-Open.ensures.items) (left_open front ss i s scans w.in_ok-of-in-Open.field-0 (omega arith) c.sequence-item.is c.loop-sequence.invariant w.in_ok-of-in-Open.ensures)
+    ]

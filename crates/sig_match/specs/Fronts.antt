@@ -1,0 +1,19 @@
+-- Fronts of sequences that may begin anywhere.
+use Rattle.std.specs.Prelude.{◌≡◌, ◌≤◌, ◌+◌, ℕ, List, drop, length, take}
+use Rattle.sig_table.specs.declared.position.Position.TheVariants as position
+use Rattle.sig_table.specs.Views.{SequenceView}
+use Rattle.sig_match.specs.declared.whole.fronts.Front.{Front}
+use Rattle.sig_match.specs.Rests.{Misses}
+use Rattle.sig_match.specs.Runs.{BeginsWith}
+
+-- the sequence may begin anywhere, and each word of it begins with the front, which has four to eight bytes
+pub record IsFrontOf (sequence : SequenceView) (front : Front) : Type 0 where
+  pub anywhere : sequence.position ≡ position.Variable
+  pub begins : BeginsWith sequence.items (take front.len front.bytes)
+  pub some : 4 ≤ front.len
+  pub few : front.len ≤ 8
+  pub wide : length front.bytes ≡ 8
+
+-- these bytes stand whole at no place of the file
+abbrev pub IsNowhere : List ℕ → List ℕ → Type 0
+IsNowhere front file = (x : ℕ) → x + length front ≤ length file → Misses front (drop x file)

@@ -1,0 +1,58 @@
+-- What the front of a file tells of sequences, and scans that begin behind it.
+use Rattle.std.specs.Prelude.{◌≡◌, ◌++◌, ◌↔◌, ℕ, Bool, List, All, IsTrue, true, false, ⊤}
+use Rattle.std.specs.List.{AllZip}
+use Rattle.sig_bits.specs.Bytes.{IsBytes}
+use Rattle.sig_table.specs.Standing.{Stands}
+use Rattle.sig_table.specs.Tables.{IsSequence}
+use Rattle.sig_table.specs.Views.{SequenceView, SignatureView}
+use Rattle.sig_match.specs.declared.outlook.Outlook.{Outlook}
+use Rattle.sig_match.specs.declared.outlook.Outlook.TheVariants as outlook
+use Rattle.sig_match.specs.Scans.{AreSequenceScansOf, IsSequenceScanOf, ScanView, SequenceScanView, SignatureScanView}
+
+-- the sequence stands in no file that begins with the front, or in each
+abbrev pub IsOutlook : List ℕ → SequenceView → Outlook → Type 0
+IsOutlook front sequence outlook.Never = (rest : List ℕ) → ¬ Stands sequence (front ++ rest)
+IsOutlook front sequence outlook.Always = (rest : List ℕ) → Stands sequence (front ++ rest)
+IsOutlook front sequence outlook.Open = ⊤
+
+-- all of the sequences stand in the file
+abbrev pub AllStand : List ℕ → List SequenceView → Type 0
+AllStand file sequences = All (λ s. Stands s file) sequences
+
+-- of the files that begin with the front, all of the sequences stand exactly in those in which the ones stand that these scans are of
+pub record IsLeft (front file : List ℕ) (sequences : List SequenceView) (scans : List SequenceScanView) : Type 0 where
+  pub left : List SequenceView
+  pub are : All IsSequence sequences → All IsSequence left
+  pub each : AllZip (IsSequenceScanOf file) left scans
+  pub same : (rest : List ℕ) → AllStand (front ++ rest) left ↔ AllStand (front ++ rest) sequences
+
+-- the signature is given up, and hits no file that begins with the front; or what is left of it is scanned
+pub record IsLateSignatureScanOf (front file : List ℕ) (sequences : List SequenceView) (scan : SignatureScanView) : Type 0 where
+  pub lost : scan.lost ≡ true → (rest : List ℕ) → ¬ AllStand (front ++ rest) sequences
+  pub kept : scan.lost ≡ false → IsLeft front file sequences scan.scans
+
+-- so it is for each of the signatures
+abbrev pub AreLateScansOf : List ℕ → List ℕ → List SignatureView → List SignatureScanView → Type 0
+AreLateScansOf front file signatures scans = AllZip (λ (s : SignatureView). IsLateSignatureScanOf front file s.sequences) signatures scans
+
+-- the scan is of the file, as far as the front leaves anything open
+pub record IsLateOf (front file : List ℕ) (scan : ScanView) : Type 0 where
+  pub bytes : IsBytes file
+  pub each : AreLateScansOf front file scan.table.signatures scan.signatures
+
+-- some front of the file settles what the scan no longer looks for, and for the rest it is of the file
+pub record IsLateScanOf (scan : ScanView) (file : List ℕ) : Type 0 where
+  pub front : List ℕ
+  pub rest : List ℕ
+  pub begins : file ≡ front ++ rest
+  pub is : IsLateOf front file scan
+
+-- whatever the file so far is, the new scans are those behind the piece, and the signature is not given up by it
+pub record IsFedBy (piece : List ℕ) (old new : SignatureScanView) : Type 0 where
+  pub lost : new.lost ≡ old.lost
+  pub each : (file : List ℕ) (sequences : List SequenceView) → AreSequenceScansOf file sequences old.scans → AreSequenceScansOf (file ++ piece) sequences new.scans
+
+-- whatever the file is, the mark says whether all sequences that are scanned stand in it; of a signature that is given up it is not set
+pub record IsMarkOf (scan : SignatureScanView) (mark : Bool) : Type 0 where
+  pub lost : IsTrue mark → scan.lost ≡ false
+  pub each : scan.lost ≡ false → (file : List ℕ) (sequences : List SequenceView) → All IsSequence sequences → IsBytes file → AreSequenceScansOf file sequences scan.scans → (IsTrue mark ↔ AllStand file sequences)
