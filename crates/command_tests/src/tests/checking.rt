@@ -277,6 +277,38 @@ fn judges_the_worked_certificates(rt: HostRuntime) -> Result<(), Fail> {
     Ok(())
 }
 
+// Both are in the same state after each byte, up to the last one of the gaps.
+const LONG_GAPS: &str = "fmt/1,1,BOF,0,,41{300}42\nfmt/2,2,BOF,0,,41{300}43\n";
+
+// A certificate of two such sequences, with a row for each of so many states.
+fn rows_in_step(rt: &HostRuntime, count: u16) -> Result<Vec<u8>, Fail> {
+    let mut bytes = b"PSAC\x01\x00\x00\x00\x01\x01\x00\x00\x00\x00".to_vec(rt.alloc())?;
+    bytes.extend_from_slice(&count.to_be_bytes())?;
+    for state in 0..count {
+        bytes.extend_from_slice(&state.to_be_bytes())?;
+        bytes.extend_from_slice(&state.to_be_bytes())?;
+    }
+    Ok(bytes)
+}
+
+#[test]
+fn judges_so_many_rows_that_states_are_noted(rt: HostRuntime) -> Result<(), Fail> {
+    let folder = folder(&rt, "noted")?;
+    let folder = folder.as_str();
+    let (signatures, priorities) = put_table(&rt, folder, LONG_GAPS, "")?;
+    let (signatures, priorities) = (signatures.as_str(), priorities.as_str());
+    let missing = "refused C10 not closed pair 0 table 0 row 300 byte 00\n";
+    for (count, line, status) in [(302, "accepted\n", 0), (301, missing, 1)] {
+        let bytes = rows_in_step(&rt, count)?;
+        let certificate = put(&rt, folder, "certificate.bin", bytes.as_slice())?;
+        let shown = check_files(&rt, signatures, priorities, certificate.as_str())?;
+        assert_eq!(rt; shown.out.as_str(), line);
+        assert_eq!(rt; shown.status, status);
+    }
+    fs::remove_dir_all(&rt, folder)?;
+    Ok(())
+}
+
 #[test]
 fn opens_the_certificate_after_the_load(rt: HostRuntime) -> Result<(), Fail> {
     let folder = folder(&rt, "certificate")?;
