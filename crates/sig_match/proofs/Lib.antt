@@ -1,5 +1,6 @@
 -- Lemmas of this crate.
 pub mod Exports
+mod FixedLemmas
 mod FrontLemmas
 mod FrontierLemmas
 mod GapLemmas

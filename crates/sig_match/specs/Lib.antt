@@ -13,6 +13,7 @@ pub use Rattle.sig_table.specs.Standing
 pub use Rattle.sig_table.specs.Tables
 -- The vocabulary of proofs: frontiers of offsets, and the first hits of the formats.
 pub mod FirstHits
+pub mod Fixed
 pub mod Frontiers
 pub mod Fronts
 pub mod Gaps

@@ -23,6 +23,7 @@ use std::alloc::{AllocError, Global};
 use std::marker::Model;
 
 mod entry;
+mod fixed;
 mod piece;
 #[cfg(test)]
 mod plain;
@@ -42,8 +43,9 @@ pub(crate) use way::FRONT;
 
 /// A file on its way past a table.
 ///
-/// All memory is taken at the start: for each sequence that is looked for its automaton and three sets
-/// of a bit for each state, the sieve of fronts, and the room of the answer.
+/// All memory is taken at the start: for each sequence that is looked for its automaton, three sets of a
+/// bit for each state, and its bytes if it is a long run of them; the sieve of fronts; and the room of the
+/// answer.
 #[derive(Debug, Drop)]
 pub struct Scan<'t> {
     table: &'t Table,

@@ -1,6 +1,6 @@
 //! One sequence of a scan: its automaton, and the states that it can be in.
 
-ghost use Rattle.std.specs.Prelude.{◌≡◌, ◌↔◌, ◌++◌, ℕ, ◌≤◌, [], List, IfOk, IsTrue, drop, length};
+ghost use Rattle.std.specs.Prelude.{◌≡◌, ◌⊎◌, ◌↔◌, ◌++◌, ℕ, ◌≤◌, [], List, IfOk, IsTrue, drop, false, length};
 ghost use Rattle.sig_auto.specs.Runs.{IsStepOf};
 ghost use Rattle.sig_auto.specs.Trees.{whole_tree};
 ghost use Rattle.sig_auto.specs.TreeSlots.{set_len};
@@ -12,6 +12,7 @@ ghost use Rattle.sig_table.specs.Standing.{Stands};
 ghost use Rattle.sig_table.specs.Tables.{IsSequence};
 ghost use Rattle.sig_table.specs.Views.{SequenceView};
 
+use crate::scan::fixed::{run_of, write_behind};
 use crate::scan::piece::Piece;
 use crate::scan::rest::way_of;
 use crate::scan::sieve::Sieve;
@@ -32,11 +33,13 @@ const COMPARED: usize = 64;
 
 // The set, the room of the next one, and a set in which the sequence can rest, with the way out of it:
 // at first the one in which most files leave it, then the one in which it rested last. `number` is the
-// place of the first front in the sieve. `resting` tells that it is in that set now, and `pause` how
+// place of the first front in the sieve. `run` has the bytes of a long sequence of fixed bytes alone that may
+// begin anywhere, and none of any other. `resting` tells that it is in that set now, and `pause` how
 // many bytes are stepped before that is asked again.
 #[derive(Debug, Drop)]
 pub(crate) struct SequenceScan {
     auto: Auto,
+    run: Vec<u8>,
     set: Vec<u8>,
     next: Vec<u8>,
     rest: Vec<u8>,
@@ -48,9 +51,10 @@ pub(crate) struct SequenceScan {
 }
 
 impl Model for SequenceScan {
-    ghost use Rattle.std.specs.Prelude.{◌≡◌, true, length, take};
+    ghost use Rattle.std.specs.Prelude.{◌≡◌, ◌<◌, true, length, take};
     ghost use Rattle.sig_auto.specs.Trees.{whole_tree};
     ghost use Rattle.sig_auto.specs.TreeSlots.{set_len};
+    ghost use Rattle.sig_match.specs.Fixed.{IsFixed};
     ghost use Rattle.sig_match.specs.Rests.{IsRest};
     ghost use Rattle.sig_match.specs.Scans.{SequenceScanView};
     ghost use Rattle.sig_match.specs.Spans.{Climbs};
@@ -64,7 +68,8 @@ impl Model for SequenceScan {
         × (length s.rest.items ≡ set_len (whole_tree s.auto))
         × IsRest (whole_tree s.auto) s.rest.items s.way.exits (take s.way.len s.way.front)
         × (s.resting ≡ true → s.set.items ≡ s.rest.items)
-        × (s.climbs ≡ true → Climbs (whole_tree s.auto)) };
+        × (s.climbs ≡ true → Climbs (whole_tree s.auto))
+        × (0 < length s.run.items → IsFixed s.auto s.run.items) };
 }
 
 impl SequenceScan {
@@ -77,12 +82,14 @@ impl SequenceScan {
         ensures { IfOk result (IsSequenceScanOf [] sequence.now) }
     {
         let auto = Auto::of(alloc, sequence)?;
+        let run = run_of(alloc, sequence)?;
         let mut set = empty_set(alloc, &auto)?;
         let next = empty_set(alloc, &auto)?;
         let rest = empty_set(alloc, &auto)?;
         auto.start_set(&mut set);
         let mut scan = SequenceScan {
             auto,
+            run,
             set,
             next,
             rest,
@@ -139,11 +146,39 @@ impl SequenceScan {
     {
         let bytes = piece.bytes();
         let mut from = self.next_place(piece, 0);
+        if from < bytes.len() && self.jump(piece) {
+            return;
+        }
         while from < bytes.len() {
             self.step(bytes[from]);
             self.settle();
             from = self.next_place(piece, from + 1);
         }
+    }
+
+    // Goes on by the whole piece at once, if the sequence has a run. Answers whether it did.
+    fn jump(&mut self, piece: &Piece<'_>) -> bool
+        ensures jumps { IsTrue result → (file : List ℕ) (s : SequenceView) → IsSequenceScanOf file s self.old → IsSequenceScanOf (file ++ piece.now) s self.new }
+        ensures stays { result ≡ false → self.new ≡ self.old }
+    {
+        let bytes = piece.bytes();
+        if self.run.is_empty() || bytes.is_empty() || !self.may_begin() {
+            return false;
+        }
+        write_behind(&self.run, &self.set, bytes, &mut self.next);
+        mem::swap(&mut self.set, &mut self.next);
+        self.resting = false;
+        self.pause = self.pause.saturating_sub(bytes.len());
+        self.settle();
+        true
+    }
+
+    // Whether the start or slot 1 is in the set. Of a sequence that may begin anywhere one of them is behind
+    // all bytes.
+    fn may_begin(&self) -> bool
+        ensures { IsTrue result → HasBit self.now.set 0 ⊎ HasBit self.now.set 1 }
+    {
+        get_bit(&self.set, 0) || get_bit(&self.set, 1)
     }
 
     // The next place to be stepped: the bytes up to it leave the set as it is, as far as the others

@@ -267,6 +267,135 @@ fn the_plain_scan_agrees_on_gaps_and_lists(rt: HostRuntime) -> Result<(), Fail> 
     Ok(())
 }
 
+// So many bytes, the pattern over and over.
+fn repeated(alloc: Global, pattern: &[u8], len: usize) -> Result<Vec<u8>, AllocError>
+    requires { 0 < length pattern.now }
+{
+    let mut bytes = Vec::new(alloc);
+    for at in 0..len {
+        bytes.push(pattern[at % pattern.len()])?;
+    }
+    Ok(bytes)
+}
+
+// The table of the one signature of this word, anywhere.
+fn table_of_word(alloc: Global, word: &[u8]) -> Result<Table, Fail> {
+    let mut sequence = String::new(alloc);
+    sequence.push_str("Variable,,,")?;
+    for byte in word {
+        sequence.push_str(if *byte == b'A' { "41" } else { "42" })?;
+    }
+    table_of(alloc, &sequence)
+}
+
+// Whether the scan and the plain one agree on the signature's sequences behind each piece.
+fn agree_on(alloc: Global, table: &Table, pieces: &[&[u8]]) -> Result<bool, Fail> {
+    if table.signature_count() == 0 {
+        return Ok(false);
+    }
+    for sequence in table.sequences_of(SigId(0)) {
+        let mut sieve = Sieve::new(alloc)?;
+        let mut scan = SequenceScan::of(alloc, sequence, &mut sieve)?;
+        let mut plain = PlainScan::of(alloc, sequence)?;
+        for bytes in pieces {
+            let mut known = vec![in alloc; 0; sieve.len()]?;
+            look_and_feed(&mut scan, &sieve, &mut known, bytes);
+            plain.feed(bytes);
+            if scan.stands() != plain.stands() {
+                return Ok(false);
+            }
+        }
+    }
+    Ok(true)
+}
+
+// Whether they agree on a file of these bytes before and behind others, cut so far behind their first: in two
+// pieces, and with a piece of a few bytes between them.
+fn agree_at(
+    alloc: Global,
+    table: &Table,
+    around: &[u8],
+    word: &[u8],
+    cut: usize,
+) -> Result<bool, Fail> {
+    let mut file = Vec::new(alloc);
+    file.extend_from_slice(around)?;
+    file.extend_from_slice(word)?;
+    file.extend_from_slice(around)?;
+    let (front, back) = file.split_at(file.len().min(around.len().saturating_add(cut)));
+    let (few, later) = back.split_at(back.len().min(9));
+    Ok(
+        agree_on(alloc, table, &[front, back])?
+            && agree_on(alloc, table, &[front, few, later, word, b"B"])?,
+    )
+}
+
+// Whether they agree on the signature's sequences in pieces of a few bytes.
+fn agree_in_small_pieces(alloc: Global, table: &Table, file: &[u8]) -> Result<bool, Fail> {
+    if table.signature_count() == 0 {
+        return Ok(false);
+    }
+    for sequence in table.sequences_of(SigId(0)) {
+        let same = agree_by(alloc, sequence, file, 1)?
+            && agree_by(alloc, sequence, file, 5)?
+            && agree_by(alloc, sequence, file, 63)?;
+        if !same {
+            return Ok(false);
+        }
+    }
+    Ok(true)
+}
+
+// Whether they agree on the word between these bytes, on it without its first byte, and on it with another
+// byte in it, cut at some places, and on the word in small pieces.
+fn agree_around(alloc: Global, word: &[u8], around: &[u8]) -> Result<bool, Fail> {
+    if word.len() < 64 {
+        return Ok(false);
+    }
+    let table = table_of_word(alloc, word)?;
+    let mut other = Vec::new(alloc);
+    other.extend_from_slice(word)?;
+    other[40] = 0;
+    for cut in [0, 1, 2, 40, 63, 64, 65, 66] {
+        let same = agree_at(alloc, &table, around, word, cut)?
+            && agree_at(alloc, &table, around, &word[1..], cut)?
+            && agree_at(alloc, &table, around, &other, cut)?;
+        if !same {
+            return Ok(false);
+        }
+    }
+    let mut file = Vec::new(alloc);
+    file.extend_from_slice(&around[..around.len().min(70)])?;
+    file.extend_from_slice(word)?;
+    file.extend_from_slice(b"B\x00")?;
+    agree_in_small_pieces(alloc, &table, &file)
+}
+
+#[test]
+fn the_plain_scan_agrees_on_a_run_of_one_letter(rt: HostRuntime) -> Result<(), Fail> {
+    let word = repeated(rt.alloc(), b"A", 65)?;
+    let zeros = repeated(rt.alloc(), b"\x00", 150)?;
+    assert!(rt; agree_around(rt.alloc(), &word, &zeros)?);
+    Ok(())
+}
+
+#[test]
+fn the_plain_scan_agrees_on_a_run_that_overlaps_itself(rt: HostRuntime) -> Result<(), Fail> {
+    let word = repeated(rt.alloc(), b"ABAAB", 64)?;
+    let around = repeated(rt.alloc(), b"ABAAB", 142)?;
+    assert!(rt; agree_around(rt.alloc(), &word, &around)?);
+    Ok(())
+}
+
+#[test]
+fn the_plain_scan_agrees_on_a_run_that_is_nearly_met(rt: HostRuntime) -> Result<(), Fail> {
+    let mut word = repeated(rt.alloc(), b"A", 63)?;
+    let around = repeated(rt.alloc(), b"A", 150)?;
+    word.push(b'B')?;
+    assert!(rt; agree_around(rt.alloc(), &word, &around)?);
+    Ok(())
+}
+
 // Whether the scan of these sequences, each of a signature of its own, and the search of the whole file
 // hit the signatures that the plain scans say, the scan in pieces of this length.
 fn all_agree_by(alloc: Global, table: &Table, file: &[u8], piece: usize) -> Result<bool, Fail>

@@ -1,6 +1,7 @@
 use Rattle.std.proofs.Common.{◌≡◌, ◌∙◌, ap, length, subst, sym}
 use Rattle.std.proofs.lemmas.Bool.{false≢true}
 use Rattle.sig_auto.specs.Trees.{whole_tree}
+use Rattle.sig_match.specs.Fixed.{IsFixed}
 use Rattle.sig_match.specs.Spans.{Climbs}
 use Rattle.sig_match.proofs.RestLemmas.{IsRest-none}
 use Rattle.sig_match.proofs.ScanLemmas.{written}
@@ -15,4 +16,5 @@ invariant_of-scan c =
       IsRest-none _ _ _ _ c.in_ok-rest.ensures.none,
       λ yes'. absurd (false≢true yes'),
       λ yes'. subst (λ t. Climbs (whole_tree t)) (sym c.in_ok-auto.ensures) (c.climbs.ensures yes'),
+      λ some. subst (λ t. IsFixed t c.in_ok-run.run'.items) (sym c.in_ok-auto.ensures) (c.in_ok-run.ensures some),
     )
