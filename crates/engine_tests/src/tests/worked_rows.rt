@@ -20,7 +20,7 @@ struct WorkedRow(
 );
 
 // The rows of the one signature 1 of `fmt/1`, a file, and whether it hits.
-const ONE_SIGNATURE: [(&str, &[u8], bool); 42] = [
+const ONE_SIGNATURE: &[(&str, &[u8], bool)] = &[
     ("Variable,,,41*42\n", b"BA", false),
     ("Variable,,,41*42\n", b"\x00AB", true),
     ("BOF,0,,41{1-2}42\n", b"ABB", true),
@@ -66,7 +66,7 @@ const ONE_SIGNATURE: [(&str, &[u8], bool); 42] = [
 ];
 
 // Tables of several signatures.
-const TABLES: [WorkedRow; 9] = [
+const TABLES: &[WorkedRow] = &[
     WorkedRow(
         "fmt/1,9,BOF,0,,41\nfmt/1,2,BOF,0,,41\n",
         "",
@@ -164,13 +164,13 @@ fn answers<K: DroidCore>(
 
 #[test]
 fn the_whole_core_answers_the_worked_rows(rt: HostRuntime) -> Result<(), Fail> {
-    for (sequences, file, hits) in ONE_SIGNATURE {
+    for &(sequences, file, hits) in ONE_SIGNATURE {
         let rows = format!(in rt.alloc(); "fmt/1,1,{sequences}")?;
         let core = WholeCore::new(rt.alloc(), table_of(&rt, rows.as_str(), "")?);
         let lines = if hits { "fmt/1 1\n" } else { "" };
         assert!(rt; answers(&rt, &core, file, lines, lines)?, "{rows}{file:?}");
     }
-    for WorkedRow(rows, pairs, file, all, left) in TABLES {
+    for &WorkedRow(rows, pairs, file, all, left) in TABLES {
         let core = WholeCore::new(rt.alloc(), table_of(&rt, rows, pairs)?);
         assert!(rt; answers(&rt, &core, file, all, left)?, "{rows}{file:?}");
     }
@@ -179,13 +179,13 @@ fn the_whole_core_answers_the_worked_rows(rt: HostRuntime) -> Result<(), Fail> {
 
 #[test]
 fn the_stream_core_answers_the_worked_rows(rt: HostRuntime) -> Result<(), Fail> {
-    for (sequences, file, hits) in ONE_SIGNATURE {
+    for &(sequences, file, hits) in ONE_SIGNATURE {
         let rows = format!(in rt.alloc(); "fmt/1,1,{sequences}")?;
         let core = StreamCore::new(rt.alloc(), table_of(&rt, rows.as_str(), "")?);
         let lines = if hits { "fmt/1 1\n" } else { "" };
         assert!(rt; answers(&rt, &core, file, lines, lines)?, "{rows}{file:?}");
     }
-    for WorkedRow(rows, pairs, file, all, left) in TABLES {
+    for &WorkedRow(rows, pairs, file, all, left) in TABLES {
         let core = StreamCore::new(rt.alloc(), table_of(&rt, rows, pairs)?);
         assert!(rt; answers(&rt, &core, file, all, left)?, "{rows}{file:?}");
     }
@@ -204,7 +204,7 @@ fn scanned(rt: &HostRuntime, table: &Table, file: &[u8], most: usize) -> Result<
 // A core scans only what is longer than its first piece, so the rows are fed to a scan by themselves.
 #[test]
 fn a_scan_answers_the_worked_rows(rt: HostRuntime) -> Result<(), Fail> {
-    for (sequences, file, hits) in ONE_SIGNATURE {
+    for &(sequences, file, hits) in ONE_SIGNATURE {
         let rows = format!(in rt.alloc(); "fmt/1,1,{sequences}")?;
         let table = table_of(&rt, rows.as_str(), "")?;
         for most in CUTS {
@@ -212,7 +212,7 @@ fn a_scan_answers_the_worked_rows(rt: HostRuntime) -> Result<(), Fail> {
             assert_eq!(rt; found.hits().len() == 1, hits, "{rows}{file:?}");
         }
     }
-    for WorkedRow(rows, pairs, file, _, _) in TABLES {
+    for &WorkedRow(rows, pairs, file, _, _) in TABLES {
         let core = WholeCore::new(rt.alloc(), table_of(&rt, rows, pairs)?);
         let whole = core.match_bytes(file)?;
         for most in CUTS {
