@@ -3,11 +3,11 @@ pub mod Deciding
 pub mod Pairs
 pub mod Layouts
 pub mod Closed
+pub mod FileRows
 pub mod Verdicts
 pub mod Growing
 -- The vocabulary of proofs.
 pub mod Blockers
 pub mod Chains
 pub mod Fields
-pub mod FileRows
 pub mod RowFaults

@@ -45,10 +45,10 @@ has_files found (Check table certificate) asks = tt
 has_files found (Witness table file) asks = tt
 
 -- a fault of the request is reported behind what the request shows
-pub fault_is_reported : {R E : Type 0} (failed : R → Bool) (held : Holding) (request : Request) (reason : Fault) (status : ℕ) (written : E → Option (List ℕ)) (err mid : E) (err_failed : Bool) (before after err_after : Option (List ℕ)) → IsFaultOf failed held request reason → TellsOf failed held request false err_failed err mid (written err) (written mid) → Joins failed held request reason before after err_failed (written err) (written mid) → err_failed ≡ false → Reports reason status (written mid) err_after → ReportsFaultOf failed held request status before after (written err) err_after
-fault_is_reported failed held request reason status written err mid err_failed before after err_after is told joins sound reports =
+pub fault_is_reported : {R E : Type 0} (failed : R → Bool) (held : Holding) (request : Request) (reason : Fault) (status : ℕ) (is_failed : E → Bool) (written : E → Option (List ℕ)) (err mid : E) (before after err_after : Option (List ℕ)) → IsFaultOf failed held request reason → TellsOf failed held request false is_failed written err mid → Joins failed held request reason before after (is_failed mid) (written err) (written mid) → is_failed mid ≡ false → Reports reason status (written mid) err_after → ReportsFaultOf failed held request status before after (written err) err_after
+fault_is_reported failed held request reason status is_failed written err mid before after err_after is told joins sound reports =
     (reason, is, written mid, (shown told, subst (λ b. Joins failed held request reason before after b (written err) (written mid)) sound joins), reports)
   where
-    shown : (mid ≡ err) ⊎ Shows failed held request false err_failed (written err) (written mid) → (written mid ≡ written err) ⊎ Shows failed held request false false (written err) (written mid)
+    shown : (mid ≡ err) ⊎ Shows failed held request false (is_failed mid) (written err) (written mid) → (written mid ≡ written err) ⊎ Shows failed held request false false (written err) (written mid)
     shown (inl same) = inl (ap written same)
     shown (inr shows) = inr (subst (λ b. Shows failed held request false b (written err) (written mid)) sound shows)

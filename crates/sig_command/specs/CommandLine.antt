@@ -1,5 +1,5 @@
 -- The command line in clap's words, and what its words ask for.
-use Rattle.std.specs.Prelude.{◌≡◌, ◌⊎◌, ◌<◌, ◌^◌, ℕ, pos, Bool, true, false, List, [], ◌∷◌, Option, None, Some, codes, length, map}
+use Rattle.std.specs.Prelude.{◌≡◌, ◌⊎◌, ◌<◌, ◌^◌, ℕ, pos, Bool, true, false, List, [], ◌∷◌, Option, None, Some, String, codes, length, map, string_bytes}
 use Rattle.std.specs.Borrow.{Bor}
 use Rattle.std.specs.Str.Parse.{IsNumeral, digits_value, without_leading_plus}
 use Rattle.clap.specs.Lexer.{usize_max}
@@ -14,6 +14,10 @@ use Rattle.clap.specs.declared.error.kind.ErrorKind.TheVariants.{DisplayHelp, Di
 use Rattle.sig_command.specs.declared.args.Request.{Request}
 use Rattle.sig_command.specs.declared.args.Request.TheVariants.{Check, Conflicts, Find, Match, MatchMany, Show, Witness}
 use Rattle.sig_engines.specs.declared.store.TablePaths.{TablePaths}
+
+-- the texts of the words
+abbrev pub texts_of : {A : Type 0} → List (String A) → List Text
+texts_of words = map string_bytes words
 
 -- the command is this one, and has no global argument
 pub record IsLine (app : App) (command : Command) : Type 0 where

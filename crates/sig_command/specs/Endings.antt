@@ -25,9 +25,10 @@ pub record AnswersBy (held : Holding) (words : List Text) (status : ℕ) (before
   pub denied : status ≡ 1 → AnswersWords held words false before after
   pub taken : AreTaken words → status ≡ 0 → AnswersWords held words true before after
 
--- with 2 and 3 words that ask for something get the line of a fault of just that, unless a write to the error output failed
-abbrev pub ReportsBy : {R : Type 0} → (R → Bool) → Holding → List Text → ℕ → Bool → (before after err_before err_after : Option (List ℕ)) → Type 0
-ReportsBy failed held words status is_failed before after err_before err_after = AreTaken words → 2 ≤ status → is_failed ≡ false → ReportsFaultOfWords failed held words status before after err_before err_after
+-- with 2 and 3 words that ask for something get the line of a fault of just that, unless a write to the error output failed; `written` and `err_written` tell what an output has written
+abbrev pub ReportsBy : {R W E : Type 0} → (R → Bool) → Holding → List Text → ℕ → (W → Option (List ℕ)) → (before after : W) → (E → Bool) → (E → Option (List ℕ)) → (err_before err_after : E) → Type 0
+ReportsBy failed held words status written before after err_failed err_written err_before err_after =
+    AreTaken words → 2 ≤ status → err_failed err_after ≡ false → ReportsFaultOfWords failed held words status (written before) (written after) (err_written err_before) (err_written err_after)
 
 -- the line of want of memory is reported
 abbrev pub ReportsMemory : Option (List ℕ) → Option (List ℕ) → Type 0

@@ -1,6 +1,6 @@
 -- What comes of what the words ask for: its answers, and its faults.
 use Rattle.std.specs.Borrow.{Bor}
-use Rattle.std.specs.Prelude.{◌≡◌, ℕ, ◌⊎◌, Bool, false, true, List, Option, ⊤, ◌<◌, length, map}
+use Rattle.std.specs.Prelude.{◌≡◌, ℕ, ◌⊎◌, Bool, false, true, List, Option, None, ⊤, ◌<◌, length, map}
 use Rattle.clap.specs.Words.{Text, subcommand_of}
 use Rattle.sig_bits.specs.Device.{Adds}
 use Rattle.sig_table.specs.Views.{TableView}
@@ -106,6 +106,15 @@ IsCutRequest failed held (Witness table path) before after = ⊥
 abbrev pub CutsWords : {R : Type 0} → (R → Bool) → Holding → List Text → Option (List ℕ) → Option (List ℕ) → Type 0
 CutsWords failed held words before after = (request : Request) × Asks (subcommand_of program words) request × IsCutRequest failed held request before after
 
+-- so for some words, where it is not known what the files hold
+abbrev pub CutsSomeWords : {R : Type 0} → (R → Bool) → Option (List ℕ) → Option (List ℕ) → Type 0
+CutsSomeWords failed before after = (words : List Text) × CutsWords failed None words before after
+
+-- unless a write failed, the output is as it was, or the answer to the request is cut short; `written` tells what an output has written, and `is_failed` whether it has failed
+abbrev pub KeepsOrCuts : {R W : Type 0} → (R → Bool) → Holding → Request → (W → Bool) → (W → Option (List ℕ)) → (before after : W) → Type 0
+KeepsOrCuts failed held request is_failed written before after =
+    is_failed after ≡ false → (after ≡ before) ⊎ IsCutRequest failed held request (written before) (written after)
+
 -- unless a write failed, a search over products or over pairs shows its progress where that is asked for, and of several files each of the first that has a fault has a line, but only where there is no answer; nothing else shows any
 abbrev pub Shows : {R : Type 0} → (R → Bool) → Holding → Request → Bool → Bool → Option (List ℕ) → Option (List ℕ) → Type 0
 Shows failed held (Show table) is_answered is_failed before after = ⊥
@@ -120,9 +129,14 @@ Shows failed held (Witness table path) is_answered is_failed before after = ⊥
 abbrev pub ShowsWords : {R : Type 0} → (R → Bool) → Holding → List Text → Bool → Bool → Option (List ℕ) → Option (List ℕ) → Type 0
 ShowsWords failed held words is_answered is_failed before after = (request : Request) × Asks (subcommand_of program words) request × Shows failed held request is_answered is_failed before after
 
+-- so for some words, where it is not known what the files hold
+abbrev pub ShowsSomeWords : {R : Type 0} → (R → Bool) → Bool → Bool → Option (List ℕ) → Option (List ℕ) → Type 0
+ShowsSomeWords failed is_answered is_failed before after = (words : List Text) × ShowsWords failed None words is_answered is_failed before after
+
 -- the error output is as it was, or shows what the request shows
-abbrev pub TellsOf : {R E : Type 0} → (R → Bool) → Holding → Request → Bool → Bool → E → E → Option (List ℕ) → Option (List ℕ) → Type 0
-TellsOf failed held request is_answered is_failed before after written written_after = (after ≡ before) ⊎ Shows failed held request is_answered is_failed written written_after
+abbrev pub TellsOf : {R E : Type 0} → (R → Bool) → Holding → Request → Bool → (E → Bool) → (E → Option (List ℕ)) → (before after : E) → Type 0
+TellsOf failed held request is_answered is_failed written before after =
+    (after ≡ before) ⊎ Shows failed held request is_answered (is_failed after) (written before) (written after)
 
 -- where some of several files have a fault, both outputs are of the same files, of all of them in their order; where a write failed, both are of the first ones; and before every other fault nothing is told
 abbrev pub TellsMany : {R : Type 0} → (R → Bool) → Bool → Holding → TablePaths → List (List ℕ) → Fault → (before after : Option (List ℕ)) (err_failed : Bool) (err_before err_after : Option (List ℕ)) → Type 0
@@ -144,6 +158,11 @@ Joins failed held (Find table budget out hex progress) fault before after err_fa
 Joins failed held (Conflicts table budget hex progress) fault before after err_failed err_before err_after = ⊤
 Joins failed held (Check table path) fault before after err_failed err_before err_after = ⊤
 Joins failed held (Witness table path) fault before after err_failed err_before err_after = ⊤
+
+-- the same of the two outputs, by what each has written
+abbrev pub JoinsBoth : {R W E : Type 0} → (R → Bool) → Holding → Request → (W → Option (List ℕ)) → (before after : W) → (E → Bool) → (E → Option (List ℕ)) → (err_before err_after : E) → Fault → Type 0
+JoinsBoth failed held request written before after err_failed err_written err_before err_after fault =
+    Joins failed held request fault (written before) (written after) (err_failed err_after) (err_written err_before) (err_written err_after)
 
 -- what is written grows by the rest, perhaps behind what is shown
 pub record Behind (Shown Rest : Option (List ℕ) → Option (List ℕ) → Type 0) (before after : Option (List ℕ)) : Type 0 where

@@ -1,11 +1,11 @@
 //! All that the program does: it reads the words, opens the files, answers, and gives the status.
 
-ghost use Rattle.std.specs.Prelude.{None, Some, ◌≡◌, ◌≢◌, ◌<◌, ◌⊎◌, false, is_ok, length, List, map, string_bytes, true, IfErr, IfOk, OnOk};
+ghost use Rattle.std.specs.Prelude.{None, Some, ◌≡◌, ◌≢◌, ◌<◌, ◌⊎◌, false, is_ok, length, List, true, IfErr, IfOk, OnOk};
 ghost use Rattle.clap.specs.Values.{kind_of};
 ghost use Rattle.clap.specs.Words.{Text};
-ghost use Rattle.sig_command.specs.Requests.{Answers, AnswersWords, CutsWords, HasFiles, IsCutRequest, IsFaultOf, IsLoadFault, Joins, ShowsWords, TellsOf, file_fault};
+ghost use Rattle.sig_command.specs.Requests.{Answers, AnswersWords, CutsSomeWords, CutsWords, HasFiles, IsFaultOf, IsLoadFault, JoinsBoth, KeepsOrCuts, ShowsSomeWords, ShowsWords, TellsOf, file_fault};
 ghost use Rattle.sig_engines.specs.Stores.{IsTableOf, Opens};
-ghost use Rattle.sig_command.specs.CommandLine.{IsHelpAsked};
+ghost use Rattle.sig_command.specs.CommandLine.{IsHelpAsked, texts_of};
 ghost use Rattle.sig_command.specs.Endings.{AnswersBy, KeepsErrors, KeepsOutput, ReportsBy, ReportsMemory};
 ghost use Rattle.sig_table.specs.Tables.{IsTable};
 
@@ -31,8 +31,8 @@ pub fn run<R: Env + Files + AllocGlobal, W: Output, E: Output>(
     err: &mut E,
 ) -> u8
     ensures known { result < 4 }
-    ensures output { KeepsOutput ((words : List Text) × CutsWords ⟦<FromRead<R::File> as Input>⟧.failed None words (W.written out.old) (W.written out.new)) result (W.failed out.new) out.old out.new }
-    ensures errors { KeepsErrors (λ is_answered is_failed before after. (words : List Text) × ShowsWords ⟦<FromRead<R::File> as Input>⟧.failed None words is_answered is_failed before after) result (E.failed err.new) err.old err.new (E.written err.old) (E.written err.new) }
+    ensures output { KeepsOutput (CutsSomeWords ⟦<FromRead<R::File> as Input>⟧.failed (W.written out.old) (W.written out.new)) result (W.failed out.new) out.old out.new }
+    ensures errors { KeepsErrors (ShowsSomeWords ⟦<FromRead<R::File> as Input>⟧.failed) result (E.failed err.new) err.old err.new (E.written err.old) (E.written err.new) }
 
     // What is shown answers some words, or they ask for help.
     ensures answered { result ≡ 0 → (words : List Text) × (IsHelpAsked words ⊎ AnswersWords None words true (W.written out.old) (W.written out.new)) }
@@ -73,10 +73,10 @@ pub fn command<R: Files + AllocGlobal, W: Output, E: Output>(
     err: &mut E,
 ) -> u8
     ensures known { result < 4 }
-    ensures output { KeepsOutput (CutsWords ⟦<FromRead<R::File> as Input>⟧.failed None (map string_bytes words.now) (W.written out.old) (W.written out.new)) result (W.failed out.new) out.old out.new }
-    ensures errors { KeepsErrors (ShowsWords ⟦<FromRead<R::File> as Input>⟧.failed None (map string_bytes words.now)) result (E.failed err.new) err.old err.new (E.written err.old) (E.written err.new) }
-    ensures answers { AnswersBy None (map string_bytes words.now) result (W.written out.old) (W.written out.new) }
-    ensures faults { ReportsBy ⟦<FromRead<R::File> as Input>⟧.failed None (map string_bytes words.now) result (E.failed err.new) (W.written out.old) (W.written out.new) (E.written err.old) (E.written err.new) }
+    ensures output { KeepsOutput (CutsWords ⟦<FromRead<R::File> as Input>⟧.failed None (texts_of words.now) (W.written out.old) (W.written out.new)) result (W.failed out.new) out.old out.new }
+    ensures errors { KeepsErrors (ShowsWords ⟦<FromRead<R::File> as Input>⟧.failed None (texts_of words.now)) result (E.failed err.new) err.old err.new (E.written err.old) (E.written err.new) }
+    ensures answers { AnswersBy None (texts_of words.now) result (W.written out.old) (W.written out.new) }
+    ensures faults { ReportsBy ⟦<FromRead<R::File> as Input>⟧.failed None (texts_of words.now) result W.written out.old out.new E.failed E.written err.old err.new }
 {
     command_over(&SystemFiles::new(rt), rt.alloc(), words, out, err)
 }
@@ -95,10 +95,10 @@ pub fn command_over<S: Store, W: Output, E: Output>(
     err: &mut E,
 ) -> u8
     ensures known { result < 4 }
-    ensures output { KeepsOutput (CutsWords S.Reader.failed (S.held store.now) (map string_bytes words.now) (W.written out.old) (W.written out.new)) result (W.failed out.new) out.old out.new }
-    ensures errors { KeepsErrors (ShowsWords S.Reader.failed (S.held store.now) (map string_bytes words.now)) result (E.failed err.new) err.old err.new (E.written err.old) (E.written err.new) }
-    ensures answers { AnswersBy (S.held store.now) (map string_bytes words.now) result (W.written out.old) (W.written out.new) }
-    ensures faults { ReportsBy S.Reader.failed (S.held store.now) (map string_bytes words.now) result (E.failed err.new) (W.written out.old) (W.written out.new) (E.written err.old) (E.written err.new) }
+    ensures output { KeepsOutput (CutsWords S.Reader.failed (S.held store.now) (texts_of words.now) (W.written out.old) (W.written out.new)) result (W.failed out.new) out.old out.new }
+    ensures errors { KeepsErrors (ShowsWords S.Reader.failed (S.held store.now) (texts_of words.now)) result (E.failed err.new) err.old err.new (E.written err.old) (E.written err.new) }
+    ensures answers { AnswersBy (S.held store.now) (texts_of words.now) result (W.written out.old) (W.written out.new) }
+    ensures faults { ReportsBy S.Reader.failed (S.held store.now) (texts_of words.now) result W.written out.old out.new E.failed E.written err.old err.new }
 {
     let matches = match read_args(alloc, words) {
         Ok(matches) => matches,
@@ -122,13 +122,13 @@ fn answer<'m, 'a, S: Store, W: Output, E: Output>(
     out: &mut W,
     err: &mut E,
 ) -> Result<bool, Fault<'a>>
-    ensures told { TellsOf S.Reader.failed (S.held store.now) request.entry (is_ok result) (E.failed err.new) err.old err.new (E.written err.old) (E.written err.new) }
-    ensures joined { IfErr result (λ fault. Joins S.Reader.failed (S.held store.now) request.entry fault (W.written out.old) (W.written out.new) (E.failed err.new) (E.written err.old) (E.written err.new)) }
+    ensures told { TellsOf S.Reader.failed (S.held store.now) request.entry (is_ok result) E.failed E.written err.old err.new }
+    ensures joined { IfErr result (JoinsBoth S.Reader.failed (S.held store.now) request.entry W.written out.old out.new E.failed E.written err.old err.new) }
     ensures shown { OnOk result (HasFiles request.entry → W.failed out.new ≡ false) }
     ensures answers { IfOk result (λ is_yes. Answers (S.held store.now) request.entry is_yes (W.written out.old) (W.written out.new)) }
     ensures faults { IfErr result (λ fault. IsFaultOf S.Reader.failed (S.held store.now) request.entry fault) }
     ensures untouched { IfErr result (λ fault. fault ≢ Fault.Run RunError.Write → ((e : CutShort) → fault ≢ Fault.CutShort e) → fault ≢ Fault.SomeFiles → out.new ≡ out.old) }
-    ensures whole { IfErr result (λ fault. W.failed out.new ≡ false → (out.new ≡ out.old) ⊎ IsCutRequest S.Reader.failed (S.held store.now) request.entry (W.written out.old) (W.written out.new)) }
+    ensures whole { IfErr result (λ fault. KeepsOrCuts S.Reader.failed (S.held store.now) request.entry W.failed W.written out.old out.new) }
 {
     match request {
         Request::Show { table } => show_table(store, alloc, table, out),
@@ -206,13 +206,13 @@ fn match_many<'m, 'a, S: Store, W: Output, E: Output>(
     out: &mut W,
     err: &mut E,
 ) -> Result<bool, Fault<'a>>
-    ensures told { TellsOf S.Reader.failed (S.held store.now) (Request.MatchMany all table.entry files.entry) (is_ok result) (E.failed err.new) err.old err.new (E.written err.old) (E.written err.new) }
-    ensures joined { IfErr result (λ fault. Joins S.Reader.failed (S.held store.now) (Request.MatchMany all table.entry files.entry) fault (W.written out.old) (W.written out.new) (E.failed err.new) (E.written err.old) (E.written err.new)) }
+    ensures told { TellsOf S.Reader.failed (S.held store.now) (Request.MatchMany all table.entry files.entry) (is_ok result) E.failed E.written err.old err.new }
+    ensures joined { IfErr result (JoinsBoth S.Reader.failed (S.held store.now) (Request.MatchMany all table.entry files.entry) W.written out.old out.new E.failed E.written err.old err.new) }
     ensures shown { OnOk result (0 < length files.now → W.failed out.new ≡ false) }
     ensures answers { IfOk result (λ is_yes. Answers (S.held store.now) (Request.MatchMany all table.entry files.entry) is_yes (W.written out.old) (W.written out.new)) }
     ensures faults { IfErr result (λ fault. IsFaultOf S.Reader.failed (S.held store.now) (Request.MatchMany all table.entry files.entry) fault) }
     ensures untouched { IfErr result (λ fault. fault ≢ Fault.Run RunError.Write → fault ≢ Fault.SomeFiles → out.new ≡ out.old) }
-    ensures whole { IfErr result (λ fault. W.failed out.new ≡ false → (out.new ≡ out.old) ⊎ IsCutRequest S.Reader.failed (S.held store.now) (Request.MatchMany all table.entry files.entry) (W.written out.old) (W.written out.new)) }
+    ensures whole { IfErr result (λ fault. KeepsOrCuts S.Reader.failed (S.held store.now) (Request.MatchMany all table.entry files.entry) W.failed W.written out.old out.new) }
 {
     let table = load(store, alloc, table)?;
     let core = StreamCore::new(alloc, table);
@@ -234,7 +234,7 @@ fn find_in_table<'a, S: Store, W: Output, E: Output>(
     out: &mut W,
     err: &mut E,
 ) -> Result<bool, Fault<'a>>
-    ensures told { TellsOf S.Reader.failed (S.held store.now) (Request.Find table.entry budget name.entry hex progress) (is_ok result) (E.failed err.new) err.old err.new (E.written err.old) (E.written err.new) }
+    ensures told { TellsOf S.Reader.failed (S.held store.now) (Request.Find table.entry budget name.entry hex progress) (is_ok result) E.failed E.written err.old err.new }
     ensures answers { IfOk result (λ is_yes. Answers (S.held store.now) (Request.Find table.entry budget name.entry hex progress) is_yes (W.written out.old) (W.written out.new)) }
     ensures shown { OnOk result (W.failed out.new ≡ false) }
     ensures faults { IfErr result (IsFaultOf S.Reader.failed (S.held store.now) (Request.Find table.entry budget name.entry hex progress)) }
@@ -258,12 +258,12 @@ fn settle_pairs<'a, S: Store, W: Output, E: Output>(
     out: &mut W,
     err: &mut E,
 ) -> Result<bool, Fault<'a>>
-    ensures told { TellsOf S.Reader.failed (S.held store.now) (Request.Conflicts table.entry budget hex progress) (is_ok result) (E.failed err.new) err.old err.new (E.written err.old) (E.written err.new) }
+    ensures told { TellsOf S.Reader.failed (S.held store.now) (Request.Conflicts table.entry budget hex progress) (is_ok result) E.failed E.written err.old err.new }
     ensures answers { IfOk result (λ is_yes. Answers (S.held store.now) (Request.Conflicts table.entry budget hex progress) is_yes (W.written out.old) (W.written out.new)) }
     ensures shown { OnOk result (W.failed out.new ≡ false) }
     ensures faults { IfErr result (IsFaultOf S.Reader.failed (S.held store.now) (Request.Conflicts table.entry budget hex progress)) }
     ensures untouched { IfErr result (λ fault. ((e : CutShort) → fault ≢ Fault.CutShort e) → out.new ≡ out.old) }
-    ensures whole { IfErr result (λ fault. W.failed out.new ≡ false → (out.new ≡ out.old) ⊎ IsCutRequest S.Reader.failed (S.held store.now) (Request.Conflicts table.entry budget hex progress) (W.written out.old) (W.written out.new)) }
+    ensures whole { IfErr result (λ fault. KeepsOrCuts S.Reader.failed (S.held store.now) (Request.Conflicts table.entry budget hex progress) W.failed W.written out.old out.new) }
 {
     let table = load(store, alloc, table)?;
     match settle(alloc, &table, budget, hex, progress, out, err) {

@@ -1,5 +1,6 @@
 -- What is printed of many files, each by its name.
 use Rattle.std.specs.Prelude.{◌≡◌, ℕ, Bool, false, List, [], ◌∷◌, ◌++◌, All, codes, flat_map, is_ok, map, Option, Some, Result, Ok, Err}
+use Rattle.std.specs.Borrow.{Bor}
 use Rattle.std.specs.List.{list_all}
 use Rattle.sig_bits.specs.Device.{Adds, AddsFront}
 use Rattle.sig_match.specs.declared.results.Hit.{Hit}
@@ -86,3 +87,15 @@ pub record CutsFiles (IsOf : List ℕ → Printed → Type 0) (names : List (Lis
   pub each : All (λ f. IsOf f.name f.printed) files
   pub adds : AddsFront before (out_texts files) after
   pub reports : err_failed ≡ false → Adds err_before (err_texts files) err_after
+
+-- ---- files of a store, on two outputs
+
+-- of the files of these names this is printed, in their order; `written` and `err_written` tell what an output has written, and `err_failed` whether it has failed
+abbrev pub AddsPrinted : {R W E : Type 0} → (R → Bool) → Bool → TableView → Holding → List (Bor (List ℕ)) → (W → Option (List ℕ)) → (before after : W) → (E → Bool) → (E → Option (List ℕ)) → (err_before err_after : E) → Bool → Type 0
+AddsPrinted failed all table held names written before after err_failed err_written err_before err_after whole =
+    AddsFiles (IsPrinted failed all table held) (map (λ n. n.now) names) (written before) (written after) (err_failed err_after) (err_written err_before) (err_written err_after) whole
+
+-- of the first of them this is printed, but of what is written to the output only a front
+abbrev pub CutsPrinted : {R W E : Type 0} → (R → Bool) → Bool → TableView → Holding → List (Bor (List ℕ)) → (W → Option (List ℕ)) → (before after : W) → (E → Bool) → (E → Option (List ℕ)) → (err_before err_after : E) → Type 0
+CutsPrinted failed all table held names written before after err_failed err_written err_before err_after =
+    CutsFiles (IsPrinted failed all table held) (map (λ n. n.now) names) (written before) (written after) (err_failed err_after) (err_written err_before) (err_written err_after)

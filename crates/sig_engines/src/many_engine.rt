@@ -3,9 +3,9 @@
 //! The files are matched one after another, and what is written of one stands when the next is
 //! opened. A file with a fault is told on the error output, and the others go on.
 
-ghost use Rattle.std.specs.Prelude.{◌≡◌, ◌<◌, ◌∷◌, [], false, IfErr, IfOk, length, map, OnOk, string_bytes, true};
+ghost use Rattle.std.specs.Prelude.{◌≡◌, ◌<◌, ◌∷◌, [], false, IfErr, IfOk, length, OnOk, string_bytes, true};
 ghost use Rattle.sig_engines.specs.Writing.{Prints};
-ghost use Rattle.sig_engines.specs.ManyFiles.{AddsFiles, CutsFiles, IsPrinted, file_fault_line};
+ghost use Rattle.sig_engines.specs.ManyFiles.{AddsPrinted, CutsPrinted, IsPrinted, file_fault_line};
 
 use crate::error::{FileFault, RunError};
 use crate::match_engine::lines_of_match;
@@ -29,7 +29,7 @@ pub fn run_match_many<S: Store, K: DroidCore, W: Output, E: Output>(
     out: &mut W,
     err: &mut E,
 ) -> Result<bool, RunError>
-    ensures answers { IfOk result (AddsFiles (IsPrinted S.Reader.failed all (K.lists core.now) (S.held store.now)) (map (λ n. n.now) names.now) (W.written out.old) (W.written out.new) (E.failed err.new) (E.written err.old) (E.written err.new)) }
+    ensures answers { IfOk result (AddsPrinted S.Reader.failed all (K.lists core.now) (S.held store.now) names.now W.written out.old out.new E.failed E.written err.old err.new) }
     ensures quiet { result ≡ Ok true → err.new ≡ err.old }
     ensures writes { OnOk result (W.failed out.old ≡ false → W.failed out.new ≡ false) }
     ensures shown { result ≡ Ok true → 0 < length names.now → W.failed out.new ≡ false }
@@ -37,7 +37,7 @@ pub fn run_match_many<S: Store, K: DroidCore, W: Output, E: Output>(
     // The one refusal, and when.
     ensures write { IfErr result (λ e. e ≡ RunError.Write) }
     ensures failed { IfErr result (λ e. W.failed out.new ≡ true) }
-    ensures cut { IfErr result (λ e. CutsFiles (IsPrinted S.Reader.failed all (K.lists core.now) (S.held store.now)) (map (λ n. n.now) names.now) (W.written out.old) (W.written out.new) (E.failed err.new) (E.written err.old) (E.written err.new)) }
+    ensures cut { IfErr result (λ e. CutsPrinted S.Reader.failed all (K.lists core.now) (S.held store.now) names.now W.written out.old out.new E.failed E.written err.old err.new) }
 {
     let mut is_whole = true;
     for name in names {
@@ -56,7 +56,7 @@ fn match_file<S: Store, K: DroidCore, W: Output, E: Output>(
     out: &mut W,
     err: &mut E,
 ) -> Result<bool, RunError>
-    ensures answers { IfOk result (AddsFiles (IsPrinted S.Reader.failed all (K.lists core.now) (S.held store.now)) (name.now ∷ []) (W.written out.old) (W.written out.new) (E.failed err.new) (E.written err.old) (E.written err.new)) }
+    ensures answers { IfOk result (AddsPrinted S.Reader.failed all (K.lists core.now) (S.held store.now) (name.entry ∷ []) W.written out.old out.new E.failed E.written err.old err.new) }
     ensures quiet { result ≡ Ok true → err.new ≡ err.old }
     ensures writes { OnOk result (W.failed out.old ≡ false → W.failed out.new ≡ false) }
     ensures shown { result ≡ Ok true → W.failed out.new ≡ false }
@@ -65,7 +65,7 @@ fn match_file<S: Store, K: DroidCore, W: Output, E: Output>(
     // The one refusal, and when.
     ensures write { IfErr result (λ e. e ≡ RunError.Write) }
     ensures failed { IfErr result (λ e. W.failed out.new ≡ true) }
-    ensures cut { IfErr result (λ e. CutsFiles (IsPrinted S.Reader.failed all (K.lists core.now) (S.held store.now)) (name.now ∷ []) (W.written out.old) (W.written out.new) (E.failed err.new) (E.written err.old) (E.written err.new)) }
+    ensures cut { IfErr result (λ e. CutsPrinted S.Reader.failed all (K.lists core.now) (S.held store.now) (name.entry ∷ []) W.written out.old out.new E.failed E.written err.old err.new) }
     ensures untouched { IfErr result (λ e. err.new ≡ err.old) }
 {
     match lines_of_name(alloc, store, core, all, name) {

@@ -52,7 +52,12 @@ pub record IsFedBy (piece : List ℕ) (old new : SignatureScanView) : Type 0 whe
   pub lost : new.lost ≡ old.lost
   pub each : (file : List ℕ) (sequences : List SequenceView) → AreSequenceScansOf file sequences old.scans → AreSequenceScansOf (file ++ piece) sequences new.scans
 
--- whatever the file is, the mark says whether all sequences that are scanned stand in it; of a signature that is given up it is not set
+-- whatever the file is, the answer says whether all sequences that are scanned stand in it
+abbrev pub TellsAllStand : List SequenceScanView → Bool → Type 0
+TellsAllStand scans answer =
+    (file : List ℕ) (sequences : List SequenceView) → All IsSequence sequences → IsBytes file → AreSequenceScansOf file sequences scans → (IsTrue answer ↔ AllStand file sequences)
+
+-- of a signature that is not given up the mark says so; of one that is given up it is not set
 pub record IsMarkOf (scan : SignatureScanView) (mark : Bool) : Type 0 where
   pub lost : IsTrue mark → scan.lost ≡ false
-  pub each : scan.lost ≡ false → (file : List ℕ) (sequences : List SequenceView) → All IsSequence sequences → IsBytes file → AreSequenceScansOf file sequences scan.scans → (IsTrue mark ↔ AllStand file sequences)
+  pub each : scan.lost ≡ false → TellsAllStand scan.scans mark

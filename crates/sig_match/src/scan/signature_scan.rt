@@ -1,10 +1,8 @@
 //! The sequences of one signature of a scan.
 
-ghost use Rattle.std.specs.Prelude.{◌≡◌, ◌↔◌, ◌++◌, ℕ, true, false, [], List, All, IfOk, IsTrue};
-ghost use Rattle.sig_bits.specs.Bytes.{IsBytes};
-ghost use Rattle.sig_match.specs.Lates.{AllStand, IsLateSignatureScanOf};
+ghost use Rattle.std.specs.Prelude.{◌≡◌, ◌++◌, ℕ, true, false, [], List, IfOk, IsTrue};
+ghost use Rattle.sig_match.specs.Lates.{IsLateSignatureScanOf, TellsAllStand};
 ghost use Rattle.sig_match.specs.Scans.{AreSequenceScansOf};
-ghost use Rattle.sig_table.specs.Tables.{IsSequence};
 ghost use Rattle.sig_table.specs.Views.{SequenceView};
 
 use crate::outlook::{Outlook, outlook_of};
@@ -94,7 +92,7 @@ impl SignatureScan {
     // Whether the signature hits the file, if it ends here.
     pub(crate) fn hits(&self) -> bool
         ensures lost { IsTrue result → self.now.lost ≡ false }
-        ensures each { self.now.lost ≡ false → (file : List ℕ) (sequences : List SequenceView) → All IsSequence sequences → IsBytes file → AreSequenceScansOf file sequences self.now.scans → (IsTrue result ↔ AllStand file sequences) }
+        ensures each { self.now.lost ≡ false → TellsAllStand self.now.scans result }
     {
         !self.lost && all_stand(&self.sequences)
     }
@@ -112,7 +110,7 @@ fn feed_each(scans: &mut [SequenceScan], piece: &Piece<'_>)
 }
 
 fn all_stand(scans: &[SequenceScan]) -> bool
-    ensures { (file : List ℕ) (sequences : List SequenceView) → All IsSequence sequences → IsBytes file → AreSequenceScansOf file sequences scans.now → (IsTrue result ↔ AllStand file sequences) }
+    ensures { TellsAllStand scans.now result }
 {
     let Some((first, later)) = scans.split_first() else {
         return true;
