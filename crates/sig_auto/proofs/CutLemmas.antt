@@ -87,21 +87,27 @@ begins_slot tree c before b q is = rw is (
   λ h. (eq-eqb q (before + 1) h.0, subst (λ x. InClass x b) (sym (slot_class c before q h.0)) h.1),
 )
 
-pub slot_live : (tree : Tree) (c : Class) (old class new : ByteClass) (before : ℕ) → tree ≡ Slot c → ((b : ℕ) → b < 256 → Holds class b ↔ InClass c b) → ((b : ℕ) → Holds new b ↔ (Holds old b ⊎ Holds class b)) → AddsLive old new (BeginsOn tree before)
-slot_live tree c old class new before is bytes joined b small = (
-  λ h. elim ((joined b).0 h) [ inl had ↦ inl had | inr has ↦ inr (before + 1, (begins_slot tree c before b (before + 1) is).1 (refl, (bytes b small).0 has)) ],
-  λ h. (joined b).1 (elim h [ inl had ↦ inl had | inr some ↦ inr ((bytes b small).1 ((begins_slot tree c before b some.0 is).0 some.1).1) ]),
+pub one_live : (old class new : ByteClass) (R : ℕ → ℕ → Type 0) (k : ℕ) (c : Class) → ((b q : ℕ) → R b q ↔ ((q ≡ k) × InClass c b)) → ((b : ℕ) → b < 256 → Holds class b ↔ InClass c b) → ((b : ℕ) → Holds new b ↔ (Holds old b ⊎ Holds class b)) → AddsLive old new R
+one_live old class new R k c one bytes joined b small = (
+  λ h. elim ((joined b).0 h) [ inl had ↦ inl had | inr has ↦ inr (k, (one b k).1 (refl, (bytes b small).0 has)) ],
+  λ h. (joined b).1 (elim h [ inl had ↦ inl had | inr some ↦ inr ((bytes b small).1 ((one b some.0).0 some.1).1) ]),
 )
 
-pub slot_cuts : (tree : Tree) (c : Class) (old new : ByteClass) (before : ℕ) → tree ≡ Slot c → ((b : ℕ) → b + 1 < 256 → (Holds new (b + 1) → ⊥) → (Holds old (b + 1) → ⊥) × SameSide c b (b + 1)) → AddsCuts old new (BeginsOn tree before)
-slot_cuts tree c old new before is adds b small out =
+pub one_cuts : (old new : ByteClass) (R : ℕ → ℕ → Type 0) (k : ℕ) (c : Class) → ((b q : ℕ) → R b q ↔ ((q ≡ k) × InClass c b)) → ((b : ℕ) → b + 1 < 256 → (Holds new (b + 1) → ⊥) → (Holds old (b + 1) → ⊥) × SameSide c b (b + 1)) → AddsCuts old new R
+one_cuts old new R k c one adds b small out =
     let more = adds b small out in (
       more.0,
       λ q.
-          let one = begins_slot tree c before b q is in
-          let two = begins_slot tree c before (b + 1) q is in
-          (λ r. two.1 ((one.0 r).0, more.1.0 (one.0 r).1), λ r. one.1 ((two.0 r).0, more.1.1 (two.0 r).1)),
+          let low = one b q in
+          let high = one (b + 1) q in
+          (λ r. high.1 ((low.0 r).0, more.1.0 (low.0 r).1), λ r. low.1 ((high.0 r).0, more.1.1 (high.0 r).1)),
     )
+
+pub slot_live : (tree : Tree) (c : Class) (old class new : ByteClass) (before : ℕ) → tree ≡ Slot c → ((b : ℕ) → b < 256 → Holds class b ↔ InClass c b) → ((b : ℕ) → Holds new b ↔ (Holds old b ⊎ Holds class b)) → AddsLive old new (BeginsOn tree before)
+slot_live tree c old class new before is = one_live old class new (BeginsOn tree before) (before + 1) c (λ b q. begins_slot tree c before b q is)
+
+pub slot_cuts : (tree : Tree) (c : Class) (old new : ByteClass) (before : ℕ) → tree ≡ Slot c → ((b : ℕ) → b + 1 < 256 → (Holds new (b + 1) → ⊥) → (Holds old (b + 1) → ⊥) × SameSide c b (b + 1)) → AddsCuts old new (BeginsOn tree before)
+slot_cuts tree c old new before is = one_cuts old new (BeginsOn tree before) (before + 1) c (λ b q. begins_slot tree c before b q is)
 
 -- ---- a gap: its slots take all bytes
 

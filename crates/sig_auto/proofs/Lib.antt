@@ -14,6 +14,7 @@ mod RowLemmas
 mod RowPushLemmas
 mod RunLaws
 mod RunLemmas
+mod RunTreeLemmas
 mod SameLemmas
 mod SideLemmas
 mod SpelledLemmas

@@ -1,6 +1,6 @@
 -- Branches may be grouped otherwise.
-use Rattle.std.proofs.Common.{◌≡◌, ◌↔◌, ℕ, zero, suc, ◌+◌, ◌<◌, drop, length, take, get_or, ◌-◌, List, [], ◌∷◌, ◌++◌, append_assoc, map, subst, sym, ap, ◌∙◌, refl, inl, inr, arith}
-use Rattle.std.proofs.lemmas.List.{append-nil, take-append-drop}
+use Rattle.std.proofs.Common.{◌≡◌, ◌↔◌, ℕ, zero, suc, ◌+◌, ◌<◌, ◌≤◌, drop, length, take, get_or, ◌-◌, List, [], ◌∷◌, ◌++◌, append_assoc, map, subst, sym, ap, ◌∙◌, refl, inl, inr, arith}
+use Rattle.std.proofs.lemmas.List.{append-nil, map_more, map_push, take-append-drop, take_all}
 use Rattle.sig_auto.specs.declared.class.Class.{Class}
 use Rattle.sig_auto.specs.Classes.{InClass, any}
 use Rattle.sig_auto.specs.Same.{IsSame, ors, thens}
@@ -309,3 +309,23 @@ pub rows_halves : {X : Type 0} (row : X → List Class) (rows : List X) (half : 
 rows_halves row rows half a b node some more one two is =
     subst (IsSame node) (ors_of_rows row rows)
     (ors_halves (λ r. row_tree (row r)) rows half a b node some more (subst (IsSame a) (sym (ors_of_rows row (take half rows))) one) (subst (IsSame b) (sym (ors_of_rows row (drop half rows))) two) is)
+
+-- a run of the trees of a list that are slots
+pub run_grows : {X : Type 0} (part : X → Tree) (xs : List X) (i : ℕ) (x : X) (old new : List Class) (c : Class) → i < length xs → x ≡ get_or xs i x → part x ≡ Slot c → new ≡ old ++ c ∷ [] → map part (take i xs) ≡ map Slot old → map part (take (i + 1) xs) ≡ map Slot new
+run_grows part xs i x old new c within is slot grown so_far =
+    map_more part xs i x within
+    ∙ ap (λ l. l ++ part (get_or xs i x) ∷ []) so_far ∙ ap (λ y. map Slot old ++ part y ∷ []) (sym is) ∙ ap (λ t. map Slot old ++ t ∷ []) slot
+    ∙ sym (map_push Slot old c)
+    ∙ ap (map Slot) (sym grown)
+
+pub run_whole : {X : Type 0} (part : X → Tree) (xs : List X) (i : ℕ) (cs : List Class) → length xs ≤ i → map part (take i xs) ≡ map Slot cs → thens part xs ≡ row_tree cs
+run_whole part xs i cs all same =
+    let whole : map part xs ≡ map Slot cs = subst (λ l. map part l ≡ map Slot cs) (take_all i xs all) same in
+    thens_mapped part xs ∙ ap (thens (λ t. t)) whole ∙ sym (thens_mapped Slot cs) ∙ thens_of_row cs
+  where
+    thens_mapped : {Y : Type 0} (f : Y → Tree) (ys : List Y) → thens f ys ≡ thens (λ t. t) (map f ys)
+    thens_mapped f [] = refl
+    thens_mapped f (y ∷ ys) = ap (Then (f y)) (thens_mapped f ys)
+
+pub run_of_whole_atoms : (atoms : List Atom) (i : ℕ) (cs : List Class) → length atoms ≤ i → map atom_tree (take i atoms) ≡ map Slot cs → atoms_tree atoms ≡ row_tree cs
+run_of_whole_atoms atoms i cs all same = sym (thens_of_atoms atoms) ∙ run_whole atom_tree atoms i cs all same

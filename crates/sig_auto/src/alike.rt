@@ -8,6 +8,7 @@ ghost use Rattle.sig_auto.specs.Seen.{seen};
 ghost use Rattle.sig_auto.specs.TreeSlots.{slots_of};
 
 use crate::node::Node;
+use crate::run::goes_in_run;
 
 impl Node {
     // Whether the slots that follow p are found to be those that follow q. A slot that the tree does
@@ -26,6 +27,10 @@ impl Node {
         }
         match self {
             Node::Never | Node::Empty | Node::Slot(_) => true,
+            Node::Run(_) => {
+                let slots = self.slots();
+                !goes_in_run(before, slots, p) && !goes_in_run(before, slots, q)
+            }
             Node::Gap { .. } => false,
             Node::Then(a, b, _) => {
                 let has_p = a.has_slot(before, p);

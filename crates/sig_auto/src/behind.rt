@@ -14,6 +14,7 @@ ghost use Rattle.sig_auto.specs.Trim.{IsTrim};
 ghost use Rattle.sig_bits.specs.ByteClasses.{Holds};
 
 use crate::node::{Node, ends_gap};
+use crate::run::{add_all_alone, add_all_cuts, add_begin_run, add_behind_run, ends_run};
 use sig_bits::ByteClass;
 
 impl Node {
@@ -24,6 +25,7 @@ impl Node {
         match self {
             Node::Never | Node::Empty | Node::Gap { .. } => {}
             Node::Slot(class) => class.add_cuts(cuts),
+            Node::Run(classes) => add_all_cuts(classes.as_slice(), cuts),
             Node::Then(x, y, _) | Node::Or(x, y, _) => {
                 x.add_cuts(cuts);
                 y.add_cuts(cuts);
@@ -38,6 +40,7 @@ impl Node {
         match self {
             Node::Never | Node::Empty | Node::Gap { .. } => {}
             Node::Slot(class) => class.add_alone(alone),
+            Node::Run(classes) => add_all_alone(classes.as_slice(), alone),
             Node::Then(x, y, _) | Node::Or(x, y, _) => {
                 x.add_alone(alone);
                 y.add_alone(alone);
@@ -75,6 +78,7 @@ impl Node {
                 live.extend(&class.bytes());
                 class.add_cuts(cuts);
             }
+            Node::Run(classes) => add_begin_run(classes.as_slice(), live, cuts),
             Node::Gap { .. } => {
                 if self.slots() > 0 {
                     *live = ByteClass::all();
@@ -114,6 +118,10 @@ impl Node {
         match self {
             Node::Never | Node::Empty => false,
             Node::Slot(_) => p == before + 1,
+            Node::Run(classes) => {
+                add_behind_run(classes.as_slice(), before, p, live, cuts);
+                ends_run(before, self.slots(), p)
+            }
             Node::Gap { min, max } => {
                 let end = before + self.slots();
                 if p < end || max.is_none() {

@@ -61,6 +61,13 @@ impl Class {
         }
     }
 
+    /// Whether it has both bytes or neither.
+    pub fn same_side(self, a: u8, b: u8) -> bool
+        ensures { IsTrue result ↔ SameSide self a b }
+    {
+        self.contains(a) == self.contains(b)
+    }
+
     // The two bytes that it is spelled with.
     fn ends(self) -> (u8, u8)
         ensures { IsSpelled self result.0 result.1 }

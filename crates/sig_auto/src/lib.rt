@@ -10,6 +10,7 @@ mod class;
 mod class_word;
 mod laws;
 mod node;
+mod run;
 mod start;
 mod step;
 mod successors;

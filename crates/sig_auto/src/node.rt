@@ -12,6 +12,8 @@ ghost use Rattle.sig_auto.specs.Trees.{Or, Then};
 ghost use Rattle.sig_auto.specs.TreeSlots.{class_of, slots_of};
 
 use crate::class::Class;
+use crate::class_word::ClassWord;
+use crate::run::{all_same_side, ends_run};
 use std::alloc::{AllocError, Global};
 
 // A tree over slots. Those of the left branch stand before those of the right.
@@ -23,6 +25,8 @@ pub(crate) enum Node {
     Empty,
     // A byte of the class.
     Slot(Class),
+    // A byte of each class, one behind the other.
+    Run(ClassWord),
     // Any bytes, at least `min` and, where there is a `max`, at most so many.
     Gap { min: u32, max: Option<u32> },
     // A word of the first, and then one of the second.
@@ -76,6 +80,7 @@ impl Node {
         match self {
             Node::Never | Node::Empty => 0,
             Node::Slot(_) => 1,
+            Node::Run(classes) => classes.len().min(65536) as u32,
             Node::Gap { min, max: None } => (*min).min(65535) + 1,
             Node::Gap { max: Some(max), .. } => (*max).min(65536),
             Node::Then(_, _, summary) | Node::Or(_, _, summary) => summary.slots,
@@ -99,6 +104,7 @@ impl Node {
         match self {
             Node::Never | Node::Slot(_) => false,
             Node::Empty => true,
+            Node::Run(classes) => classes.is_empty(),
             Node::Gap { min, .. } => *min == 0,
             Node::Then(_, _, summary) | Node::Or(_, _, summary) => summary.nullable,
         }
@@ -125,6 +131,7 @@ impl Node {
         match self {
             Node::Never | Node::Empty => false,
             Node::Slot(_) => q == before + 1,
+            Node::Run(_) => q == before + 1,
             Node::Gap { .. } => self.slots() > 0 && q == before + 1,
             Node::Then(a, b, _) => {
                 a.is_first(before, q) || (a.is_nullable() && b.is_first(before + a.slots(), q))
@@ -142,6 +149,7 @@ impl Node {
         match self {
             Node::Never | Node::Empty => false,
             Node::Slot(_) => p == before + 1,
+            Node::Run(_) => ends_run(before, self.slots(), p),
             Node::Gap { min, .. } => ends_gap(before, *min, before + self.slots(), p),
             Node::Then(a, b, _) => {
                 let between = before + a.slots();
@@ -173,6 +181,7 @@ impl Node {
         }
         match self {
             Node::Never | Node::Empty | Node::Slot(_) => false,
+            Node::Run(_) => q == p + 1,
             Node::Gap { max, .. } => {
                 let last = before + self.slots();
                 (before < p && p < last && q == p + 1) || (max.is_none() && p == last && q == p)
@@ -198,6 +207,7 @@ impl Node {
         match self {
             Node::Never | Node::Empty | Node::Gap { .. } => Class::ANY,
             Node::Slot(class) => *class,
+            Node::Run(classes) => classes[q - before - 1],
             Node::Then(a, b, _) | Node::Or(a, b, _) => {
                 let between = before + a.slots();
                 if q <= between {
@@ -215,7 +225,8 @@ impl Node {
     {
         match self {
             Node::Never | Node::Empty | Node::Gap { .. } => true,
-            Node::Slot(class) => class.contains(a) == class.contains(b),
+            Node::Slot(class) => class.same_side(a, b),
+            Node::Run(classes) => all_same_side(classes.as_slice(), a, b),
             Node::Then(x, y, _) | Node::Or(x, y, _) => x.same_side(a, b) && y.same_side(a, b),
         }
     }

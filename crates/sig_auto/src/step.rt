@@ -14,6 +14,7 @@ ghost use Rattle.sig_auto.specs.Trim.{IsTrim};
 ghost use Rattle.sig_bits.specs.BitSets.{HasBit};
 
 use crate::node::Node;
+use crate::run::{step_run, step_slot};
 use sig_bits::{any_between, clear, get_bit, set_bit, shift_into};
 
 impl Node {
@@ -61,12 +62,8 @@ impl Node {
         match self {
             Node::Never => false,
             Node::Empty => enter,
-            Node::Slot(class) => {
-                if enter && class.contains(byte) {
-                    set_bit(to, before + 1);
-                }
-                get_bit(from, before + 1)
-            }
+            Node::Slot(class) => step_slot(*class, before, enter, byte, from, to),
+            Node::Run(classes) => step_run(classes.as_slice(), before, enter, byte, from, to),
             Node::Gap { min, max } => {
                 step_gap(before, self.slots(), *max, enter, from, to);
                 gap_leads(before, self.slots(), *min, enter, from)
@@ -94,6 +91,13 @@ impl Node {
             Node::Never => false,
             Node::Empty => enter,
             Node::Slot(_) => get_bit(from, before + 1),
+            Node::Run(classes) => {
+                if classes.is_empty() {
+                    enter
+                } else {
+                    get_bit(from, before + self.slots())
+                }
+            }
             Node::Gap { min, .. } => gap_leads(before, self.slots(), *min, enter, from),
             Node::Then(a, b, _) => {
                 let led = a.goes_on(before, enter, from);

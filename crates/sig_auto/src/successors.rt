@@ -11,10 +11,13 @@ ghost use Rattle.sig_auto.specs.Local.{is_last};
 ghost use Rattle.sig_auto.specs.Runs.{FollowsOn};
 ghost use Rattle.sig_auto.specs.Seen.{seen};
 ghost use Rattle.sig_auto.specs.Successions.{BeginsOn, GoesOn, IsLeastAbove, IsNextAbove, NoneLater, successors_above};
+ghost use Rattle.sig_auto.specs.Trees.{row_tree};
 ghost use Rattle.sig_auto.specs.TreeSlots.{slots_of};
 ghost use Rattle.sig_auto.specs.Trim.{IsTrim};
 
+use crate::class::Class;
 use crate::node::{Node, ends_gap};
+use crate::run::{class_behind, ends_run, first_class};
 use std::alloc::AllocError;
 
 /// An iterator over the states that follow a state and take a byte, rising.
@@ -149,6 +152,7 @@ impl Node {
                     Next::none()
                 }
             }
+            Node::Run(classes) => next_begin_run(classes.as_slice(), before, byte, above),
             Node::Gap { .. } => {
                 if above <= before && self.slots() > 0 {
                     Next::alone(before + 1)
@@ -201,6 +205,10 @@ impl Node {
         match self {
             Node::Never | Node::Empty => (Next::none(), false),
             Node::Slot(_) => (Next::none(), p == before + 1),
+            Node::Run(classes) => (
+                next_gone_run(classes.as_slice(), before, p, byte, above),
+                ends_run(before, self.slots(), p),
+            ),
             Node::Gap { min, max } => {
                 let end = before + self.slots();
                 let ended = ends_gap(before, *min, end, p);
@@ -241,5 +249,31 @@ impl Node {
                 }
             }
         }
+    }
+}
+
+// The least slot above this one that begins a run and takes the byte.
+fn next_begin_run(classes: &[Class], before: usize, byte: u8, above: usize) -> Next
+    requires few { before + slots_of (row_tree classes.now) ≤ 65535 }
+    ensures least { IsLeastAbove above (BeginsOn (row_tree classes.now) before byte) result.slot }
+    ensures within { IfSome result.slot (λ q. q ≤ before + slots_of (row_tree classes.now)) }
+    ensures last { IsTrue result.last → NoneLater (BeginsOn (row_tree classes.now) before byte) result.slot }
+{
+    match first_class(classes) {
+        Some(class) if above <= before && class.contains(byte) => Next::alone(before + 1),
+        _ => Next::none(),
+    }
+}
+
+// The least slot above this one that goes behind p in a run and takes the byte.
+fn next_gone_run(classes: &[Class], before: usize, p: usize, byte: u8, above: usize) -> Next
+    requires few { before + slots_of (row_tree classes.now) ≤ 65535 }
+    ensures least { IsLeastAbove above (GoesOn (row_tree classes.now) before p byte) result.slot }
+    ensures within { IfSome result.slot (λ q. q ≤ before + slots_of (row_tree classes.now)) }
+    ensures last { IsTrue result.last → NoneLater (GoesOn (row_tree classes.now) before p byte) result.slot }
+{
+    match class_behind(classes, before, p) {
+        Some(class) if above <= p && class.contains(byte) => Next::alone(p + 1),
+        _ => Next::none(),
     }
 }

@@ -1,15 +1,16 @@
 //! From a sequence to its tree: the whole-file expression, with each bracket of several bytes
 //! unfolded into rows of classes.
 //!
-//! Branches are grouped by halves, so that no walk over the tree is deep.
+//! Slots that go next to each other make one run. Branches are grouped near their middle, so that no
+//! walk over the tree is deep.
 //!
 //! `[4142:4241]` has the rows `41 42`, `41 43-FF`, `42 00-40` and `42 41`.
 
-ghost use Rattle.std.specs.Prelude.{◌≡◌, ◌<◌, IfOk, None, Some, length, map};
+ghost use Rattle.std.specs.Prelude.{◌≡◌, ◌<◌, ◌≤◌, IfOk, IfSome, None, Some, length, map};
 ghost use Rattle.sig_auto.specs.Counted.{IsCounted};
 ghost use Rattle.sig_auto.specs.Same.{IsSame, ors, thens};
 ghost use Rattle.sig_auto.specs.Seen.{seen};
-ghost use Rattle.sig_auto.specs.Trees.{atom_tree, atoms_tree, back_tree, front_tree, item_tree, outside_tree, row_tree, rows_tree, whole_tree, Gap};
+ghost use Rattle.sig_auto.specs.Trees.{atom_tree, atoms_tree, back_tree, front_tree, item_tree, outside_tree, row_tree, rows_tree, whole_tree, Gap, Slot};
 
 use crate::class::Class;
 use crate::class_word::{ClassWord, outside_rows, range_rows};
@@ -73,7 +74,7 @@ fn anything() -> Node
     Node::Gap { min: 0, max: None }
 }
 
-// The items, one after the other, by halves.
+// The items, one after the other. Of two cuts, at least one leaves no more than half on each side.
 fn items_node(alloc: Global, items: &[Item]) -> Result<Node, AllocError>
     ensures tree { IfOk result (λ node. IsSame (seen node) (thens item_tree items.now)) }
     ensures counted { IfOk result IsCounted }
@@ -84,9 +85,68 @@ fn items_node(alloc: Global, items: &[Item]) -> Result<Node, AllocError>
     if later.is_empty() {
         return item_node(alloc, item);
     }
-    let half = items.len() / 2;
+    if let Some(run) = run_of_items(alloc, items)? {
+        return Ok(Node::Run(run));
+    }
+    let half = cut(items);
     let first = items_node(alloc, &items[..half])?;
     Node::then(alloc, first, items_node(alloc, &items[half..])?)
+}
+
+// The classes of the items, if each of them is one slot.
+fn run_of_items(alloc: Global, items: &[Item]) -> Result<Option<ClassWord>, AllocError>
+    ensures { IfOk result (λ found. IfSome found (λ run. thens item_tree items.now ≡ row_tree run.items)) }
+{
+    let mut run = Vec::new(alloc);
+    for item in items {
+        let Some(class) = class_of_item(item) else {
+            return Ok(None);
+        };
+        run.push(class)?;
+    }
+    Ok(Some(run))
+}
+
+// Where to cut the items in two: at the first place behind the middle that does not part two items of
+// one slot each, or else at the last before it. So a run stays whole.
+fn cut(items: &[Item]) -> usize
+    requires { 2 ≤ length items.now }
+    ensures before { 0 < result }
+    ensures behind { result < length items.now }
+{
+    let half = items.len() / 2;
+    for j in half..items.len() {
+        if !parts_slots(&items[j - 1], &items[j]) {
+            return j;
+        }
+    }
+    let mut j = half;
+    while j > 1 {
+        j -= 1;
+        if !parts_slots(&items[j - 1], &items[j]) {
+            return j;
+        }
+    }
+    half
+}
+
+// Whether a cut between the two parts two slots of a run.
+fn parts_slots(item: &Item, next: &Item) -> bool {
+    class_of_item(item).is_some() && class_of_item(next).is_some()
+}
+
+// The class of an item that is one slot.
+fn class_of_item(item: &Item) -> Option<Class>
+    ensures { IfSome result (λ class. item_tree item.now ≡ Slot class) }
+{
+    match item {
+        Item::Byte(b) => Some(Class::Within(*b, *b)),
+        Item::Any => Some(Class::ANY),
+        Item::Gap { .. } | Item::Alt(_) => None,
+        Item::Range(a, b) => class_of_atom(&Atom::Range(*a, *b)),
+        Item::Not(a) => class_of_atom(&Atom::Not(*a)),
+        Item::NotRange(a, b) => class_of_atom(&Atom::NotRange(*a, *b)),
+    }
 }
 
 fn item_node(alloc: Global, item: &Item) -> Result<Node, AllocError>
@@ -127,7 +187,7 @@ fn alternatives_node(alloc: Global, alternatives: &[Vec<Atom>]) -> Result<Node, 
     )
 }
 
-// The parts, one after the other, by halves.
+// The parts, one after the other: one run, or by halves.
 fn atoms_node(alloc: Global, atoms: &[Atom]) -> Result<Node, AllocError>
     ensures tree { IfOk result (λ node. IsSame (seen node) (atoms_tree atoms.now)) }
     ensures counted { IfOk result IsCounted }
@@ -138,9 +198,58 @@ fn atoms_node(alloc: Global, atoms: &[Atom]) -> Result<Node, AllocError>
     if later.is_empty() {
         return atom_node(alloc, atom);
     }
+    if let Some(run) = run_of_atoms(alloc, atoms)? {
+        return Ok(Node::Run(run));
+    }
     let half = atoms.len() / 2;
     let first = atoms_node(alloc, &atoms[..half])?;
     Node::then(alloc, first, atoms_node(alloc, &atoms[half..])?)
+}
+
+// The classes of the parts, if each of them is one slot.
+fn run_of_atoms(alloc: Global, atoms: &[Atom]) -> Result<Option<ClassWord>, AllocError>
+    ensures { IfOk result (λ found. IfSome found (λ run. atoms_tree atoms.now ≡ row_tree run.items)) }
+{
+    let mut run = Vec::new(alloc);
+    for atom in atoms {
+        let Some(class) = class_of_atom(atom) else {
+            return Ok(None);
+        };
+        run.push(class)?;
+    }
+    Ok(Some(run))
+}
+
+// The class of a part that is one slot.
+fn class_of_atom(atom: &Atom) -> Option<Class>
+    ensures { IfSome result (λ class. atom_tree atom.now ≡ Slot class) }
+{
+    match atom {
+        Atom::Byte(b) => Some(Class::Within(*b, *b)),
+        Atom::Range(a, b) => {
+            let (a, b) = (a.as_bytes(), b.as_bytes());
+            if a.len() == 1 {
+                Some(Class::Within(a[0], b[0]))
+            } else {
+                None
+            }
+        }
+        Atom::Not(a) => class_outside(a.as_bytes(), a.as_bytes()),
+        Atom::NotRange(a, b) => class_outside(a.as_bytes(), b.as_bytes()),
+    }
+}
+
+// The class of what is before the first bytes or after the second, if they are one.
+fn class_outside(a: &[u8], b: &[u8]) -> Option<Class>
+    requires a { 0 < length a.now }
+    requires b { 0 < length b.now }
+    ensures { IfSome result (λ class. outside_tree a.now b.now ≡ Slot class) }
+{
+    if a.len() == 1 {
+        Some(Class::Outside(a[0], b[0]))
+    } else {
+        None
+    }
 }
 
 fn atom_node(alloc: Global, atom: &Atom) -> Result<Node, AllocError>
@@ -190,14 +299,12 @@ fn rows_node(alloc: Global, rows: &[ClassWord]) -> Result<Node, AllocError>
     Node::or(alloc, first, rows_node(alloc, &rows[half..])?)
 }
 
-// The slots of a row, one after the other. There are eight at most.
+// The run of a row.
 fn row_node(alloc: Global, row: &[Class]) -> Result<Node, AllocError>
     ensures tree { IfOk result (λ node. seen node ≡ row_tree row.now) }
     ensures counted { IfOk result IsCounted }
 {
-    let Some((first, later)) = row.split_first() else {
-        return Ok(Node::Empty);
-    };
-    let later = row_node(alloc, later)?;
-    Node::then(alloc, Node::Slot(*first), later)
+    let mut classes = Vec::new(alloc);
+    classes.extend_from_slice(row)?;
+    Ok(Node::Run(classes))
 }

@@ -1,4 +1,4 @@
-use Rattle.std.proofs.Common.{◌≡◌, ◌<◌, ◌≤◌, ◌/◌, ◌∷◌, arith, drop, length, rules, subst, tests}
+use Rattle.std.proofs.Common.{◌≡◌, ◌<◌, ◌≤◌, ◌∷◌, arith, drop, length, rules, subst, tests}
 use Rattle.std.proofs.lemmas.List.{take_rest}
 use Rattle.std.proofs.lemmas.Result.{IfOk-weaker}
 use Rattle.sig_auto.proofs.SameLemmas.{thens_halves, thens_one}
@@ -18,7 +18,7 @@ returns-clause-tree t c =
     let is : c.args.items.now ≡ c.in-Some.item.now ∷ c.in-Some.later.now = search rules in
     let more : 0 < length c.in-Some.later.now = search (rules, tests) in
     let two : 2 ≤ length c.args.items.now = rw is (omega (arith, more)) in
-    let back : IsSame (seen c.in_ok-items_node.field-0) (thens item_tree (drop (length c.args.items.now / 2) c.args.items.now)) = subst (λ l. IsSame (seen c.in_ok-items_node.field-0) (thens item_tree l)) (take_rest c.args.items.now (length c.args.items.now / 2)) c.in_ok-items_node.ensures.tree in
+    let back : IsSame (seen c.in_ok-items_node.field-0) (thens item_tree (drop c.cut-half.result c.args.items.now)) = subst (λ l. IsSame (seen c.in_ok-items_node.field-0) (thens item_tree l)) (take_rest c.args.items.now c.cut-half.result) c.in_ok-items_node.ensures.tree in
     IfOk-weaker c.then.result _ _
-    (λ node joined. thens_halves item_tree c.args.items.now (length c.args.items.now / 2) (seen c.in_ok-first.first) (seen c.in_ok-items_node.field-0) (seen node) (omega (arith, two)) (omega (arith, two)) c.in_ok-first.ensures.tree back joined)
+    (λ node joined. thens_halves item_tree c.args.items.now c.cut-half.result (seen c.in_ok-first.first) (seen c.in_ok-items_node.field-0) (seen node) c.cut-half.ensures.before (omega (arith, two)) c.in_ok-first.ensures.tree back joined)
     c.then.ensures.tree

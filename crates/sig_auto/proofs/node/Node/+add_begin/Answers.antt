@@ -1,7 +1,9 @@
-use Rattle.std.proofs.Common.{◌≡◌, ◌+◌, ap, sym, ◌∙◌, arith}
+use Rattle.std.proofs.Common.{◌≡◌, ◌+◌, ap, subst, sym, ◌∙◌, arith}
+use Rattle.sig_auto.specs.Cuts.{AddsCuts, AddsLive}
 use Rattle.sig_auto.specs.Local.{is_nullable}
 use Rattle.sig_auto.specs.Seen.{seen}
 use Rattle.sig_auto.specs.Successions.{BeginsOn}
+use Rattle.sig_auto.specs.Trees.{row_tree}
 use Rattle.sig_auto.specs.TreeSlots.{slots_of}
 use Rattle.sig_auto.proofs.CutLemmas.{begins_after, begins_either, begins_first, cuts_as, cuts_both, gap_begins_live, live_as, live_both, slot_cuts, slot_live}
 use Rattle.sig_auto.proofs.node.Node.+add_begin.Goals as goal
@@ -67,3 +69,11 @@ returns-in-Or-clause-cuts t c before =
     cuts_both c.args.cuts.now c.add_begin-in-Or.new.cuts c.add_begin-in-Or-2.new.cuts (BeginsOn (seen c.args.self.now) before) (BeginsOn (seen c.deref-in-Or.result.now) before) (BeginsOn (seen c.deref-in-Or-2.result.now) (before + slots_of (seen c.deref-in-Or.result.now)))
     (λ b q. begins_either (seen c.args.self.now) (seen c.in-Or.a.value) (seen c.in-Or.b.value) (seen c.deref-in-Or.result.now) (seen c.deref-in-Or-2.result.now) before b q (ap seen c.in-Or.is) one two)
     (c.add_begin-in-Or.ensures.cuts before) (c.add_begin-in-Or-2.ensures.cuts (before + slots_of (seen c.deref-in-Or.result.now)))
+
+pub returns-in-Run-clause-live : goal.returns-in-Run-clause-live
+returns-in-Run-clause-live t c before =
+    subst (λ tree. AddsLive c.args.live.now c.add_begin_run.new.live (BeginsOn tree before)) (ap row_tree c.as_slice.ensures.value ∙ sym (ap seen c.in-Run.is)) (c.add_begin_run.ensures.live before)
+
+pub returns-in-Run-clause-cuts : goal.returns-in-Run-clause-cuts
+returns-in-Run-clause-cuts t c before =
+    subst (λ tree. AddsCuts c.args.cuts.now c.add_begin_run.new.cuts (BeginsOn tree before)) (ap row_tree c.as_slice.ensures.value ∙ sym (ap seen c.in-Run.is)) (c.add_begin_run.ensures.cuts before)

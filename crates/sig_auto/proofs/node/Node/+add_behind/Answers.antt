@@ -7,6 +7,7 @@ use Rattle.sig_auto.specs.Successions.{BeginsOn, GoesOn}
 use Rattle.sig_auto.specs.TreeSlots.{slots_of}
 use Rattle.sig_auto.proofs.CutLemmas.{cuts_as, cuts_both, cuts_none, gap_goes_live, gap_goes_none_live, goes_inside, goes_inside_one, goes_over, goes_past, goes_past_one, live_as, live_both, live_none, out_of_slots}
 use Rattle.sig_auto.proofs.PruneLemmas.{ends_out, or_ends_first, or_ends_second, then_ends_first, then_ends_second}
+use Rattle.sig_auto.proofs.RunTreeLemmas.{run_ends}
 use Rattle.sig_auto.proofs.node.Node.+add_behind.Goals as goal
 use Rattle.sig_auto.proofs.node.Node.+add_behind.Goals.{then-p-end, then-p-end-via-then-p-end, then-p-end-via-else-p-end+then-is_none, else-p-end+else-is_none}
 
@@ -29,7 +30,7 @@ returns-after-p-end-clause-live t c =
     elim c.if-p-end.branch [
       | then-p-end w ↦
           subst (λ l. AddsLive c.args.live.now l (GoesOn (seen c.args.self.now) c.args.before c.args.p)) (sym w.live-is)
-          (gap_goes_live (seen c.args.self.now) c.in-Gap.min c.in-Gap.max c.slots.result c.args.live.now w.all.result c.args.before c.args.p (ap seen c.in-Gap.is) c.slots.ensures (c.has_slot.ensures.0 c.if-not-has_slot.false)
+          (gap_goes_live (seen c.args.self.now) c.in-Gap.min c.in-Gap.max c.slots-in-Gap.result c.args.live.now w.all.result c.args.before c.args.p (ap seen c.in-Gap.is) c.slots-in-Gap.ensures (c.has_slot.ensures.0 c.if-not-has_slot.false)
           (elim w.then-p-end.branch [
             | then-p-end-via-then-p-end v ↦ inl v.if-p-end.true
             | then-p-end-via-else-p-end+then-is_none v ↦ inr (v.is_none.ensures ∙ ap not v.if-is_none.true)
@@ -37,7 +38,7 @@ returns-after-p-end-clause-live t c =
           w.all.ensures)
       | else-p-end+else-is_none w ↦
           subst (λ l. AddsLive c.args.live.now l (GoesOn (seen c.args.self.now) c.args.before c.args.p)) (sym w.live-is)
-          (gap_goes_none_live (seen c.args.self.now) c.in-Gap.min c.in-Gap.max c.slots.result c.args.live.now c.args.before c.args.p (ap seen c.in-Gap.is) c.slots.ensures w.if-p-end.false (w.is_none.ensures ∙ ap not w.if-is_none.false))
+          (gap_goes_none_live (seen c.args.self.now) c.in-Gap.min c.in-Gap.max c.slots-in-Gap.result c.args.live.now c.args.before c.args.p (ap seen c.in-Gap.is) c.slots-in-Gap.ensures w.if-p-end.false (w.is_none.ensures ∙ ap not w.if-is_none.false))
     ]
 
 pub returns-then-between-p-clause-live : goal.returns-then-between-p-clause-live
@@ -143,3 +144,6 @@ returns-else-between-p-2-clause-last t c =
     let many : c.slots-in-Or.result ≡ slots_of (seen c.in-Or.a.value) = c.slots-in-Or.ensures ∙ ap (λ node. slots_of (seen node)) c.deref-in-Or.ensures in
     c.add_behind-else-between-p-2.ensures.last ∙ ap (λ node. is_last (seen node) c.args.before c.args.p) c.deref-else-between-p-2.ensures
     ∙ or_ends_first (seen c.args.self.now) (seen c.in-Or.a.value) (seen c.in-Or.b.value) c.args.before c.slots-in-Or.result c.args.p (ap seen c.in-Or.is) many c.if-between-p-2.false
+
+pub returns-in-Run-clause-last : goal.returns-in-Run-clause-last
+returns-in-Run-clause-last t c = run_ends (seen c.args.self.now) c.in-Run.classes.items c.args.before c.slots.result c.args.p c.ends_run.result (ap seen c.in-Run.is) c.slots.ensures c.ends_run.ensures

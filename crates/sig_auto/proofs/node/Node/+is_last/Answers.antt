@@ -3,6 +3,7 @@ use Rattle.sig_auto.specs.Local.{is_last, is_nullable}
 use Rattle.sig_auto.specs.Seen.{seen}
 use Rattle.sig_auto.specs.TreeSlots.{slots_of}
 use Rattle.sig_auto.proofs.PruneLemmas.{or_ends_first, or_ends_second, then_ends_first, then_ends_second}
+use Rattle.sig_auto.proofs.RunTreeLemmas.{run_ends}
 use Rattle.sig_auto.proofs.node.Node.+is_last.Goals as goal
 
 and_true : (a : Bool) → (a && true) ≡ a
@@ -45,3 +46,6 @@ returns-else-p-between-2 t c =
     let many : c.slots-in-Or.result ≡ slots_of (seen c.in-Or.a.value) = c.slots-in-Or.ensures ∙ ap (λ node. slots_of (seen node)) c.deref-in-Or.ensures in
     c.is_last-else-p-between-2.ensures ∙ ap (λ node. is_last (seen node) (c.args.before + c.slots-in-Or.result) c.args.p) c.deref-else-p-between-2.ensures
     ∙ or_ends_second (seen c.args.self.now) (seen c.in-Or.a.value) (seen c.in-Or.b.value) c.args.before c.slots-in-Or.result c.args.p (ap seen c.in-Or.is) many c.if-p-between-2.false
+
+pub returns-in-Run : goal.returns-in-Run
+returns-in-Run t c = run_ends (seen c.args.self.now) c.in-Run.field-0.items c.args.before c.slots.result c.args.p c.ends_run.result (ap seen c.in-Run.is) c.slots.ensures c.ends_run.ensures

@@ -7,6 +7,7 @@ use Rattle.sig_auto.proofs.CutLemmas.{goes_inside, goes_inside_one, goes_past, g
 use Rattle.sig_auto.proofs.LaterLemmas.{gone_later_over, later_as}
 use Rattle.sig_auto.proofs.PruneLemmas.{ends_out, none_goes_on, or_ends_first, or_ends_second, then_ends_first, then_ends_second}
 use Rattle.sig_auto.proofs.SuccessorLemmas.{gone_or_alone, gone_or_second, gone_then_alone, gone_then_first, gone_then_over, gone_then_second}
+use Rattle.sig_auto.proofs.RunTreeLemmas.{run_ends}
 use Rattle.sig_auto.proofs.node.Node.+next_gone.Goals as goal
 
 pub returns-then-between-p-clause-least : goal.returns-then-between-p-clause-least
@@ -119,3 +120,6 @@ returns-else-between-p-2-clause-ended t c =
     let many : c.slots-in-Or.result ≡ slots_of (seen c.in-Or.a.value) = c.slots-in-Or.ensures ∙ ap (λ node. slots_of (seen node)) c.deref-in-Or.ensures in
     c.next_gone-else-between-p-2.ensures.ended ∙ ap (λ node. is_last (seen node) c.args.before c.args.p) c.deref-else-between-p-2.ensures
     ∙ or_ends_first (seen c.args.self.now) (seen c.in-Or.a.value) (seen c.in-Or.b.value) c.args.before c.slots-in-Or.result c.args.p (ap seen c.in-Or.is) many c.if-between-p-2.false
+
+pub returns-in-Run-clause-ended : goal.returns-in-Run-clause-ended
+returns-in-Run-clause-ended t c = run_ends (seen c.args.self.now) c.in-Run.classes.items c.args.before c.slots.result c.args.p c.ends_run.result (ap seen c.in-Run.is) c.slots.ensures c.ends_run.ensures
