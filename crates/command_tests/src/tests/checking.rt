@@ -12,7 +12,7 @@ use std::test::Fail;
 #[derive(Clone, Copy)]
 struct Judged(Rows, &'static [u8], &'static str);
 
-const JUDGED: [Judged; 38] = [
+const JUDGED: &[Judged] = &[
     Judged(
         TWO,
         b"PSAC\x01\x00\x00\x00\x01\x01\x00\x00\x00\x00\x00\x02\x00\x00\x00\x00\x00\x01\x00\x01",
@@ -265,7 +265,7 @@ fn check_files(
 #[test]
 fn judges_the_worked_certificates(rt: HostRuntime) -> Result<(), Fail> {
     let folder = folder(&rt, "judged")?;
-    for row in JUDGED {
+    for &row in JUDGED {
         let Judged(_, certificate, line) = row;
         let status = if line == "accepted\n" { 0 } else { 1 };
         let shown = shown_of(&rt, folder.as_str(), row)?;

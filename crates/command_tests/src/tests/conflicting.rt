@@ -32,7 +32,7 @@ const TWO_GIVE_UP: Rows = Rows(
 #[derive(Clone, Copy)]
 struct Settled(Rows, &'static str, &'static str);
 
-const SETTLED: [Settled; 17] = [
+const SETTLED: &[Settled] = &[
     Settled(NONE, "1", "pairs 0 decided 0 ambiguous 0 unknown 0\n"),
     Settled(ONE, "1", "pairs 0 decided 0 ambiguous 0 unknown 0\n"),
     Settled(
@@ -128,7 +128,7 @@ fn settle(
 fn settles_what_the_rows_say(rt: HostRuntime) -> Result<(), Fail> {
     let folder = folder(&rt, "settled")?;
     let folder = folder.as_str();
-    for Settled(rows, budget, lines) in SETTLED {
+    for &Settled(rows, budget, lines) in SETTLED {
         let shown = settle(&rt, folder, budget, rows.0, rows.1)?;
         assert_eq!(rt; shown.out.as_str(), lines, "{rows:?}");
         assert_eq!(rt;

@@ -10,7 +10,7 @@ use std::test::Fail;
 #[derive(Clone, Copy)]
 struct Sought(Rows, &'static str, &'static str, &'static str);
 
-const SOUGHT: [Sought; 10] = [
+const SOUGHT: &[Sought] = &[
     Sought(ONE, "1", "decided\n505341430200000000\n", "accepted\n"),
     Sought(TWO, "1", "gave up 1 2\n", ""),
     Sought(
@@ -78,7 +78,7 @@ fn find_files(
 
 #[test]
 fn finds_what_the_rows_say(rt: HostRuntime) -> Result<(), Fail> {
-    for Sought(rows, budget, lines, line) in SOUGHT {
+    for &Sought(rows, budget, lines, line) in SOUGHT {
         let folder = folder(&rt, "sought")?;
         let folder = folder.as_str();
         let (signatures, priorities) = put_table(&rt, folder, rows.0, rows.1)?;

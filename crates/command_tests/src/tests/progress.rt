@@ -23,7 +23,7 @@ const REFUSED: Rows = Rows("fmt/1,1,BOF,0,,4\n", "");
 
 // The products are those of the signatures, the pairs those of formats of which none is over the
 // other.
-const WATCHED: [Watched; 7] = [
+const WATCHED: &[Watched] = &[
     Watched(ONE, FIND_ONE, 0, "\r0 of 0 products\n"),
     Watched(TWO, FIND_TWO, 0, "\r0 of 1 products\r1 of 1 products\n"),
     Watched(TWO, FIND_ONE, 1, "\r0 of 1 products\n"),
@@ -52,7 +52,7 @@ const WATCHED: [Watched; 7] = [
 fn shows_how_much_is_done(rt: HostRuntime) -> Result<(), Fail> {
     let folder = folder(&rt, "watched")?;
     let folder = folder.as_str();
-    for Watched(rows, words, status, err) in WATCHED {
+    for &Watched(rows, words, status, err) in WATCHED {
         let (signatures, priorities) = put_table(&rt, folder, rows.0, rows.1)?;
         let mut words = owned_words(&rt, words)?;
         words.push(signatures)?;

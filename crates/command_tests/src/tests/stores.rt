@@ -40,7 +40,7 @@ const SHOWN: &str = "puid,signature,position,offset,max_offset,expression\n\
 // The one pair of formats is related, and has no more than its kind.
 const CERTIFICATE: &[u8] = b"PSAC\x01\x00\x00\x00\x01\x00";
 
-const ANSWERED: [Answered; 16] = [
+const ANSWERED: &[Answered] = &[
     Answered(b"AB", &["match", "s", "p", "f"], 0, "fmt/2 2\n", ""),
     Answered(b"A", &["match", "s", "p", "f"], 0, "fmt/1 1\n", ""),
     Answered(b"B", &["match", "s", "p", "f"], 0, "", ""),
@@ -101,13 +101,13 @@ const ANSWERED: [Answered; 16] = [
     Answered(b"AB", &["match", "s", "p", "z"], 3, "", "cannot open z\n"),
 ];
 
-const OF_A_FILE: [&[&str]; 3] = [
+const OF_A_FILE: &[&[&str]] = &[
     &["match", "s", "p", "f"],
     &["check", "s", "p", "f"],
     &["witness", "s", "p", "f"],
 ];
 
-const OF_A_TABLE: [&[&str]; 3] = [
+const OF_A_TABLE: &[&[&str]] = &[
     &["show", "s", "p"],
     &["match", "s", "p", "f"],
     &["conflicts", "--budget", "1", "s", "p"],
@@ -128,7 +128,7 @@ fn run_over<S: Store>(rt: &HostRuntime, store: &S, words: &[&str]) -> Result<Sho
 
 #[test]
 fn answers_for_the_files_that_the_words_name(rt: HostRuntime) -> Result<(), Fail> {
-    for Answered(file, words, status, out, err) in ANSWERED {
+    for &Answered(file, words, status, out, err) in ANSWERED {
         let store = Memory {
             alloc: rt.alloc(),
             first: SIGNATURES,
@@ -153,7 +153,7 @@ fn says_nothing_of_a_file_whose_reads_fail(rt: HostRuntime) -> Result<(), Fail> 
         second: PRIORITIES,
         third: FILE,
     };
-    for words in OF_A_FILE {
+    for &words in OF_A_FILE {
         let shown = run_over(&rt, &store, words)?;
         assert!(rt; shown.is_fault(3, "read failed\n"), "{words:?}{shown:?}");
     }
@@ -167,7 +167,7 @@ fn says_nothing_of_a_table_whose_reads_fail(rt: HostRuntime) -> Result<(), Fail>
         second: FILE,
         third: PRIORITIES,
     };
-    for words in OF_A_TABLE {
+    for &words in OF_A_TABLE {
         let shown = run_over(&rt, &store, words)?;
         assert!(rt; shown.is_fault(3, "read failed\n"), "{words:?}{shown:?}");
     }

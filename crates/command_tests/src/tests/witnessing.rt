@@ -10,7 +10,7 @@ use std::test::Fail;
 #[derive(Clone, Copy)]
 struct Witnessed(Rows, &'static [u8], &'static str);
 
-const WITNESSED: [Witnessed; 9] = [
+const WITNESSED: &[Witnessed] = &[
     Witnessed(EVERY_FILE, b"", "ambiguous fmt/1 fmt/2\n"),
     Witnessed(BOTH_ENDS, b"A", "ambiguous fmt/1 fmt/2\n"),
     Witnessed(BOTH_ENDS, b"AB", "not ambiguous\n"),
@@ -36,7 +36,7 @@ fn witness_files(
 fn names_the_first_two_formats_left(rt: HostRuntime) -> Result<(), Fail> {
     let folder = folder(&rt, "witnessed")?;
     let folder = folder.as_str();
-    for Witnessed(rows, file, line) in WITNESSED {
+    for &Witnessed(rows, file, line) in WITNESSED {
         let is_ambiguous = line != "not ambiguous\n";
         let (signatures, priorities) = put_table(&rt, folder, rows.0, rows.1)?;
         let file = put(&rt, folder, "file.bin", file)?;

@@ -42,7 +42,7 @@ struct Printed(
     &'static str,
 );
 
-const PRINTED: [Printed; 5] = [
+const PRINTED: &[Printed] = &[
     Printed(&["good"], false, true, "good\tfmt/2 2\n", ""),
     Printed(&["good"], true, true, "good\tfmt/1 1\ngood\tfmt/2 2\n", ""),
     Printed(
@@ -94,7 +94,7 @@ fn is_printed<K: DroidCore>(rt: &HostRuntime, core: &K, row: Printed) -> Result<
 #[test]
 fn each_line_begins_with_the_name_of_its_file(rt: HostRuntime) -> Result<(), Fail> {
     let core = WholeCore::new(rt.alloc(), table_of(&rt, BELOW.0, BELOW.1)?);
-    for row in PRINTED {
+    for &row in PRINTED {
         assert!(rt; is_printed(&rt, &core, row)?, "{}", row.3);
     }
     Ok(())
@@ -103,7 +103,7 @@ fn each_line_begins_with_the_name_of_its_file(rt: HostRuntime) -> Result<(), Fai
 #[test]
 fn a_core_that_streams_prints_the_same(rt: HostRuntime) -> Result<(), Fail> {
     let core = StreamCore::new(rt.alloc(), table_of(&rt, BELOW.0, BELOW.1)?);
-    for row in PRINTED {
+    for &row in PRINTED {
         assert!(rt; is_printed(&rt, &core, row)?, "{}", row.3);
     }
     Ok(())
