@@ -74,7 +74,8 @@ fn anything() -> Node
     Node::Gap { min: 0, max: None }
 }
 
-// The items, one after the other. Of two cuts, at least one leaves no more than half on each side.
+// The items, one after the other, cut near the middle: after two cuts no part but a run has more than
+// half of them.
 fn items_node(alloc: Global, items: &[Item]) -> Result<Node, AllocError>
     ensures tree { IfOk result (λ node. IsSame (seen node) (thens item_tree items.now)) }
     ensures counted { IfOk result IsCounted }

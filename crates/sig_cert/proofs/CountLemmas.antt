@@ -1,5 +1,5 @@
 -- The count of pairs, and then the pairs.
-use Rattle.std.proofs.Common.{◌≡◌, ◌⊎◌, ℕ, ◌≤◌, List, length, take, drop, sym, ap, ◌∙◌, subst, inl, inr, Ok, Err, Result}
+use Rattle.std.proofs.Common.{◌≡◌, ℕ, ◌≤◌, List, length, take, drop, subst, inl, inr, Ok, Err, Result}
 use Rattle.sig_cert.specs.declared.error.CheckError.{CheckError}
 use Rattle.sig_cert.specs.Layouts.{Version}
 use Rattle.sig_cert.specs.Pairs.{format_pairs}

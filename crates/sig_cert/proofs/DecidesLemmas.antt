@@ -1,5 +1,5 @@
 -- What a certificate that is judged Ok means.
-use Rattle.std.proofs.Common.{◌≡◌, ℕ, ◌<◌, List, [], get_or, sym, ap, ◌∙◌, subst, arith, Fits, w8, Ok, Err, Result}
+use Rattle.std.proofs.Common.{◌≡◌, ℕ, List, [], get_or, subst, arith, Fits, w8, Ok, Err, Result}
 use Rattle.std.proofs.lemmas.List.{get_or_default}
 use Rattle.std.specs.Prelude.{OnOk}
 use Rattle.std.specs.Result.{MatchResult}

@@ -1,5 +1,5 @@
 -- A pair of formats: its kind, and then its tables.
-use Rattle.std.proofs.Common.{◌≡◌, ◌⊎◌, ℕ, ◌≤◌, List, [], ◌∷◌, length, take, drop, refl, sym, ap, ◌∙◌, subst, arith, inl, inr, Ok, Err, Result}
+use Rattle.std.proofs.Common.{◌≡◌, ℕ, ◌≤◌, List, [], ◌∷◌, length, take, sym, ap, ◌∙◌, subst, arith, inl, inr, Ok, Err, Result}
 use Rattle.std.specs.Prelude.{slice_index}
 use Rattle.sig_cert.specs.declared.error.CheckError.{CheckError}
 use Rattle.sig_cert.specs.Fields.{Took}

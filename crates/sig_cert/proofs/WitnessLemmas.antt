@@ -1,5 +1,5 @@
 -- What the first two hits that are left say of a file.
-use Rattle.std.proofs.Common.{◌≡◌, ◌<◌, ◌≤◌, ℕ, List, [], ◌∷◌, All, length, refl, subst, sym, arith}
+use Rattle.std.proofs.Common.{◌≡◌, ◌<◌, ◌≤◌, ℕ, List, All, length, subst, sym}
 use Rattle.std.proofs.lemmas.List.Elements.{All-filter}
 use Rattle.sig_match.specs.declared.results.Hit.{Hit}
 use Rattle.sig_match.specs.Hits.{HitsAt, IsFirstHit, Left}

@@ -1,5 +1,5 @@
 -- The pairs of formats and of signatures that a certificate goes over, in order.
-use Rattle.std.specs.Prelude.{ℕ, ◌+◌, ◌-◌, ◌⊎◌, List, length, map, flat_map, Contains}
+use Rattle.std.specs.Prelude.{ℕ, ◌+◌, ◌-◌, ◌⊎◌, List, map, flat_map, Contains}
 use Rattle.std.specs.List.{range_with_len}
 use Rattle.sig_table.specs.Places.{places_of}
 use Rattle.sig_table.specs.Views.{TableView}

@@ -48,14 +48,18 @@ passed_forward tree set exits front (suc n) (b ∷ bytes) q rest are passed reac
     (λ out. absurd (⊎_elim (λ never. never out.0) (λ misses. opens_not tree front bytes b on.0 q later out.1 misses on.3) (passed 0 (omega arith))))
     (rest.leaves reached.0 on.0 b byte reached.1 on.1 on.2)
 
+-- states that are there again after any byte are so behind many
+pub stay_back : (tree : Tree) (set : List ℕ) (n : ℕ) (bytes : List ℕ) (q : ℕ) → ((r b : ℕ) → b < 256 → HasBit set r → IsStepOf tree set b r) → IsBytes bytes → IsReached tree set (drop n bytes) q → IsReached tree set bytes q
+stay_back tree set zero bytes q stays are reached = reached
+stay_back tree set (suc n) [] q stays are reached = reached
+stay_back tree set (suc n) (b ∷ bytes) q stays are reached =
+    let more = stay_back tree set n bytes q stays (All-tail (λ x. x < 256) b bytes are) reached in
+    let before = stays more.0 b (All-head (λ x. x < 256) b bytes are) more.1 in
+    (before.0, before.1, (more.0, before.2, before.3, more.2))
+
 -- and the set is there again behind them
 pub passed_back : (tree : Tree) (set : List ℕ) (exits : ByteClass) (front : List ℕ) (n : ℕ) (bytes : List ℕ) (q : ℕ) → IsRest tree set exits front → IsBytes bytes → IsReached tree set (drop n bytes) q → IsReached tree set bytes q
-passed_back tree set exits front zero bytes q rest are reached = reached
-passed_back tree set exits front (suc n) [] q rest are reached = reached
-passed_back tree set exits front (suc n) (b ∷ bytes) q rest are reached =
-    let more = passed_back tree set exits front n bytes q rest (All-tail (λ x. x < 256) b bytes are) reached in
-    let before = rest.stays more.0 b (All-head (λ x. x < 256) b bytes are) more.1 in
-    (before.0, before.1, (more.0, before.2, before.3, more.2))
+passed_back tree set exits front n bytes q rest are reached = stay_back tree set n bytes q rest.stays are reached
 
 -- the runs of a longer file go on from those of its front
 pub ends_further : (tree : Tree) (file bytes : List ℕ) (q : ℕ) → EndsIn tree (file ++ bytes) q ↔ ((p : ℕ) × EndsIn tree file p × Reaches tree p bytes q)
@@ -393,12 +397,16 @@ passed_in exits front bytes known at n x same missed passed before =
     subst (λ l. IsPassed exits front l) further (subst P same there))
     (below_or x at)
 
--- a scan on its way, where what is left leads to the same
-pub scan_moves : (file left to : List ℕ) (s : SequenceView) (scan : SequenceScanView) → ((q : ℕ) → IsReached (whole_tree scan.sequence) scan.set left q ↔ IsReached (whole_tree scan.sequence) scan.set to q) → IsDueScan file s scan left → IsDueScan file s scan to
-scan_moves file left to s scan same is =
-    let P : SequenceView → Type 0 = λ t. (q : ℕ) → IsReached (whole_tree t) scan.set left q ↔ IsReached (whole_tree t) scan.set to q in
+-- a scan on its way, where another set and what is then left lead to the same
+pub scan_changes : (file left to : List ℕ) (s : SequenceView) (scan new : SequenceScanView) → new.sequence ≡ scan.sequence → ((q : ℕ) → IsReached (whole_tree scan.sequence) scan.set left q ↔ IsReached (whole_tree scan.sequence) new.set to q) → IsDueScan file s scan left → IsDueScan file s new to
+scan_changes file left to s scan new sequence same is =
+    let P : SequenceView → Type 0 = λ t. (q : ℕ) → IsReached (whole_tree t) scan.set left q ↔ IsReached (whole_tree t) new.set to q in
     let moved : P s = subst P is.sequence_is same in
-    record { sequence_is = is.sequence_is; due = λ q. (λ ends. (moved q).0 ((is.due q).0 ends), λ reached. (is.due q).1 ((moved q).1 reached)) }
+    record { sequence_is = sequence ∙ is.sequence_is; due = λ q. (λ ends. (moved q).0 ((is.due q).0 ends), λ reached. (is.due q).1 ((moved q).1 reached)) }
+
+-- where what is left leads to the same
+pub scan_moves : (file left to : List ℕ) (s : SequenceView) (scan : SequenceScanView) → ((q : ℕ) → IsReached (whole_tree scan.sequence) scan.set left q ↔ IsReached (whole_tree scan.sequence) scan.set to q) → IsDueScan file s scan left → IsDueScan file s scan to
+scan_moves file left to s scan same is = scan_changes file left to s scan scan refl same is
 
 -- one byte of a piece, and then those up to a place
 pub scan_steps_on : (file piece : List ℕ) (from to b : ℕ) (s : SequenceView) (scan new : SequenceScanView) → from < length piece → b ≡ get_or piece from 0 → new.sequence ≡ scan.sequence → ((q : ℕ) → HasBit new.set q ↔ IsStepOf (whole_tree scan.sequence) scan.set b q) → ((q : ℕ) → IsReached (whole_tree new.sequence) new.set (drop (from + 1) piece) q ↔ IsReached (whole_tree new.sequence) new.set (drop to piece) q) → IsDueScan file s scan (drop from piece) → IsDueScan file s new (drop to piece)

@@ -1,9 +1,11 @@
 -- Ways out of a set that come to their end: in a tree with no open gap a state leads to later ones alone.
 use Rattle.std.proofs.Common.{◌≡◌, ◌⊎◌, ⊎_elim, ℕ, zero, suc, ◌+◌, ◌-◌, ◌<◌, ◌≤◌, List, [], ◌∷◌, ◌++◌, length, drop, replicate, Some, None, subst, sym, ap, refl, ◌∙◌, arith, inl, inr, length-drop}
+use Rattle.std.proofs.lemmas.List.Elements.{All-head, All-tail}
 use Rattle.std.specs.Prelude.{⊤, Bool, false, true, ◌==◌, if◌then◌else◌, ◌↔◌, slice_get}
+use Rattle.sig_auto.specs.Runs.{IsStepOf}
 use Rattle.sig_auto.specs.Tracks.{Follows, Track, slots_from}
 use Rattle.sig_auto.specs.Trees.{Tree, Never, Empty, Slot, Gap, Then, Or}
-use Rattle.sig_auto.specs.TreeSlots.{slots_of}
+use Rattle.sig_auto.specs.TreeSlots.{Takes, slots_of}
 use Rattle.sig_auto.proofs.Exports.{follows_to_a_slot}
 use Rattle.sig_bits.specs.BitSets.{HasBit}
 use Rattle.sig_bits.specs.Bytes.{IsBytes}
@@ -20,7 +22,7 @@ use Rattle.sig_table.specs.Views.{SequenceView}
 use Rattle.sig_match.specs.Rests.{IsReached, IsRest, Reaches}
 use Rattle.sig_match.specs.Scans.{SequenceScanView}
 use Rattle.sig_match.specs.Spans.{Climbs, IsClosedItem}
-use Rattle.sig_match.proofs.RestLemmas.{below_or, bytes_behind, drop_further, passed_back}
+use Rattle.sig_match.proofs.RestLemmas.{below_or, bytes_behind, drop_further, passed_back, stay_back}
 
 -- each number is above the one before, and the first above b
 abbrev pub RisesFrom : ℕ → List ℕ → Type 0
@@ -145,26 +147,73 @@ reaches_to_slot tree (b ∷ []) p q some reaches = subst (λ r. r ≤ slots_of t
 reaches_to_slot tree (b ∷ c ∷ bytes) p q some reaches = reaches_to_slot tree (c ∷ bytes) reaches.0 q (omega arith) reaches.3
 
 -- so of many bytes the first lead nowhere that the set does not lead from behind them
-span_forward : (tree : Tree) (set : List ℕ) (exits : ByteClass) (front : List ℕ) (fuel n : ℕ) (bytes : List ℕ) (q : ℕ) → IsRest tree set exits front → ((a b : ℕ) → Follows tree a b → HasBit set b ⊎ (a < b)) → IsBytes bytes → length bytes ≤ fuel → n + slots_of tree ≤ length bytes → IsReached tree set bytes q → IsReached tree set (drop n bytes) q
-span_forward tree set exits front fuel zero bytes q rest rise are enough far reached = reached
-span_forward tree set exits front zero (suc n) bytes q rest rise are enough far reached = absurd (omega arith)
-span_forward tree set exits front (suc fuel) (suc n) bytes q rest rise are enough far reached =
+span_forward : (tree : Tree) (set : List ℕ) (fuel n : ℕ) (bytes : List ℕ) (p q : ℕ) → ((r b : ℕ) → b < 256 → HasBit set r → IsStepOf tree set b r) → ((a b : ℕ) → Follows tree a b → HasBit set b ⊎ (a < b)) → IsBytes bytes → length bytes ≤ fuel → 0 < n → n + slots_of tree ≤ length bytes → Reaches tree p bytes q → IsReached tree set (drop n bytes) q
+span_forward tree set zero n bytes p q stays rise are enough some far reaches = absurd (omega arith)
+span_forward tree set (suc fuel) n bytes p q stays rise are enough some far reaches =
     ⊎_elim
     (λ back.
     let x : ℕ = back.0 in
     let long = length-drop x bytes in
     ⊎_elim
-    (λ (near : x < suc n).
-    let m : ℕ = suc n - x in
-    let inner = span_forward tree set exits front fuel m (drop x bytes) q rest rise (bytes_behind x bytes are) (omega (arith, back.1)) (omega (arith, back.1)) back.3 in
-    subst (λ l. IsReached tree set l q) (drop_further bytes x m (suc n) (omega arith)) inner)
-    (λ (later : suc n ≤ x).
-    let m : ℕ = x - suc n in
-    let there : IsReached tree set (drop m (drop (suc n) bytes)) q = subst (λ l. IsReached tree set l q) (sym (drop_further bytes (suc n) m x (omega arith))) back.3 in
-    passed_back tree set exits front m (drop (suc n) bytes) q rest (bytes_behind (suc n) bytes are) there)
-    (below_or x (suc n)))
-    (λ high. absurd (omega (arith, high, reaches_to_slot tree bytes reached.0 q (omega arith) reached.2)))
-    (climbs tree set bytes reached.0 q rise reached.2)
+    (λ (near : x < n).
+    let m : ℕ = n - x in
+    let inner = span_forward tree set fuel m (drop x bytes) back.3.0 q stays rise (bytes_behind x bytes are) (omega (arith, back.1)) (omega arith) (omega (arith, back.1)) back.3.2 in
+    subst (λ l. IsReached tree set l q) (drop_further bytes x m n (omega arith)) inner)
+    (λ (later : n ≤ x).
+    let m : ℕ = x - n in
+    let there : IsReached tree set (drop m (drop n bytes)) q = subst (λ l. IsReached tree set l q) (sym (drop_further bytes n m x (omega arith))) back.3 in
+    stay_back tree set m (drop n bytes) q stays (bytes_behind n bytes are) there)
+    (below_or x n))
+    (λ high. absurd (omega (arith, high, reaches_to_slot tree bytes p q (omega arith) reaches)))
+    (climbs tree set bytes p q rise reaches)
+
+-- where some bytes lead on, some state leads to another
+first_follows : (tree : Tree) (bytes : List ℕ) (p q : ℕ) → 0 < length bytes → Reaches tree p bytes q → (r : ℕ) × Follows tree p r
+first_follows tree [] p q some reaches = absurd (omega arith)
+first_follows tree (b ∷ bytes) p q some reaches = (reaches.0, reaches.1)
+
+-- slot 1 is there again after any byte
+one_stays : (tree : Tree) (one : List ℕ) (a c : ℕ) → Climbs tree → ((r : ℕ) → HasBit one r ↔ (r ≡ 1)) → Follows tree a c → (r b : ℕ) → b < 256 → HasBit one r → IsStepOf tree one b r
+one_stays tree one a c climb is follows r b small bit =
+    let same : r ≡ 1 = (is r).0 bit in
+    subst (λ k. IsStepOf tree one b k) (sym same) (1, (is 1).1 refl, climb.loops a c 1 follows (omega arith), climb.takes b small)
+
+-- the start and slot 1 lead to slot 1
+one_is_next : (tree : Tree) (set : List ℕ) (a c b : ℕ) → Climbs tree → HasBit set 0 ⊎ HasBit set 1 → Follows tree a c → b < 256 → IsStepOf tree set b 1
+one_is_next tree set a c b climb begins follows small =
+    ⊎_elim
+    (λ start. (0, start, climb.loops a c 0 follows (omega arith), climb.takes b small))
+    (λ one. (1, one, climb.loops a c 1 follows (omega arith), climb.takes b small))
+    begins
+
+late_back : (tree : Tree) (set one : List ℕ) (n : ℕ) (bytes : List ℕ) (q : ℕ) → Climbs tree → HasBit set 0 ⊎ HasBit set 1 → ((r : ℕ) → HasBit one r ↔ (r ≡ 1)) → IsBytes bytes → 0 < n → n < length bytes → IsReached tree one (drop n bytes) q → IsReached tree set bytes q
+late_back tree set one zero bytes q climb begins is are some far reached = absurd (omega arith)
+late_back tree set one (suc n) [] q climb begins is are some far reached = absurd (omega arith)
+late_back tree set one (suc n) (b ∷ bytes) q climb begins is are some far reached =
+    let long = length-drop n bytes in
+    let follows = first_follows tree (drop n bytes) reached.0 q (omega arith) reached.2 in
+    let later = stay_back tree one n bytes q (one_stays tree one reached.0 follows.0 climb is follows.1) (All-tail (λ x. x < 256) b bytes are) reached in
+    let same : later.0 ≡ 1 = (is later.0).0 later.1 in
+    let on : Reaches tree 1 bytes q = subst (λ k. Reaches tree k bytes q) same later.2 in
+    let first = one_is_next tree set reached.0 follows.0 b climb begins follows.1 (All-head (λ x. x < 256) b bytes are) in
+    (first.0, first.1, (1, first.2, first.3, on))
+
+-- so of many bytes, before the last ones slot 1 alone counts
+late_both : (tree : Tree) (set one : List ℕ) (n : ℕ) (bytes : List ℕ) (q : ℕ) → Climbs tree → HasBit set 0 ⊎ HasBit set 1 → ((r : ℕ) → HasBit one r ↔ (r ≡ 1)) → IsBytes bytes → 0 < n → n + slots_of tree ≤ length bytes → IsReached tree set bytes q ↔ IsReached tree one (drop n bytes) q
+late_both tree set one n bytes q climb begins is are some far = (
+  λ reached.
+      let follows = first_follows tree bytes reached.0 q (omega arith) reached.2 in
+      let rise : (a b : ℕ) → Follows tree a b → HasBit one b ⊎ (a < b) = λ a b next. ⊎_elim (λ first. inl ((is b).1 first)) (λ above. inr above) (climb.rises a b next) in
+      span_forward tree one (length bytes) n bytes reached.0 q (one_stays tree one reached.0 follows.0 climb is follows.1) rise are (omega arith) some far reached.2,
+  λ reached. let slots = climb.some in late_back tree set one n bytes q climb begins is are some (omega arith) reached,
+)
+
+-- of what is left of a piece
+pub late_from : (tree : Tree) (set one : List ℕ) (from to : ℕ) (bytes : List ℕ) (q : ℕ) → Climbs tree → HasBit set 0 ⊎ HasBit set 1 → ((r : ℕ) → HasBit one r ↔ (r ≡ 1)) → IsBytes bytes → from < to → to + slots_of tree ≤ length bytes → IsReached tree set (drop from bytes) q ↔ IsReached tree one (drop to bytes) q
+late_from tree set one from to bytes q climb begins is are before far =
+    let n : ℕ = to - from in
+    let long = length-drop from bytes in
+    subst (λ l. IsReached tree set (drop from bytes) q ↔ IsReached tree one l q) (drop_further bytes from n to (omega arith)) (late_both tree set one n (drop from bytes) q climb begins is (bytes_behind from bytes are) (omega arith) (omega arith))
 
 -- both ways, of a part of a piece
 pub span_both : (view scan : SequenceScanView) (rest : List ℕ) (exits : ByteClass) (front bytes : List ℕ) (from to : ℕ) → view ≡ scan → view.set ≡ rest → IsRest (whole_tree view.sequence) rest exits front → Climbs (whole_tree view.sequence) → HasBit rest 1 → IsBytes bytes → from ≤ to → to ≤ length bytes → (from < to → to + slots_of (whole_tree view.sequence) ≤ length bytes) → (q : ℕ) → IsReached (whole_tree scan.sequence) scan.set (drop from bytes) q ↔ IsReached (whole_tree scan.sequence) scan.set (drop to bytes) q
@@ -176,13 +225,13 @@ span_both view scan rest exits front bytes from to same set_is is climb one are 
     let further : drop n (drop from bytes) ≡ drop to bytes = drop_further bytes from n to (omega arith) in
     let here : IsRest tree view.set exits front = subst (λ l. IsRest tree l exits front) (sym set_is) is in
     let bit : HasBit view.set 1 = subst (λ l. HasBit l 1) (sym set_is) one in
-    let rise : (a b : ℕ) → Follows tree a b → HasBit view.set b ⊎ (a < b) = λ a b follows. ⊎_elim (λ first. inl (subst (λ k. HasBit view.set k) (sym first) bit)) (λ above. inr above) (climb a b follows) in
+    let rise : (a b : ℕ) → Follows tree a b → HasBit view.set b ⊎ (a < b) = λ a b follows. ⊎_elim (λ first. inl (subst (λ k. HasBit view.set k) (sym first) bit)) (λ above. inr above) (climb.rises a b follows) in
     subst
     P
     same (
       λ reached.
           ⊎_elim
-          (λ (on : from < to). (let there = span_forward tree view.set exits front (length (drop from bytes)) n (drop from bytes) q here rise (bytes_behind from bytes are) (omega arith) (let behind = far on in omega arith) reached in subst (λ l. IsReached tree view.set l q) further there))
+          (λ (on : from < to). (let there = span_forward tree view.set (length (drop from bytes)) n (drop from bytes) reached.0 q here.stays rise (bytes_behind from bytes are) (omega arith) (omega arith) (let behind = far on in omega arith) reached.2 in subst (λ l. IsReached tree view.set l q) further there))
           (λ (stay : to ≤ from). (let at : from ≡ to = omega arith in subst (λ k. IsReached tree view.set (drop k bytes) q) at reached))
           (below_or from to),
       λ reached. passed_back tree view.set exits front n (drop from bytes) q here (bytes_behind from bytes are) (subst (λ l. IsReached tree view.set l q) (sym further) reached),
@@ -231,10 +280,43 @@ items_closed : (items : List Item) (last : Tree) → ((k : ℕ) (i : Item) → s
 items_closed [] last each closed = closed
 items_closed (i ∷ items) last each closed = (item_closed i (each 0 i refl), items_closed items last (λ k j at. each (suc k) j at) closed)
 
+-- behind a gap with no end: if some state leads to another, the start and the gap's slot lead to that slot
+gap_loops : (rest : Tree) (p q h : ℕ) → Follows (Then (Gap 0 None) rest) p q → h ≤ 1 → Follows (Then (Gap 0 None) rest) h 1
+gap_loops rest p q zero follows low =
+    let track = follows.is_track in
+    record {
+      track = 1 ∷ track.1;
+      is_track = (replicate 1 1, track.1, refl, (1, refl), track.4);
+      front = [];
+      back = track.1;
+      next = refl;
+    }
+gap_loops rest p q (suc h) follows low =
+    let track = follows.is_track in
+    let one : suc h ≡ 1 = omega arith in
+    let twice : Follows (Then (Gap 0 None) rest) 1 1 = record {
+      track = 1 ∷ 1 ∷ track.1;
+      is_track = (replicate 2 1, track.1, refl, (2, refl), track.4);
+      front = 0 ∷ [];
+      back = track.1;
+      next = refl;
+    } in
+    subst (λ k. Follows (Then (Gap 0 None) rest) k 1) (sym one) twice
+
+gap_takes : (rest : Tree) (b : ℕ) → b < 256 → Takes (Then (Gap 0 None) rest) 1 b
+gap_takes rest b small = (omega arith, omega arith)
+
+gap_climbs : (rest : Tree) → IsClosed rest → Climbs (Then (Gap 0 None) rest)
+gap_climbs rest closed = record {
+  some = omega arith;
+  rises = λ p q follows. follows_rises rest p q closed follows;
+  loops = λ p q h follows low. gap_loops rest p q h follows low;
+  takes = λ b small. gap_takes rest b small;
+}
+
 -- a sequence at the end of the file with no open gap
 pub eof_climbs : (s : SequenceView) (min max : ℕ) → s.position ≡ position.Eof min max → ((k : ℕ) (i : Item) → slice_get s.items k ≡ Some i → IsClosedItem i) → Climbs (whole_tree s)
-eof_climbs s min max at each p q follows =
+eof_climbs s min max at each =
     let last : IsClosed (back_tree s.position) = subst (λ t. IsClosed (back_tree t)) (sym at) tt in
     let rest : Tree = items_tree s.items (back_tree s.position) in
-    let there : Follows (Then (Gap 0 None) rest) p q = subst (λ t. Follows (Then (front_tree t) rest) p q) at follows in
-    follows_rises rest p q (items_closed s.items (back_tree s.position) each last) there
+    subst (λ t. Climbs (Then (front_tree t) rest)) (sym at) (gap_climbs rest (items_closed s.items (back_tree s.position) each last))

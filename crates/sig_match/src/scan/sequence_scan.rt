@@ -19,7 +19,7 @@ use crate::scan::sieve::Sieve;
 use crate::scan::span::climbs;
 use crate::scan::way::{Way, same_bytes};
 use sig_auto::Auto;
-use sig_bits::{and_any, get_bit};
+use sig_bits::{and_any, clear, get_bit, set_bit};
 use sig_table::Sequence;
 use std::alloc::{AllocError, Global};
 use std::marker::Model;
@@ -149,6 +149,7 @@ impl SequenceScan {
         if from < bytes.len() && self.jump(piece) {
             return;
         }
+        from = self.late_begin(piece, from);
         while from < bytes.len() {
             self.step(bytes[from]);
             self.settle();
@@ -173,8 +174,28 @@ impl SequenceScan {
         true
     }
 
-    // Whether the start or slot 1 is in the set. Of a sequence that may begin anywhere one of them is behind
-    // all bytes.
+    // The place from which a sequence whose ways out come to their end is stepped, if it does not rest. A
+    // way that does not come back to slot 1 has at most as many bytes as there are slots. So before the last
+    // bytes of a long piece only slot 1 counts, and the set becomes that of slot 1 alone.
+    fn late_begin(&mut self, piece: &Piece<'_>, from: usize) -> usize
+        requires { from ≤ length piece.now }
+        ensures sequence { self.new.sequence ≡ self.old.sequence }
+        ensures within { result ≤ length piece.now }
+        ensures same { (q : ℕ) → IsReached (whole_tree self.old.sequence) self.old.set (drop from piece.now) q ↔ IsReached (whole_tree self.old.sequence) self.new.set (drop result piece.now) q }
+    {
+        let len = piece.bytes().len();
+        let slots = self.auto.slots() as usize;
+        if self.resting || !self.climbs || len - from <= slots || !self.may_begin() {
+            return from;
+        }
+        clear(&mut self.set);
+        set_bit(&mut self.set, 1);
+        self.resting = same_bytes(&self.set, &self.rest);
+        len - slots
+    }
+
+    // Whether the start or slot 1 is in the set. Of a sequence that may begin anywhere, or that stands at the
+    // end of the file, one of them is behind all bytes.
     fn may_begin(&self) -> bool
         ensures { IsTrue result → HasBit self.now.set 0 ⊎ HasBit self.now.set 1 }
     {

@@ -396,6 +396,43 @@ fn the_plain_scan_agrees_on_a_run_that_is_nearly_met(rt: HostRuntime) -> Result<
     Ok(())
 }
 
+// Whether they agree on a sequence of this position and expression, in pieces shorter and longer than the
+// longest way through it.
+fn agree_at_end_by(alloc: Global, sequence: &str, file: &[u8]) -> Result<bool, Fail> {
+    let table = table_of(alloc, sequence)?;
+    Ok(agree(alloc, sequence, file)? && agree_in_small_pieces(alloc, &table, file)?)
+}
+
+// Whether they agree on some sequences at the end of the file.
+fn agree_at_end(alloc: Global, file: &[u8]) -> Result<bool, Fail> {
+    Ok(
+        agree_at_end_by(alloc, "EOF,0,4,41{0-3}42", file)?
+            && agree_at_end_by(alloc, "EOF,0,0,4141424142", file)?
+            && agree_at_end_by(alloc, "EOF,1,3,41??42", file)?
+            && agree_at_end_by(alloc, "EOF,0,20,41??", file)?,
+    )
+}
+
+#[test]
+fn the_plain_scan_agrees_at_the_end_of_a_file(rt: HostRuntime) -> Result<(), Fail> {
+    for seed in 0..6 {
+        let file = letters(rt.alloc(), seed, 100)?;
+        assert!(rt; agree_at_end(rt.alloc(), &file)?, "{seed}");
+    }
+    Ok(())
+}
+
+#[test]
+fn the_plain_scan_agrees_where_a_word_may_always_have_begun(rt: HostRuntime) -> Result<(), Fail> {
+    let mut file = repeated(rt.alloc(), b"A", 90)?;
+    assert!(rt; agree_at_end(rt.alloc(), &file)?);
+    file.extend_from_slice(b"BAB")?;
+    assert!(rt; agree_at_end(rt.alloc(), &file)?);
+    file.extend_from_slice(b"A\x00\x00")?;
+    assert!(rt; agree_at_end(rt.alloc(), &file)?);
+    Ok(())
+}
+
 // Whether the scan of these sequences, each of a signature of its own, and the search of the whole file
 // hit the signatures that the plain scans say, the scan in pieces of this length.
 fn all_agree_by(alloc: Global, table: &Table, file: &[u8], piece: usize) -> Result<bool, Fail>

@@ -1,4 +1,4 @@
-use Rattle.std.proofs.Common.{sym, ◌∙◌, ap, true, false, if◌then◌else◌}
+use Rattle.std.proofs.Common.{sym, ◌∙◌, ap, if◌then◌else◌}
 use Rattle.std.proofs.lemmas.Bool.{false≢true}
 use Rattle.sig_cert.proofs.KindLemmas.{unrelated_judged}
 use Rattle.sig_cert.proofs.checker.judge_pair.Goals as goal

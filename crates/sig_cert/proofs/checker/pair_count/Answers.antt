@@ -1,4 +1,4 @@
-use Rattle.std.proofs.Common.{◌≡◌, ◌*◌, ◌/◌, ◌-◌, length, ap, ◌∙◌}
+use Rattle.std.proofs.Common.{◌*◌, ◌/◌, ap, ◌∙◌}
 use Rattle.sig_cert.proofs.PairLemmas.{length-format_pairs}
 use Rattle.sig_cert.proofs.checker.pair_count.Goals as goal
 

@@ -1,4 +1,4 @@
-use Rattle.std.proofs.Common.{◌≡◌, ◌+◌, ◌++◌, List, ℕ, flat_map, get_or, map, take, ap, ◌∙◌, subst}
+use Rattle.std.proofs.Common.{◌≡◌, ◌+◌, ◌++◌, List, ℕ, flat_map, get_or, map, take, subst}
 use Rattle.std.proofs.lemmas.List.{take_all}
 use Rattle.sig_cert.specs.Layouts.{four_bytes}
 use Rattle.sig_table.specs.declared.ids.SigId.{SigId}

@@ -1,4 +1,4 @@
-use Rattle.std.proofs.Common.{◌≡◌, ◌++◌, ◌∷◌, [], List, ℕ, append_assoc, ap, ◌∙◌}
+use Rattle.std.proofs.Common.{◌++◌, ◌∷◌, [], List, ℕ, append_assoc, ap, ◌∙◌}
 use Rattle.sig_cert.specs.Layouts.{four_bytes}
 use Rattle.sig_find.proofs.writer.write_header.Goals as goal
 

@@ -1,4 +1,4 @@
-use Rattle.std.proofs.Common.{◌≡◌, ◌++◌, List, ℕ, ap, ◌∙◌, arith}
+use Rattle.std.proofs.Common.{◌++◌, List, ℕ, ap, ◌∙◌, arith}
 use Rattle.sig_find.proofs.WrittenLemmas.{spells_two}
 use Rattle.sig_find.proofs.writer.write_two.Goals as goal
 

@@ -3,23 +3,22 @@ use Rattle.sig_auto.specs.Runs.{IsStepOf}
 use Rattle.sig_auto.specs.Trees.{whole_tree}
 use Rattle.sig_bits.specs.BitSets.{HasBit}
 use Rattle.sig_match.specs.Scans.{SequenceScanView}
-use Rattle.sig_match.proofs.RestLemmas.{IsDueScan, drop_all, scan_begins, scan_ends, scan_moves, scan_steps_on}
+use Rattle.sig_match.proofs.RestLemmas.{IsDueScan, drop_all, scan_begins, scan_changes, scan_ends, scan_moves, scan_steps_on}
 use Rattle.sig_match.proofs.scan.sequence_scan.SequenceScan.feed.Goals as goal
 use Rattle.sig_match.proofs.scan.sequence_scan.SequenceScan.feed.Goals.{else-from-bytes-via-else-from-bytes, else-from-bytes-via-then-from-bytes+else-jump}
-
--- a scan that did not jump is as it was
-stayed : (c : goal.Joined-else-from-bytes) → c.else-from-bytes.self ≡ c.args.self.now
-stayed c = elim c.else-from-bytes.branch [ else-from-bytes-via-then-from-bytes+else-jump w ↦ w.self-is ∙ w.jump.ensures.stays w.if-jump.false | else-from-bytes-via-else-from-bytes w ↦ w.self-is ]
 
 pub loop-from-init : goal.loop-from-init
 loop-from-init c =
     let piece : List ℕ = c.args.piece.now in
-    let to : ℕ = c.next_place-from.result in
+    let old : SequenceScanView = c.args.self.now in
+    let on : List ℕ = drop c.next_place-from.result piece in
+    let stayed : c.else-from-bytes.self ≡ old = elim c.else-from-bytes.branch [ else-from-bytes-via-then-from-bytes+else-jump w ↦ w.self-is ∙ w.jump.ensures.stays w.if-jump.false | else-from-bytes-via-else-from-bytes w ↦ w.self-is ] in
     record {
-      within = c.next_place-from.ensures.within;
+      within = c.late_begin-from.ensures.within;
       due = λ file s is.
-          let P : SequenceScanView → Type 0 = λ v. IsDueScan (file ++ piece) s v (drop to piece) in
-          subst P (sym (stayed c)) (scan_moves _ piece _ s c.args.self.now c.next_place-from.ensures.same (scan_begins file piece s c.args.self.now is));
+          let P : SequenceScanView → Type 0 = λ v. IsDueScan (file ++ piece) s v on in
+          let due : P c.else-from-bytes.self = subst P (sym stayed) (scan_moves _ piece on s old c.next_place-from.ensures.same (scan_begins file piece s old is)) in
+          scan_changes _ on _ s c.else-from-bytes.self c.late_begin-from.new.self c.late_begin-from.ensures.sequence c.late_begin-from.ensures.same due;
     }
 
 pub returns-then-jump : goal.returns-then-jump
