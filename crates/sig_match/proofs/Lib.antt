@@ -16,6 +16,7 @@ mod OutlookLemmas
 mod PartLemmas
 mod ReachLemmas
 mod RestLemmas
+mod RetreatLemmas
 mod RunLemmas
 mod ScanLemmas
 mod SieveLemmas
