@@ -38,9 +38,12 @@ loop-from-preserved c =
     let sequence : new.sequence ≡ old.sequence = ap (λ (v : SequenceScanView). v.sequence) c.settle.ensures ∙ c.step.ensures.sequence in
     let P : SequenceScanView → Type 0 = λ v. (q : ℕ) → HasBit v.set q ↔ IsStepOf (whole_tree old.sequence) old.set (get_or bytes from 0) q in
     let set : P new = subst P (sym c.settle.ensures) c.step.ensures.set in
+    let next : ℕ = c.next_place-from-in-loop-from.result in
     record {
-      within = c.next_place-from-in-loop-from.ensures.within;
-      due = λ file s is. scan_steps_on _ piece from c.next_place-from-in-loop-from.result (get_or bytes from 0) s old new (omega arith) byte sequence set c.next_place-from-in-loop-from.ensures.same (c.loop-from.invariant.due file s is);
+      within = c.go_narrow-from.ensures.within;
+      due = λ file s is.
+          let due = scan_steps_on _ piece from next (get_or bytes from 0) s old new (omega arith) byte sequence set c.next_place-from-in-loop-from.ensures.same (c.loop-from.invariant.due file s is) in
+          scan_changes _ (drop next piece) _ s new c.go_narrow-from.new.self c.go_narrow-from.ensures.sequence c.go_narrow-from.ensures.same due;
     }
 
 pub returns : goal.returns
