@@ -11,6 +11,7 @@ mod LangLemmas
 mod LeftLemmas
 mod ListingLemmas
 mod MarkLemmas
+mod NarrowLemmas
 mod OneListLemmas
 mod OutlookLemmas
 mod PartLemmas

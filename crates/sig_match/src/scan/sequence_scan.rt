@@ -13,6 +13,7 @@ ghost use Rattle.sig_table.specs.Tables.{IsSequence};
 ghost use Rattle.sig_table.specs.Views.{SequenceView};
 
 use crate::scan::fixed::{run_of, write_behind};
+use crate::scan::narrow::{WORD, go_by_words};
 use crate::scan::piece::Piece;
 use crate::scan::rest::way_of;
 use crate::scan::sieve::Sieve;
@@ -37,12 +38,16 @@ const AGAIN: usize = 64;
 // The greatest set, in bytes, of a sequence that looks back.
 const SMALL: usize = 32;
 
+// So many bytes in a row are stepped before the sequence goes on by words, and so many have to be left:
+// to make the words takes long.
+const AWAKE: usize = 1024;
+
 // The set, the room of the next one, and a set in which the sequence can rest, with the way out of it:
 // at first the one in which most files leave it, then the one in which it rested last. `number` is the
 // place of the first front in the sieve. `run` has the bytes of a long sequence of fixed bytes alone that may
 // begin anywhere, and none of any other. `resting` tells that it is in that set now, and `pause` how
-// many bytes are stepped before that is asked again. `awake` tells how many bytes were stepped since it
-// last rested.
+// many bytes are stepped before that is asked again. `awake` is how many bytes were stepped since it
+// last rested or went by words.
 #[derive(Debug, Drop)]
 pub(crate) struct SequenceScan {
     auto: Auto,
@@ -164,6 +169,7 @@ impl SequenceScan {
             self.settle();
             self.retreat(piece, from + 1);
             from = self.next_place(piece, from + 1);
+            from = self.go_narrow(piece, from);
         }
     }
 
@@ -202,6 +208,29 @@ impl SequenceScan {
         set_bit(&mut self.set, 1);
         self.resting = same_bytes(&self.set, &self.rest);
         len - slots
+    }
+
+    // Goes on from this place by words, if the sequence has few states and has not rested for long. Answers
+    // the place up to which it went.
+    fn go_narrow(&mut self, piece: &Piece<'_>, from: usize) -> usize
+        requires { from ≤ length piece.now }
+        ensures sequence { self.new.sequence ≡ self.old.sequence }
+        ensures after { from ≤ result }
+        ensures within { result ≤ length piece.now }
+        ensures same { LeadsAlike (whole_tree self.old.sequence) self.old.set (drop from piece.now) self.new.set (drop result piece.now) }
+    {
+        if self.resting || self.set.len() > WORD || self.awake < AWAKE {
+            return from;
+        }
+        let bytes = piece.bytes();
+        if bytes.len() - from < AWAKE {
+            return from;
+        }
+        self.awake = 0;
+        let behind = &bytes[from..];
+        let count = go_by_words(&self.auto, &mut self.set, &self.rest, behind);
+        self.resting = same_bytes(&self.set, &self.rest);
+        from + count
     }
 
     // Whether the start or slot 1 is in the set. Of a sequence that may begin anywhere, or that stands at the

@@ -382,6 +382,50 @@ fn the_plain_scan_agrees_on_a_run_that_is_nearly_met(rt: HostRuntime) -> Result<
     Ok(())
 }
 
+// Sequences of few states that bytes 41 and 42 alone keep from resting. The last but one has as many states as
+// a word has bits, and the last one more.
+const AWAKE: &[&str] = &[
+    "Variable,,,41??42??43",
+    "Variable,,,41{0-9}42??43",
+    "Variable,,,(41|4142)43",
+    "BOF,0,9,41*42{1-3}43",
+    "EOF,0,2,41*4241??43",
+    "Variable,,,41{58}42",
+    "Variable,,,41{59}42",
+];
+
+// Whether they agree on those behind each of these pieces.
+fn agree_awake(alloc: Global, pieces: &[&[u8]]) -> Result<bool, Fail> {
+    for sequence in AWAKE {
+        let table = table_of(alloc, sequence)?;
+        if !agree_on(alloc, &table, pieces)? {
+            return Ok(false);
+        }
+    }
+    Ok(true)
+}
+
+// Whether they agree on a file of the pattern over and over, and on one with other bytes in it.
+fn agree_on_pattern(alloc: Global, pattern: &[u8]) -> Result<bool, Fail>
+    requires { 0 < length pattern.now }
+{
+    let long = repeated(alloc, pattern, 2600)?;
+    let (front, back) = long.split_at(1400);
+    Ok(
+        agree_awake(alloc, &[&long, b"C"])?
+            && agree_awake(alloc, &[front, b"BC", back, b"", b"ABBC"])?
+            && agree_awake(alloc, &[b"A", &long, b"\x00\x00", &long, b"BAC"])?,
+    )
+}
+
+#[test]
+fn the_plain_scan_agrees_where_a_sequence_never_rests(rt: HostRuntime) -> Result<(), Fail> {
+    assert!(rt; agree_on_pattern(rt.alloc(), b"A")?);
+    assert!(rt; agree_on_pattern(rt.alloc(), b"AB")?);
+    assert!(rt; agree_on_pattern(rt.alloc(), b"AAAB")?);
+    Ok(())
+}
+
 // Whether they agree on a sequence of this position and expression, in pieces shorter and longer than the
 // longest way through it.
 fn agree_at_end_by(alloc: Global, sequence: &str, file: &[u8]) -> Result<bool, Fail> {

@@ -39,12 +39,14 @@ loop-from-preserved c =
     let sequence : settled.sequence ≡ old.sequence = ap (λ (v : SequenceScanView). v.sequence) c.settle.ensures ∙ c.step.ensures.sequence in
     let P : SequenceScanView → Type 0 = λ v. (q : ℕ) → HasBit v.set q ↔ IsStepOf (whole_tree old.sequence) old.set (get_or bytes from 0) q in
     let set : P settled = subst P (sym c.settle.ensures) c.step.ensures.set in
+    let next : ℕ = c.next_place-from-in-loop-from.result in
     record {
-      within = c.next_place-from-in-loop-from.ensures.within;
+      within = c.go_narrow-from.ensures.within;
       due = λ file s is.
           let stepped = scan_steps_on _ piece from (from + 1) (get_or bytes from 0) s old settled (omega arith) byte sequence set (λ q. (λ r. r, λ r. r)) (c.loop-from.invariant.due file s is) in
           let back = scan_changes _ _ _ s settled new c.retreat.ensures.sequence c.retreat.ensures.same stepped in
-          scan_moves _ _ _ s new c.next_place-from-in-loop-from.ensures.same back;
+          let moved = scan_moves _ _ (drop next piece) s new c.next_place-from-in-loop-from.ensures.same back in
+          scan_changes _ (drop next piece) _ s new c.go_narrow-from.new.self c.go_narrow-from.ensures.sequence c.go_narrow-from.ensures.same moved;
     }
 
 pub returns : goal.returns

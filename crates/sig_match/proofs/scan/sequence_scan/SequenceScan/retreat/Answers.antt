@@ -1,4 +1,4 @@
-use Rattle.std.proofs.Common.{◌≡◌, ◌∙◌, ◌↔◌, ◌-◌, ℕ, List, ap, arith, drop, length, subst, take}
+use Rattle.std.proofs.Common.{◌∙◌, ◌↔◌, ◌-◌, ℕ, List, ap, arith, drop, length, subst, take}
 use Rattle.sig_auto.specs.Trees.{whole_tree}
 use Rattle.sig_bits.specs.BitSets.{HasBit}
 use Rattle.sig_match.specs.Rests.{IsReached}

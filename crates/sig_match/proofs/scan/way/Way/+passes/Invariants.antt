@@ -1,4 +1,3 @@
-use Rattle.std.proofs.Common.{ℕ}
 use Rattle.sig_match.proofs.scan.way.Way.+passes.Given as goal
 
 abbrev pub decreases-passes : goal.decreases-passes
