@@ -4,21 +4,23 @@ use crate::tests::{folder, match_files, matched_rows, put, put_table, run_progra
 use std::fs;
 use std::test::Fail;
 
+// Signature rows, priority rows, a file, and the lines of what is left.
+const LEFT: &[(&str, &str, &[u8], &str)] = &[
+    ("fmt/1,1,BOF,0,,4142\n", "", b"AB", "fmt/1 1\n"),
+    ("fmt/1,1,BOF,1,,41??\n", "", b"\x00A\xff\x00", "fmt/1 1\n"),
+    ("fmt/1,1,BOF,1,,41??\n", "", b"\x00A", ""),
+    (
+        "fmt/1,1,BOF,0,,41\nfmt/2,2,BOF,0,,41\n",
+        "fmt/2,fmt/1\n",
+        b"A",
+        "fmt/2 2\n",
+    ),
+];
+
 #[test]
 fn prints_a_line_for_each_format_left(rt: HostRuntime) -> Result<(), Fail> {
     let folder = folder(&rt, "left")?;
-    let cases: [(&str, &str, &[u8], &str); 4] = [
-        ("fmt/1,1,BOF,0,,4142\n", "", b"AB", "fmt/1 1\n"),
-        ("fmt/1,1,BOF,1,,41??\n", "", b"\x00A\xff\x00", "fmt/1 1\n"),
-        ("fmt/1,1,BOF,1,,41??\n", "", b"\x00A", ""),
-        (
-            "fmt/1,1,BOF,0,,41\nfmt/2,2,BOF,0,,41\n",
-            "fmt/2,fmt/1\n",
-            b"A",
-            "fmt/2 2\n",
-        ),
-    ];
-    for (rows, pairs, file, out) in cases {
+    for &(rows, pairs, file, out) in LEFT {
         let shown = matched_rows(&rt, folder.as_str(), rows, pairs, file)?;
         assert!(rt; shown.is_answer(out), "{rows}{shown:?}");
     }
@@ -33,15 +35,24 @@ fn prints_a_line_for_each_hit_with_all(rt: HostRuntime) -> Result<(), Fail> {
     let (signatures, priorities) = put_table(&rt, folder.as_str(), rows, "fmt/2,fmt/1\n")?;
     let file = put(&rt, folder.as_str(), "file.bin", b"A")?;
     let (signatures, priorities, file) = (signatures.as_str(), priorities.as_str(), file.as_str());
-    let both = [
-        run_program(&rt, &["match", "--all", signatures, priorities, file])?,
-        run_program(&rt, &["match", signatures, priorities, file, "--all"])?,
-    ];
-    for shown in both {
-        assert!(rt; shown.is_answer("fmt/1 1\nfmt/2 2\n"), "{shown:?}");
-    }
+    let first = run_program(&rt, &["match", "--all", signatures, priorities, file])?;
+    assert!(rt; first.is_answer("fmt/1 1\nfmt/2 2\n"), "{first:?}");
+    let last = run_program(&rt, &["match", signatures, priorities, file, "--all"])?;
+    assert!(rt; last.is_answer("fmt/1 1\nfmt/2 2\n"), "{last:?}");
     fs::remove_dir_all(&rt, folder.as_str())?;
     Ok(())
+}
+
+// Whether `match` of these files ends with this fault.
+fn ends_with(
+    rt: &HostRuntime,
+    signatures: &str,
+    priorities: &str,
+    file: &str,
+    status: u8,
+    line: &str,
+) -> Result<bool, Fail> {
+    Ok(match_files(rt, signatures, priorities, file)?.is_fault(status, line))
 }
 
 #[test]
@@ -55,46 +66,40 @@ fn opens_the_table_first_and_the_file_after_the_load(rt: HostRuntime) -> Result<
         priorities.as_str(),
         file.as_str(),
     );
-    let cases = [
-        (
-            match_files(&rt, "none.csv", "other.csv", "none")?,
-            "cannot open none.csv\n",
+    assert!(rt;
+        ends_with(
+            &rt,
+            "none.csv",
+            "other.csv",
+            "none",
             3,
-        ),
-        (
-            match_files(&rt, signatures, "other.csv", "none")?,
-            "cannot open other.csv\n",
+            "cannot open none.csv\n"
+        )?
+    );
+    assert!(rt;
+        ends_with(
+            &rt,
+            signatures,
+            "other.csv",
+            "none",
             3,
-        ),
-        (
-            match_files(&rt, signatures, priorities, "none")?,
-            "cannot open none\n",
-            3,
-        ),
-        (
-            match_files(&rt, priorities, priorities, "none")?,
-            "signatures: L2 header\n",
+            "cannot open other.csv\n"
+        )?
+    );
+    assert!(rt; ends_with(&rt, signatures, priorities, "none", 3, "cannot open none\n")?);
+    assert!(rt;
+        ends_with(
+            &rt,
+            priorities,
+            priorities,
+            "none",
             2,
-        ),
-        (
-            match_files(&rt, folder, priorities, file)?,
-            "read failed\n",
-            3,
-        ),
-        (
-            match_files(&rt, signatures, folder, file)?,
-            "read failed\n",
-            3,
-        ),
-        (
-            match_files(&rt, signatures, priorities, folder)?,
-            "read failed\n",
-            3,
-        ),
-    ];
-    for (shown, line, status) in cases {
-        assert!(rt; shown.is_fault(status, line), "{shown:?}");
-    }
+            "signatures: L2 header\n"
+        )?
+    );
+    assert!(rt; ends_with(&rt, folder, priorities, file, 3, "read failed\n")?);
+    assert!(rt; ends_with(&rt, signatures, folder, file, 3, "read failed\n")?);
+    assert!(rt; ends_with(&rt, signatures, priorities, folder, 3, "read failed\n")?);
     fs::remove_dir_all(&rt, folder)?;
     Ok(())
 }

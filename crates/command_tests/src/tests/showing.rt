@@ -5,26 +5,30 @@ use fixtures::{PRIORITIES, SIGNATURES};
 use std::fs;
 use std::test::Fail;
 
+const THREE: &str = "fmt/1,1,BOF,0,0,41\nfmt/2,2,BOF,0,0,41\nfmt/3,3,BOF,0,0,41\n";
+
+const PAIRS: &str = "fmt/3,fmt/1\nfmt/2,fmt/1\nfmt/3,fmt/2\n";
+
+// Signature rows, priority rows, and the canonical signature rows.
+const SHOWN: &[(&str, &str, &str)] = &[
+    ("", "", ""),
+    (
+        "fmt/1,7,BOF,3,,4a{3-3}{0-*}\n",
+        "",
+        "fmt/1,7,BOF,3,3,4A{3}*\n",
+    ),
+    (
+        "x-fmt/2,5,EOF,0,2,4142\nfmt/1,1,Variable,,,41*42\nx-fmt/2,5,BOF,1,,[!0a]\n",
+        "",
+        "x-fmt/2,5,EOF,0,2,4142\nx-fmt/2,5,BOF,1,1,[!0A]\nfmt/1,1,Variable,,,41*42\n",
+    ),
+    (THREE, PAIRS, THREE),
+];
+
 #[test]
 fn shows_both_canonical_files(rt: HostRuntime) -> Result<(), Fail> {
     let folder = folder(&rt, "show")?;
-    let three = "fmt/1,1,BOF,0,0,41\nfmt/2,2,BOF,0,0,41\nfmt/3,3,BOF,0,0,41\n";
-    let pairs = "fmt/3,fmt/1\nfmt/2,fmt/1\nfmt/3,fmt/2\n";
-    let cases = [
-        ("", "", ""),
-        (
-            "fmt/1,7,BOF,3,,4a{3-3}{0-*}\n",
-            "",
-            "fmt/1,7,BOF,3,3,4A{3}*\n",
-        ),
-        (
-            "x-fmt/2,5,EOF,0,2,4142\nfmt/1,1,Variable,,,41*42\nx-fmt/2,5,BOF,1,,[!0a]\n",
-            "",
-            "x-fmt/2,5,EOF,0,2,4142\nx-fmt/2,5,BOF,1,1,[!0A]\nfmt/1,1,Variable,,,41*42\n",
-        ),
-        (three, pairs, three),
-    ];
-    for (rows, pairs, lines) in cases {
+    for &(rows, pairs, lines) in SHOWN {
         let (signatures, priorities) = put_table(&rt, folder.as_str(), rows, pairs)?;
         let out = format!(in rt.alloc(); "{SIGNATURES}{lines}\n{PRIORITIES}{pairs}")?;
         let shown = run_program(&rt, &["show", signatures.as_str(), priorities.as_str()])?;
@@ -34,29 +38,25 @@ fn shows_both_canonical_files(rt: HostRuntime) -> Result<(), Fail> {
     Ok(())
 }
 
+// Whether `show` of these two files ends with this fault.
+fn ends_with(
+    rt: &HostRuntime,
+    signatures: &str,
+    priorities: &str,
+    line: &str,
+) -> Result<bool, Fail> {
+    Ok(run_program(rt, &["show", signatures, priorities])?.is_fault(3, line))
+}
+
 #[test]
 fn opens_no_third_file_to_show(rt: HostRuntime) -> Result<(), Fail> {
     let folder = folder(&rt, "unshown")?;
     let folder = folder.as_str();
     let signatures = put(&rt, folder, "signatures.csv", SIGNATURES.as_bytes())?;
     let signatures = signatures.as_str();
-    let cases = [
-        (
-            run_program(&rt, &["show", "none.csv", "other.csv"])?,
-            "cannot open none.csv\n",
-        ),
-        (
-            run_program(&rt, &["show", signatures, "other.csv"])?,
-            "cannot open other.csv\n",
-        ),
-        (
-            run_program(&rt, &["show", folder, signatures])?,
-            "read failed\n",
-        ),
-    ];
-    for (shown, line) in cases {
-        assert!(rt; shown.is_fault(3, line), "{shown:?}");
-    }
+    assert!(rt; ends_with(&rt, "none.csv", "other.csv", "cannot open none.csv\n")?);
+    assert!(rt; ends_with(&rt, signatures, "other.csv", "cannot open other.csv\n")?);
+    assert!(rt; ends_with(&rt, folder, signatures, "read failed\n")?);
     fs::remove_dir_all(&rt, folder)?;
     Ok(())
 }
