@@ -24,7 +24,6 @@ use std::marker::Model;
 
 mod entry;
 mod fixed;
-mod narrow;
 mod piece;
 #[cfg(test)]
 mod plain;
