@@ -8,13 +8,13 @@ use Rattle.sig_command.specs.CommandLine.{Asks, program}
 use Rattle.sig_engines.specs.Conflicts.{AddsConflicts, AddsFirstPairs}
 use Rattle.sig_command.specs.Faults.{Reports}
 use Rattle.sig_command.specs.Several.{AddsFaults, AddsLinesOfEach, AddsLinesOfSome}
-use Rattle.sig_engines.specs.Finding.{AddsFound}
+use Rattle.sig_engines.specs.Finding.{AddsFound, KeepsFound}
 use Rattle.sig_engines.specs.Judged.{AddsVerdict}
 use Rattle.sig_engines.specs.Lines.{AddsLines}
 use Rattle.sig_engines.specs.ManyFiles.{AddsFiles, CutsFiles, IsPrinted}
 use Rattle.sig_engines.specs.Progress.{AddsProgress}
 use Rattle.sig_engines.specs.Shown.{show_text}
-use Rattle.sig_engines.specs.Stores.{Has, Holding, Holds, IsTableFault, IsTableOf, Lacks, SomeFailed}
+use Rattle.sig_engines.specs.Stores.{Has, Holding, Holds, IsMade, IsTableFault, IsTableOf, Lacks, SomeFailed}
 use Rattle.sig_engines.specs.Witnessed.{AddsWitness}
 use Rattle.sig_engines.specs.declared.error.FileFault.{FileFault}
 use Rattle.sig_engines.specs.declared.error.FileFault.TheVariants as file
@@ -91,6 +91,20 @@ Answers held (Witness table name) is_yes before after = (t : TableView) × IsTab
 -- what is written grows by an answer to what the words ask for, a yes or a no
 abbrev pub AnswersWords : Holding → List Text → Bool → Option (List ℕ) → Option (List ℕ) → Type 0
 AnswersWords held words is_yes before after = (request : Request) × Asks (subcommand_of program words) request × Answers held request is_yes before after
+
+-- of a search, what is written grows by the lines of what is found, and a file of the name that is asked for was made of the bytes of just that; of all else it says nothing
+abbrev pub MakesOut : {F : Type 0} → (name_of written : F → Option (List ℕ)) → (F → Bool) → Holding → Request → Bool → (before after : Option (List ℕ)) → Type 0
+MakesOut name_of written failed held (Show table) is_yes before after = ⊤
+MakesOut name_of written failed held (Match all table path) is_yes before after = ⊤
+MakesOut name_of written failed held (MatchMany all table files) is_yes before after = ⊤
+MakesOut name_of written failed held (Find table budget out hex progress) is_yes before after = (t : TableView) × IsTableOf held table t × KeepsFound (IsMade name_of written failed held out.now) is_yes hex t budget before after
+MakesOut name_of written failed held (Conflicts table budget hex progress) is_yes before after = ⊤
+MakesOut name_of written failed held (Check table path) is_yes before after = ⊤
+MakesOut name_of written failed held (Witness table path) is_yes before after = ⊤
+
+-- the file that the words ask for was made, where they ask for one
+abbrev pub MakesWords : {F : Type 0} → (name_of written : F → Option (List ℕ)) → (F → Bool) → Holding → List Text → Bool → (before after : Option (List ℕ)) → Type 0
+MakesWords name_of written failed held words is_yes before after = (request : Request) × Asks (subcommand_of program words) request × MakesOut name_of written failed held request is_yes before after
 
 -- the pairs of formats of a table are written one by one, so that the lines of the first ones can be all that is written; and of several files those without a fault can be all that are written
 abbrev pub IsCutRequest : {R : Type 0} → (R → Bool) → Holding → Request → Option (List ℕ) → Option (List ℕ) → Type 0

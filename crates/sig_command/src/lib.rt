@@ -18,6 +18,8 @@
 //! - `match` of several files answers 0 only where each has its lines, in the order of the words. Where
 //!   some have a fault it ends with 3, each of them has a line on the error output, and both outputs are
 //!   of the same files.
+//! - With 0 a search has made the file that the words name, of the bytes of what it found, and the lines
+//!   are of just that.
 //! - `command` is `command_over` over the files of the system, of which nothing is known.
 //! - What the words ask for is what the definition of `clap` finds in them by the command line
 //!   `program`; `words_are_taken` has it at words.

@@ -3,9 +3,9 @@
 ghost use Rattle.std.specs.Prelude.{None, Some, ◌≡◌, ◌≢◌, ◌<◌, ◌⊎◌, false, is_ok, length, List, true, IfErr, IfOk, OnOk};
 ghost use Rattle.clap.specs.Values.{kind_of};
 ghost use Rattle.clap.specs.Words.{Text};
-ghost use Rattle.sig_command.specs.Requests.{Answers, AnswersWords, CutsSomeWords, CutsWords, HasFiles, IsFaultOf, IsLoadFault, JoinsBoth, KeepsOrCuts, ShowsSomeWords, ShowsWords, TellsOf, file_fault};
+ghost use Rattle.sig_command.specs.Requests.{Answers, AnswersWords, CutsSomeWords, CutsWords, HasFiles, IsFaultOf, IsLoadFault, JoinsBoth, KeepsOrCuts, MakesOut, MakesWords, ShowsSomeWords, ShowsWords, TellsOf, file_fault};
 ghost use Rattle.sig_engines.specs.Stores.{IsTableOf, Opens};
-ghost use Rattle.sig_command.specs.CommandLine.{IsHelpAsked, texts_of};
+ghost use Rattle.sig_command.specs.CommandLine.{AreTaken, IsHelpAsked, texts_of};
 ghost use Rattle.sig_command.specs.Endings.{AnswersBy, KeepsErrors, KeepsOutput, ReportsBy, ReportsMemory};
 ghost use Rattle.sig_table.specs.Tables.{IsTable};
 
@@ -98,6 +98,7 @@ pub fn command_over<S: Store, W: Output, E: Output>(
     ensures output { KeepsOutput (CutsWords S.Reader.failed (S.held store.now) (texts_of words.now) (W.written out.old) (W.written out.new)) result (W.failed out.new) out.old out.new }
     ensures errors { KeepsErrors (ShowsWords S.Reader.failed (S.held store.now) (texts_of words.now)) result (E.failed err.new) err.old err.new (E.written err.old) (E.written err.new) }
     ensures answers { AnswersBy (S.held store.now) (texts_of words.now) result (W.written out.old) (W.written out.new) }
+    ensures made { AreTaken (texts_of words.now) → result ≡ 0 → MakesWords S.name_of S.Writer.written S.Writer.failed (S.held store.now) (texts_of words.now) true (W.written out.old) (W.written out.new) }
     ensures faults { ReportsBy S.Reader.failed (S.held store.now) (texts_of words.now) result W.written out.old out.new E.failed E.written err.old err.new }
 {
     let matches = match read_args(alloc, words) {
@@ -126,6 +127,7 @@ fn answer<'m, 'a, S: Store, W: Output, E: Output>(
     ensures joined { IfErr result (JoinsBoth S.Reader.failed (S.held store.now) request.entry W.written out.old out.new E.failed E.written err.old err.new) }
     ensures shown { OnOk result (HasFiles request.entry → W.failed out.new ≡ false) }
     ensures answers { IfOk result (λ is_yes. Answers (S.held store.now) request.entry is_yes (W.written out.old) (W.written out.new)) }
+    ensures made { IfOk result (λ is_yes. MakesOut S.name_of S.Writer.written S.Writer.failed (S.held store.now) request.entry is_yes (W.written out.old) (W.written out.new)) }
     ensures faults { IfErr result (λ fault. IsFaultOf S.Reader.failed (S.held store.now) request.entry fault) }
     ensures untouched { IfErr result (λ fault. fault ≢ Fault.Run RunError.Write → ((e : CutShort) → fault ≢ Fault.CutShort e) → fault ≢ Fault.SomeFiles → out.new ≡ out.old) }
     ensures whole { IfErr result (λ fault. KeepsOrCuts S.Reader.failed (S.held store.now) request.entry W.failed W.written out.old out.new) }
@@ -236,6 +238,7 @@ fn find_in_table<'a, S: Store, W: Output, E: Output>(
 ) -> Result<bool, Fault<'a>>
     ensures told { TellsOf S.Reader.failed (S.held store.now) (Request.Find table.entry budget name.entry hex progress) (is_ok result) E.failed E.written err.old err.new }
     ensures answers { IfOk result (λ is_yes. Answers (S.held store.now) (Request.Find table.entry budget name.entry hex progress) is_yes (W.written out.old) (W.written out.new)) }
+    ensures made { IfOk result (λ is_yes. MakesOut S.name_of S.Writer.written S.Writer.failed (S.held store.now) (Request.Find table.entry budget name.entry hex progress) is_yes (W.written out.old) (W.written out.new)) }
     ensures shown { OnOk result (W.failed out.new ≡ false) }
     ensures faults { IfErr result (IsFaultOf S.Reader.failed (S.held store.now) (Request.Find table.entry budget name.entry hex progress)) }
     ensures untouched { IfErr result (λ fault. fault ≢ Fault.Run RunError.Write → out.new ≡ out.old) }

@@ -1,5 +1,5 @@
 -- What is printed of what a search finds, and what is written to the file that it names.
-use Rattle.std.specs.Prelude.{◌≡◌, ℕ, ◌<◌, ⊤, Bool, true, false, List, [], ◌∷◌, ◌++◌, codes, length, Option, Some, None, slice_get}
+use Rattle.std.specs.Prelude.{◌≡◌, ℕ, ◌<◌, ⊤, Bool, true, false, List, [], ◌∷◌, ◌++◌, codes, length, IfSome, Option, Some, None, slice_get}
 use Rattle.std.specs.Fmt.{decimal}
 use Rattle.hex.specs.Hex.{encode_lower}
 use Rattle.sig_cert.specs.Deciding.{AreFormats}
@@ -68,6 +68,11 @@ pub record AddsFound (is_yes hex : Bool) (table : TableView) (budget : ℕ) (bef
   pub is_found : IsFound table budget found
   pub is : is_yes ≡ is_answered found
   pub adds : Adds before (found_text hex table found) after
+
+-- what is written grows by the lines of what is found, and the bytes of just that, where it has any, are kept
+pub record KeepsFound (IsKept : List ℕ → Type 0) (is_yes hex : Bool) (table : TableView) (budget : ℕ) (before after : Option (List ℕ)) : Type 0 where
+  pub adds : AddsFound is_yes hex table budget before after
+  pub kept : IfSome (found_bytes adds.found) IsKept
 
 -- the file for what is found can't be made, a write failed, or memory ran out
 abbrev pub IsFindFault : FileFault → Type 0

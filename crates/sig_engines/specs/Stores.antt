@@ -1,5 +1,6 @@
 -- What a store holds, and what it gives.
-use Rattle.std.specs.Prelude.{◌≡◌, ℕ, ⊤, Bool, true, List, [], Option, None, Some, IsSome, option_map, Result, Ok, Err}
+use Rattle.std.specs.Prelude.{◌≡◌, ℕ, ⊤, Bool, true, false, List, [], Option, None, Some, IsSome, option_map, Result, Ok, Err}
+use Rattle.sig_bits.specs.Device.{Adds}
 use Rattle.sig_table.specs.Judging.{is_judged, is_read}
 use Rattle.sig_table.specs.Loading.{records_of, table_of}
 use Rattle.sig_table.specs.Tables.{IsTable}
@@ -34,6 +35,20 @@ Opens (Some files) name opened = opened ≡ option_map Some (files name)
 abbrev pub Makes : Holding → Option (List ℕ) → Type 0
 Makes None written = ⊤
 Makes (Some files) written = written ≡ Some []
+
+-- a file that is made has this name, where it is known
+abbrev pub IsNamed : Option (List ℕ) → List ℕ → Type 0
+IsNamed None name = ⊤
+IsNamed (Some known) name = known ≡ name
+
+-- a file of this name was made, and these bytes, and no others, were written to it; `file` is the one that was made, and `after` the same behind the write
+pub record IsMade {F : Type 0} (name_of written : F → Option (List ℕ)) (is_failed : F → Bool) (held : Holding) (name bytes : List ℕ) : Type 0 where
+  pub file : F
+  pub after : F
+  pub named : IsNamed (name_of file) name
+  pub empty : Makes held (written file)
+  pub adds : Adds (written file) bytes (written after)
+  pub sound : is_failed after ≡ false
 
 -- a reader has failed
 pub record SomeFailed {R : Type 0} (failed : R → Bool) : Type 0 where

@@ -2,9 +2,10 @@
 //!
 //! What is found is written before a byte of its lines is.
 
-ghost use Rattle.std.specs.Prelude.{◌≡◌, ◌≢◌, ◌⊎◌, false, option_map, true, IfErr, IfOk, OnOk};
-ghost use Rattle.sig_engines.specs.Finding.{AddsFound, IsFindFault, IsKnown, found_bytes, found_text, is_answered};
+ghost use Rattle.std.specs.Prelude.{◌≡◌, ◌≢◌, ◌⊎◌, false, option_map, true, IfErr, IfOk, IfSome, OnOk};
+ghost use Rattle.sig_engines.specs.Finding.{AddsFound, IsFindFault, IsKnown, KeepsFound, found_bytes, found_text, is_answered};
 ghost use Rattle.sig_engines.specs.Progress.{AddsProgress, ShowsIf};
+ghost use Rattle.sig_engines.specs.Stores.{IsMade};
 ghost use Rattle.sig_bits.specs.Device.{Adds};
 ghost use Rattle.sig_find.specs.Answers.{IsFound};
 ghost use Rattle.sig_table.specs.Tables.{IsTable};
@@ -37,6 +38,7 @@ pub fn run_find<S: Store, W: Output, E: Output>(
 ) -> Result<bool, FileFault>
     requires { IsTable table.now }
     ensures answers { IfOk result (λ is_yes. AddsFound is_yes with_hex table.now budget (W.written out.old) (W.written out.new)) }
+    ensures made { IfOk result (λ is_yes. KeepsFound (IsMade S.name_of S.Writer.written S.Writer.failed (S.held store.now) name.now) is_yes with_hex table.now budget (W.written out.old) (W.written out.new)) }
     ensures writes { OnOk result (W.failed out.new ≡ false) }
     ensures told { ShowsIf progress Things.Products (E.failed err.new) err.old err.new (E.written err.old) (E.written err.new) }
 
@@ -64,6 +66,7 @@ fn write_answer<S: Store, W: Output>(
 ) -> Result<bool, FileFault>
     requires { IsKnown table.now found.now }
     ensures answered { IfOk result (λ is_yes. is_yes ≡ is_answered found.now) }
+    ensures made { OnOk result (IfSome (found_bytes found.now) (IsMade S.name_of S.Writer.written S.Writer.failed (S.held store.now) name.now)) }
     ensures lines { OnOk result (Adds (W.written out.old) (found_text with_hex table.now found.now) (W.written out.new)) }
     ensures writes { OnOk result (W.failed out.new ≡ false) }
     ensures faults { IfErr result IsFindFault }

@@ -7,8 +7,8 @@
 //! - `run_match_many` does so for each of many files of a store, each line behind the file's name. The
 //!   fault of a file is a line of the error output.
 //! - `run_show` adds both canonical files with an empty line between them.
-//! - `run_find` adds the lines of what the finder finds of a table, once its bytes are written to a file
-//!   of the store.
+//! - `run_find` adds the lines of what the finder finds of a table, once its bytes, and no others, are
+//!   written to a file of the store that was made by the name that is given.
 //! - `run_check` adds the line of the verdict on a certificate, and answers a yes exactly for an
 //!   accepted one: then no file whatever leaves two formats of the table (`decided`).
 //! - `run_witness` adds the first two formats left for a file, or says that it is not ambiguous, and

@@ -3,8 +3,8 @@
 //! What the program reads and makes by name it asks of a store, so what it does with the files of a
 //! store that tells what it holds can be said in a contract. The files of the system tell nothing.
 
-ghost use Rattle.std.specs.Prelude.{◌≡◌, false, IfSome, None, option_map};
-ghost use Rattle.sig_engines.specs.Stores.{Holding, Makes, Opens};
+ghost use Rattle.std.specs.Prelude.{◌≡◌, ℕ, false, IfSome, List, None, Option, option_map};
+ghost use Rattle.sig_engines.specs.Stores.{Holding, IsNamed, Makes, Opens};
 
 use sig_bits::{FromRead, FromWrite, Input, Output};
 use std::fs;
@@ -19,6 +19,9 @@ pub trait Store {
     /// The bytes of the file of each name, where they are known.
     ghost held: { Self → Holding };
 
+    /// The name of a file that is made, where it is known.
+    ghost name_of: { Self.Writer → Option (List ℕ) };
+
     /// Opens the file of this name, from its front.
     fn open(&self, name: &str) -> Option<Self::Reader>
         ensures opens { Opens (held self.now) name.now (option_map (λ file. Self.Reader.to_come file) result) }
@@ -26,8 +29,10 @@ pub trait Store {
 
     /// Makes a file of this name, in place of one that is there.
     ///
-    /// What is written to it is not among what the store is known to hold.
+    /// What is written to it is not among what the store is known to hold. Over any store nothing but this
+    /// call gives a file of a name, so who promises one (`IsMade`) has made it here.
     fn create(&self, name: &str) -> Option<Self::Writer>
+        ensures named { IfSome result (λ file. IsNamed (name_of file) name.now) }
         ensures makes { IfSome result (λ file. Makes (held self.now) (Self.Writer.written file)) }
         ensures fresh { IfSome result (λ file. Self.Writer.failed file ≡ false) };
 }
@@ -57,6 +62,8 @@ impl<R: Files> Store for SystemFiles<'_, R> {
     type Writer = FromWrite<R::File>;
 
     ghost held = { λ _. None };
+
+    ghost name_of = { λ _. None };
 
     fn open(&self, name: &str) -> Option<FromRead<R::File>> {
         match fs::open(self.rt, name) {

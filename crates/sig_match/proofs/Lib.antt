@@ -11,11 +11,13 @@ mod LangLemmas
 mod LeftLemmas
 mod ListingLemmas
 mod MarkLemmas
+mod NarrowLemmas
 mod OneListLemmas
 mod OutlookLemmas
 mod PartLemmas
 mod ReachLemmas
 mod RestLemmas
+mod RetreatLemmas
 mod RunLemmas
 mod ScanLemmas
 mod SieveLemmas

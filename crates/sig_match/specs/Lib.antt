@@ -19,6 +19,7 @@ pub mod Fronts
 pub mod Gaps
 pub mod Hitting
 pub mod Lates
+pub mod Narrow
 pub mod Parts
 pub mod Rests
 pub mod Runs

@@ -1,5 +1,5 @@
 -- Sets of states in which a scan rests, and the bytes by which they are left.
-use Rattle.std.specs.Prelude.{◌≡◌, ◌≢◌, ◌⊎◌, ℕ, ◌<◌, Bool, false, List, [], ◌∷◌, ⊤}
+use Rattle.std.specs.Prelude.{◌≡◌, ◌≢◌, ◌⊎◌, ◌↔◌, ℕ, ◌<◌, Bool, false, List, [], ◌∷◌, ⊤}
 use Rattle.sig_auto.specs.Runs.{IsStepOf}
 use Rattle.sig_auto.specs.Tracks.{Follows}
 use Rattle.sig_auto.specs.Trees.{Tree}
@@ -16,6 +16,10 @@ Reaches tree p (b ∷ bytes) q = (r : ℕ) × Follows tree p r × Takes tree r b
 -- they lead from some state of the set to q
 abbrev pub IsReached : Tree → List ℕ → List ℕ → ℕ → Type 0
 IsReached tree set bytes q = (p : ℕ) × HasBit set p × Reaches tree p bytes q
+
+-- the two sets lead to the same states, each by what is left
+abbrev pub LeadsAlike : Tree → List ℕ → List ℕ → List ℕ → List ℕ → Type 0
+LeadsAlike tree set left other right = (q : ℕ) → IsReached tree set left q ↔ IsReached tree other right q
 
 -- whatever leads on from state p is these bytes, as far as they go
 abbrev pub GoesBy : Tree → ℕ → List ℕ → Type 0

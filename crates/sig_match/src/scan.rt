@@ -24,6 +24,7 @@ use std::marker::Model;
 
 mod entry;
 mod fixed;
+mod narrow;
 mod piece;
 #[cfg(test)]
 mod plain;

@@ -6,18 +6,19 @@ ghost use Rattle.sig_auto.specs.Trees.{whole_tree};
 ghost use Rattle.sig_auto.specs.TreeSlots.{set_len};
 ghost use Rattle.sig_bits.specs.BitSets.{HasBit};
 ghost use Rattle.sig_bits.specs.Bytes.{IsBytes};
-ghost use Rattle.sig_match.specs.Rests.{IsReached};
+ghost use Rattle.sig_match.specs.Rests.{IsReached, LeadsAlike};
 ghost use Rattle.sig_match.specs.Scans.{IsSequenceScanOf};
 ghost use Rattle.sig_table.specs.Standing.{Stands};
 ghost use Rattle.sig_table.specs.Tables.{IsSequence};
 ghost use Rattle.sig_table.specs.Views.{SequenceView};
 
 use crate::scan::fixed::{run_of, write_behind};
+use crate::scan::narrow::{WORD, go_by_words};
 use crate::scan::piece::Piece;
 use crate::scan::rest::way_of;
 use crate::scan::sieve::Sieve;
 use crate::scan::span::climbs;
-use crate::scan::way::{Way, same_bytes};
+use crate::scan::way::{FRONT, Way, same_bytes};
 use sig_auto::Auto;
 use sig_bits::{and_any, clear, get_bit, set_bit};
 use sig_table::Sequence;
@@ -31,11 +32,22 @@ const PAUSE: usize = 64;
 // So many bytes of two sets may be compared for each byte that is stepped.
 const COMPARED: usize = 64;
 
+// A sequence that does not rest looks back once in so many bytes.
+const AGAIN: usize = 64;
+
+// The greatest set, in bytes, of a sequence that looks back.
+const SMALL: usize = 32;
+
+// So many bytes in a row are stepped before the sequence goes on by words, and so many have to be left:
+// to make the words takes long.
+const AWAKE: usize = 1024;
+
 // The set, the room of the next one, and a set in which the sequence can rest, with the way out of it:
 // at first the one in which most files leave it, then the one in which it rested last. `number` is the
 // place of the first front in the sieve. `run` has the bytes of a long sequence of fixed bytes alone that may
 // begin anywhere, and none of any other. `resting` tells that it is in that set now, and `pause` how
-// many bytes are stepped before that is asked again.
+// many bytes are stepped before that is asked again. `awake` is how many bytes were stepped since it
+// last rested or went by words.
 #[derive(Debug, Drop)]
 pub(crate) struct SequenceScan {
     auto: Auto,
@@ -48,6 +60,7 @@ pub(crate) struct SequenceScan {
     climbs: bool,
     resting: bool,
     pause: usize,
+    awake: usize,
 }
 
 impl Model for SequenceScan {
@@ -98,6 +111,7 @@ impl SequenceScan {
             climbs: climbs(sequence),
             resting: false,
             pause: 0,
+            awake: 0,
         };
         scan.look_ahead(alloc, sieve)?;
         Ok(scan)
@@ -153,7 +167,9 @@ impl SequenceScan {
         while from < bytes.len() {
             self.step(bytes[from]);
             self.settle();
+            self.retreat(piece, from + 1);
             from = self.next_place(piece, from + 1);
+            from = self.go_narrow(piece, from);
         }
     }
 
@@ -181,7 +197,7 @@ impl SequenceScan {
         requires { from ≤ length piece.now }
         ensures sequence { self.new.sequence ≡ self.old.sequence }
         ensures within { result ≤ length piece.now }
-        ensures same { (q : ℕ) → IsReached (whole_tree self.old.sequence) self.old.set (drop from piece.now) q ↔ IsReached (whole_tree self.old.sequence) self.new.set (drop result piece.now) q }
+        ensures same { LeadsAlike (whole_tree self.old.sequence) self.old.set (drop from piece.now) self.new.set (drop result piece.now) }
     {
         let len = piece.bytes().len();
         let slots = self.auto.slots() as usize;
@@ -192,6 +208,29 @@ impl SequenceScan {
         set_bit(&mut self.set, 1);
         self.resting = same_bytes(&self.set, &self.rest);
         len - slots
+    }
+
+    // Goes on from this place by words, if the sequence has few states and has not rested for long. Answers
+    // the place up to which it went.
+    fn go_narrow(&mut self, piece: &Piece<'_>, from: usize) -> usize
+        requires { from ≤ length piece.now }
+        ensures sequence { self.new.sequence ≡ self.old.sequence }
+        ensures after { from ≤ result }
+        ensures within { result ≤ length piece.now }
+        ensures same { LeadsAlike (whole_tree self.old.sequence) self.old.set (drop from piece.now) self.new.set (drop result piece.now) }
+    {
+        if self.resting || self.set.len() > WORD || self.awake < AWAKE {
+            return from;
+        }
+        let bytes = piece.bytes();
+        if bytes.len() - from < AWAKE {
+            return from;
+        }
+        self.awake = 0;
+        let behind = &bytes[from..];
+        let count = go_by_words(&self.auto, &mut self.set, &self.rest, behind);
+        self.resting = same_bytes(&self.set, &self.rest);
+        from + count
     }
 
     // Whether the start or slot 1 is in the set. Of a sequence that may begin anywhere, or that stands at the
@@ -208,7 +247,7 @@ impl SequenceScan {
         requires { from ≤ length piece.now }
         ensures after { from ≤ result }
         ensures within { result ≤ length piece.now }
-        ensures same { (q : ℕ) → IsReached (whole_tree self.now.sequence) self.now.set (drop from piece.now) q ↔ IsReached (whole_tree self.now.sequence) self.now.set (drop result piece.now) q }
+        ensures same { LeadsAlike (whole_tree self.now.sequence) self.now.set (drop from piece.now) self.now.set (drop result piece.now) }
     {
         if self.resting {
             self.way
@@ -224,7 +263,7 @@ impl SequenceScan {
         requires { from ≤ length piece.now }
         ensures after { from ≤ result }
         ensures within { result ≤ length piece.now }
-        ensures same { (q : ℕ) → IsReached (whole_tree self.now.sequence) self.now.set (drop from piece.now) q ↔ IsReached (whole_tree self.now.sequence) self.now.set (drop result piece.now) q }
+        ensures same { LeadsAlike (whole_tree self.now.sequence) self.now.set (drop from piece.now) self.now.set (drop result piece.now) }
     {
         let bytes = piece.bytes();
         if self.resting && self.climbs && get_bit(&self.rest, 1) {
@@ -241,6 +280,7 @@ impl SequenceScan {
     {
         self.auto.step_set(&self.set, byte, &mut self.next);
         mem::swap(&mut self.set, &mut self.next);
+        self.awake = one_more(self.resting, self.awake);
         self.resting = false;
     }
 
@@ -272,12 +312,53 @@ impl SequenceScan {
         }
     }
 
+    // Rests again, where the last bytes lead to the set from the one in which the sequence rests and none of
+    // them begins a way out: what was begun there comes to nothing in this piece. Of the bytes `41 42 .. 48`
+    // anywhere a file of 41 leads to the slot of the 41 again and again, and never on.
+    fn retreat(&mut self, piece: &Piece<'_>, at: usize)
+        requires { at ≤ length piece.now }
+        ensures sequence { self.new.sequence ≡ self.old.sequence }
+        ensures same { LeadsAlike (whole_tree self.old.sequence) self.old.set (drop at piece.now) self.new.set (drop at piece.now) }
+    {
+        if self.resting || self.awake % AGAIN != FRONT || self.set.len() > SMALL {
+            return;
+        }
+        let bytes = piece.bytes();
+        let from = at.saturating_sub(FRONT);
+        if self.way.passes(&bytes[from..], at - from)
+            && leads_to(&self.auto, &self.rest, &bytes[from..at], &self.set)
+        {
+            self.set.copy_from_slice(&self.rest);
+            self.resting = true;
+        }
+    }
+
     // Whether the sequence stands in the file, if it ends here.
     pub(crate) fn stands(&self) -> bool
         ensures { (file : List ℕ) (s : SequenceView) → IsSequence s → IsBytes file → IsSequenceScanOf file s self.now → (IsTrue result ↔ Stands s file) }
     {
         self.auto.any_accepting(&self.set)
     }
+}
+
+// How many bytes were stepped since the sequence last rested, with one more.
+fn one_more(resting: bool, awake: usize) -> usize {
+    if resting { 1 } else { awake.saturating_add(1) }
+}
+
+// Whether the bytes lead from the one set to the other.
+fn leads_to(auto: &Auto, from: &[u8], bytes: &[u8], to: &[u8]) -> bool
+    requires from_len { length from.now ≡ set_len (whole_tree auto.now) }
+    requires small { length from.now ≤ 32 }
+    ensures { IsTrue result → (q : ℕ) → HasBit to.now q ↔ IsReached (whole_tree auto.now) from.now bytes.now q }
+{
+    let Some((byte, later)) = bytes.split_first() else {
+        return same_bytes(from, to);
+    };
+    let mut room = [0; SMALL];
+    let next = &mut room[..from.len()];
+    auto.step_set(from, *byte, next);
+    leads_to(auto, next, later, to)
 }
 
 // A set of no state.

@@ -37,13 +37,89 @@ fn hits(alloc: Global, table: &Table, pieces: &[&[u8]]) -> Result<bool, Fail> {
     Ok(results.hits() == [hit].as_slice())
 }
 
+// A sequence, the pieces that are fed, and whether it then stands.
+const CUTS: &[(&str, &[&[u8]], bool)] = &[
+    // A word is found across a cut.
+    ("Variable,,,4142", &[b"\x00A", b"B\x00"], true),
+    ("Variable,,,4142", &[b"", b"A", b"", b"B"], true),
+    ("Variable,,,4142", &[b"A\x00", b"B\x00"], false),
+    ("Variable,,,4142", &[], false),
+    // A front is cut anywhere.
+    (
+        "Variable,,,414243444546",
+        &[b"\x00\x00\x00\x00ABC", b"DEF\x00"],
+        true,
+    ),
+    (
+        "Variable,,,414243444546",
+        &[b"\x00\x00\x00\x00ABCABC", b"DEF"],
+        true,
+    ),
+    (
+        "Variable,,,414243444546",
+        &[b"\x00\x00\x00\x00A", b"B", b"C", b"D", b"E", b"F"],
+        true,
+    ),
+    (
+        "Variable,,,414243444546",
+        &[b"\x00\x00\x00\x00ABC", b"DE"],
+        false,
+    ),
+    (
+        "Variable,,,414243444546",
+        &[b"\x00\x00\x00\x00ABC", b"ABDEF"],
+        false,
+    ),
+    // A front overlaps itself.
+    ("Variable,,,414142", &[b"\x00\x00\x00AA", b"AB"], true),
+    ("Variable,,,414142", &[b"\x00\x00\x00AAAAB"], true),
+    ("Variable,,,414142", &[b"\x00\x00\x00AA\x00AB"], false),
+    // A way out has several first bytes.
+    ("Variable,,,[41:42]43", &[b"\x00\x00\x00B", b"C"], true),
+    (
+        "Variable,,,[41:42]43",
+        &[b"\x00\x00\x00\x00BAC\x00\x00\x00"],
+        true,
+    ),
+    ("Variable,,,[41:42]43", &[b"\x00\x00\x00D", b"C"], false),
+    // What has hit goes on to hit.
+    ("BOF,0,,4142", &[b"AB", b"\x00\x00\x00\x00", b"A"], true),
+    (
+        "Variable,,,4142",
+        &[b"AB\x00\x00\x00\x00", b"\x00\x00"],
+        true,
+    ),
+    ("BOF,0,,4142", &[b"AC", b"\x00\x00\x00\x00", b"AB"], false),
+    // The end decides at the end of the file.
+    ("EOF,0,1,4142", &[b"\x00\x00\x00\x00A", b"B"], true),
+    ("EOF,0,1,4142", &[b"\x00\x00\x00\x00AB", b"\x00"], true),
+    ("EOF,0,1,4142", &[b"AB\x00\x00\x00\x00AB\x00"], true),
+    ("EOF,0,1,4142", &[b"\x00\x00\x00\x00AB\x00", b"\x00"], false),
+    // An open gap is waited in.
+    ("BOF,0,,41*4243", &[b"A\x00\x00\x00\x00B", b"C"], true),
+    (
+        "BOF,0,,41*4243",
+        &[b"A", b"\x00\x00", b"\x00\x00BBC", b"\x00\x00"],
+        true,
+    ),
+    ("BOF,0,,41*4243", &[b"A\x00\x00\x00\x00B", b"\x00C"], false),
+    ("BOF,0,,41*4243", &[b"\x00A\x00\x00\x00B", b"C"], false),
+];
+
+// Whether the one signature of this position and expression hits what is fed in these pieces.
+fn one_hits(alloc: Global, sequence: &str, pieces: &[&[u8]]) -> Result<bool, Fail> {
+    let table = table_of(alloc, sequence)?;
+    hits(alloc, &table, pieces)
+}
+
 #[test]
-fn a_word_is_found_across_a_cut(rt: HostRuntime) -> Result<(), Fail> {
-    let table = table_of(rt.alloc(), "Variable,,,4142")?;
-    assert!(rt; hits(rt.alloc(), &table, &[b"\x00A", b"B\x00"])?);
-    assert!(rt; hits(rt.alloc(), &table, &[b"", b"A", b"", b"B"])?);
-    assert!(rt; !hits(rt.alloc(), &table, &[b"A\x00", b"B\x00"])?);
-    assert!(rt; !hits(rt.alloc(), &table, &[])?);
+fn a_cut_makes_no_difference(rt: HostRuntime) -> Result<(), Fail> {
+    for (sequence, pieces, stands) in CUTS {
+        assert!(rt;
+            one_hits(rt.alloc(), sequence, pieces)? == *stands,
+            "{sequence} {pieces:?}"
+        );
+    }
     Ok(())
 }
 
@@ -84,99 +160,6 @@ fn a_scan_may_end_anywhere(rt: HostRuntime) -> Result<(), Fail> {
             "{len}"
         );
     }
-    Ok(())
-}
-
-// Whether the one signature of this position and expression hits what is fed in these pieces.
-fn one_hits(alloc: Global, sequence: &str, pieces: &[&[u8]]) -> Result<bool, Fail> {
-    let table = table_of(alloc, sequence)?;
-    hits(alloc, &table, pieces)
-}
-
-#[test]
-fn a_front_is_cut_anywhere(rt: HostRuntime) -> Result<(), Fail> {
-    let word = "Variable,,,414243444546";
-    assert!(rt; one_hits(rt.alloc(), word, &[b"\x00\x00\x00\x00ABC", b"DEF\x00"])?);
-    assert!(rt; one_hits(rt.alloc(), word, &[b"\x00\x00\x00\x00ABCABC", b"DEF"])?);
-    assert!(rt;
-        one_hits(
-            rt.alloc(),
-            word,
-            &[b"\x00\x00\x00\x00A", b"B", b"C", b"D", b"E", b"F"]
-        )?
-    );
-    assert!(rt; !one_hits(rt.alloc(), word, &[b"\x00\x00\x00\x00ABC", b"DE"])?);
-    assert!(rt; !one_hits(rt.alloc(), word, &[b"\x00\x00\x00\x00ABC", b"ABDEF"])?);
-    Ok(())
-}
-
-#[test]
-fn a_front_overlaps_itself(rt: HostRuntime) -> Result<(), Fail> {
-    let word = "Variable,,,414142";
-    assert!(rt; one_hits(rt.alloc(), word, &[b"\x00\x00\x00AA", b"AB"])?);
-    assert!(rt; one_hits(rt.alloc(), word, &[b"\x00\x00\x00AAAAB"])?);
-    assert!(rt; !one_hits(rt.alloc(), word, &[b"\x00\x00\x00AA\x00AB"])?);
-    Ok(())
-}
-
-#[test]
-fn a_way_out_has_several_first_bytes(rt: HostRuntime) -> Result<(), Fail> {
-    let word = "Variable,,,[41:42]43";
-    assert!(rt; one_hits(rt.alloc(), word, &[b"\x00\x00\x00B", b"C"])?);
-    assert!(rt; one_hits(rt.alloc(), word, &[b"\x00\x00\x00\x00BAC\x00\x00\x00"])?);
-    assert!(rt; !one_hits(rt.alloc(), word, &[b"\x00\x00\x00D", b"C"])?);
-    Ok(())
-}
-
-#[test]
-fn what_has_hit_goes_on_to_hit(rt: HostRuntime) -> Result<(), Fail> {
-    assert!(rt;
-        one_hits(
-            rt.alloc(),
-            "BOF,0,,4142",
-            &[b"AB", b"\x00\x00\x00\x00", b"A"]
-        )?
-    );
-    assert!(rt;
-        one_hits(
-            rt.alloc(),
-            "Variable,,,4142",
-            &[b"AB\x00\x00\x00\x00", b"\x00\x00"]
-        )?
-    );
-    assert!(rt;
-        !one_hits(
-            rt.alloc(),
-            "BOF,0,,4142",
-            &[b"AC", b"\x00\x00\x00\x00", b"AB"]
-        )?
-    );
-    Ok(())
-}
-
-#[test]
-fn the_end_decides_at_eof(rt: HostRuntime) -> Result<(), Fail> {
-    let word = "EOF,0,1,4142";
-    assert!(rt; one_hits(rt.alloc(), word, &[b"\x00\x00\x00\x00A", b"B"])?);
-    assert!(rt; one_hits(rt.alloc(), word, &[b"\x00\x00\x00\x00AB", b"\x00"])?);
-    assert!(rt; one_hits(rt.alloc(), word, &[b"AB\x00\x00\x00\x00AB\x00"])?);
-    assert!(rt; !one_hits(rt.alloc(), word, &[b"\x00\x00\x00\x00AB\x00", b"\x00"])?);
-    Ok(())
-}
-
-#[test]
-fn an_open_gap_is_waited_in(rt: HostRuntime) -> Result<(), Fail> {
-    let word = "BOF,0,,41*4243";
-    assert!(rt; one_hits(rt.alloc(), word, &[b"A\x00\x00\x00\x00B", b"C"])?);
-    assert!(rt;
-        one_hits(
-            rt.alloc(),
-            word,
-            &[b"A", b"\x00\x00", b"\x00\x00BBC", b"\x00\x00"]
-        )?
-    );
-    assert!(rt; !one_hits(rt.alloc(), word, &[b"A\x00\x00\x00\x00B", b"\x00C"])?);
-    assert!(rt; !one_hits(rt.alloc(), word, &[b"\x00A\x00\x00\x00B", b"C"])?);
     Ok(())
 }
 
@@ -245,25 +228,28 @@ fn agree(alloc: Global, sequence: &str, file: &[u8]) -> Result<bool, Fail> {
     Ok(true)
 }
 
-#[test]
-fn the_plain_scan_agrees_on_files_of_few_letters(rt: HostRuntime) -> Result<(), Fail> {
-    let file = letters(rt.alloc(), 1, 120)?;
-    assert!(rt; agree(rt.alloc(), "Variable,,,41424142", &file)?);
-    assert!(rt; agree(rt.alloc(), "Variable,,,414142", &file)?);
-    assert!(rt; agree(rt.alloc(), "Variable,,,[!00]00", &file)?);
-    assert!(rt; agree(rt.alloc(), "EOF,0,2,4142", &file)?);
-    assert!(rt; agree(rt.alloc(), "EOF,1,1,4142{1-2}00", &file)?);
-    Ok(())
-}
+// Sequences on which the scan and the plain one agree.
+const AGREED: &[&str] = &[
+    "Variable,,,41424142",
+    "Variable,,,414142",
+    "Variable,,,[!00]00",
+    "EOF,0,2,4142",
+    "EOF,1,1,4142{1-2}00",
+    "Variable,,,(4142|[4100:4142]00)41",
+    "Variable,,,{1-2}4142*0041",
+    "BOF,0,9,41{0-3}42*4100",
+    "BOF,0,60,414200",
+    "EOF,0,0,4142*",
+];
 
 #[test]
-fn the_plain_scan_agrees_on_gaps_and_lists(rt: HostRuntime) -> Result<(), Fail> {
-    let file = letters(rt.alloc(), 2, 120)?;
-    assert!(rt; agree(rt.alloc(), "Variable,,,(4142|[4100:4142]00)41", &file)?);
-    assert!(rt; agree(rt.alloc(), "Variable,,,{1-2}4142*0041", &file)?);
-    assert!(rt; agree(rt.alloc(), "BOF,0,9,41{0-3}42*4100", &file)?);
-    assert!(rt; agree(rt.alloc(), "BOF,0,60,414200", &file)?);
-    assert!(rt; agree(rt.alloc(), "EOF,0,0,4142*", &file)?);
+fn the_plain_scan_agrees_on_files_of_few_letters(rt: HostRuntime) -> Result<(), Fail> {
+    for seed in 1..3 {
+        let file = letters(rt.alloc(), seed, 120)?;
+        for sequence in AGREED {
+            assert!(rt; agree(rt.alloc(), sequence, &file)?, "{seed} {sequence}");
+        }
+    }
     Ok(())
 }
 
@@ -396,6 +382,50 @@ fn the_plain_scan_agrees_on_a_run_that_is_nearly_met(rt: HostRuntime) -> Result<
     Ok(())
 }
 
+// Sequences of few states that bytes 41 and 42 alone keep from resting. The last but one has as many states as
+// a word has bits, and the last one more.
+const AWAKE: &[&str] = &[
+    "Variable,,,41??42??43",
+    "Variable,,,41{0-9}42??43",
+    "Variable,,,(41|4142)43",
+    "BOF,0,9,41*42{1-3}43",
+    "EOF,0,2,41*4241??43",
+    "Variable,,,41{58}42",
+    "Variable,,,41{59}42",
+];
+
+// Whether they agree on those behind each of these pieces.
+fn agree_awake(alloc: Global, pieces: &[&[u8]]) -> Result<bool, Fail> {
+    for sequence in AWAKE {
+        let table = table_of(alloc, sequence)?;
+        if !agree_on(alloc, &table, pieces)? {
+            return Ok(false);
+        }
+    }
+    Ok(true)
+}
+
+// Whether they agree on a file of the pattern over and over, and on one with other bytes in it.
+fn agree_on_pattern(alloc: Global, pattern: &[u8]) -> Result<bool, Fail>
+    requires { 0 < length pattern.now }
+{
+    let long = repeated(alloc, pattern, 2600)?;
+    let (front, back) = long.split_at(1400);
+    Ok(
+        agree_awake(alloc, &[&long, b"C"])?
+            && agree_awake(alloc, &[front, b"BC", back, b"", b"ABBC"])?
+            && agree_awake(alloc, &[b"A", &long, b"\x00\x00", &long, b"BAC"])?,
+    )
+}
+
+#[test]
+fn the_plain_scan_agrees_where_a_sequence_never_rests(rt: HostRuntime) -> Result<(), Fail> {
+    assert!(rt; agree_on_pattern(rt.alloc(), b"A")?);
+    assert!(rt; agree_on_pattern(rt.alloc(), b"AB")?);
+    assert!(rt; agree_on_pattern(rt.alloc(), b"AAAB")?);
+    Ok(())
+}
+
 // Whether they agree on a sequence of this position and expression, in pieces shorter and longer than the
 // longest way through it.
 fn agree_at_end_by(alloc: Global, sequence: &str, file: &[u8]) -> Result<bool, Fail> {
@@ -403,14 +433,22 @@ fn agree_at_end_by(alloc: Global, sequence: &str, file: &[u8]) -> Result<bool, F
     Ok(agree(alloc, sequence, file)? && agree_in_small_pieces(alloc, &table, file)?)
 }
 
-// Whether they agree on some sequences at the end of the file.
+// Sequences at the end of the file.
+const AT_END: &[&str] = &[
+    "EOF,0,4,41{0-3}42",
+    "EOF,0,0,4141424142",
+    "EOF,1,3,41??42",
+    "EOF,0,20,41??",
+];
+
+// Whether they agree on these.
 fn agree_at_end(alloc: Global, file: &[u8]) -> Result<bool, Fail> {
-    Ok(
-        agree_at_end_by(alloc, "EOF,0,4,41{0-3}42", file)?
-            && agree_at_end_by(alloc, "EOF,0,0,4141424142", file)?
-            && agree_at_end_by(alloc, "EOF,1,3,41??42", file)?
-            && agree_at_end_by(alloc, "EOF,0,20,41??", file)?,
-    )
+    for sequence in AT_END {
+        if !agree_at_end_by(alloc, sequence, file)? {
+            return Ok(false);
+        }
+    }
+    Ok(true)
 }
 
 #[test]
@@ -488,11 +526,12 @@ fn many_fronts_are_told_apart_in_one_look(rt: HostRuntime) -> Result<(), Fail> {
     )?;
     for seed in 0..6 {
         let file = letters(rt.alloc(), seed, 90)?;
-        assert!(rt; all_agree_by(rt.alloc(), &table, &file, 1)?, "{seed}");
-        assert!(rt; all_agree_by(rt.alloc(), &table, &file, 2)?, "{seed}");
-        assert!(rt; all_agree_by(rt.alloc(), &table, &file, 3)?, "{seed}");
-        assert!(rt; all_agree_by(rt.alloc(), &table, &file, 7)?, "{seed}");
-        assert!(rt; all_agree_by(rt.alloc(), &table, &file, 90)?, "{seed}");
+        for piece in [1, 2, 3, 7, 90] {
+            assert!(rt;
+                all_agree_by(rt.alloc(), &table, &file, piece)?,
+                "{seed} {piece}"
+            );
+        }
     }
     Ok(())
 }

@@ -64,6 +64,32 @@ impl Way {
         at + self.next(&bytes[at..])
     }
 
+    /// Whether no way out begins at one of the first so many places of the bytes.
+    pub(crate) fn passes(&self, bytes: &[u8], count: usize) -> bool
+        ensures { IsTrue result → (x : ℕ) → x < count → IsPassed self.now.exits (take self.now.len self.now.front) (drop x bytes.now) }
+    {
+        let Some((_, later)) = bytes.split_first() else {
+            return true;
+        };
+        if count == 0 {
+            return true;
+        }
+        !self.may_leave(bytes) && self.passes(later, count - 1)
+    }
+
+    // Whether a way out may begin with the bytes.
+    fn may_leave(&self, bytes: &[u8]) -> bool
+        ensures { result ≡ false → IsPassed self.now.exits (take self.now.len self.now.front) bytes.now }
+    {
+        if self.len > 0 {
+            return may_begin(&self.front[..self.len], bytes);
+        }
+        match bytes.first() {
+            Some(byte) => self.exits.contains(*byte),
+            None => true,
+        }
+    }
+
     /// The first place of the bytes at which a way out may begin, or their end.
     pub(crate) fn next(&self, bytes: &[u8]) -> usize
         ensures within { result ≤ length bytes.now }

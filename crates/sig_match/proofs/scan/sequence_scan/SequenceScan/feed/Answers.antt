@@ -1,4 +1,4 @@
-use Rattle.std.proofs.Common.{arith, ap, subst, sym, ◌∙◌, ◌≡◌, ◌++◌, ℕ, List, drop, get_or, length, ◌↔◌}
+use Rattle.std.proofs.Common.{arith, ap, subst, sym, ◌∙◌, ◌≡◌, ◌++◌, ℕ, ◌+◌, List, drop, get_or, length, ◌↔◌}
 use Rattle.sig_auto.specs.Runs.{IsStepOf}
 use Rattle.sig_auto.specs.Trees.{whole_tree}
 use Rattle.sig_bits.specs.BitSets.{HasBit}
@@ -32,15 +32,21 @@ loop-from-preserved c =
     let from : ℕ = c.loop-from.from in
     let old : SequenceScanView = c.loop-from.self in
     let step : SequenceScanView = c.step.new.self in
-    let new : SequenceScanView = c.settle.new.self in
+    let settled : SequenceScanView = c.settle.new.self in
+    let new : SequenceScanView = c.retreat.new.self in
     let within = ap length same_bytes in
     let byte : get_or bytes from 0 ≡ get_or piece from 0 = ap (λ l. get_or l from 0) same_bytes in
-    let sequence : new.sequence ≡ old.sequence = ap (λ (v : SequenceScanView). v.sequence) c.settle.ensures ∙ c.step.ensures.sequence in
+    let sequence : settled.sequence ≡ old.sequence = ap (λ (v : SequenceScanView). v.sequence) c.settle.ensures ∙ c.step.ensures.sequence in
     let P : SequenceScanView → Type 0 = λ v. (q : ℕ) → HasBit v.set q ↔ IsStepOf (whole_tree old.sequence) old.set (get_or bytes from 0) q in
-    let set : P new = subst P (sym c.settle.ensures) c.step.ensures.set in
+    let set : P settled = subst P (sym c.settle.ensures) c.step.ensures.set in
+    let next : ℕ = c.next_place-from-in-loop-from.result in
     record {
-      within = c.next_place-from-in-loop-from.ensures.within;
-      due = λ file s is. scan_steps_on _ piece from c.next_place-from-in-loop-from.result (get_or bytes from 0) s old new (omega arith) byte sequence set c.next_place-from-in-loop-from.ensures.same (c.loop-from.invariant.due file s is);
+      within = c.go_narrow-from.ensures.within;
+      due = λ file s is.
+          let stepped = scan_steps_on _ piece from (from + 1) (get_or bytes from 0) s old settled (omega arith) byte sequence set (λ q. (λ r. r, λ r. r)) (c.loop-from.invariant.due file s is) in
+          let back = scan_changes _ _ _ s settled new c.retreat.ensures.sequence c.retreat.ensures.same stepped in
+          let moved = scan_moves _ _ (drop next piece) s new c.next_place-from-in-loop-from.ensures.same back in
+          scan_changes _ (drop next piece) _ s new c.go_narrow-from.new.self c.go_narrow-from.ensures.sequence c.go_narrow-from.ensures.same moved;
     }
 
 pub returns : goal.returns
