@@ -17,7 +17,8 @@ pub fn words_are_taken()
     ensures many_no_help { fault_of program (codes "match" ∷ codes "a" ∷ codes "b" ∷ codes "c" ∷ codes "d" ∷ []) ≡ [] }
     ensures all { takes program (codes "match" ∷ codes "--all" ∷ codes "a" ∷ codes "b" ∷ codes "c" ∷ []) ≡ true }
     ensures found { takes program (codes "find" ∷ codes "--budget" ∷ codes "100000" ∷ codes "--out" ∷ codes "a" ∷ codes "b" ∷ codes "c" ∷ []) ≡ true }
-    ensures found_shown { takes program (codes "find" ∷ codes "--progress" ∷ codes "--budget" ∷ codes "100000" ∷ codes "--out" ∷ codes "a" ∷ codes "b" ∷ codes "c" ∷ []) ≡ true }
+    ensures found_shown { takes program (codes "find" ∷ codes "--progress" ∷ codes "--budget" ∷ codes "100000" ∷
+        codes "--out" ∷ codes "a" ∷ codes "b" ∷ codes "c" ∷ []) ≡ true }
     ensures budget_wanted { takes program (codes "find" ∷ codes "--budget" ∷ codes "0" ∷ codes "--out" ∷ codes "a" ∷ codes "b" ∷ codes "c" ∷ []) ≡ false }
     ensures settled { takes program (codes "conflicts" ∷ codes "--budget" ∷ codes "100000" ∷ codes "a" ∷ codes "b" ∷ []) ≡ true }
     ensures settled_shown { takes program (codes "conflicts" ∷ codes "--progress" ∷ codes "--budget" ∷ codes "100000" ∷ codes "a" ∷ codes "b" ∷ []) ≡ true }

@@ -32,7 +32,8 @@ pub fn run<R: Env + Files + AllocGlobal, W: Output, E: Output>(
 ) -> u8
     ensures known { result < 4 }
     ensures output { KeepsOutput (CutsSomeWords ⟦<FromRead<R::File> as Input>⟧.failed (W.written out.old) (W.written out.new)) result (W.failed out.new) out.old out.new }
-    ensures errors { KeepsErrors (ShowsSomeWords ⟦<FromRead<R::File> as Input>⟧.failed) result (E.failed err.new) err.old err.new (E.written err.old) (E.written err.new) }
+    ensures errors { KeepsErrors (ShowsSomeWords ⟦<FromRead<R::File> as Input>⟧.failed)
+        result (E.failed err.new) err.old err.new (E.written err.old) (E.written err.new) }
 
     // What is shown answers some words, or they ask for help.
     ensures answered { result ≡ 0 → (words : List Text) × (IsHelpAsked words ⊎ AnswersWords None words true (W.written out.old) (W.written out.new)) }
@@ -73,8 +74,10 @@ pub fn command<R: Files + AllocGlobal, W: Output, E: Output>(
     err: &mut E,
 ) -> u8
     ensures known { result < 4 }
-    ensures output { KeepsOutput (CutsWords ⟦<FromRead<R::File> as Input>⟧.failed None (texts_of words.now) (W.written out.old) (W.written out.new)) result (W.failed out.new) out.old out.new }
-    ensures errors { KeepsErrors (ShowsWords ⟦<FromRead<R::File> as Input>⟧.failed None (texts_of words.now)) result (E.failed err.new) err.old err.new (E.written err.old) (E.written err.new) }
+    ensures output { KeepsOutput (CutsWords ⟦<FromRead<R::File> as Input>⟧.failed None (texts_of words.now) (W.written out.old) (W.written out.new))
+        result (W.failed out.new) out.old out.new }
+    ensures errors { KeepsErrors (ShowsWords ⟦<FromRead<R::File> as Input>⟧.failed None (texts_of words.now))
+        result (E.failed err.new) err.old err.new (E.written err.old) (E.written err.new) }
     ensures answers { AnswersBy None (texts_of words.now) result (W.written out.old) (W.written out.new) }
     ensures faults { ReportsBy ⟦<FromRead<R::File> as Input>⟧.failed None (texts_of words.now) result W.written out.old out.new E.failed E.written err.old err.new }
 {
@@ -95,10 +98,13 @@ pub fn command_over<S: Store, W: Output, E: Output>(
     err: &mut E,
 ) -> u8
     ensures known { result < 4 }
-    ensures output { KeepsOutput (CutsWords S.Reader.failed (S.held store.now) (texts_of words.now) (W.written out.old) (W.written out.new)) result (W.failed out.new) out.old out.new }
-    ensures errors { KeepsErrors (ShowsWords S.Reader.failed (S.held store.now) (texts_of words.now)) result (E.failed err.new) err.old err.new (E.written err.old) (E.written err.new) }
+    ensures output { KeepsOutput (CutsWords S.Reader.failed (S.held store.now) (texts_of words.now) (W.written out.old) (W.written out.new))
+        result (W.failed out.new) out.old out.new }
+    ensures errors { KeepsErrors (ShowsWords S.Reader.failed (S.held store.now) (texts_of words.now))
+        result (E.failed err.new) err.old err.new (E.written err.old) (E.written err.new) }
     ensures answers { AnswersBy (S.held store.now) (texts_of words.now) result (W.written out.old) (W.written out.new) }
-    ensures made { AreTaken (texts_of words.now) → result ≡ 0 → MakesWords S.name_of S.Writer.written S.Writer.failed (S.held store.now) (texts_of words.now) true (W.written out.old) (W.written out.new) }
+    ensures made { AreTaken (texts_of words.now) → result ≡ 0 → MakesWords S.name_of S.Writer.written S.Writer.failed (S.held store.now) (texts_of words.now)
+        true (W.written out.old) (W.written out.new) }
     ensures faults { ReportsBy S.Reader.failed (S.held store.now) (texts_of words.now) result W.written out.old out.new E.failed E.written err.old err.new }
 {
     let matches = match read_args(alloc, words) {
@@ -127,9 +133,11 @@ fn answer<'m, 'a, S: Store, W: Output, E: Output>(
     ensures joined { IfErr result (JoinsBoth S.Reader.failed (S.held store.now) request.entry W.written out.old out.new E.failed E.written err.old err.new) }
     ensures shown { OnOk result (HasFiles request.entry → W.failed out.new ≡ false) }
     ensures answers { IfOk result (λ is_yes. Answers (S.held store.now) request.entry is_yes (W.written out.old) (W.written out.new)) }
-    ensures made { IfOk result (λ is_yes. MakesOut S.name_of S.Writer.written S.Writer.failed (S.held store.now) request.entry is_yes (W.written out.old) (W.written out.new)) }
+    ensures made { IfOk result (λ is_yes. MakesOut S.name_of S.Writer.written S.Writer.failed (S.held store.now)
+        request.entry is_yes (W.written out.old) (W.written out.new)) }
     ensures faults { IfErr result (λ fault. IsFaultOf S.Reader.failed (S.held store.now) request.entry fault) }
-    ensures untouched { IfErr result (λ fault. fault ≢ Fault.Run RunError.Write → ((e : CutShort) → fault ≢ Fault.CutShort e) → fault ≢ Fault.SomeFiles → out.new ≡ out.old) }
+    ensures untouched { IfErr result (λ fault. fault ≢ Fault.Run RunError.Write → ((e : CutShort) → fault ≢ Fault.CutShort e)
+        → fault ≢ Fault.SomeFiles → out.new ≡ out.old) }
     ensures whole { IfErr result (λ fault. KeepsOrCuts S.Reader.failed (S.held store.now) request.entry W.failed W.written out.old out.new) }
 {
     match request {
@@ -209,12 +217,14 @@ fn match_many<'m, 'a, S: Store, W: Output, E: Output>(
     err: &mut E,
 ) -> Result<bool, Fault<'a>>
     ensures told { TellsOf S.Reader.failed (S.held store.now) (Request.MatchMany all table.entry files.entry) (is_ok result) E.failed E.written err.old err.new }
-    ensures joined { IfErr result (JoinsBoth S.Reader.failed (S.held store.now) (Request.MatchMany all table.entry files.entry) W.written out.old out.new E.failed E.written err.old err.new) }
+    ensures joined { IfErr result (JoinsBoth S.Reader.failed (S.held store.now)
+        (Request.MatchMany all table.entry files.entry) W.written out.old out.new E.failed E.written err.old err.new) }
     ensures shown { OnOk result (0 < length files.now → W.failed out.new ≡ false) }
     ensures answers { IfOk result (λ is_yes. Answers (S.held store.now) (Request.MatchMany all table.entry files.entry) is_yes (W.written out.old) (W.written out.new)) }
     ensures faults { IfErr result (λ fault. IsFaultOf S.Reader.failed (S.held store.now) (Request.MatchMany all table.entry files.entry) fault) }
     ensures untouched { IfErr result (λ fault. fault ≢ Fault.Run RunError.Write → fault ≢ Fault.SomeFiles → out.new ≡ out.old) }
-    ensures whole { IfErr result (λ fault. KeepsOrCuts S.Reader.failed (S.held store.now) (Request.MatchMany all table.entry files.entry) W.failed W.written out.old out.new) }
+    ensures whole { IfErr result (λ fault. KeepsOrCuts S.Reader.failed (S.held store.now)
+        (Request.MatchMany all table.entry files.entry) W.failed W.written out.old out.new) }
 {
     let table = load(store, alloc, table)?;
     let core = StreamCore::new(alloc, table);
@@ -236,9 +246,12 @@ fn find_in_table<'a, S: Store, W: Output, E: Output>(
     out: &mut W,
     err: &mut E,
 ) -> Result<bool, Fault<'a>>
-    ensures told { TellsOf S.Reader.failed (S.held store.now) (Request.Find table.entry budget name.entry hex progress) (is_ok result) E.failed E.written err.old err.new }
-    ensures answers { IfOk result (λ is_yes. Answers (S.held store.now) (Request.Find table.entry budget name.entry hex progress) is_yes (W.written out.old) (W.written out.new)) }
-    ensures made { IfOk result (λ is_yes. MakesOut S.name_of S.Writer.written S.Writer.failed (S.held store.now) (Request.Find table.entry budget name.entry hex progress) is_yes (W.written out.old) (W.written out.new)) }
+    ensures told { TellsOf S.Reader.failed (S.held store.now) (Request.Find table.entry budget name.entry hex progress)
+        (is_ok result) E.failed E.written err.old err.new }
+    ensures answers { IfOk result (λ is_yes. Answers (S.held store.now) (Request.Find table.entry budget name.entry hex progress)
+        is_yes (W.written out.old) (W.written out.new)) }
+    ensures made { IfOk result (λ is_yes. MakesOut S.name_of S.Writer.written S.Writer.failed (S.held store.now)
+        (Request.Find table.entry budget name.entry hex progress) is_yes (W.written out.old) (W.written out.new)) }
     ensures shown { OnOk result (W.failed out.new ≡ false) }
     ensures faults { IfErr result (IsFaultOf S.Reader.failed (S.held store.now) (Request.Find table.entry budget name.entry hex progress)) }
     ensures untouched { IfErr result (λ fault. fault ≢ Fault.Run RunError.Write → out.new ≡ out.old) }
@@ -262,11 +275,13 @@ fn settle_pairs<'a, S: Store, W: Output, E: Output>(
     err: &mut E,
 ) -> Result<bool, Fault<'a>>
     ensures told { TellsOf S.Reader.failed (S.held store.now) (Request.Conflicts table.entry budget hex progress) (is_ok result) E.failed E.written err.old err.new }
-    ensures answers { IfOk result (λ is_yes. Answers (S.held store.now) (Request.Conflicts table.entry budget hex progress) is_yes (W.written out.old) (W.written out.new)) }
+    ensures answers { IfOk result (λ is_yes. Answers (S.held store.now) (Request.Conflicts table.entry budget hex progress)
+        is_yes (W.written out.old) (W.written out.new)) }
     ensures shown { OnOk result (W.failed out.new ≡ false) }
     ensures faults { IfErr result (IsFaultOf S.Reader.failed (S.held store.now) (Request.Conflicts table.entry budget hex progress)) }
     ensures untouched { IfErr result (λ fault. ((e : CutShort) → fault ≢ Fault.CutShort e) → out.new ≡ out.old) }
-    ensures whole { IfErr result (λ fault. KeepsOrCuts S.Reader.failed (S.held store.now) (Request.Conflicts table.entry budget hex progress) W.failed W.written out.old out.new) }
+    ensures whole { IfErr result (λ fault. KeepsOrCuts S.Reader.failed (S.held store.now)
+        (Request.Conflicts table.entry budget hex progress) W.failed W.written out.old out.new) }
 {
     let table = load(store, alloc, table)?;
     match settle(alloc, &table, budget, hex, progress, out, err) {

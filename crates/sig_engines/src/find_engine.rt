@@ -38,7 +38,8 @@ pub fn run_find<S: Store, W: Output, E: Output>(
 ) -> Result<bool, FileFault>
     requires { IsTable table.now }
     ensures answers { IfOk result (λ is_yes. AddsFound is_yes with_hex table.now budget (W.written out.old) (W.written out.new)) }
-    ensures made { IfOk result (λ is_yes. KeepsFound (IsMade S.name_of S.Writer.written S.Writer.failed (S.held store.now) name.now) is_yes with_hex table.now budget (W.written out.old) (W.written out.new)) }
+    ensures made { IfOk result (λ is_yes. KeepsFound (IsMade S.name_of S.Writer.written S.Writer.failed (S.held store.now) name.now)
+        is_yes with_hex table.now budget (W.written out.old) (W.written out.new)) }
     ensures writes { OnOk result (W.failed out.new ≡ false) }
     ensures told { ShowsIf progress Things.Products (E.failed err.new) err.old err.new (E.written err.old) (E.written err.new) }
 

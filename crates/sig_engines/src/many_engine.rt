@@ -29,7 +29,8 @@ pub fn run_match_many<S: Store, K: DroidCore, W: Output, E: Output>(
     out: &mut W,
     err: &mut E,
 ) -> Result<bool, RunError>
-    ensures answers { IfOk result (AddsPrinted S.Reader.failed all (K.lists core.now) (S.held store.now) names.now W.written out.old out.new E.failed E.written err.old err.new) }
+    ensures answers { IfOk result (AddsPrinted S.Reader.failed all (K.lists core.now) (S.held store.now) names.now
+        W.written out.old out.new E.failed E.written err.old err.new) }
     ensures quiet { result ≡ Ok true → err.new ≡ err.old }
     ensures writes { OnOk result (W.failed out.old ≡ false → W.failed out.new ≡ false) }
     ensures shown { result ≡ Ok true → 0 < length names.now → W.failed out.new ≡ false }
@@ -37,7 +38,8 @@ pub fn run_match_many<S: Store, K: DroidCore, W: Output, E: Output>(
     // The one refusal, and when.
     ensures write { IfErr result (λ e. e ≡ RunError.Write) }
     ensures failed { IfErr result (λ e. W.failed out.new ≡ true) }
-    ensures cut { IfErr result (λ e. CutsPrinted S.Reader.failed all (K.lists core.now) (S.held store.now) names.now W.written out.old out.new E.failed E.written err.old err.new) }
+    ensures cut { IfErr result (λ e. CutsPrinted S.Reader.failed all (K.lists core.now) (S.held store.now) names.now
+        W.written out.old out.new E.failed E.written err.old err.new) }
 {
     let mut is_whole = true;
     for name in names {
@@ -56,7 +58,8 @@ fn match_file<S: Store, K: DroidCore, W: Output, E: Output>(
     out: &mut W,
     err: &mut E,
 ) -> Result<bool, RunError>
-    ensures answers { IfOk result (AddsPrinted S.Reader.failed all (K.lists core.now) (S.held store.now) (name.entry ∷ []) W.written out.old out.new E.failed E.written err.old err.new) }
+    ensures answers { IfOk result (AddsPrinted S.Reader.failed all (K.lists core.now) (S.held store.now) (name.entry ∷ [])
+        W.written out.old out.new E.failed E.written err.old err.new) }
     ensures quiet { result ≡ Ok true → err.new ≡ err.old }
     ensures writes { OnOk result (W.failed out.old ≡ false → W.failed out.new ≡ false) }
     ensures shown { result ≡ Ok true → W.failed out.new ≡ false }
@@ -65,7 +68,8 @@ fn match_file<S: Store, K: DroidCore, W: Output, E: Output>(
     // The one refusal, and when.
     ensures write { IfErr result (λ e. e ≡ RunError.Write) }
     ensures failed { IfErr result (λ e. W.failed out.new ≡ true) }
-    ensures cut { IfErr result (λ e. CutsPrinted S.Reader.failed all (K.lists core.now) (S.held store.now) (name.entry ∷ []) W.written out.old out.new E.failed E.written err.old err.new) }
+    ensures cut { IfErr result (λ e. CutsPrinted S.Reader.failed all (K.lists core.now) (S.held store.now) (name.entry ∷ [])
+        W.written out.old out.new E.failed E.written err.old err.new) }
     ensures untouched { IfErr result (λ e. err.new ≡ err.old) }
 {
     match lines_of_name(alloc, store, core, all, name) {

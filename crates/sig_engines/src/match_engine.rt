@@ -51,7 +51,8 @@ pub(crate) fn lines_of_match<K: DroidCore, R: Input>(
     name: Option<&str>,
     file: &mut R,
 ) -> Result<String, RunError>
-    ensures lines { IfOk result (λ lines. let name = option_map (λ n. n.now) name.entry in AreLinesOfSome all (K.lists core.now) name (R.to_come file.old) (string_bytes lines)) }
+    ensures lines { IfOk result (λ lines. let name = option_map (λ n. n.now) name.entry in
+        AreLinesOfSome all (K.lists core.now) name (R.to_come file.old) (string_bytes lines)) }
     ensures at_end { OnOk result (IsAtEnd (R.to_come file.new)) }
 
     // Each refusal, and when.

@@ -44,7 +44,8 @@ impl Table {
 
         // A file is judged once it was read to its end.
         ensures judged { IfErr result (λ e. is_judged e ≡ true → (A.failed signatures.new ≡ false) × IsAtEnd (A.to_come signatures.new)) }
-        ensures judged_both { IfErr result (λ e. is_judged e ≡ true → is_of_signatures e ≡ false → (B.failed priorities.new ≡ false) × IsAtEnd (B.to_come priorities.new)) }
+        ensures judged_both { IfErr result (λ e. is_judged e ≡ true → is_of_signatures e ≡ false
+            → (B.failed priorities.new ≡ false) × IsAtEnd (B.to_come priorities.new)) }
         ensures at_end { OnOk result (IsAtEnd (A.to_come signatures.new) × IsAtEnd (B.to_come priorities.new)) }
 
         // A failed read is reported, and only a failed read.
@@ -72,7 +73,8 @@ fn read_text<R: Input>(alloc: Global, input: &mut R, file: TableFile) -> Result<
     ensures at_end { OnOk result (IsAtEnd (R.to_come input.new)) }
     ensures sound { OnOk result (R.failed input.new ≡ false) }
     ensures was_sound { OnOk result (R.failed input.old ≡ false) }
-    ensures fault { IfErr result (λ e. ((e ≡ TableError.OutOfMemory) × (R.failed input.new ≡ R.failed input.old)) ⊎ ((e ≡ TableError.Read file) × (R.failed input.new ≡ true))) }
+    ensures fault { IfErr result (λ e. ((e ≡ TableError.OutOfMemory) × (R.failed input.new ≡ R.failed input.old))
+        ⊎ ((e ≡ TableError.Read file) × (R.failed input.new ≡ true))) }
 {
     match read_whole(alloc, input) {
         Ok(text) => Ok(text),

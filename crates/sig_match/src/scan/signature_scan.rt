@@ -84,7 +84,8 @@ impl SignatureScan {
     // Goes on by the piece.
     pub(crate) fn feed(&mut self, piece: &Piece<'_>)
         ensures lost { self.new.lost ≡ self.old.lost }
-        ensures each { (file : List ℕ) (sequences : List SequenceView) → AreSequenceScansOf file sequences self.old.scans → AreSequenceScansOf (file ++ piece.now) sequences self.new.scans }
+        ensures each { (file : List ℕ) (sequences : List SequenceView) → AreSequenceScansOf file sequences self.old.scans
+            → AreSequenceScansOf (file ++ piece.now) sequences self.new.scans }
     {
         feed_each(&mut self.sequences, piece);
     }
