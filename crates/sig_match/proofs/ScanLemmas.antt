@@ -24,8 +24,8 @@ use Rattle.sig_match.specs.Hits.{HitFormats, HitFormatsOfSome}
 use Rattle.sig_match.specs.declared.results.Hit.{Hit}
 use Rattle.std.proofs.lemmas.Slice.Zip.{AllZip-long, all_zipped_more}
 use Rattle.sig_match.proofs.HitLemmas.{HitsOf-within}
-use Rattle.sig_match.specs.Lates.{AreLateScansOf, IsFedBy, IsLateOf, IsLateScanOf, IsLateSignatureScanOf, IsMarkOf}
-use Rattle.sig_match.specs.Scans.{AreSequenceScansOf, IsScanOf, IsSequenceScanOf, IsSignatureScanOf, ScanView, SequenceScanView, SignatureScanView}
+use Rattle.sig_match.specs.Lates.{AreLateScansOf, IsFedBy, IsLateTableOf, IsLateTableScanOf, IsLateSignatureScanOf, IsMarkOf}
+use Rattle.sig_match.specs.Scans.{AreSequenceScansOf, IsTableScanOf, IsSequenceScanOf, IsSignatureScanOf, TableScanView, SequenceScanView, SignatureScanView}
 
 -- the set of the start alone is that of the empty file
 pub set_begins : (tree : Tree) (set : List ℕ) → ((q : ℕ) → HasBit set q ↔ (q ≡ 0)) → IsSetOf tree set []
@@ -204,10 +204,10 @@ late_signature_on front file piece s old new fed is = record {
 }
 
 -- all scans of a table are fed
-pub scan_goes_on : (file piece : List ℕ) (view scan : ScanView) (old new signatures : List SignatureScanView) → view ≡ scan → old ≡ view.signatures → signatures ≡ new → IsBytes piece → AllZip (IsFedBy piece) old new → IsScanOf scan file → IsScanOf (record { table = view.table; signatures = signatures }) (file ++ piece)
+pub scan_goes_on : (file piece : List ℕ) (view scan : TableScanView) (old new signatures : List SignatureScanView) → view ≡ scan → old ≡ view.signatures → signatures ≡ new → IsBytes piece → AllZip (IsFedBy piece) old new → IsTableScanOf scan file → IsTableScanOf (record { table = view.table; signatures = signatures }) (file ++ piece)
 scan_goes_on file piece view scan old new signatures same old_is new_is bytes fed is =
-    let P : ScanView → Type 0 = λ v. IsScanOf v file in
-    let at : IsScanOf view file = subst P (sym same) is in
+    let P : TableScanView → Type 0 = λ v. IsTableScanOf v file in
+    let at : IsTableScanOf view file = subst P (sym same) is in
     let Q : List SignatureScanView → Type 0 = λ l. AllZip (IsSignatureScanOf file) view.table.signatures l in
     let R : List SignatureScanView → Type 0 = λ l. AllZip (IsSignatureScanOf (file ++ piece)) view.table.signatures l in
     record {
@@ -215,10 +215,10 @@ scan_goes_on file piece view scan old new signatures same old_is new_is bytes fe
       each = subst R (sym new_is) (zip_on (IsSignatureScanOf file) (IsSignatureScanOf (file ++ piece)) (IsFedBy piece) view.table.signatures old new (signature_on file piece) fed (subst Q (sym old_is) at.each));
     }
 
-pub late_goes_on : (front file piece : List ℕ) (view scan : ScanView) (old new signatures : List SignatureScanView) → view ≡ scan → old ≡ view.signatures → signatures ≡ new → IsBytes piece → AllZip (IsFedBy piece) old new → IsLateOf front file scan → IsLateOf front (file ++ piece) (record { table = view.table; signatures = signatures })
+pub late_goes_on : (front file piece : List ℕ) (view scan : TableScanView) (old new signatures : List SignatureScanView) → view ≡ scan → old ≡ view.signatures → signatures ≡ new → IsBytes piece → AllZip (IsFedBy piece) old new → IsLateTableOf front file scan → IsLateTableOf front (file ++ piece) (record { table = view.table; signatures = signatures })
 late_goes_on front file piece view scan old new signatures same old_is new_is bytes fed is =
-    let P : ScanView → Type 0 = λ v. IsLateOf front file v in
-    let at : IsLateOf front file view = subst P (sym same) is in
+    let P : TableScanView → Type 0 = λ v. IsLateTableOf front file v in
+    let at : IsLateTableOf front file view = subst P (sym same) is in
     let Q : List SignatureScanView → Type 0 = λ l. AreLateScansOf front file view.table.signatures l in
     let R : List SignatureScanView → Type 0 = λ l. AreLateScansOf front (file ++ piece) view.table.signatures l in
     record {
@@ -239,7 +239,7 @@ zip_late file (s ∷ ss) (y ∷ ys) zip = (
   zip_late file ss ys zip.1,
 )
 
-pub late_from_exact : (scan : ScanView) (file : List ℕ) → IsScanOf scan file → IsLateScanOf scan file
+pub late_from_exact : (scan : TableScanView) (file : List ℕ) → IsTableScanOf scan file → IsLateTableScanOf scan file
 late_from_exact scan file is = record {
   front = [];
   rest = file;
@@ -248,7 +248,7 @@ late_from_exact scan file is = record {
 }
 
 -- a late scan that is fed
-pub late_scan_on : (scan new : ScanView) (file piece : List ℕ) → ((front file : List ℕ) → IsLateOf front file scan → IsLateOf front (file ++ piece) new) → IsLateScanOf scan file → IsLateScanOf new (file ++ piece)
+pub late_scan_on : (scan new : TableScanView) (file piece : List ℕ) → ((front file : List ℕ) → IsLateTableOf front file scan → IsLateTableOf front (file ++ piece) new) → IsLateTableScanOf scan file → IsLateTableScanOf new (file ++ piece)
 late_scan_on scan new file piece step late = record {
   front = late.front;
   rest = late.rest ++ piece;
@@ -257,7 +257,7 @@ late_scan_on scan new file piece step late = record {
 }
 
 -- one that is fed its front
-pub late_scan_begins : (scan new : ScanView) (front : List ℕ) → ((f file : List ℕ) → IsLateOf f file scan → IsLateOf f (file ++ front) new) → AreLateScansOf front [] scan.table.signatures scan.signatures → IsLateScanOf new front
+pub late_scan_begins : (scan new : TableScanView) (front : List ℕ) → ((f file : List ℕ) → IsLateTableOf f file scan → IsLateTableOf f (file ++ front) new) → AreLateScansOf front [] scan.table.signatures scan.signatures → IsLateTableScanOf new front
 late_scan_begins scan new front step each = record {
   front = front;
   rest = [];
@@ -413,7 +413,7 @@ marks_hit table front rest scans marks is bytes are marked =
           );
     }
 
-pub MarksHits-from_late : (scan : ScanView) (file : List ℕ) (marks : List Bool) → IsTable scan.table → AllZip IsMarkOf scan.signatures marks → IsLateScanOf scan file → MarksHits scan.table file marks
+pub MarksHits-from_late : (scan : TableScanView) (file : List ℕ) (marks : List Bool) → IsTable scan.table → AllZip IsMarkOf scan.signatures marks → IsLateTableScanOf scan file → MarksHits scan.table file marks
 MarksHits-from_late scan file marks is marked late =
     let P : List ℕ → Type 0 = λ l. IsBytes l in
     let Q : List ℕ → Type 0 = λ l. AreLateScansOf late.front l scan.table.signatures scan.signatures in
@@ -421,14 +421,14 @@ MarksHits-from_late scan file marks is marked late =
     subst R (sym late.begins) (marks_hit scan.table late.front late.rest scan.signatures marks is (subst P late.begins late.is.bytes) (subst Q late.begins late.is.each) marked)
 
 -- what is fed so far is what the input has given
-pub record IsFed (scan : ScanView) (table : TableView) (before after : Option (List ℕ)) : Type 0 where
+pub record IsFed (scan : TableScanView) (table : TableView) (before after : Option (List ℕ)) : Type 0 where
   pub table_is : scan.table ≡ table
   pub file : List ℕ
-  pub is_of : IsLateScanOf scan file
+  pub is_of : IsLateTableScanOf scan file
   pub given : Gives before file after
 
 -- the front is
-pub fed_front : (scan : ScanView) (table : TableView) (before after : Option (List ℕ)) (front : List ℕ) → scan.table ≡ table → IsLateScanOf scan front → Gives before front after → IsFed scan table before after
+pub fed_front : (scan : TableScanView) (table : TableView) (before after : Option (List ℕ)) (front : List ℕ) → scan.table ≡ table → IsLateTableScanOf scan front → Gives before front after → IsFed scan table before after
 fed_front scan table before after front is of gives = record { table_is = is; file = front; is_of = of; given = gives }
 
 gives_more : (a b c : Option (List ℕ)) (x y : List ℕ) → Gives a x b → Gives b y c → Gives a (x ++ y) c
@@ -438,7 +438,7 @@ gives_more (Some xs) (Some ys) None x y h k = absurd k
 gives_more (Some xs) (Some ys) (Some zs) x y h k = h ∙ ap (λ l. x ++ l) k ∙ sym (append_assoc x y zs)
 
 -- one more piece is read
-pub fed_more : (scan new : ScanView) (table : TableView) (before at after : Option (List ℕ)) (piece : List ℕ) → new.table ≡ scan.table → ((front file : List ℕ) → IsLateOf front file scan → IsLateOf front (file ++ piece) new) → Gives at piece after → IsFed scan table before at → IsFed new table before after
+pub fed_more : (scan new : TableScanView) (table : TableView) (before at after : Option (List ℕ)) (piece : List ℕ) → new.table ≡ scan.table → ((front file : List ℕ) → IsLateTableOf front file scan → IsLateTableOf front (file ++ piece) new) → Gives at piece after → IsFed scan table before at → IsFed new table before after
 fed_more scan new table before at after piece same step gives fed = record {
   table_is = same ∙ fed.table_is;
   file = fed.file ++ piece;
@@ -452,7 +452,7 @@ gives_all (Some bytes) None file given end = absurd given
 gives_all (Some bytes) (Some rest) file given end = sym (given ∙ ap (λ l. file ++ l) end ∙ append-nil file)
 
 -- all is fed
-pub fed_to_end : (scan : ScanView) (table : TableView) (before at : Option (List ℕ)) (hits : List Hit) → IsAtEnd at → ((file : List ℕ) → IsLateScanOf scan file → HitFormats scan.table file hits) → IsFed scan table before at → HitFormatsOfSome table before hits
+pub fed_to_end : (scan : TableScanView) (table : TableView) (before at : Option (List ℕ)) (hits : List Hit) → IsAtEnd at → ((file : List ℕ) → IsLateTableScanOf scan file → HitFormats scan.table file hits) → IsFed scan table before at → HitFormatsOfSome table before hits
 fed_to_end scan table before at hits end finish fed =
     let Q : TableView → Type 0 = λ t. HitFormats t fed.file hits in
     record {

@@ -7,7 +7,7 @@ use Rattle.sig_table.specs.Tables.{IsSequence}
 use Rattle.sig_table.specs.Views.{SequenceView, SignatureView}
 use Rattle.sig_match.specs.declared.outlook.Outlook.{Outlook}
 use Rattle.sig_match.specs.declared.outlook.Outlook.TheVariants as outlook
-use Rattle.sig_match.specs.Scans.{AreSequenceScansOf, IsSequenceScanOf, ScanView, SequenceScanView, SignatureScanView}
+use Rattle.sig_match.specs.Scans.{AreSequenceScansOf, IsSequenceScanOf, TableScanView, SequenceScanView, SignatureScanView}
 
 -- the sequence stands in no file that begins with the front, or in each
 abbrev pub IsOutlook : List ℕ → SequenceView → Outlook → Type 0
@@ -36,16 +36,16 @@ abbrev pub AreLateScansOf : List ℕ → List ℕ → List SignatureView → Lis
 AreLateScansOf front file signatures scans = AllZip (λ (s : SignatureView). IsLateSignatureScanOf front file s.sequences) signatures scans
 
 -- the scan is of the file, as far as the front leaves anything open
-pub record IsLateOf (front file : List ℕ) (scan : ScanView) : Type 0 where
+pub record IsLateTableOf (front file : List ℕ) (scan : TableScanView) : Type 0 where
   pub bytes : IsBytes file
   pub each : AreLateScansOf front file scan.table.signatures scan.signatures
 
 -- some front of the file settles what the scan no longer looks for, and for the rest it is of the file
-pub record IsLateScanOf (scan : ScanView) (file : List ℕ) : Type 0 where
+pub record IsLateTableScanOf (scan : TableScanView) (file : List ℕ) : Type 0 where
   pub front : List ℕ
   pub rest : List ℕ
   pub begins : file ≡ front ++ rest
-  pub is : IsLateOf front file scan
+  pub is : IsLateTableOf front file scan
 
 -- whatever the file so far is, the new scans are those behind the piece, and the signature is not given up by it
 pub record IsFedBy (piece : List ℕ) (old new : SignatureScanView) : Type 0 where

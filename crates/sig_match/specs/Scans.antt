@@ -1,5 +1,5 @@
 -- Scans: the states of each sequence of a table after the bytes so far.
-use Rattle.std.specs.Prelude.{◌≡◌, ℕ, Bool, false, List}
+use Rattle.std.specs.Prelude.{◌≡◌, ◌++◌, ℕ, Bool, false, List}
 use Rattle.std.specs.List.{AllZip}
 use Rattle.sig_auto.specs.Runs.{IsSetOf}
 use Rattle.sig_auto.specs.Trees.{whole_tree}
@@ -17,9 +17,14 @@ pub record SignatureScanView : Type 0 where
   pub scans : List SequenceScanView
 
 -- a table, and for each of its signatures the scans of its sequences
-pub record ScanView : Type 0 where
+pub record TableScanView : Type 0 where
   pub table : TableView
   pub signatures : List SignatureScanView
+
+-- a scan of the bytes that were passed, and the bytes behind them that wait
+pub record ScanView : Type 0 where
+  pub passed : TableScanView
+  pub waiting : List ℕ
 
 -- the current set of the sequence is that of the states in which runs of the file end
 pub record IsSequenceScanOf (file : List ℕ) (sequence : SequenceView) (scan : SequenceScanView) : Type 0 where
@@ -35,7 +40,13 @@ pub record IsSignatureScanOf (file : List ℕ) (signature : SignatureView) (scan
   pub kept : scan.lost ≡ false
   pub each : AreSequenceScansOf file signature.sequences scan.scans
 
--- the scan is of the file: the current set of each sequence of its table is that of the states in which runs of the file end
-pub record IsScanOf (scan : ScanView) (file : List ℕ) : Type 0 where
+-- the current set of each sequence of its table is that of the states in which runs of the file end
+pub record IsTableScanOf (scan : TableScanView) (file : List ℕ) : Type 0 where
   pub bytes : IsBytes file
   pub each : AllZip (IsSignatureScanOf file) scan.table.signatures scan.signatures
+
+-- the scan is of the file: of what was passed of it, with the bytes that wait behind it
+pub record IsScanOf (scan : ScanView) (file : List ℕ) : Type 0 where
+  pub front : List ℕ
+  pub is : IsTableScanOf scan.passed front
+  pub begins : file ≡ front ++ scan.waiting

@@ -1,24 +1,16 @@
-//! One pass over a file, piece by piece, that keeps no byte of it.
+//! One pass over a file, piece by piece.
 //!
-//! For each sequence of the table there is an automaton and its current set: the states in which
-//! the runs of the bytes so far end. A byte leads from each set to the next, so it makes no
-//! difference where a file is cut. A set that loses its last state stays empty, and its sequence is
-//! passed over from there. A file ends where no more is fed, and each sequence then stands in
-//! it exactly where some state of its set accepts. Of `41{1-2}42` at the start of a file the bytes
-//! `41 42 42` lead through the sets {0}, {1}, {2} and {3, 4}, and 4 accepts.
-//!
-//! A scan that begins behind a front of the file (`Scan::behind`) has automata only for the sequences of
-//! which the front leaves open whether they stand. What it says of the file is the same.
+//! What a byte does is in `table_scan`: it leads each sequence of a table from one set of states to the
+//! next, and no byte is kept for it. A `Scan` also takes pieces of any length at one cost a byte: to go
+//! through a piece takes a look at each sequence, however short it is, so short ones wait until there is
+//! some length of them.
 
-ghost use Rattle.std.specs.Prelude.{◌≡◌, ◌++◌, ℕ, [], List, IfOk, length};
-ghost use Rattle.std.specs.List.{AllZip};
+ghost use Rattle.std.specs.Prelude.{◌≡◌, ◌++◌, ℕ, [], List, IfOk};
 ghost use Rattle.sig_match.specs.Hits.{HitFormats};
-ghost use Rattle.sig_match.specs.Lates.{AreLateScansOf, IsFedBy, IsLateOf, IsLateScanOf, IsMarkOf};
-ghost use Rattle.sig_match.specs.Scans.{IsScanOf, IsSignatureScanOf};
+ghost use Rattle.sig_match.specs.Scans.{IsScanOf};
 
-use crate::hits::list_hits;
-use crate::results::{Hit, Results};
-use sig_table::{SigId, Table};
+use crate::results::Results;
+use sig_table::Table;
 use std::alloc::{AllocError, Global};
 use std::marker::Model;
 
@@ -33,178 +25,76 @@ mod sequence_scan;
 mod sieve;
 mod signature_scan;
 mod span;
+mod table_scan;
 #[cfg(test)]
 mod tests;
 mod way;
 
 pub(crate) use piece::Piece;
 pub(crate) use sieve::{STRIDE, Sieve};
-use signature_scan::SignatureScan;
+pub(crate) use table_scan::TableScan;
 pub(crate) use way::FRONT;
+
+// How many bytes can wait.
+const ROOM: usize = 1 << 12;
 
 /// A file on its way past a table.
 ///
 /// All memory is taken at the start: for each sequence that is looked for its automaton, three sets of a
-/// bit for each state, and its bytes if it is a long run of them; the sieve of fronts; and the room of the
-/// answer.
+/// bit for each state, and its bytes if it is a long run of them; the sieve of fronts; the room of the
+/// answer; and 4 KiB for bytes that wait. The bytes of short pieces wait
+/// until a piece has no room beside them, and are then gone through as one.
 #[derive(Debug, Drop)]
 pub struct Scan<'t> {
-    table: &'t Table,
-    sieve: Sieve,
-    known: Vec<usize>,
-    signatures: Vec<SignatureScan>,
-    marks: Vec<bool>,
-    hits: Vec<Hit>,
+    scan: TableScan<'t>,
+    waiting: Vec<u8>,
 }
 
 impl<'t> Model for Scan<'t> {
-    ghost use Rattle.std.specs.Prelude.{◌≡◌, ◌≤◌, length};
-    ghost use Rattle.std.specs.Vec.{vec_capacity};
+    ghost use Rattle.std.specs.Prelude.{◌≤◌};
+    ghost use Rattle.std.specs.Vec.{vec_capacity, vec_len};
     ghost use Rattle.sig_match.specs.Scans.{ScanView};
-    ghost use Rattle.sig_table.specs.Tables.{IsTable};
 
     ghost Value = { ScanView };
 
-    ghost view = { λ s. record { table = s.table.now; signatures = s.signatures.items } };
+    ghost view = { λ s. record { passed = s.scan; waiting = s.waiting.items } };
 
-    ghost invariant = { λ s. IsTable s.table.now
-        × (length s.signatures.items ≡ length s.table.now.signatures)
-        × (length s.marks.items ≡ length s.table.now.signatures)
-        × (length s.table.now.formats ≤ vec_capacity s.hits)
-        × (length s.known.items ≡ length s.sieve) };
+    ghost invariant = { λ s. (vec_len s.waiting ≤ 4096) × (4096 ≤ vec_capacity s.waiting) };
 }
 
 impl<'t> Scan<'t> {
     /// At the start of a file.
     pub fn new(alloc: Global, table: &'t Table) -> Result<Scan<'t>, AllocError>
-        ensures table { IfOk result (λ scan. scan.table ≡ table.now) }
+        ensures table { IfOk result (λ scan. scan.passed.table ≡ table.now) }
         ensures empty { IfOk result (λ scan. IsScanOf scan []) }
     {
-        let mut sieve = Sieve::new(alloc)?;
-        let signatures = scans_of(alloc, table, &mut sieve)?;
-        Scan::with(alloc, table, sieve, signatures)
-    }
-
-    /// Behind the front of a file. What the front settles, however the file goes on, is not looked for
-    /// any more: that is most sequences that begin at the start of a file.
-    pub(crate) fn behind(
-        alloc: Global,
-        table: &'t Table,
-        front: &[u8],
-    ) -> Result<Scan<'t>, AllocError>
-        ensures table { IfOk result (λ scan. scan.table ≡ table.now) }
-        ensures late { IfOk result (λ scan. IsLateScanOf scan front.now) }
-    {
-        let mut sieve = Sieve::new(alloc)?;
-        let signatures = scans_behind(alloc, table, front, &mut sieve)?;
-        let mut scan = Scan::with(alloc, table, sieve, signatures)?;
-        scan.feed(front);
-        Ok(scan)
-    }
-
-    // With these scans of the signatures.
-    fn with(
-        alloc: Global,
-        table: &'t Table,
-        sieve: Sieve,
-        signatures: Vec<SignatureScan>,
-    ) -> Result<Scan<'t>, AllocError>
-        requires { length signatures.items ≡ length table.now.signatures }
-        ensures table { IfOk result (λ scan. scan.table ≡ table.now) }
-        ensures signatures { IfOk result (λ scan. scan.signatures ≡ signatures.items) }
-    {
-        let known = vec![in alloc; 0; sieve.len()]?;
         Ok(Scan {
-            table,
-            sieve,
-            known,
-            signatures,
-            marks: vec![in alloc; false; table.signature_count()]?,
-            hits: Vec::with_capacity(alloc, table.format_count())?,
+            scan: TableScan::new(alloc, table)?,
+            waiting: Vec::with_capacity(alloc, ROOM)?,
         })
     }
 
     /// Goes on by the next bytes of the file. It takes no memory.
     pub fn feed(&mut self, piece: &[u8])
-        ensures table { self.new.table ≡ self.old.table }
+        ensures table { self.new.passed.table ≡ self.old.passed.table }
         ensures goes_on { (file : List ℕ) → IsScanOf self.old file → IsScanOf self.new (file ++ piece.now) }
-        ensures late { (front file : List ℕ) → IsLateOf front file self.old → IsLateOf front (file ++ piece.now) self.new }
     {
-        self.sieve.look(piece, &mut self.known);
-        let piece = Piece::new(piece, &self.sieve, &self.known);
-        feed_each(&mut self.signatures, &piece);
+        if piece.len() <= ROOM - self.waiting.len() {
+            self.waiting.extend_from_slice(piece).unwrap();
+            return;
+        }
+        self.scan.feed(&self.waiting);
+        self.waiting.clear();
+        self.scan.feed(piece);
     }
 
     /// Answers which formats the file hits, each with its first signature that hits. It takes no
     /// memory.
     pub fn finish(self) -> Results
-        ensures exact { (file : List ℕ) → IsScanOf self.entry file → HitFormats self.entry.table file result }
-        ensures late { (file : List ℕ) → IsLateScanOf self.entry file → HitFormats self.entry.table file result }
+        ensures exact { (file : List ℕ) → IsScanOf self.entry file → HitFormats self.entry.passed.table file result }
     {
-        let Scan {
-            table,
-            signatures,
-            mut marks,
-            mut hits,
-            sieve: _,
-            known: _,
-        } = self;
-        mark_hits(&signatures, &mut marks);
-        list_hits(table, &marks, &mut hits).unwrap();
-        Results::new(hits)
-    }
-}
-
-// A scan of each signature, at the start of a file.
-fn scans_of(
-    alloc: Global,
-    table: &Table,
-    sieve: &mut Sieve,
-) -> Result<Vec<SignatureScan>, AllocError>
-    ensures { IfOk result (λ scans. AllZip (IsSignatureScanOf []) table.now.signatures scans.items) }
-{
-    let count = table.signature_count();
-    let mut scans = Vec::with_capacity(alloc, count)?;
-    for index in 0..count {
-        let sequences = table.sequences_of(SigId(index as u16));
-        scans.push(SignatureScan::of(alloc, sequences, sieve)?)?;
-    }
-    Ok(scans)
-}
-
-// A scan of each signature, at the start of a file that begins with the front.
-fn scans_behind(
-    alloc: Global,
-    table: &Table,
-    front: &[u8],
-    sieve: &mut Sieve,
-) -> Result<Vec<SignatureScan>, AllocError>
-    ensures { IfOk result (λ scans. AreLateScansOf front.now [] table.now.signatures scans.items) }
-{
-    let count = table.signature_count();
-    let mut scans = Vec::with_capacity(alloc, count)?;
-    for index in 0..count {
-        let sequences = table.sequences_of(SigId(index as u16));
-        scans.push(SignatureScan::behind(alloc, front, sequences, sieve)?)?;
-    }
-    Ok(scans)
-}
-
-// Goes on by the piece in each signature.
-fn feed_each(signatures: &mut [SignatureScan], piece: &Piece<'_>)
-    ensures { AllZip (IsFedBy piece.now) signatures.old signatures.new }
-{
-    for signature in signatures.iter_mut() {
-        signature.feed(piece);
-    }
-}
-
-// Marks each signature that hits the file, if it ends here.
-fn mark_hits(signatures: &[SignatureScan], marks: &mut [bool])
-    requires { length marks.old ≡ length signatures.now }
-    ensures { AllZip IsMarkOf signatures.now marks.new }
-{
-    for (index, signature) in signatures.iter().enumerate() {
-        marks[index] = signature.hits();
+        let Scan { mut scan, waiting } = self;
+        scan.feed(&waiting);
+        scan.finish()
     }
 }

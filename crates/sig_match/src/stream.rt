@@ -8,7 +8,7 @@ ghost use Rattle.sig_table.specs.Views.{TableView};
 use crate::droid_core::DroidCore;
 use crate::error::CoreError;
 use crate::results::Results;
-use crate::scan::Scan;
+use crate::scan::TableScan;
 use crate::whole::hits_in;
 use sig_bits::{DeviceFault, Input};
 use sig_table::{Puid, Table};
@@ -49,7 +49,7 @@ impl StreamCore {
         ensures hits { IfOk result (λ hits. HitFormats self.now file.now hits) }
         ensures memory { IfErr result (λ e. e ≡ CoreError.OutOfMemory) }
     {
-        let mut scan = Scan::new(self.alloc, &self.table)?;
+        let mut scan = TableScan::new(self.alloc, &self.table)?;
         scan.feed(file);
         Ok(scan.finish())
     }
@@ -88,7 +88,7 @@ fn scan_input<R: Input>(alloc: Global, table: &Table, input: &mut R) -> Result<R
     if first < PIECE {
         return Ok(hits_in(alloc, table, &piece[..first])?);
     }
-    let mut scan = Scan::behind(alloc, table, &piece)?;
+    let mut scan = TableScan::behind(alloc, table, &piece)?;
     'pieces: loop {
         let n = fill(input, &mut piece)?;
         scan.feed(&piece[..n]);

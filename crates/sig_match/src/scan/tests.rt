@@ -4,6 +4,7 @@ use crate::scan::piece::Piece;
 use crate::scan::plain::PlainScan;
 use crate::scan::sequence_scan::SequenceScan;
 use crate::scan::sieve::Sieve;
+use crate::scan::table_scan::TableScan;
 use crate::{Hit, Scan, left_in};
 use sig_bits::FromRead;
 use sig_table::{FormatId, Sequence, SigId, Table};
@@ -25,7 +26,7 @@ fn table_of(alloc: Global, sequence: &str) -> Result<Table, Fail> {
 
 // Whether the signature hits what is fed in these pieces.
 fn hits(alloc: Global, table: &Table, pieces: &[&[u8]]) -> Result<bool, Fail> {
-    let mut scan = Scan::new(alloc, table)?;
+    let mut scan = TableScan::new(alloc, table)?;
     for piece in pieces {
         scan.feed(piece);
     }
@@ -126,7 +127,7 @@ fn a_cut_makes_no_difference(rt: HostRuntime) -> Result<(), Fail> {
 // Whether `41{65530}42` hits a byte 41, so many zeros and a byte 42, fed one by one.
 fn hits_behind_zeros(alloc: Global, zeros: usize) -> Result<bool, Fail> {
     let table = table_of(alloc, "BOF,0,,41{65530}42")?;
-    let mut scan = Scan::new(alloc, &table)?;
+    let mut scan = TableScan::new(alloc, &table)?;
     scan.feed(b"A");
     for _ in 0..zeros {
         scan.feed(b"\x00");
@@ -476,7 +477,7 @@ fn the_plain_scan_agrees_where_a_word_may_always_have_begun(rt: HostRuntime) -> 
 fn all_agree_by(alloc: Global, table: &Table, file: &[u8], piece: usize) -> Result<bool, Fail>
     requires { 0 < piece }
 {
-    let mut scan = Scan::new(alloc, table)?;
+    let mut scan = TableScan::new(alloc, table)?;
     for bytes in file.chunks(piece) {
         scan.feed(bytes);
     }
@@ -538,11 +539,11 @@ fn many_fronts_are_told_apart_in_one_look(rt: HostRuntime) -> Result<(), Fail> {
 
 // Whether a scan behind each front of the file answers what a scan of the whole file does.
 fn each_front_agrees(alloc: Global, table: &Table, file: &[u8]) -> Result<bool, Fail> {
-    let mut whole = Scan::new(alloc, table)?;
+    let mut whole = TableScan::new(alloc, table)?;
     whole.feed(file);
     let wanted = whole.finish();
     for len in 0..=file.len() {
-        let mut scan = Scan::behind(alloc, table, &file[..len])?;
+        let mut scan = TableScan::behind(alloc, table, &file[..len])?;
         scan.feed(&file[len..]);
         if scan.finish().hits() != wanted.hits() {
             return Ok(false);
@@ -574,6 +575,59 @@ fn a_front_of_any_length_settles_no_more_than_it_can(rt: HostRuntime) -> Result<
     for seed in 0..12 {
         let file = letters(rt.alloc(), seed, 24)?;
         assert!(rt; each_front_agrees(rt.alloc(), &table, &file)?, "{seed}");
+    }
+    Ok(())
+}
+
+// Whether `41 42` at this place hits a file of this front, so many zeros, and this end, each byte of the
+// end a piece of its own.
+fn hits_around(
+    alloc: Global,
+    place: &str,
+    front: &[u8],
+    zeros: usize,
+    end: &[u8],
+) -> Result<bool, Fail> {
+    let sequence = format!(in alloc; "{place},4142")?;
+    let table = table_of(alloc, &sequence)?;
+    let mut scan = Scan::new(alloc, &table)?;
+    scan.feed(front);
+    scan.feed(&repeated(alloc, b"\x00", zeros)?);
+    for byte in end.chunks(1) {
+        scan.feed(byte);
+    }
+    Ok(scan.finish().hits().len() == 1)
+}
+
+// Where the sequence may stand, the front, how many zeros are one piece, the end in pieces of one byte, and
+// whether the sequence then stands.
+const WAITING: &[(&str, &[u8], usize, &[u8], bool)] = &[
+    // All of it waits.
+    ("BOF,0,", b"AB", 0, b"", true),
+    ("EOF,0,", b"", 3, b"AB", true),
+    ("EOF,0,", b"AB", 3, b"", false),
+    // The last byte that has room, and the first that has none.
+    ("Variable,,", b"", 4_095, b"AB", true),
+    ("Variable,,", b"", 4_096, b"AB", true),
+    ("Variable,,", b"A", 4_095, b"B", false),
+    ("EOF,0,", b"", 4_094, b"AB", true),
+    ("EOF,0,", b"", 4_095, b"ABA", false),
+    ("EOF,1,", b"", 4_095, b"ABA", true),
+    // A piece that is longer than the room.
+    ("BOF,0,", b"AB", 4_097, b"", true),
+    ("BOF,1,", b"AB", 4_097, b"", false),
+    ("EOF,0,", b"A", 4_097, b"AB", true),
+    ("EOF,4097,", b"AB", 4_097, b"", true),
+    ("EOF,4098,", b"AB", 4_097, b"", false),
+];
+
+#[test]
+fn bytes_that_wait_come_in_their_turn(rt: HostRuntime) -> Result<(), Fail> {
+    for (place, front, zeros, end, stands) in WAITING {
+        assert!(rt;
+            hits_around(rt.alloc(), place, front, *zeros, end)? == *stands,
+            "{place} {zeros}"
+        );
     }
     Ok(())
 }

@@ -3,23 +3,23 @@ use Rattle.std.specs.Prelude.{OnOk}
 use Rattle.std.specs.List.{AllZip}
 use Rattle.sig_match.specs.FirstHits.{MarksHits}
 use Rattle.sig_match.specs.Hits.{HitFormats}
-use Rattle.sig_match.specs.Lates.{IsLateScanOf, IsMarkOf}
-use Rattle.sig_match.specs.Scans.{ScanView}
+use Rattle.sig_match.specs.Lates.{IsLateTableScanOf, IsMarkOf}
+use Rattle.sig_match.specs.Scans.{TableScanView}
 use Rattle.sig_match.proofs.ScanLemmas.{MarksHits-from_late, late_from_exact, written}
-use Rattle.sig_match.proofs.scan.Scan.finish.Goals as goal
+use Rattle.sig_match.proofs.scan.table_scan.TableScan.finish.Goals as goal
 
 pub returns-clause-late : goal.returns-clause-late
 returns-clause-late c file late =
-    let v : ScanView = record { table = c.self.inside.table.now; signatures = c.self.inside.signatures.items } in
+    let v : TableScanView = record { table = c.self.inside.table.now; signatures = c.self.inside.signatures.items } in
     let marks = c.mark_hits.new.marks in
-    let at : IsLateScanOf v file = subst (λ (w : ScanView). IsLateScanOf w file) (sym c.self.view_is) late in
+    let at : IsLateTableScanOf v file = subst (λ (w : TableScanView). IsLateTableScanOf w file) (sym c.self.view_is) late in
     let marked : AllZip IsMarkOf v.signatures marks = subst (λ l. AllZip IsMarkOf l marks) c.deref.ensures.value c.mark_hits.ensures in
     let hit : MarksHits v.table file marks = MarksHits-from_late v file marks c.self.invariant.0 marked at in
     let long : length marks ≡ vec_len c.self.inside.marks = c.mark_hits.auto.marks ∙ c.deref_mut.ensures.len in
     let same : c.deref-2.result.now ≡ marks = c.deref-2.ensures.value ∙ written marks (drop (length marks) c.self.inside.marks.items) (vec_len c.self.inside.marks) long in
     let listed = c.list_hits.ensures.lists file (subst (λ l. MarksHits v.table file l) (sym same) hit) in
     let all : HitFormats v.table file c.list_hits.new.hits.items = subst (λ r. OnOk r (HitFormats v.table file c.list_hits.new.hits.items)) c.unwrap.ensures listed in
-    subst (λ (w : ScanView). HitFormats w.table file c.new.result) c.self.view_is (subst (λ l. HitFormats v.table file l) (sym c.new.ensures) all)
+    subst (λ (w : TableScanView). HitFormats w.table file c.new.result) c.self.view_is (subst (λ l. HitFormats v.table file l) (sym c.new.ensures) all)
 
 pub returns-clause-exact : goal.returns-clause-exact
 returns-clause-exact c file is = returns-clause-late c file (late_from_exact c.args.self file is)

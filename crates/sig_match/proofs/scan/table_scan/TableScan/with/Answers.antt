@@ -1,5 +1,5 @@
 use Rattle.std.proofs.Common.{ap, arith, length}
-use Rattle.sig_match.proofs.scan.Scan.with.Goals as goal
+use Rattle.sig_match.proofs.scan.table_scan.TableScan.with.Goals as goal
 
 pub invariant_of-result-2 : goal.invariant_of-result-2
 invariant_of-result-2 c = (

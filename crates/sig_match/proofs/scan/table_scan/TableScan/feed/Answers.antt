@@ -3,7 +3,7 @@ use Rattle.std.specs.List.{AllZip}
 use Rattle.sig_match.specs.Lates.{IsFedBy}
 use Rattle.sig_match.proofs.GapLemmas.{IsBytes-from_slice}
 use Rattle.sig_match.proofs.ScanLemmas.{late_goes_on, scan_goes_on, written}
-use Rattle.sig_match.proofs.scan.Scan.feed.Goals as goal
+use Rattle.sig_match.proofs.scan.table_scan.TableScan.feed.Goals as goal
 
 pub returns-clause-goes_on : goal.returns-clause-goes_on
 returns-clause-goes_on c file is =

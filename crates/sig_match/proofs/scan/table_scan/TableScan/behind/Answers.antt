@@ -4,7 +4,7 @@ use Rattle.sig_table.specs.Views.{SignatureView, TableView}
 use Rattle.sig_match.specs.Lates.{AreLateScansOf, IsLateSignatureScanOf}
 use Rattle.sig_match.specs.Scans.{SignatureScanView}
 use Rattle.sig_match.proofs.ScanLemmas.{late_scan_begins}
-use Rattle.sig_match.proofs.scan.Scan.behind.Goals as goal
+use Rattle.sig_match.proofs.scan.table_scan.TableScan.behind.Goals as goal
 
 pub with-requires : goal.with-requires
 with-requires c = AllZip-long (λ (s : SignatureView). IsLateSignatureScanOf c.args.front.now [] s.sequences) c.args.table.now.signatures c.in_ok-signatures.signatures.items c.in_ok-signatures.ensures

@@ -1,5 +1,5 @@
 use Rattle.sig_match.proofs.ScanLemmas.{FedBelow}
-use Rattle.sig_match.proofs.scan.feed_each.Given as goal
+use Rattle.sig_match.proofs.scan.table_scan.feed_each.Given as goal
 
 -- the signatures so far are fed
 abbrev pub invariant-loop-signature : goal.invariant-loop-signature
