@@ -411,10 +411,11 @@ fn agree_on_pattern(alloc: Global, pattern: &[u8]) -> Result<bool, Fail>
     requires { 0 < length pattern.now }
 {
     let long = repeated(alloc, pattern, 2600)?;
-    let (front, back) = long.split_at(1400);
+    let front = repeated(alloc, pattern, 1400)?;
+    let back = repeated(alloc, pattern, 1200)?;
     Ok(
         agree_awake(alloc, &[&long, b"C"])?
-            && agree_awake(alloc, &[front, b"BC", back, b"", b"ABBC"])?
+            && agree_awake(alloc, &[&front, b"BC", &back, b"", b"ABBC"])?
             && agree_awake(alloc, &[b"A", &long, b"\x00\x00", &long, b"BAC"])?,
     )
 }
