@@ -1,0 +1,11 @@
+use Rattle.std.proofs.Common.{IfOk, subst, sym}
+use Rattle.sig_command.specs.Requests.{MakesOut}
+use Rattle.sig_command.specs.declared.args.Request.{Request}
+use Rattle.sig_command.proofs.requests.answer.Goals as goal
+
+pub returns-in-Find-clause-made : goal.returns-in-Find-clause-made
+returns-in-Find-clause-made g c =
+    let store = g.S.Store.held c.args.store.now in
+    let before = g.W.Output.written c.args.out.now in
+    let after = g.W.Output.written c.find_in_table.new.out in
+    subst (λ (r : Request). IfOk c.find_in_table.result (λ is_yes. MakesOut g.S.Store.name_of g.S.Writer.Output.written g.S.Writer.Output.failed store r is_yes before after)) (sym c.in-Find.is) c.find_in_table.ensures.made
