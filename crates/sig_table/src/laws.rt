@@ -36,7 +36,7 @@ pub fn rows_are_spelled()
 /// two formats, in a table's formats.
 pub fn pairs_are_spelled()
     ensures { (formats : List Puid) → All (λ p. IsNumber p.number) formats → AllDifferent formats
-        → (row_number : ℕ) (fields : List (List ℕ)) (pair : ℕ × ℕ) → pair_of formats row_number fields ≡ Ok pair ↔ PriorityText formats fields pair }
+        → (row : ℕ) (fields : List (List ℕ)) (pair : ℕ × ℕ) → pair_of formats row fields ≡ Ok pair ↔ PriorityText formats fields pair }
 {}
 
 /// The pairs of a priority file are those of its rows, in their order: none stands twice, and they
