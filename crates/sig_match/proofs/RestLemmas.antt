@@ -4,6 +4,7 @@ use Rattle.std.specs.Prelude.{Contains, IfSome, IsTrue, MatchOption, is_some, no
 use Rattle.std.proofs.lemmas.Bool.{cases_eq, false≢true}
 use Rattle.std.proofs.lemmas.List.{append-nil, get_or-drop, take_rest}
 use Rattle.std.proofs.lemmas.List.Elements.{All-head, All-tail}
+use Rattle.std.proofs.lemmas.Option.{same_Some}
 use Rattle.memchr.specs.Find.{FindsNeedle, OccursAt}
 use Rattle.sig_auto.specs.Runs.{EndsIn, FollowsOn, IsSetOf, IsStepOf}
 use Rattle.sig_auto.specs.Tracks.{Follows}
@@ -16,7 +17,7 @@ use Rattle.sig_bits.specs.ByteClasses.{Holds}
 use Rattle.sig_bits.specs.declared.byte_class.ByteClass.{ByteClass}
 use Rattle.sig_table.specs.Views.{SequenceView}
 use Rattle.sig_match.specs.Scans.{IsSequenceScanOf, SequenceScanView}
-use Rattle.sig_match.specs.Rests.{GoesBy, IsLeftOn, IsPassed, IsReached, IsRest, Misses, Opens, Reaches}
+use Rattle.sig_match.specs.Rests.{FrontAt, GoesBy, GoesLater, IsLeftOn, IsLeftTo, IsOnlyWay, IsPassed, IsReached, IsRest, LeadsOnlyTo, Misses, Opens, OpensLater, Reaches, front_at, no_front}
 
 -- what misses the front is not a way on
 goes_not : (tree : Tree) (front bytes : List ℕ) (p q : ℕ) → IsBytes bytes → GoesBy tree p front → Misses front bytes → Reaches tree p bytes q → ⊥
@@ -35,8 +36,25 @@ opens_not tree [] bytes b r q are opens misses reaches = misses
 opens_not tree (f ∷ front) bytes b r q are opens misses reaches =
     ⊎_elim (λ differs. differs opens.0) (λ later. goes_not tree front bytes r q are opens.1 later reaches) misses
 
+-- nothing of the front is in no bytes
+misses_none : (front : List ℕ) → Misses front [] → ⊥
+misses_none [] misses = misses
+misses_none (f ∷ front) misses = misses
+
+-- nor is what misses it behind so many bytes
+goes_later_not : (n : ℕ) (tree : Tree) (front bytes : List ℕ) (p q : ℕ) → IsBytes bytes → GoesLater n tree p front → Misses front (drop n bytes) → Reaches tree p bytes q → ⊥
+goes_later_not zero tree front bytes p q are goes misses reaches = goes_not tree front bytes p q are goes misses reaches
+goes_later_not (suc n) tree front [] p q are goes misses reaches = misses_none front misses
+goes_later_not (suc n) tree front (b ∷ bytes) p q are goes misses reaches =
+    let on = goes reaches.0 b (All-head (λ x. x < 256) b bytes are) reaches.1 reaches.2 in
+    goes_later_not n tree front bytes reaches.0 q (All-tail (λ x. x < 256) b bytes are) on misses reaches.3
+
+opens_later_not : (skip : ℕ) (tree : Tree) (front bytes : List ℕ) (b r q : ℕ) → IsBytes bytes → OpensLater skip tree r b front → Misses front (drop skip (b ∷ bytes)) → Reaches tree r bytes q → ⊥
+opens_later_not zero tree front bytes b r q are opens misses reaches = opens_not tree front bytes b r q are opens misses reaches
+opens_later_not (suc n) tree front bytes b r q are opens misses reaches = goes_later_not n tree front bytes r q are opens misses reaches
+
 -- bytes that are passed over lead nowhere else
-pub passed_forward : (tree : Tree) (set : List ℕ) (exits : ByteClass) (front : List ℕ) (n : ℕ) (bytes : List ℕ) (q : ℕ) → IsRest tree set exits front → IsBytes bytes → ((x : ℕ) → x < n → IsPassed exits front (drop x bytes)) → IsReached tree set bytes q → IsReached tree set (drop n bytes) q
+pub passed_forward : (tree : Tree) (set : List ℕ) (exits : ByteClass) (front : FrontAt) (n : ℕ) (bytes : List ℕ) (q : ℕ) → IsRest tree set exits front → IsBytes bytes → ((x : ℕ) → x < n → IsPassed exits front (drop x bytes)) → IsReached tree set bytes q → IsReached tree set (drop n bytes) q
 passed_forward tree set exits front zero bytes q rest are passed reached = reached
 passed_forward tree set exits front (suc n) [] q rest are passed reached = reached
 passed_forward tree set exits front (suc n) (b ∷ bytes) q rest are passed reached =
@@ -45,7 +63,7 @@ passed_forward tree set exits front (suc n) (b ∷ bytes) q rest are passed reac
     let on = reached.2 in
     ⊎_elim
     (λ inside. passed_forward tree set exits front n bytes q rest later (λ x below. passed (suc x) (omega arith)) (on.0, inside, on.3))
-    (λ out. absurd (⊎_elim (λ never. never out.0) (λ misses. opens_not tree front bytes b on.0 q later out.1 misses on.3) (passed 0 (omega arith))))
+    (λ out. absurd (⊎_elim (λ never. never out.0) (λ misses. opens_later_not front.skip tree front.bytes bytes b on.0 q later out.1 misses on.3) (passed 0 (omega arith))))
     (rest.leaves reached.0 on.0 b byte reached.1 on.1 on.2)
 
 -- states that are there again after any byte are so behind many
@@ -58,7 +76,7 @@ stay_back tree set (suc n) (b ∷ bytes) q stays are reached =
     (before.0, before.1, (more.0, before.2, before.3, more.2))
 
 -- and the set is there again behind them
-pub passed_back : (tree : Tree) (set : List ℕ) (exits : ByteClass) (front : List ℕ) (n : ℕ) (bytes : List ℕ) (q : ℕ) → IsRest tree set exits front → IsBytes bytes → IsReached tree set (drop n bytes) q → IsReached tree set bytes q
+pub passed_back : (tree : Tree) (set : List ℕ) (exits : ByteClass) (front : FrontAt) (n : ℕ) (bytes : List ℕ) (q : ℕ) → IsRest tree set exits front → IsBytes bytes → IsReached tree set (drop n bytes) q → IsReached tree set bytes q
 passed_back tree set exits front n bytes q rest are reached = stay_back tree set n bytes q rest.stays are reached
 
 -- the runs of a longer file go on from those of its front
@@ -194,7 +212,7 @@ pub exits_without : (exits : ByteClass) (n : ℕ) (next : Bool) → next ≡ fal
 exits_without exits n next none = (λ b holds. holds, λ leaves. absurd (false≢true (sym none ∙ leaves)))
 
 -- all bytes are tried
-pub IsRest-from_exits : (tree : Tree) (set : List ℕ) (exits : ByteClass) (leaves : Bool) (n : ℕ) → 256 ≤ n → ExitsBelow tree set exits leaves n → IsRest tree set exits []
+pub IsRest-from_exits : (tree : Tree) (set : List ℕ) (exits : ByteClass) (leaves : Bool) (n : ℕ) → 256 ≤ n → ExitsBelow tree set exits leaves n → IsRest tree set exits no_front
 IsRest-from_exits tree set exits leaves n all found = record {
   stays = λ q b byte bit. found.stays q b (omega arith) bit;
   leaves = λ p q b byte bit follows takes. ⊎_elim (λ inside. inl inside) (λ exit. inr (exit, tt)) (found.leave p q b (omega arith) bit follows takes);
@@ -248,15 +266,94 @@ only_way_by tree live state byte way ways one two r lives lone members first sec
     let same : b ≡ byte = lone b ((lives b small).1 (q, follows, takes)) in
     (same, lone_of ways one two way q r first second none ((members q).1 (follows, subst (λ a. Takes tree q a) same takes)))
 
+-- on the first bytes this state alone is new
+pub record LeftBelow (tree : Tree) (set : List ℕ) (found : Option ℕ) (n : ℕ) : Type 0 where
+  pub below : (b : ℕ) → b < n → IsLeftTo tree set found b
+
+-- no byte is tried yet
+pub LeftBelow-none : (tree : Tree) (set : List ℕ) (found : Option ℕ) → LeftBelow tree set found 0
+LeftBelow-none tree set found = record { below = λ b below. absurd (omega arith) }
+
+-- a state that was none is now this one, or the same
+pub left_to_same : (tree : Tree) (set : List ℕ) (found new : Option ℕ) (b : ℕ) → ((q : ℕ) → found ≡ Some q → new ≡ Some q) → IsLeftTo tree set found b → IsLeftTo tree set new b
+left_to_same tree set found new b kept left p q bit follows takes = ⊎_elim (λ inside. inl inside) (λ is. inr (kept q is)) (left p q bit follows takes)
+
+-- the next byte is tried
+pub LeftBelow-more : (tree : Tree) (set : List ℕ) (found new : Option ℕ) (n : ℕ) → ((q : ℕ) → found ≡ Some q → new ≡ Some q) → IsLeftTo tree set new n → LeftBelow tree set found n → LeftBelow tree set new (n + 1)
+LeftBelow-more tree set found new n kept here before = record {
+  below = λ b within.
+      ⊎_elim
+      (λ (same : b ≡ n). subst (λ a. IsLeftTo tree set new a) (sym same) here)
+      (λ other. left_to_same tree set found new b kept (before.below b (omega arith)))
+      (cases_eq b n);
+}
+
+-- a byte that is no exit leads to no state outside
+pub left_to_none : (tree : Tree) (set : List ℕ) (exits : ByteClass) (found : Option ℕ) (b : ℕ) → b < 256 → IsRest tree set exits no_front → ¬ Holds exits b → IsLeftTo tree set found b
+left_to_none tree set exits found b small rest none p q bit follows takes =
+    ⊎_elim (λ inside. inl inside) (λ out. absurd (none out.0)) (rest.leaves p q b small bit follows takes)
+
+-- a byte at no cut leads to the same states as the one below
+pub left_to_uncut : (tree : Tree) (set : List ℕ) (none cuts : ByteClass) (found : Option ℕ) (n : ℕ) → ((b : ℕ) → b + 1 < 256 → ¬ Holds cuts (b + 1) → (¬ Holds none (b + 1)) × ((q : ℕ) → 0 < q → q ≤ slots_of tree → (Takes tree q b ↔ Takes tree q (b + 1)))) → n < 256 → n ≢ 0 → ¬ Holds cuts n → LeftBelow tree set found n → IsLeftTo tree set found n
+left_to_uncut tree set none cuts found n uncut byte some no_cut before =
+    let m : ℕ = n - 1 in
+    let is : m + 1 ≡ n = omega arith in
+    let at : ¬ Holds cuts (m + 1) = λ holds. no_cut (subst (λ a. Holds cuts a) is holds) in
+    let alike = (uncut m (omega arith) at).1 in
+    λ p q bit follows takes.
+        before.below m (omega arith) p q bit follows ((alike q (follows_above_the_start tree p q follows) (follows_to_a_slot tree p q follows)).1 (subst (λ a. Takes tree q a) (sym is) takes))
+
+-- the state that alone is new behind a step
+pub left_to_new : (tree : Tree) (set next : List ℕ) (b state : ℕ) → ((q : ℕ) → HasBit next q ↔ IsStepOf tree set b q) → ((q : ℕ) → q ≤ slots_of tree → HasBit next q → HasBit set q ⊎ (q ≡ state)) → IsLeftTo tree set (Some state) b
+left_to_new tree set next b state step new p q bit follows takes =
+    ⊎_elim
+    (λ inside. inl inside)
+    (λ is. inr (ap Some (sym is)))
+    (new q (follows_to_a_slot tree p q follows) ((step q).1 (p, bit, follows, takes)))
+
+-- all bytes are tried
+pub left_to_all : (tree : Tree) (set : List ℕ) (found : Option ℕ) (n : ℕ) → 256 ≤ n → LeftBelow tree set found n → IfSome found (LeadsOnlyTo tree set)
+left_to_all tree set None n all left = tt
+left_to_all tree set (Some state) n all left = λ b small. left.below b (omega arith)
+
+-- whatever leads on from the new state is the front
+pub later_front_known : (tree : Tree) (set : List ℕ) (exits : ByteClass) (state : ℕ) (front : List ℕ) → LeadsOnlyTo tree set state → GoesBy tree state front → IsRest tree set exits no_front → IsRest tree set exits (front_at 1 front)
+later_front_known tree set exits state front left goes rest = record {
+  stays = rest.stays;
+  leaves = λ p q b small bit follows takes.
+      ⊎_elim
+      (λ inside. inl inside)
+      (λ out.
+      ⊎_elim
+      (λ inside. inl inside)
+      (λ (is : Some state ≡ Some q). inr (out.0, subst (λ r. GoesBy tree r front) (same_Some state q is) goes))
+      (left b small p q bit follows takes))
+      (rest.leaves p q b small bit follows takes);
+}
+
+-- no front behind the first byte is known either
+pub IsRest-no_later_front : (tree : Tree) (set : List ℕ) (exits : ByteClass) → IsRest tree set exits no_front → IsRest tree set exits (front_at 1 [])
+IsRest-no_later_front tree set exits rest = record {
+  stays = rest.stays;
+  leaves = λ p q b small bit follows takes. ⊎_elim (λ inside. inl inside) (λ out. inr (out.0, tt)) (rest.leaves p q b small bit follows takes);
+}
+
+-- what leads on from a state is the only way on, and what opens behind it
+pub goes_by_way : (tree : Tree) (p byte state : ℕ) (front : List ℕ) → IsOnlyWay tree p byte state → Opens tree state byte front → GoesBy tree p front
+goes_by_way tree p byte state [] only opens = tt
+goes_by_way tree p byte state (f ∷ front) only opens = λ q b small follows takes.
+    let is = only q b small follows takes in
+    (is.0 ∙ opens.0, subst (λ r. GoesBy tree r front) (sym is.1) opens.1)
+
 -- a byte that is no exit is passed over
-pub passed_by_byte : (exits : ByteClass) (front bytes : List ℕ) (x : ℕ) → ¬ Holds exits (get_or bytes x 0) → IsPassed exits front (drop x bytes)
+pub passed_by_byte : (exits : ByteClass) (front : FrontAt) (bytes : List ℕ) (x : ℕ) → ¬ Holds exits (get_or bytes x 0) → IsPassed exits front (drop x bytes)
 passed_by_byte exits front [] zero none = tt
 passed_by_byte exits front [] (suc x) none = tt
 passed_by_byte exits front (b ∷ bytes) zero none = inl none
 passed_by_byte exits front (b ∷ bytes) (suc x) none = passed_by_byte exits front bytes x none
 
 -- so are bytes that miss the front
-pub passed_by_miss : (exits : ByteClass) (front bytes : List ℕ) → Misses front bytes → IsPassed exits front bytes
+pub passed_by_miss : (exits : ByteClass) (front : FrontAt) (bytes : List ℕ) → Misses front.bytes (drop front.skip bytes) → IsPassed exits front bytes
 passed_by_miss exits front [] misses = tt
 passed_by_miss exits front (b ∷ bytes) misses = inr misses
 
@@ -284,7 +381,7 @@ pub missed_whole : (bytes front : List ℕ) (n x : ℕ) → FindsNeedle bytes fr
 missed_whole bytes front n x none end some below = missed_by_none bytes front x (omega arith) (none x (omega arith) (omega arith))
 
 -- the bytes of the front are known
-pub front_known : (tree : Tree) (set next : List ℕ) (exits : ByteClass) (byte state : ℕ) (front : List ℕ) → ((a : ℕ) → Holds exits a → a ≡ byte) → ((q : ℕ) → HasBit next q ↔ IsStepOf tree set byte q) → ((q : ℕ) → q ≤ slots_of tree → HasBit next q → HasBit set q ⊎ (q ≡ state)) → Opens tree state byte front → IsRest tree set exits [] → IsRest tree set exits front
+pub front_known : (tree : Tree) (set next : List ℕ) (exits : ByteClass) (byte state : ℕ) (front : List ℕ) → ((a : ℕ) → Holds exits a → a ≡ byte) → ((q : ℕ) → HasBit next q ↔ IsStepOf tree set byte q) → ((q : ℕ) → q ≤ slots_of tree → HasBit next q → HasBit set q ⊎ (q ≡ state)) → Opens tree state byte front → IsRest tree set exits no_front → IsRest tree set exits (front_at 0 front)
 front_known tree set next exits byte state front lone step new opens rest = record {
   stays = rest.stays;
   leaves = λ p q b small bit follows takes.
@@ -309,14 +406,14 @@ missed_more bytes front n here before x below =
     (cases_eq x n)
 
 -- no state leaves the empty set
-pub IsRest-none : (tree : Tree) (set : List ℕ) (exits : ByteClass) (front : List ℕ) → ((q : ℕ) → HasBit set q → ⊥) → IsRest tree set exits front
+pub IsRest-none : (tree : Tree) (set : List ℕ) (exits : ByteClass) (front : FrontAt) → ((q : ℕ) → HasBit set q → ⊥) → IsRest tree set exits front
 IsRest-none tree set exits front none = record {
   stays = λ q b small bit. absurd (none q bit);
   leaves = λ p q b small bit. absurd (none p bit);
 }
 
 -- bytes that are passed over make no difference
-pub passed_both : (tree : Tree) (set rest : List ℕ) (exits : ByteClass) (front : List ℕ) (n : ℕ) (bytes : List ℕ) → set ≡ rest → IsRest tree rest exits front → IsBytes bytes → ((x : ℕ) → x < n → IsPassed exits front (drop x bytes)) → (q : ℕ) → IsReached tree set bytes q ↔ IsReached tree set (drop n bytes) q
+pub passed_both : (tree : Tree) (set rest : List ℕ) (exits : ByteClass) (front : FrontAt) (n : ℕ) (bytes : List ℕ) → set ≡ rest → IsRest tree rest exits front → IsBytes bytes → ((x : ℕ) → x < n → IsPassed exits front (drop x bytes)) → (q : ℕ) → IsReached tree set bytes q ↔ IsReached tree set (drop n bytes) q
 passed_both tree set rest exits front n bytes same is are passed q =
     let at : IsRest tree set exits front = subst (λ l. IsRest tree l exits front) (sym same) is in
     (passed_forward tree set exits front n bytes q at are passed, passed_back tree set exits front n bytes q at are)
@@ -360,7 +457,7 @@ drop_all (x ∷ xs) zero all = absurd (omega arith)
 drop_all (x ∷ xs) (suc n) all = drop_all xs n (omega arith)
 
 -- the same of a scan as callers see it
-pub passed_view : (view scan : SequenceScanView) (rest : List ℕ) (exits : ByteClass) (front : List ℕ) (n : ℕ) (bytes : List ℕ) → view ≡ scan → view.set ≡ rest → IsRest (whole_tree view.sequence) rest exits front → IsBytes bytes → ((x : ℕ) → x < n → IsPassed exits front (drop x bytes)) → (q : ℕ) → IsReached (whole_tree scan.sequence) scan.set bytes q ↔ IsReached (whole_tree scan.sequence) scan.set (drop n bytes) q
+pub passed_view : (view scan : SequenceScanView) (rest : List ℕ) (exits : ByteClass) (front : FrontAt) (n : ℕ) (bytes : List ℕ) → view ≡ scan → view.set ≡ rest → IsRest (whole_tree view.sequence) rest exits front → IsBytes bytes → ((x : ℕ) → x < n → IsPassed exits front (drop x bytes)) → (q : ℕ) → IsReached (whole_tree scan.sequence) scan.set bytes q ↔ IsReached (whole_tree scan.sequence) scan.set (drop n bytes) q
 passed_view view scan rest exits front n bytes same set_is is are passed =
     let P : SequenceScanView → Type 0 = λ v. (q : ℕ) → IsReached (whole_tree v.sequence) v.set bytes q ↔ IsReached (whole_tree v.sequence) v.set (drop n bytes) q in
     subst P same (passed_both (whole_tree view.sequence) view.set rest exits front n bytes set_is is are passed)
@@ -376,7 +473,7 @@ bytes_behind (suc n) [] are = are
 bytes_behind (suc n) (b ∷ bytes) are = bytes_behind n bytes (All-tail (λ x. x < 256) b bytes are)
 
 -- the same, of a part of the bytes
-pub passed_to : (view scan : SequenceScanView) (rest : List ℕ) (exits : ByteClass) (front bytes : List ℕ) (from to : ℕ) → view ≡ scan → view.set ≡ rest → IsRest (whole_tree view.sequence) rest exits front → IsBytes bytes → from ≤ to → ((x : ℕ) → from ≤ x → x < to → IsPassed exits front (drop x bytes)) → (q : ℕ) → IsReached (whole_tree scan.sequence) scan.set (drop from bytes) q ↔ IsReached (whole_tree scan.sequence) scan.set (drop to bytes) q
+pub passed_to : (view scan : SequenceScanView) (rest : List ℕ) (exits : ByteClass) (front : FrontAt) (bytes : List ℕ) (from to : ℕ) → view ≡ scan → view.set ≡ rest → IsRest (whole_tree view.sequence) rest exits front → IsBytes bytes → from ≤ to → ((x : ℕ) → from ≤ x → x < to → IsPassed exits front (drop x bytes)) → (q : ℕ) → IsReached (whole_tree scan.sequence) scan.set (drop from bytes) q ↔ IsReached (whole_tree scan.sequence) scan.set (drop to bytes) q
 passed_to view scan rest exits front bytes from to same set_is is are after passed =
     let n : ℕ = to - from in
     let end : to ≡ from + n = omega arith in
@@ -384,16 +481,23 @@ passed_to view scan rest exits front bytes from to same set_is is are after pass
     let P : List ℕ → Type 0 = λ l. (q : ℕ) → IsReached (whole_tree scan.sequence) scan.set (drop from bytes) q ↔ IsReached (whole_tree scan.sequence) scan.set l q in
     subst P (drop_further bytes from n to end) (passed_view view scan rest exits front n (drop from bytes) same set_is is (bytes_behind from bytes are) here)
 
+-- bytes that miss the front, looked at from where it begins
+pub passed_by_later_miss : (exits : ByteClass) (front : FrontAt) (bytes later : List ℕ) (x : ℕ) → later ≡ drop front.skip bytes → Misses front.bytes (drop x later) → IsPassed exits front (drop x bytes)
+passed_by_later_miss exits front bytes later x same misses =
+    let first : drop x (drop front.skip bytes) ≡ drop (front.skip + x) bytes = drop_further bytes front.skip x (front.skip + x) refl in
+    let second : drop front.skip (drop x bytes) ≡ drop (front.skip + x) bytes = drop_further bytes x front.skip (front.skip + x) (omega arith) in
+    passed_by_miss exits front (drop x bytes) (subst (λ l. Misses front.bytes l) (ap (λ l. drop x l) same ∙ first ∙ sym second) misses)
+
 -- a place before what is known, or before the next one behind it
-pub passed_in : (exits : ByteClass) (front bytes known : List ℕ) (at n x : ℕ) → known ≡ bytes → (x < at → Misses front (drop x bytes)) → ((y : ℕ) → y < n → IsPassed exits front (drop y (take (length known - at) (drop at known)))) → x < at + n → IsPassed exits front (drop x bytes)
-passed_in exits front bytes known at n x same missed passed before =
+pub passed_in : (exits : ByteClass) (front : FrontAt) (bytes seen : List ℕ) (at n x : ℕ) → seen ≡ bytes → (x < at → Misses front.bytes (drop (x + front.skip) bytes)) → ((y : ℕ) → y < n → IsPassed exits front (drop y (take (length seen - at) (drop at seen)))) → x < at + n → IsPassed exits front (drop x bytes)
+passed_in exits front bytes seen at n x same missed passed before =
     ⊎_elim
-    (λ below. passed_by_miss exits front (drop x bytes) (missed below))
+    (λ below. passed_by_miss exits front (drop x bytes) (subst (λ l. Misses front.bytes l) (sym (drop_further bytes x front.skip (x + front.skip) refl)) (missed below)))
     (λ (behind : at ≤ x).
     let y : ℕ = x - at in
     let further : drop y (drop at bytes) ≡ drop x bytes = drop_further bytes at y x (omega arith) in
     let P : List ℕ → Type 0 = λ l. IsPassed exits front (drop y (drop at l)) in
-    let there : P known = subst (λ l. IsPassed exits front (drop y l)) (take_rest known at) (passed y (omega arith)) in
+    let there : P seen = subst (λ l. IsPassed exits front (drop y l)) (take_rest seen at) (passed y (omega arith)) in
     subst (λ l. IsPassed exits front l) further (subst P same there))
     (below_or x at)
 

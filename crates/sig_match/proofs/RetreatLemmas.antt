@@ -7,7 +7,7 @@ use Rattle.sig_bits.specs.BitSets.{HasBit}
 use Rattle.sig_bits.specs.Bytes.{IsBytes}
 use Rattle.sig_match.specs.Scans.{SequenceScanView}
 use Rattle.sig_bits.specs.declared.byte_class.ByteClass.{ByteClass}
-use Rattle.sig_match.specs.Rests.{IsPassed, IsReached, IsRest, LeadsAlike, Reaches}
+use Rattle.sig_match.specs.Rests.{FrontAt, IsPassed, IsReached, IsRest, LeadsAlike, Reaches}
 use Rattle.sig_match.proofs.RestLemmas.{bytes_behind, drop_further, passed_back, passed_forward}
 
 -- bytes in two parts lead through a state between them
@@ -41,7 +41,7 @@ pub reached_by_none : (tree : Tree) (set : List ℕ) (q : ℕ) → HasBit set q 
 reached_by_none tree set q = (λ bit. (q, bit, refl), λ h. subst (λ r. HasBit set r) h.2 h.1)
 
 -- the set to which bytes lead from one in which the sequence rests, and that are passed over, leads on as that one does
-pub leads_as_rest : (tree : Tree) (set rest : List ℕ) (exits : ByteClass) (front piece : List ℕ) (from at : ℕ) → IsRest tree rest exits front → IsBytes piece → from ≤ at → ((x : ℕ) → x < at - from → IsPassed exits front (drop x (drop from piece))) → ((q : ℕ) → HasBit set q ↔ IsReached tree rest (take (at - from) (drop from piece)) q) → (q : ℕ) → IsReached tree set (drop at piece) q ↔ IsReached tree rest (drop at piece) q
+pub leads_as_rest : (tree : Tree) (set rest : List ℕ) (exits : ByteClass) (front : FrontAt) (piece : List ℕ) (from at : ℕ) → IsRest tree rest exits front → IsBytes piece → from ≤ at → ((x : ℕ) → x < at - from → IsPassed exits front (drop x (drop from piece))) → ((q : ℕ) → HasBit set q ↔ IsReached tree rest (take (at - from) (drop from piece)) q) → (q : ℕ) → IsReached tree set (drop at piece) q ↔ IsReached tree rest (drop at piece) q
 leads_as_rest tree set rest exits front piece from at is are order passed leads q =
     let n : ℕ = at - from in
     let all : List ℕ = drop from piece in
@@ -62,7 +62,7 @@ leads_as_rest tree set rest exits front piece from at is are order passed leads 
     )
 
 -- the same of a scan as callers see it
-pub retreats : (view scan : SequenceScanView) (rest new : List ℕ) (exits : ByteClass) (front bytes piece : List ℕ) (from at : ℕ) → view ≡ scan → new ≡ rest → bytes ≡ piece → IsRest (whole_tree view.sequence) rest exits front → IsBytes piece → from ≤ at → ((x : ℕ) → x < at - from → IsPassed exits front (drop x (take (length bytes - from) (drop from bytes)))) → ((q : ℕ) → HasBit view.set q ↔ IsReached (whole_tree view.sequence) rest (take (at - from) (drop from bytes)) q) → LeadsAlike (whole_tree scan.sequence) scan.set (drop at piece) new (drop at piece)
+pub retreats : (view scan : SequenceScanView) (rest new : List ℕ) (exits : ByteClass) (front : FrontAt) (bytes piece : List ℕ) (from at : ℕ) → view ≡ scan → new ≡ rest → bytes ≡ piece → IsRest (whole_tree view.sequence) rest exits front → IsBytes piece → from ≤ at → ((x : ℕ) → x < at - from → IsPassed exits front (drop x (take (length bytes - from) (drop from bytes)))) → ((q : ℕ) → HasBit view.set q ↔ IsReached (whole_tree view.sequence) rest (take (at - from) (drop from bytes)) q) → LeadsAlike (whole_tree scan.sequence) scan.set (drop at piece) new (drop at piece)
 retreats view scan rest new exits front bytes piece from at same new_is piece_is is are order passed leads =
     let tree : Tree = whole_tree view.sequence in
     let Passes : List ℕ → Type 0 = λ l. (x : ℕ) → x < at - from → IsPassed exits front (drop x l) in
@@ -73,7 +73,7 @@ retreats view scan rest new exits front bytes piece from at same new_is piece_is
     subst (λ v. Alike v new) same (subst (λ l. Alike view l) (sym new_is) alike)
 
 -- one place more at which no way out begins
-pub passed_further : (exits : ByteClass) (front bytes later : List ℕ) (b n x : ℕ) → bytes ≡ b ∷ later → IsPassed exits front bytes → ((y : ℕ) → y < n - 1 → IsPassed exits front (drop y later)) → x < n → IsPassed exits front (drop x bytes)
+pub passed_further : (exits : ByteClass) (front : FrontAt) (bytes later : List ℕ) (b n x : ℕ) → bytes ≡ b ∷ later → IsPassed exits front bytes → ((y : ℕ) → y < n - 1 → IsPassed exits front (drop y later)) → x < n → IsPassed exits front (drop x bytes)
 passed_further exits front bytes later b n zero cut here more below = here
 passed_further exits front bytes later b n (suc x) cut here more below =
     subst (λ l. IsPassed exits front (drop (suc x) l)) (sym cut) (more x (omega arith))

@@ -19,7 +19,7 @@ use Rattle.sig_expr.specs.declared.item.Item.{Item}
 use Rattle.sig_expr.specs.declared.item.Item.TheVariants as item
 use Rattle.sig_table.specs.declared.position.Position.TheVariants as position
 use Rattle.sig_table.specs.Views.{SequenceView}
-use Rattle.sig_match.specs.Rests.{IsReached, IsRest, Reaches}
+use Rattle.sig_match.specs.Rests.{FrontAt, IsReached, IsRest, Reaches}
 use Rattle.sig_match.specs.Scans.{SequenceScanView}
 use Rattle.sig_match.specs.Spans.{Climbs, IsClosedItem}
 use Rattle.sig_match.proofs.RestLemmas.{below_or, bytes_behind, drop_further, passed_back, stay_back}
@@ -216,7 +216,7 @@ late_from tree set one from to bytes q climb begins is are before far =
     subst (λ l. IsReached tree set (drop from bytes) q ↔ IsReached tree one l q) (drop_further bytes from n to (omega arith)) (late_both tree set one n (drop from bytes) q climb begins is (bytes_behind from bytes are) (omega arith) (omega arith))
 
 -- both ways, of a part of a piece
-pub span_both : (view scan : SequenceScanView) (rest : List ℕ) (exits : ByteClass) (front bytes : List ℕ) (from to : ℕ) → view ≡ scan → view.set ≡ rest → IsRest (whole_tree view.sequence) rest exits front → Climbs (whole_tree view.sequence) → HasBit rest 1 → IsBytes bytes → from ≤ to → to ≤ length bytes → (from < to → to + slots_of (whole_tree view.sequence) ≤ length bytes) → (q : ℕ) → IsReached (whole_tree scan.sequence) scan.set (drop from bytes) q ↔ IsReached (whole_tree scan.sequence) scan.set (drop to bytes) q
+pub span_both : (view scan : SequenceScanView) (rest : List ℕ) (exits : ByteClass) (front : FrontAt) (bytes : List ℕ) (from to : ℕ) → view ≡ scan → view.set ≡ rest → IsRest (whole_tree view.sequence) rest exits front → Climbs (whole_tree view.sequence) → HasBit rest 1 → IsBytes bytes → from ≤ to → to ≤ length bytes → (from < to → to + slots_of (whole_tree view.sequence) ≤ length bytes) → (q : ℕ) → IsReached (whole_tree scan.sequence) scan.set (drop from bytes) q ↔ IsReached (whole_tree scan.sequence) scan.set (drop to bytes) q
 span_both view scan rest exits front bytes from to same set_is is climb one are after within far q =
     let P : SequenceScanView → Type 0 = λ v. IsReached (whole_tree v.sequence) v.set (drop from bytes) q ↔ IsReached (whole_tree v.sequence) v.set (drop to bytes) q in
     let tree : Tree = whole_tree view.sequence in

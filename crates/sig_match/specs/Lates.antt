@@ -47,10 +47,14 @@ pub record IsLateTableScanOf (scan : TableScanView) (file : List ℕ) : Type 0 w
   pub begins : file ≡ front ++ rest
   pub is : IsLateTableOf front file scan
 
--- whatever the file so far is, the new scans are those behind the piece, and the signature is not given up by it
+-- whatever the file so far is, the new scans of the sequences are those behind the piece
+abbrev pub AreFedBy : List ℕ → List SequenceScanView → List SequenceScanView → Type 0
+AreFedBy piece old new = (file : List ℕ) (sequences : List SequenceView) → AreSequenceScansOf file sequences old → AreSequenceScansOf (file ++ piece) sequences new
+
+-- so it is for a signature, and it is not given up by the piece
 pub record IsFedBy (piece : List ℕ) (old new : SignatureScanView) : Type 0 where
   pub lost : new.lost ≡ old.lost
-  pub each : (file : List ℕ) (sequences : List SequenceView) → AreSequenceScansOf file sequences old.scans → AreSequenceScansOf (file ++ piece) sequences new.scans
+  pub each : AreFedBy piece old.scans new.scans
 
 -- whatever the file is, the answer says whether all sequences that are scanned stand in it
 abbrev pub TellsAllStand : List SequenceScanView → Bool → Type 0

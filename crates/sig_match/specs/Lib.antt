@@ -22,6 +22,7 @@ pub mod Lates
 pub mod Narrow
 pub mod Parts
 pub mod Rests
+pub mod Ways
 pub mod Runs
 pub mod Sieves
 pub mod Spans

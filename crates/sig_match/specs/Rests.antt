@@ -1,5 +1,5 @@
 -- Sets of states in which a scan rests, and the bytes by which they are left.
-use Rattle.std.specs.Prelude.{◌≡◌, ◌≢◌, ◌⊎◌, ◌↔◌, ℕ, ◌<◌, Bool, false, List, [], ◌∷◌, ⊤}
+use Rattle.std.specs.Prelude.{◌≡◌, ◌≢◌, ◌⊎◌, ◌↔◌, ℕ, zero, suc, ◌<◌, Bool, false, List, [], ◌∷◌, Option, Some, drop, ⊤}
 use Rattle.sig_auto.specs.Runs.{IsStepOf}
 use Rattle.sig_auto.specs.Tracks.{Follows}
 use Rattle.sig_auto.specs.Trees.{Tree}
@@ -31,10 +31,33 @@ abbrev pub Opens : Tree → ℕ → ℕ → List ℕ → Type 0
 Opens tree q b [] = ⊤
 Opens tree q b (f ∷ front) = (b ≡ f) × GoesBy tree q front
 
--- each state of the set is there again after any byte, and a state outside comes only on an exit byte, with which the front begins
-pub record IsRest (tree : Tree) (set : List ℕ) (exits : ByteClass) (front : List ℕ) : Type 0 where
+-- bytes that every way out of a set has, behind so many others
+pub record FrontAt : Type 0 where
+  pub skip : ℕ
+  pub bytes : List ℕ
+
+-- these bytes, behind so many others
+abbrev pub front_at : ℕ → List ℕ → FrontAt
+front_at skip bytes = record { skip = skip; bytes = bytes }
+
+-- none is known
+abbrev pub no_front : FrontAt
+no_front = front_at 0 []
+
+-- behind so many bytes, whatever leads on from state p is these bytes, as far as they go
+abbrev pub GoesLater : ℕ → Tree → ℕ → List ℕ → Type 0
+GoesLater zero tree p front = GoesBy tree p front
+GoesLater (suc n) tree p front = (q b : ℕ) → b < 256 → Follows tree p q → Takes tree q b → GoesLater n tree q front
+
+-- of byte b, by which state q was reached, and what leads on, the bytes behind so many are these
+abbrev pub OpensLater : ℕ → Tree → ℕ → ℕ → List ℕ → Type 0
+OpensLater zero tree q b front = Opens tree q b front
+OpensLater (suc n) tree q b front = GoesLater n tree q front
+
+-- each state of the set is there again after any byte, and a state outside comes only on an exit byte, with which a way out begins that has the front
+pub record IsRest (tree : Tree) (set : List ℕ) (exits : ByteClass) (front : FrontAt) : Type 0 where
   pub stays : (q b : ℕ) → b < 256 → HasBit set q → IsStepOf tree set b q
-  pub leaves : (p q b : ℕ) → b < 256 → HasBit set p → Follows tree p q → Takes tree q b → HasBit set q ⊎ (Holds exits b × Opens tree q b front)
+  pub leaves : (p q b : ℕ) → b < 256 → HasBit set p → Follows tree p q → Takes tree q b → HasBit set q ⊎ (Holds exits b × OpensLater front.skip tree q b front.bytes)
 
 -- the bytes differ from the front at a place that both have
 abbrev pub Misses : List ℕ → List ℕ → Type 0
@@ -43,9 +66,21 @@ Misses (f ∷ front) [] = ⊥
 Misses (f ∷ front) (b ∷ bytes) = (b ≢ f) ⊎ Misses front bytes
 
 -- no way out of a set of these exits and this front begins with these bytes
-abbrev pub IsPassed : ByteClass → List ℕ → List ℕ → Type 0
+abbrev pub IsPassed : ByteClass → FrontAt → List ℕ → Type 0
 IsPassed exits front [] = ⊤
-IsPassed exits front (b ∷ bytes) = (¬ Holds exits b) ⊎ Misses front (b ∷ bytes)
+IsPassed exits front (b ∷ bytes) = (¬ Holds exits b) ⊎ Misses front.bytes (drop front.skip (b ∷ bytes))
+
+-- on byte b no state comes that is outside the set, but this one
+abbrev pub IsLeftTo : Tree → List ℕ → Option ℕ → ℕ → Type 0
+IsLeftTo tree set found b = (p q : ℕ) → HasBit set p → Follows tree p q → Takes tree q b → HasBit set q ⊎ (found ≡ Some q)
+
+-- whatever byte leads out of the set leads to this state alone
+abbrev pub LeadsOnlyTo : Tree → List ℕ → ℕ → Type 0
+LeadsOnlyTo tree set state = (b : ℕ) → b < 256 → IsLeftTo tree set (Some state) b
+
+-- whatever leads on from state p is this byte, and leads to this state
+abbrev pub IsOnlyWay : Tree → ℕ → ℕ → ℕ → Type 0
+IsOnlyWay tree p byte state = (q b : ℕ) → b < 256 → Follows tree p q → Takes tree q b → (b ≡ byte) × (q ≡ state)
 
 -- byte b leads to states of the set alone
 abbrev pub StaysIn : Tree → List ℕ → ℕ → Type 0

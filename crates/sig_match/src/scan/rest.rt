@@ -1,12 +1,13 @@
 //! How a sequence leaves a set of states, found out by its automaton.
 
-ghost use Rattle.std.specs.Prelude.{◌≡◌, ◌⊎◌, ◌↔◌, ℕ, ◌<◌, ◌≤◌, false, [], IfSome, length, take};
+ghost use Rattle.std.specs.Prelude.{◌≡◌, ◌⊎◌, ◌↔◌, ℕ, ◌≤◌, IfSome, length, take};
 ghost use Rattle.sig_auto.specs.Tracks.{Follows};
 ghost use Rattle.sig_auto.specs.Trees.{whole_tree};
 ghost use Rattle.sig_auto.specs.TreeSlots.{Takes, set_len, slots_of};
 ghost use Rattle.sig_bits.specs.BitSets.{HasBit};
 ghost use Rattle.sig_bits.specs.ByteClasses.{Holds};
-ghost use Rattle.sig_match.specs.Rests.{IsLeftOn, IsRest, Opens};
+ghost use Rattle.sig_match.specs.Ways.{front_of};
+ghost use Rattle.sig_match.specs.Rests.{GoesBy, IsLeftOn, IsOnlyWay, IsRest, LeadsOnlyTo, Opens, front_at, no_front};
 
 use crate::scan::way::{FRONT, Way};
 use sig_auto::Auto;
@@ -17,19 +18,33 @@ use sig_bits::{ByteClass, get_bit, subset};
 pub(crate) fn way_of(auto: &Auto, set: &[u8], next: &mut [u8]) -> Option<Way>
     requires set_len { length set.now ≡ set_len (whole_tree auto.now) }
     requires next_len { length next.old ≡ set_len (whole_tree auto.now) }
-    ensures { IfSome result (λ way. IsRest (whole_tree auto.now) set.now way.exits (take way.len way.front)) }
+    ensures { IfSome result (λ way. IsRest (whole_tree auto.now) set.now way.exits (front_of way)) }
 {
     let exits = exits_of(auto, set, next)?;
     let mut front = [0; FRONT];
     let len = add_front(auto, set, next, &exits, &mut front);
-    Some(Way { exits, front, len })
+    if len > 0 {
+        return Some(Way {
+            exits,
+            front,
+            len,
+            skip: 0,
+        });
+    }
+    let len = add_later_front(auto, set, next, &exits, &mut front);
+    Some(Way {
+        exits,
+        front,
+        len,
+        skip: 1,
+    })
 }
 
 // The bytes on which a state outside the set comes.
 fn exits_of(auto: &Auto, set: &[u8], next: &mut [u8]) -> Option<ByteClass>
     requires set_len { length set.now ≡ set_len (whole_tree auto.now) }
     requires next_len { length next.old ≡ set_len (whole_tree auto.now) }
-    ensures { IfSome result (λ exits. IsRest (whole_tree auto.now) set.now exits []) }
+    ensures { IfSome result (λ exits. IsRest (whole_tree auto.now) set.now exits no_front) }
 {
     let mut cuts = ByteClass::none();
     auto.add_cuts(&mut cuts);
@@ -64,7 +79,7 @@ fn leaves_on(auto: &Auto, set: &[u8], byte: u8, next: &mut [u8]) -> Option<bool>
 fn add_front(auto: &Auto, set: &[u8], next: &mut [u8], exits: &ByteClass, room: &mut [u8]) -> usize
     requires set_len { length set.now ≡ set_len (whole_tree auto.now) }
     requires next_len { length next.old ≡ set_len (whole_tree auto.now) }
-    ensures rest { IsRest (whole_tree auto.now) set.now exits.now [] → IsRest (whole_tree auto.now) set.now exits.now (take result room.new) }
+    ensures rest { IsRest (whole_tree auto.now) set.now exits.now no_front → IsRest (whole_tree auto.now) set.now exits.now (front_at 0 (take result room.new)) }
     ensures within { result ≤ length room.new }
 {
     let Some(byte) = lone_byte(exits) else {
@@ -75,6 +90,48 @@ fn add_front(auto: &Auto, set: &[u8], next: &mut [u8], exits: &ByteClass, room: 
         return 0;
     };
     spell(auto, byte, state, room)
+}
+
+// Writes the bytes that each way out has behind its first byte, and answers how many they are.
+fn add_later_front(
+    auto: &Auto,
+    set: &[u8],
+    next: &mut [u8],
+    exits: &ByteClass,
+    room: &mut [u8],
+) -> usize
+    requires set_len { length set.now ≡ set_len (whole_tree auto.now) }
+    requires next_len { length next.old ≡ set_len (whole_tree auto.now) }
+    ensures rest { IsRest (whole_tree auto.now) set.now exits.now no_front → IsRest (whole_tree auto.now) set.now exits.now (front_at 1 (take result room.new)) }
+    ensures within { result ≤ length room.new }
+{
+    match first_state(auto, set, next, exits) {
+        Some(state) => spell_on(auto, state, room),
+        None => 0,
+    }
+}
+
+// The state outside the set to which each exit leads, where that is one alone.
+fn first_state(auto: &Auto, set: &[u8], next: &mut [u8], exits: &ByteClass) -> Option<u32>
+    requires set_len { length set.now ≡ set_len (whole_tree auto.now) }
+    requires next_len { length next.old ≡ set_len (whole_tree auto.now) }
+    ensures { IsRest (whole_tree auto.now) set.now exits.now no_front → IfSome result (LeadsOnlyTo (whole_tree auto.now) set.now) }
+{
+    let mut cuts = ByteClass::none();
+    auto.add_cuts(&mut cuts);
+    let mut found = None;
+    for at in 0..256usize {
+        let byte = at as u8;
+        if (at == 0 || cuts.contains(byte)) && exits.contains(byte) {
+            auto.step_set(set, byte, next);
+            let state = lone_new(auto, set, next)?;
+            if found.unwrap_or(state) != state {
+                return None;
+            }
+            found = Some(state);
+        }
+    }
+    found
 }
 
 // The byte of the class, where it has one alone.
@@ -122,9 +179,20 @@ fn spell(auto: &Auto, byte: u8, state: u32, room: &mut [u8]) -> usize
     }
 }
 
+// Writes the bytes that are then the only way on from the state, as far as there is room.
+fn spell_on(auto: &Auto, state: u32, room: &mut [u8]) -> usize
+    ensures goes { GoesBy (whole_tree auto.now) state (take result room.new) }
+    ensures within { result ≤ length room.new }
+{
+    match only_way(auto, state) {
+        Some((byte, state)) => spell(auto, byte, state, room),
+        None => 0,
+    }
+}
+
 // The byte and the state that alone follow this state.
 fn only_way(auto: &Auto, state: u32) -> Option<(u8, u32)>
-    ensures { IfSome result (λ way. (q b : ℕ) → b < 256 → Follows (whole_tree auto.now) state q → Takes (whole_tree auto.now) q b → (b ≡ way.0) × (q ≡ way.1)) }
+    ensures { IfSome result (λ way. IsOnlyWay (whole_tree auto.now) state way.0 way.1) }
 {
     let live = auto.live_bytes(state, &mut ByteClass::none());
     let byte = lone_byte(&live)?;

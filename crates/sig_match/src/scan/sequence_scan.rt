@@ -64,10 +64,11 @@ pub(crate) struct SequenceScan {
 }
 
 impl Model for SequenceScan {
-    ghost use Rattle.std.specs.Prelude.{◌≡◌, ◌<◌, true, length, take};
+    ghost use Rattle.std.specs.Prelude.{◌≡◌, ◌<◌, true, length};
     ghost use Rattle.sig_auto.specs.Trees.{whole_tree};
     ghost use Rattle.sig_auto.specs.TreeSlots.{set_len};
     ghost use Rattle.sig_match.specs.Fixed.{IsFixed};
+    ghost use Rattle.sig_match.specs.Ways.{front_of};
     ghost use Rattle.sig_match.specs.Rests.{IsRest};
     ghost use Rattle.sig_match.specs.Scans.{SequenceScanView};
     ghost use Rattle.sig_match.specs.Spans.{Climbs};
@@ -79,7 +80,7 @@ impl Model for SequenceScan {
     ghost invariant = { λ s. (length s.set.items ≡ set_len (whole_tree s.auto))
         × (length s.next.items ≡ set_len (whole_tree s.auto))
         × (length s.rest.items ≡ set_len (whole_tree s.auto))
-        × IsRest (whole_tree s.auto) s.rest.items s.way.exits (take s.way.len s.way.front)
+        × IsRest (whole_tree s.auto) s.rest.items s.way.exits (front_of s.way)
         × (s.resting ≡ true → s.set.items ≡ s.rest.items)
         × (s.climbs ≡ true → Climbs (whole_tree s.auto))
         × (0 < length s.run.items → IsFixed s.auto s.run.items) };

@@ -1,9 +1,8 @@
 //! The sequences of one signature of a scan.
 
-ghost use Rattle.std.specs.Prelude.{◌≡◌, ◌++◌, ℕ, true, false, [], List, IfOk, IsTrue};
-ghost use Rattle.sig_match.specs.Lates.{IsLateSignatureScanOf, TellsAllStand};
+ghost use Rattle.std.specs.Prelude.{◌≡◌, true, false, [], IfOk, IsTrue};
+ghost use Rattle.sig_match.specs.Lates.{AreFedBy, IsLateSignatureScanOf, TellsAllStand};
 ghost use Rattle.sig_match.specs.Scans.{AreSequenceScansOf};
-ghost use Rattle.sig_table.specs.Views.{SequenceView};
 
 use crate::outlook::{Outlook, outlook_of};
 use crate::scan::piece::Piece;
@@ -84,8 +83,7 @@ impl SignatureScan {
     // Goes on by the piece.
     pub(crate) fn feed(&mut self, piece: &Piece<'_>)
         ensures lost { self.new.lost ≡ self.old.lost }
-        ensures each { (file : List ℕ) (sequences : List SequenceView) → AreSequenceScansOf file sequences self.old.scans
-            → AreSequenceScansOf (file ++ piece.now) sequences self.new.scans }
+        ensures each { AreFedBy piece.now self.old.scans self.new.scans }
     {
         feed_each(&mut self.sequences, piece);
     }
@@ -101,7 +99,7 @@ impl SignatureScan {
 
 // A signature has at most eight sequences, so this is not deep.
 fn feed_each(scans: &mut [SequenceScan], piece: &Piece<'_>)
-    ensures { (file : List ℕ) (sequences : List SequenceView) → AreSequenceScansOf file sequences scans.old → AreSequenceScansOf (file ++ piece.now) sequences scans.new }
+    ensures { AreFedBy piece.now scans.old scans.new }
 {
     let Some((first, later)) = scans.split_first_mut() else {
         return;

@@ -83,6 +83,37 @@ const CUTS: &[(&str, &[&[u8]], bool)] = &[
         true,
     ),
     ("Variable,,,[41:42]43", &[b"\x00\x00\x00D", b"C"], false),
+    // All of them lead to the same state, and several bytes have to follow.
+    (
+        "Variable,,,[41:5A]42434445",
+        &[b"\x00\x00\x00\x00Q", b"BCDE"],
+        true,
+    ),
+    (
+        "Variable,,,[41:5A]42434445",
+        &[b"\x00\x00\x00\x00", b"QBCDE\x00"],
+        true,
+    ),
+    (
+        "Variable,,,[41:5A]42434445",
+        &[b"\x00\x00\x00\x00BCBBCDE\x00"],
+        true,
+    ),
+    (
+        "Variable,,,[41:5A]42434445",
+        &[b"\x00\x00\x00\x00QBCD", b"E"],
+        true,
+    ),
+    (
+        "Variable,,,[41:5A]42434445",
+        &[b"\x00\x00\x00\x00\x00", b"BCDE\x00"],
+        false,
+    ),
+    (
+        "Variable,,,[41:5A]42434445",
+        &[b"BCDE\x00\x00\x00\x00Q\x00BCDE"],
+        false,
+    ),
     // What has hit goes on to hit.
     ("BOF,0,,4142", &[b"AB", b"\x00\x00\x00\x00", b"A"], true),
     (

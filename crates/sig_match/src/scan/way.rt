@@ -1,8 +1,9 @@
 //! The way out of a set of states in which a sequence rests: most bytes lead from it to itself.
 //!
 //! Such a set stays as it is up to a byte of its exits, and where only one byte is an exit, up to
-//! that byte and those that have to follow. So the file is searched for them and not stepped
-//! through.
+//! that byte and those that have to follow. Where several are, all may lead to the same state, and then
+//! the bytes that have to follow stand behind any of them: of `[41:5A]4243` that may begin anywhere the
+//! front is `42 43`, and it skips one byte. So the file is searched for a front and not stepped through.
 
 ghost use Rattle.std.specs.Prelude.{◌≡◌, ℕ, ◌<◌, ◌≤◌, false, IsTrue, drop, length, slice_index, take};
 ghost use Rattle.sig_bits.specs.ByteClasses.{Holds};
@@ -23,13 +24,18 @@ pub(crate) const FRONT: usize = 8;
 pub(crate) struct Way {
     // The bytes on which another state comes.
     pub(crate) exits: ByteClass,
-    // As many bytes as `len` says: those with which each way out begins. At 0 none is known.
+    // As many bytes as `len` says, which each way out has behind its first `skip` ones. At 0 none is
+    // known.
     pub(crate) front: [u8; FRONT],
     pub(crate) len: usize,
+    pub(crate) skip: usize,
     ghost within: { len ≤ 8 },
+    ghost near: { skip ≤ 1 },
 }
 
 impl Way {
+    ghost use Rattle.sig_match.specs.Ways.{front_of};
+
     /// No way out.
     pub(crate) fn none() -> Way
         ensures exits { (b : ℕ) → ¬ Holds result.exits b }
@@ -39,6 +45,7 @@ impl Way {
             exits: ByteClass::none(),
             front: [0; FRONT],
             len: 0,
+            skip: 0,
         }
     }
 
@@ -56,17 +63,17 @@ impl Way {
         ensures after { from ≤ result }
         ensures within { result ≤ length piece.now }
         ensures bytes { IsBytes piece.now }
-        ensures passed { (x : ℕ) → from ≤ x → x < result → IsPassed self.now.exits (take self.now.len self.now.front) (drop x piece.now) }
+        ensures passed { (x : ℕ) → from ≤ x → x < result → IsPassed self.now.exits (front_of self.now) (drop x piece.now) }
     {
         let bytes = piece.bytes();
         let known = piece.known_of(number, &self.front[..self.len]);
-        let at = from.max(known.min(bytes.len()));
+        let at = from.max(known.saturating_sub(self.skip).min(bytes.len()));
         at + self.next(&bytes[at..])
     }
 
     /// Whether no way out begins at one of the first so many places of the bytes.
     pub(crate) fn passes(&self, bytes: &[u8], count: usize) -> bool
-        ensures { IsTrue result → (x : ℕ) → x < count → IsPassed self.now.exits (take self.now.len self.now.front) (drop x bytes.now) }
+        ensures { IsTrue result → (x : ℕ) → x < count → IsPassed self.now.exits (front_of self.now) (drop x bytes.now) }
     {
         let Some((_, later)) = bytes.split_first() else {
             return true;
@@ -79,10 +86,10 @@ impl Way {
 
     // Whether a way out may begin with the bytes.
     fn may_leave(&self, bytes: &[u8]) -> bool
-        ensures { result ≡ false → IsPassed self.now.exits (take self.now.len self.now.front) bytes.now }
+        ensures { result ≡ false → IsPassed self.now.exits (front_of self.now) bytes.now }
     {
         if self.len > 0 {
-            return may_begin(&self.front[..self.len], bytes);
+            return may_begin(&self.front[..self.len], self.behind_skip(bytes));
         }
         match bytes.first() {
             Some(byte) => self.exits.contains(*byte),
@@ -93,13 +100,20 @@ impl Way {
     /// The first place of the bytes at which a way out may begin, or their end.
     pub(crate) fn next(&self, bytes: &[u8]) -> usize
         ensures within { result ≤ length bytes.now }
-        ensures passed { (x : ℕ) → x < result → IsPassed self.now.exits (take self.now.len self.now.front) (drop x bytes.now) }
+        ensures passed { (x : ℕ) → x < result → IsPassed self.now.exits (front_of self.now) (drop x bytes.now) }
     {
         if self.len > 0 {
-            next_front(&self.front[..self.len], bytes)
+            next_front(&self.front[..self.len], self.behind_skip(bytes))
         } else {
             next_exit(&self.exits, bytes)
         }
+    }
+
+    // The bytes of a way out from those of its front on.
+    fn behind_skip<'b>(&self, bytes: &'b [u8]) -> &'b [u8]
+        ensures { result.now ≡ drop self.now.skip bytes.now }
+    {
+        &bytes[self.skip.min(bytes.len())..]
     }
 }
 

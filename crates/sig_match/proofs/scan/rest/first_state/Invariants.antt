@@ -1,0 +1,8 @@
+use Rattle.sig_auto.specs.Trees.{whole_tree}
+use Rattle.sig_match.specs.Rests.{IsRest, no_front}
+use Rattle.sig_match.proofs.RestLemmas.{LeftBelow}
+use Rattle.sig_match.proofs.scan.rest.first_state.Given as goal
+
+-- on the bytes so far this state alone is new
+abbrev pub invariant-loop-at : goal.invariant-loop-at
+invariant-loop-at l = IsRest (whole_tree l.auto') l.set l.exits no_front → LeftBelow (whole_tree l.auto') l.set l.found l.at
