@@ -1,23 +1,25 @@
 -- Bytes that leave a set of states as it is.
-use Rattle.std.proofs.Common.{◌≡◌, ◌≢◌, ◌↔◌, ◌⊎◌, ⊎_elim, ℕ, zero, suc, ◌+◌, ◌-◌, ◌<◌, ◌≤◌, List, [], ◌∷◌, ◌++◌, length, get_or, take, drop, append_assoc, subst, sym, ap, refl, ◌∙◌, arith, Bool, true, false, Option, Some, None, inl, inr, length-drop, add-one, drop-cons}
+use Rattle.std.proofs.Common.{◌≡◌, ◌↔◌, ◌⊎◌, ⊎_elim, ℕ, zero, suc, ◌+◌, ◌-◌, ◌*◌, ◌<◌, ◌≤◌, List, [], ◌∷◌, ◌++◌, length, get_or, take, drop, append_assoc, subst, sym, ap, refl, ◌∙◌, arith, Bool, true, false, Option, Some, None, inl, inr, length-drop, add-one, drop-cons}
 use Rattle.std.specs.Prelude.{Contains, IfSome, IsTrue, MatchOption, is_some, not}
 use Rattle.std.proofs.lemmas.Bool.{cases_eq, false≢true}
 use Rattle.std.proofs.lemmas.List.{append-nil, get_or-drop, take_rest}
 use Rattle.std.proofs.lemmas.List.Elements.{All-head, All-tail}
 use Rattle.std.proofs.lemmas.Option.{same_Some}
 use Rattle.memchr.specs.Find.{FindsNeedle, OccursAt}
+use Rattle.sig_auto.specs.ByteCuts.{AddsSlotCuts, AddsStateCuts}
 use Rattle.sig_auto.specs.Runs.{EndsIn, FollowsOn, IsSetOf, IsStepOf}
 use Rattle.sig_auto.specs.Tracks.{Follows}
 use Rattle.sig_auto.specs.Trees.{Tree, whole_tree}
 use Rattle.sig_auto.specs.TreeSlots.{Takes, slots_of}
 use Rattle.sig_auto.proofs.Exports.{follows_above_the_start, follows_to_a_slot, runs_go_on}
+use Rattle.sig_bits.proofs.Exports.{bits_are_within}
 use Rattle.sig_bits.specs.BitSets.{HasBit}
 use Rattle.sig_bits.specs.Bytes.{IsBytes}
 use Rattle.sig_bits.specs.ByteClasses.{Holds}
 use Rattle.sig_bits.specs.declared.byte_class.ByteClass.{ByteClass}
 use Rattle.sig_table.specs.Views.{SequenceView}
 use Rattle.sig_match.specs.Scans.{IsSequenceScanOf, SequenceScanView}
-use Rattle.sig_match.specs.Rests.{FrontAt, GoesBy, GoesLater, IsLeftOn, IsLeftTo, IsOnlyWay, IsPassed, IsReached, IsRest, LeadsOnlyTo, Misses, Opens, OpensLater, Reaches, front_at, no_front}
+use Rattle.sig_match.specs.Rests.{AreCutsOf, FrontAt, GoesBy, GoesLater, IsLeftAlike, IsLeftOn, IsLeftTo, IsOnlyWay, IsPassed, IsReached, IsRest, LeadsOnlyTo, Misses, Opens, OpensLater, Reaches, front_at, no_front}
 
 -- what misses the front is not a way on
 goes_not : (tree : Tree) (front bytes : List ℕ) (p q : ℕ) → IsBytes bytes → GoesBy tree p front → Misses front bytes → Reaches tree p bytes q → ⊥
@@ -155,65 +157,112 @@ left_by_test tree set next b within false kept step inside outside = record {
   within = λ never. absurd (false≢true (sym never));
 }
 
--- so does the next byte, where each slot takes both or neither
-pub left_alike : (tree : Tree) (set : List ℕ) (b : ℕ) (leaves : Bool) → ((q : ℕ) → 0 < q → q ≤ slots_of tree → Takes tree q b ↔ Takes tree q (b + 1)) → IsLeftOn tree set b leaves → IsLeftOn tree set (b + 1) leaves
+pub below_or : (x at : ℕ) → (x < at) ⊎ (at ≤ x)
+below_or x zero = inr (omega arith)
+below_or zero (suc at) = inl (omega arith)
+below_or (suc x) (suc at) = ⊎_elim (λ below. inl (omega arith)) (λ behind. inr (omega arith)) (below_or x at)
+
+-- so does the next byte, where what follows takes both or neither
+pub left_alike : (tree : Tree) (set : List ℕ) (b : ℕ) (leaves : Bool) → IsLeftAlike tree set b (b + 1) → IsLeftOn tree set b leaves → IsLeftOn tree set (b + 1) leaves
 left_alike tree set b leaves alike left = record {
   stays = λ q bit.
       let before = left.stays q bit in
-      (before.0, before.1, before.2, (alike q (follows_above_the_start tree before.0 q before.2) (follows_to_a_slot tree before.0 q before.2)).0 before.3);
-  within = λ none p q bit follows takes. left.within none p q bit follows ((alike q (follows_above_the_start tree p q follows) (follows_to_a_slot tree p q follows)).1 takes);
+      (before.0, before.1, before.2, (alike before.0 q before.1 before.2).0 before.3);
+  within = λ none p q bit follows takes. left.within none p q bit follows ((alike p q bit follows).1 takes);
 }
 
--- the exits among the first bytes are known, and how the last of them leaves the set
-pub record ExitsBelow (tree : Tree) (set : List ℕ) (exits : ByteClass) (leaves : Bool) (n : ℕ) : Type 0 where
+-- all bytes up to the next cut are left as the first
+pub left_along : (tree : Tree) (set : List ℕ) (cuts : ByteClass) (leaves : Bool) (n end k : ℕ) → AreCutsOf tree set cuts → ((b : ℕ) → n < b → b < end → ¬ Holds cuts b) → end ≤ 256 → IsLeftOn tree set n leaves → n + k < end → IsLeftOn tree set (n + k) leaves
+left_along tree set cuts leaves n end zero are none few left within = subst (λ b. IsLeftOn tree set b leaves) (omega arith) left
+left_along tree set cuts leaves n end (suc k) are none few left within =
+    let before : IsLeftOn tree set (n + k) leaves = left_along tree set cuts leaves n end k are none few left (omega arith) in
+    let next = left_alike tree set (n + k) leaves (are (n + k) (omega arith) (none (n + k + 1) (omega arith) (omega arith))) before in
+    subst (λ b. IsLeftOn tree set b leaves) (omega arith) next
+
+-- the cuts of all slots are those of any set
+pub cuts_of_slots : (tree : Tree) (set : List ℕ) (old new : ByteClass) → AddsSlotCuts old new tree → AreCutsOf tree set new
+cuts_of_slots tree set old new adds b small none p q bit follows = (adds b small none).1 q (follows_above_the_start tree p q follows) (follows_to_a_slot tree p q follows)
+
+-- the cuts of the first states of a set are among these
+pub record CutsBelow (tree : Tree) (set : List ℕ) (cuts : ByteClass) (n : ℕ) : Type 0 where
+  pub below : (b : ℕ) → b + 1 < 256 → ¬ Holds cuts (b + 1) → (p q : ℕ) → p < n → HasBit set p → Follows tree p q → Takes tree q b ↔ Takes tree q (b + 1)
+
+-- no state is asked yet
+pub CutsBelow-none : (tree : Tree) (set : List ℕ) (cuts : ByteClass) → CutsBelow tree set cuts 0
+CutsBelow-none tree set cuts = record { below = λ b small none p q before. absurd (omega arith) }
+
+-- one state more, whose cuts are added
+pub CutsBelow-with : (tree : Tree) (set : List ℕ) (cuts new : ByteClass) (n : ℕ) → AddsStateCuts cuts new tree n → CutsBelow tree set cuts n → CutsBelow tree set new (n + 1)
+CutsBelow-with tree set cuts new n adds before = record {
+  below = λ b small none p q within bit follows.
+      let both = adds b small none in
+      ⊎_elim
+      (λ (same : p ≡ n).
+      let here : Follows tree n q = subst (λ r. Follows tree r q) same follows in
+      (λ takes. ((both.1 q).0 (here, takes)).1, λ takes. ((both.1 q).1 (here, takes)).1))
+      (λ other. before.below b small both.0 p q (omega arith) bit follows)
+      (cases_eq p n);
+}
+
+-- or that is not in the set
+pub CutsBelow-without : (tree : Tree) (set : List ℕ) (cuts : ByteClass) (n : ℕ) → (HasBit set n → ⊥) → CutsBelow tree set cuts n → CutsBelow tree set cuts (n + 1)
+CutsBelow-without tree set cuts n out before = record {
+  below = λ b small none p q within bit follows.
+      ⊎_elim
+      (λ (same : p ≡ n). absurd (out (subst (λ r. HasBit set r) same bit)))
+      (λ other. before.below b small none p q (omega arith) bit follows)
+      (cases_eq p n);
+}
+
+-- all states are asked
+pub CutsBelow-all : (tree : Tree) (set : List ℕ) (cuts : ByteClass) (n : ℕ) → 8 * length set ≤ n → CutsBelow tree set cuts n → AreCutsOf tree set cuts
+CutsBelow-all tree set cuts n all before b small none p q bit follows =
+    let inside = bits_are_within set p bit in
+    before.below b small none p q (omega arith) bit follows
+
+-- the exits among the first bytes are known
+pub record ExitsBelow (tree : Tree) (set : List ℕ) (exits : ByteClass) (n : ℕ) : Type 0 where
   pub stays : (q b : ℕ) → b < n → HasBit set q → IsStepOf tree set b q
   pub leave : (p q b : ℕ) → b < n → HasBit set p → Follows tree p q → Takes tree q b → HasBit set q ⊎ Holds exits b
-  pub last : (b : ℕ) → b + 1 ≡ n → IsLeftOn tree set b leaves
 
 -- no byte is tried yet
-pub ExitsBelow-none : (tree : Tree) (set : List ℕ) (exits : ByteClass) (leaves : Bool) → ExitsBelow tree set exits leaves 0
-ExitsBelow-none tree set exits leaves = record {
+pub ExitsBelow-none : (tree : Tree) (set : List ℕ) (exits : ByteClass) → ExitsBelow tree set exits 0
+ExitsBelow-none tree set exits = record {
   stays = λ q b below. absurd (omega arith);
   leave = λ p q b below. absurd (omega arith);
-  last = λ b end. absurd (omega arith);
 }
 
-leave_here : (tree : Tree) (set : List ℕ) (new : ByteClass) (next : Bool) (n b : ℕ) → b ≡ n → IsLeftOn tree set n next → (next ≡ true → Holds new n) → (p q : ℕ) → HasBit set p → Follows tree p q → Takes tree q b → HasBit set q ⊎ Holds new b
-leave_here tree set new true n b same left here p q bit follows takes = inr (subst (λ a. Holds new a) (sym same) (here refl))
-leave_here tree set new false n b same left here p q bit follows takes = inl (left.within refl p q bit follows (subst (λ a. Takes tree q a) same takes))
+leave_here : (tree : Tree) (set : List ℕ) (new : ByteClass) (next : Bool) (b : ℕ) → IsLeftOn tree set b next → (next ≡ true → Holds new b) → (p q : ℕ) → HasBit set p → Follows tree p q → Takes tree q b → HasBit set q ⊎ Holds new b
+leave_here tree set new true b left here p q bit follows takes = inr (here refl)
+leave_here tree set new false b left here p q bit follows takes = inl (left.within refl p q bit follows takes)
 
--- the next one is tried
-pub ExitsBelow-more : (tree : Tree) (set : List ℕ) (exits new : ByteClass) (leaves next : Bool) (n : ℕ) → IsLeftOn tree set n next → ((b : ℕ) → Holds exits b → Holds new b) → (next ≡ true → Holds new n) → ExitsBelow tree set exits leaves n → ExitsBelow tree set new next (n + 1)
-ExitsBelow-more tree set exits new leaves next n left kept here before = record {
-  stays = λ q b below bit. ⊎_elim (λ (same : b ≡ n). subst (λ a. IsStepOf tree set a q) (sym same) (left.stays q bit)) (λ other. before.stays q b (omega arith) bit) (cases_eq b n);
-  leave = λ p q b below bit follows takes.
-      ⊎_elim
-      (λ (same : b ≡ n). leave_here tree set new next n b same left here p q bit follows takes)
-      (λ other. ⊎_elim (λ inside. inl inside) (λ exit. inr (kept b exit)) (before.leave p q b (omega arith) bit follows takes))
-      (cases_eq b n);
-  last = λ b end. let same : b ≡ n = omega arith in subst (λ a. IsLeftOn tree set a next) (sym same) left;
-}
+-- those up to the next cut are tried
+pub ExitsBelow-more : (tree : Tree) (set : List ℕ) (cuts exits new : ByteClass) (next : Bool) (n end : ℕ) → AreCutsOf tree set cuts → ((b : ℕ) → n < b → b < end → ¬ Holds cuts b) → end ≤ 256 → IsLeftOn tree set n next → ((b : ℕ) → Holds exits b → Holds new b) → (next ≡ true → (b : ℕ) → n ≤ b → b < end → Holds new b) → ExitsBelow tree set exits n → ExitsBelow tree set new end
+ExitsBelow-more tree set cuts exits new next n end are none few left kept here before =
+    let along : (b : ℕ) → n ≤ b → b < end → IsLeftOn tree set b next = λ b after below.
+    let k : ℕ = b - n in
+    let is : n + k ≡ b = omega arith in
+    subst (λ a. IsLeftOn tree set a next) is (left_along tree set cuts next n end k are none few left (omega arith)) in
+    record {
+      stays = λ q b below bit. ⊎_elim (λ old. before.stays q b old bit) (λ after. (along b after below).stays q bit) (below_or b n);
+      leave = λ p q b below bit follows takes.
+          ⊎_elim
+          (λ old. ⊎_elim (λ inside. inl inside) (λ exit. inr (kept b exit)) (before.leave p q b old bit follows takes))
+          (λ after. leave_here tree set new next b (along b after below) (λ leaves. here leaves b after below) p q bit follows takes)
+          (below_or b n);
+    }
 
--- a byte at no cut is left as the one below
-pub left_uncut : (tree : Tree) (set : List ℕ) (none cuts exits : ByteClass) (leaves : Bool) (n : ℕ) → ((b : ℕ) → b + 1 < 256 → ¬ Holds cuts (b + 1) → (¬ Holds none (b + 1)) × ((q : ℕ) → 0 < q → q ≤ slots_of tree → (Takes tree q b ↔ Takes tree q (b + 1)))) → n < 256 → n ≢ 0 → ¬ Holds cuts n → ExitsBelow tree set exits leaves n → IsLeftOn tree set n leaves
-left_uncut tree set none cuts exits leaves n uncut byte some no_cut before =
-    let m : ℕ = n - 1 in
-    let is : m + 1 ≡ n = omega arith in
-    let at : ¬ Holds cuts (m + 1) = λ holds. no_cut (subst (λ a. Holds cuts a) is holds) in
-    let alike = (uncut m (omega arith) at).1 in
-    subst (λ a. IsLeftOn tree set a leaves) is (left_alike tree set m leaves alike (before.last m is))
+-- bytes that are added
+pub exits_with : (exits new range : ByteClass) (n last end : ℕ) (next : Bool) → last + 1 ≡ end → ((b : ℕ) → Holds new b ↔ (Holds exits b ⊎ Holds range b)) → ((b : ℕ) → Holds range b ↔ ((n ≤ b) × (b ≤ last))) → ((b : ℕ) → Holds exits b → Holds new b) × (next ≡ true → (b : ℕ) → n ≤ b → b < end → Holds new b)
+exits_with exits new range n last end next is added ranged = (λ b holds. (added b).1 (inl holds), λ _ b after below. (added b).1 (inr ((ranged b).1 (after, omega arith))))
 
--- the byte is added
-pub exits_with : (exits new : ByteClass) (n : ℕ) (next : Bool) → ((b : ℕ) → Holds new b ↔ ((b ≡ n) ⊎ Holds exits b)) → ((b : ℕ) → Holds exits b → Holds new b) × (next ≡ true → Holds new n)
-exits_with exits new n next added = (λ b holds. (added b).1 (inr holds), λ _. (added n).1 (inl refl))
-
--- or is none
-pub exits_without : (exits : ByteClass) (n : ℕ) (next : Bool) → next ≡ false → ((b : ℕ) → Holds exits b → Holds exits b) × (next ≡ true → Holds exits n)
-exits_without exits n next none = (λ b holds. holds, λ leaves. absurd (false≢true (sym none ∙ leaves)))
+-- or none
+pub exits_without : (exits : ByteClass) (n end : ℕ) (next : Bool) → next ≡ false → ((b : ℕ) → Holds exits b → Holds exits b) × (next ≡ true → (b : ℕ) → n ≤ b → b < end → Holds exits b)
+exits_without exits n end next none = (λ b holds. holds, λ leaves. absurd (false≢true (sym none ∙ leaves)))
 
 -- all bytes are tried
-pub IsRest-from_exits : (tree : Tree) (set : List ℕ) (exits : ByteClass) (leaves : Bool) (n : ℕ) → 256 ≤ n → ExitsBelow tree set exits leaves n → IsRest tree set exits no_front
-IsRest-from_exits tree set exits leaves n all found = record {
+pub IsRest-from_exits : (tree : Tree) (set : List ℕ) (exits : ByteClass) (n : ℕ) → 256 ≤ n → ExitsBelow tree set exits n → IsRest tree set exits no_front
+IsRest-from_exits tree set exits n all found = record {
   stays = λ q b byte bit. found.stays q b (omega arith) bit;
   leaves = λ p q b byte bit follows takes. ⊎_elim (λ inside. inl inside) (λ exit. inr (exit, tt)) (found.leave p q b (omega arith) bit follows takes);
 }
@@ -278,30 +327,32 @@ LeftBelow-none tree set found = record { below = λ b below. absurd (omega arith
 pub left_to_same : (tree : Tree) (set : List ℕ) (found new : Option ℕ) (b : ℕ) → ((q : ℕ) → found ≡ Some q → new ≡ Some q) → IsLeftTo tree set found b → IsLeftTo tree set new b
 left_to_same tree set found new b kept left p q bit follows takes = ⊎_elim (λ inside. inl inside) (λ is. inr (kept q is)) (left p q bit follows takes)
 
--- the next byte is tried
-pub LeftBelow-more : (tree : Tree) (set : List ℕ) (found new : Option ℕ) (n : ℕ) → ((q : ℕ) → found ≡ Some q → new ≡ Some q) → IsLeftTo tree set new n → LeftBelow tree set found n → LeftBelow tree set new (n + 1)
-LeftBelow-more tree set found new n kept here before = record {
-  below = λ b within.
-      ⊎_elim
-      (λ (same : b ≡ n). subst (λ a. IsLeftTo tree set new a) (sym same) here)
-      (λ other. left_to_same tree set found new b kept (before.below b (omega arith)))
-      (cases_eq b n);
-}
-
 -- a byte that is no exit leads to no state outside
 pub left_to_none : (tree : Tree) (set : List ℕ) (exits : ByteClass) (found : Option ℕ) (b : ℕ) → b < 256 → IsRest tree set exits no_front → ¬ Holds exits b → IsLeftTo tree set found b
 left_to_none tree set exits found b small rest none p q bit follows takes =
     ⊎_elim (λ inside. inl inside) (λ out. absurd (none out.0)) (rest.leaves p q b small bit follows takes)
 
--- a byte at no cut leads to the same states as the one below
-pub left_to_uncut : (tree : Tree) (set : List ℕ) (none cuts : ByteClass) (found : Option ℕ) (n : ℕ) → ((b : ℕ) → b + 1 < 256 → ¬ Holds cuts (b + 1) → (¬ Holds none (b + 1)) × ((q : ℕ) → 0 < q → q ≤ slots_of tree → (Takes tree q b ↔ Takes tree q (b + 1)))) → n < 256 → n ≢ 0 → ¬ Holds cuts n → LeftBelow tree set found n → IsLeftTo tree set found n
-left_to_uncut tree set none cuts found n uncut byte some no_cut before =
-    let m : ℕ = n - 1 in
-    let is : m + 1 ≡ n = omega arith in
-    let at : ¬ Holds cuts (m + 1) = λ holds. no_cut (subst (λ a. Holds cuts a) is holds) in
-    let alike = (uncut m (omega arith) at).1 in
-    λ p q bit follows takes.
-        before.below m (omega arith) p q bit follows ((alike q (follows_above_the_start tree p q follows) (follows_to_a_slot tree p q follows)).1 (subst (λ a. Takes tree q a) (sym is) takes))
+-- all bytes up to the next cut lead to the same states as the first
+pub left_to_along : (tree : Tree) (set : List ℕ) (cuts : ByteClass) (found : Option ℕ) (n end k : ℕ) → AreCutsOf tree set cuts → ((b : ℕ) → n < b → b < end → ¬ Holds cuts b) → end ≤ 256 → IsLeftTo tree set found n → n + k < end → IsLeftTo tree set found (n + k)
+left_to_along tree set cuts found n end zero are none few left within = subst (λ b. IsLeftTo tree set found b) (omega arith) left
+left_to_along tree set cuts found n end (suc k) are none few left within =
+    let before : IsLeftTo tree set found (n + k) = left_to_along tree set cuts found n end k are none few left (omega arith) in
+    let alike = are (n + k) (omega arith) (none (n + k + 1) (omega arith) (omega arith)) in
+    let next : IsLeftTo tree set found (n + k + 1) = λ p q bit follows takes. before p q bit follows ((alike p q bit follows).1 takes) in
+    subst (λ b. IsLeftTo tree set found b) (omega arith) next
+
+-- those up to the next cut are tried
+pub LeftBelow-more : (tree : Tree) (set : List ℕ) (cuts : ByteClass) (found new : Option ℕ) (n end : ℕ) → AreCutsOf tree set cuts → ((b : ℕ) → n < b → b < end → ¬ Holds cuts b) → end ≤ 256 → ((q : ℕ) → found ≡ Some q → new ≡ Some q) → IsLeftTo tree set new n → LeftBelow tree set found n → LeftBelow tree set new end
+LeftBelow-more tree set cuts found new n end are none few kept here before = record {
+  below = λ b within.
+      ⊎_elim
+      (λ old. left_to_same tree set found new b kept (before.below b old))
+      (λ after.
+      let k : ℕ = b - n in
+      let is : n + k ≡ b = omega arith in
+      subst (λ a. IsLeftTo tree set new a) is (left_to_along tree set cuts new n end k are none few here (omega arith)))
+      (below_or b n);
+}
 
 -- the state that alone is new behind a step
 pub left_to_new : (tree : Tree) (set next : List ℕ) (b state : ℕ) → ((q : ℕ) → HasBit next q ↔ IsStepOf tree set b q) → ((q : ℕ) → q ≤ slots_of tree → HasBit next q → HasBit set q ⊎ (q ≡ state)) → IsLeftTo tree set (Some state) b
@@ -461,11 +512,6 @@ pub passed_view : (view scan : SequenceScanView) (rest : List ℕ) (exits : Byte
 passed_view view scan rest exits front n bytes same set_is is are passed =
     let P : SequenceScanView → Type 0 = λ v. (q : ℕ) → IsReached (whole_tree v.sequence) v.set bytes q ↔ IsReached (whole_tree v.sequence) v.set (drop n bytes) q in
     subst P same (passed_both (whole_tree view.sequence) view.set rest exits front n bytes set_is is are passed)
-
-pub below_or : (x at : ℕ) → (x < at) ⊎ (at ≤ x)
-below_or x zero = inr (omega arith)
-below_or zero (suc at) = inl (omega arith)
-below_or (suc x) (suc at) = ⊎_elim (λ below. inl (omega arith)) (λ behind. inr (omega arith)) (below_or x at)
 
 pub bytes_behind : (n : ℕ) (bytes : List ℕ) → IsBytes bytes → IsBytes (drop n bytes)
 bytes_behind zero bytes are = are

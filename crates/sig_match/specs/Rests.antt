@@ -1,5 +1,5 @@
 -- Sets of states in which a scan rests, and the bytes by which they are left.
-use Rattle.std.specs.Prelude.{◌≡◌, ◌≢◌, ◌⊎◌, ◌↔◌, ℕ, zero, suc, ◌<◌, Bool, false, List, [], ◌∷◌, Option, Some, drop, ⊤}
+use Rattle.std.specs.Prelude.{◌≡◌, ◌≢◌, ◌⊎◌, ◌↔◌, ℕ, zero, suc, ◌+◌, ◌<◌, Bool, false, List, [], ◌∷◌, Option, Some, drop, ⊤}
 use Rattle.sig_auto.specs.Runs.{IsStepOf}
 use Rattle.sig_auto.specs.Tracks.{Follows}
 use Rattle.sig_auto.specs.Trees.{Tree}
@@ -69,6 +69,14 @@ Misses (f ∷ front) (b ∷ bytes) = (b ≢ f) ⊎ Misses front bytes
 abbrev pub IsPassed : ByteClass → FrontAt → List ℕ → Type 0
 IsPassed exits front [] = ⊤
 IsPassed exits front (b ∷ bytes) = (¬ Holds exits b) ⊎ Misses front.bytes (drop front.skip (b ∷ bytes))
+
+-- each state that follows one of the set takes both bytes or neither
+abbrev pub IsLeftAlike : Tree → List ℕ → ℕ → ℕ → Type 0
+IsLeftAlike tree set a b = (p q : ℕ) → HasBit set p → Follows tree p q → Takes tree q a ↔ Takes tree q b
+
+-- each byte at which the set is left otherwise than on the byte below is one of these
+abbrev pub AreCutsOf : Tree → List ℕ → ByteClass → Type 0
+AreCutsOf tree set cuts = (b : ℕ) → b + 1 < 256 → ¬ Holds cuts (b + 1) → IsLeftAlike tree set b (b + 1)
 
 -- on byte b no state comes that is outside the set, but this one
 abbrev pub IsLeftTo : Tree → List ℕ → Option ℕ → ℕ → Type 0

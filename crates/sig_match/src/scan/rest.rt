@@ -1,17 +1,20 @@
 //! How a sequence leaves a set of states, found out by its automaton.
 
-ghost use Rattle.std.specs.Prelude.{◌≡◌, ◌⊎◌, ◌↔◌, ℕ, ◌≤◌, IfSome, length, take};
+ghost use Rattle.std.specs.Prelude.{◌≡◌, ◌⊎◌, ◌↔◌, ℕ, ◌<◌, ◌≤◌, IfSome, length, take};
 ghost use Rattle.sig_auto.specs.Tracks.{Follows};
 ghost use Rattle.sig_auto.specs.Trees.{whole_tree};
 ghost use Rattle.sig_auto.specs.TreeSlots.{Takes, set_len, slots_of};
 ghost use Rattle.sig_bits.specs.BitSets.{HasBit};
 ghost use Rattle.sig_bits.specs.ByteClasses.{Holds};
 ghost use Rattle.sig_match.specs.Ways.{front_of};
-ghost use Rattle.sig_match.specs.Rests.{GoesBy, IsLeftOn, IsOnlyWay, IsRest, LeadsOnlyTo, Opens, front_at, no_front};
+ghost use Rattle.sig_match.specs.Rests.{AreCutsOf, GoesBy, IsLeftOn, IsOnlyWay, IsRest, LeadsOnlyTo, Opens, front_at, no_front};
 
 use crate::scan::way::{FRONT, Way};
 use sig_auto::Auto;
 use sig_bits::{ByteClass, get_bit, subset};
+
+// The greatest set, in bytes, whose states are asked one by one.
+const FEW: usize = 8;
 
 /// The way out of the set, or nothing where the sequence does not rest in it: some byte takes a
 /// state out of it.
@@ -46,20 +49,49 @@ fn exits_of(auto: &Auto, set: &[u8], next: &mut [u8]) -> Option<ByteClass>
     requires next_len { length next.old ≡ set_len (whole_tree auto.now) }
     ensures { IfSome result (λ exits. IsRest (whole_tree auto.now) set.now exits no_front) }
 {
-    let mut cuts = ByteClass::none();
-    auto.add_cuts(&mut cuts);
+    let cuts = cuts_of(auto, set);
     let mut exits = ByteClass::none();
-    let mut leaves = false;
-    for at in 0..256usize {
-        let byte = at as u8;
-        if at == 0 || cuts.contains(byte) {
-            leaves = leaves_on(auto, set, byte, next)?;
+    let mut at = 0;
+    while at < 256 {
+        let end = next_cut(&cuts, at);
+        if leaves_on(auto, set, at as u8, next)? {
+            exits.extend(&ByteClass::range(at as u8, (end - 1) as u8));
         }
-        if leaves {
-            exits.insert(byte);
-        }
+        at = end;
     }
     Some(exits)
+}
+
+// Bytes at which the set is left otherwise than on the byte below: of few states those, and else all at
+// which any slot differs, since to ask each state takes long.
+fn cuts_of(auto: &Auto, set: &[u8]) -> ByteClass
+    requires { length set.now ≡ set_len (whole_tree auto.now) }
+    ensures { AreCutsOf (whole_tree auto.now) set.now result }
+{
+    let mut cuts = ByteClass::none();
+    if set.len() > FEW {
+        auto.add_cuts(&mut cuts);
+        return cuts;
+    }
+    for p in 0..8 * set.len() {
+        if get_bit(set, p) {
+            auto.live_bytes(p as u32, &mut cuts);
+        }
+    }
+    cuts
+}
+
+// The first cut above this byte, or the end of the bytes.
+fn next_cut(cuts: &ByteClass, at: usize) -> usize
+    requires { at < 256 }
+    ensures after { at < result }
+    ensures within { result ≤ 256 }
+    ensures none { (b : ℕ) → at < b → b < result → ¬ Holds cuts.now b }
+{
+    match cuts.lowest_from(at + 1) {
+        Some(byte) => byte as usize,
+        None => 256,
+    }
 }
 
 // Whether a state outside the set comes on the byte, or nothing where one of the set does not.
@@ -117,19 +149,19 @@ fn first_state(auto: &Auto, set: &[u8], next: &mut [u8], exits: &ByteClass) -> O
     requires next_len { length next.old ≡ set_len (whole_tree auto.now) }
     ensures { IsRest (whole_tree auto.now) set.now exits.now no_front → IfSome result (LeadsOnlyTo (whole_tree auto.now) set.now) }
 {
-    let mut cuts = ByteClass::none();
-    auto.add_cuts(&mut cuts);
+    let cuts = cuts_of(auto, set);
     let mut found = None;
-    for at in 0..256usize {
-        let byte = at as u8;
-        if (at == 0 || cuts.contains(byte)) && exits.contains(byte) {
-            auto.step_set(set, byte, next);
+    let mut at = 0;
+    while at < 256 {
+        if exits.contains(at as u8) {
+            auto.step_set(set, at as u8, next);
             let state = lone_new(auto, set, next)?;
             if found.unwrap_or(state) != state {
                 return None;
             }
             found = Some(state);
         }
+        at = next_cut(&cuts, at);
     }
     found
 }
