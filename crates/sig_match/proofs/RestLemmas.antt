@@ -1,5 +1,5 @@
 -- Bytes that leave a set of states as it is.
-use Rattle.std.proofs.Common.{◌≡◌, ◌↔◌, ◌⊎◌, ⊎_elim, ℕ, zero, suc, ◌+◌, ◌-◌, ◌*◌, ◌<◌, ◌≤◌, List, [], ◌∷◌, ◌++◌, length, get_or, take, drop, append_assoc, subst, sym, ap, refl, ◌∙◌, arith, Bool, true, false, Option, Some, None, inl, inr, length-drop, add-one, drop-cons}
+use Rattle.std.proofs.Common.{◌≡◌, ◌≢◌, ◌↔◌, ◌⊎◌, ⊎_elim, ℕ, zero, suc, ◌+◌, ◌-◌, ◌*◌, ◌<◌, ◌≤◌, List, [], ◌∷◌, ◌++◌, length, get_or, take, drop, append_assoc, subst, sym, ap, refl, ◌∙◌, arith, Bool, true, false, Option, Some, None, inl, inr, length-drop, add-one, drop-cons}
 use Rattle.std.specs.Prelude.{Contains, IfSome, IsTrue, MatchOption, is_some, not}
 use Rattle.std.proofs.lemmas.Bool.{cases_eq, false≢true}
 use Rattle.std.proofs.lemmas.List.{append-nil, get_or-drop, take_rest}
@@ -145,6 +145,10 @@ misses_or_fits (f ∷ front) (b ∷ bytes) =
     (λ same. ⊎_elim (λ later. inl (inr later)) (λ fits. inr (fits_more f b front bytes same fits)) (misses_or_fits front bytes))
     (λ differs. inl (inl differs))
     (cases_eq b f)
+
+-- one place at which they differ
+pub missed_at : (front bytes : List ℕ) (j : ℕ) → j < length front → j < length bytes → get_or bytes j 0 ≢ get_or front j 0 → Misses front bytes
+missed_at front bytes j below within differs = ⊎_elim (λ misses. misses) (λ fits. absurd (differs (fits j below within))) (misses_or_fits front bytes)
 
 -- how a byte leaves a set, by two tests
 pub left_by_test : (tree : Tree) (set next : List ℕ) (b : ℕ) (within back : Bool) → within ≡ true → ((q : ℕ) → HasBit next q ↔ IsStepOf tree set b q) → (IsTrue within ↔ ((q : ℕ) → HasBit set q → HasBit next q)) → (IsTrue back ↔ ((q : ℕ) → HasBit next q → HasBit set q)) → IsLeftOn tree set b (not back)

@@ -214,9 +214,21 @@ fn known_of(entry: &Entry, bytes: &[u8], y: usize, known: usize) -> usize
         return known;
     }
     let x = y - entry.at;
-    if known > x && may_begin(&entry.front[..entry.len], &bytes[x..]) {
+    if known > x && may_stand(&entry.front[..entry.len], &bytes[x..]) {
         x
     } else {
         known
     }
+}
+
+// Whether the two agree as far as both go. The last byte is asked first: where a file is full of what a
+// front begins with, it is mostly the end that differs.
+fn may_stand(front: &[u8], bytes: &[u8]) -> bool
+    ensures { result ≡ false → Misses front.now bytes.now }
+{
+    let len = front.len();
+    if len > 0 && len <= bytes.len() && bytes[len - 1] != front[len - 1] {
+        return false;
+    }
+    may_begin(front, bytes)
 }
