@@ -11,7 +11,8 @@ random bytes, words of text and zeros in turn, with the beginnings of some signa
 
 Of each table and file the best of three runs counts. A line has the milliseconds of a run on an empty
 file, which are those of the start and of the table, and for each file the MB/s without them. The last
-line is one run that names 2,000 files of 16 KiB, with the table of 1,500 signatures. With `--keep`
+lines are one run that names 2,000 files of 16 KiB, and one that names 200 files of 512 KiB, for each of
+which a scan begins, with the table of 1,500 signatures. With `--keep`
 tables and files stay in that folder. The same seed makes the same ones anywhere.
 
 Where `yara` and `yarac` are installed, a second line has their MB/s, measured in the same way over the
@@ -171,15 +172,16 @@ def measure(program, seed, large, folder):
         print_line(f"{count}", lambda path: seconds(program, folder, count, path), empty, paths)
         if rules:
             print_line(f"{count} YARA", lambda path: best_of_three(["yara", "-p", "1", "-C", rules, path]), empty, paths)
-    many = [os.path.join(folder, f"many{number}") for number in range(2000)]
-    for path in many:
-        write_file(rng, path, 16 << 10, fronts)
-    listed = os.path.join(folder, "many")
-    with open(listed, "w") as f:
-        f.write("".join(path + "\n" for path in many))
-    print_many("", count, seconds(program, folder, count, *many))
-    if rules:
-        print_many(" YARA", count, best_of_three(["yara", "-p", "1", "-C", "--scan-list", rules, listed]))
+    for files, kib in ((2000, 16), (200, 512)):
+        many = [os.path.join(folder, f"many{kib}_{number}") for number in range(files)]
+        for path in many:
+            write_file(rng, path, kib << 10, fronts)
+        listed = os.path.join(folder, f"many{kib}")
+        with open(listed, "w") as f:
+            f.write("".join(path + "\n" for path in many))
+        print_many("", files, kib, count, seconds(program, folder, count, *many))
+        if rules:
+            print_many(" YARA", files, kib, count, best_of_three(["yara", "-p", "1", "-C", "--scan-list", rules, listed]))
 
 
 def print_line(name, run, empty, paths):
@@ -191,8 +193,9 @@ def print_line(name, run, empty, paths):
     print(line, flush=True)
 
 
-def print_many(name, count, spent):
-    print(f"2,000 files of 16 KiB, {count} signatures{name}: {spent:.2f} s, {2000 * (16 << 10) / 1e6 / spent:.0f} MB/s")
+def print_many(name, files, kib, count, spent):
+    speed = files * (kib << 10) / 1e6 / spent
+    print(f"{files:,} files of {kib} KiB, {count} signatures{name}: {spent:.2f} s, {speed:.0f} MB/s")
 
 
 def main():

@@ -4,7 +4,7 @@
 //! A report is written when so many more are done that a percent of all can be, so there are at most
 //! some hundred of them. A failed write changes nothing else.
 
-ghost use Rattle.std.specs.Prelude.{◌≡◌, codes, false};
+ghost use Rattle.std.specs.Prelude.{◌≡◌, ◌<◌, ◌≤◌, codes, false};
 ghost use Rattle.std.proofs.Common.{◌∙◌, refl};
 ghost use Rattle.sig_engines.specs.Writing.{Prints};
 ghost use Rattle.sig_engines.specs.Progress.{report_text, things_text};
@@ -68,12 +68,13 @@ impl<'a, E: Output> Meter<'a, E> {
 }
 
 impl<E: Output> Observer for Meter<'_, E> {
-    ghost use Rattle.sig_engines.specs.Metered.{HasTold};
+    ghost use Rattle.sig_engines.specs.Metered.{HasTold, ShowsReport};
 
     ghost becomes = { λ before after. HasTold E.failed E.written before after };
 
     fn report(&mut self, done: u64, all: u64)
-        ensures { HasTold E.failed E.written self.old self.new }
+        ensures told { HasTold E.failed E.written self.old self.new }
+        ensures shows { ShowsReport E.failed E.written self.old self.new done all }
     {
         if done < self.next {
             return;
@@ -98,7 +99,9 @@ impl<E: Output> Observer for Meter<'_, E> {
 }
 
 // How many are to be done at the report after this one: a percent of all more, or all.
-fn next_report(done: u64, all: u64) -> u64 {
+fn next_report(done: u64, all: u64) -> u64
+    ensures { done < all → result ≤ all }
+{
     let step = all.div_ceil(100).max(1);
     done.saturating_add(step)
         .min(all)
