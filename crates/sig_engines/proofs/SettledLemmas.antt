@@ -15,7 +15,7 @@ use Rattle.sig_find.specs.declared.pair.PairDecision.TheVariants.{Ambiguous, Dec
 use Rattle.sig_find.proofs.Exports.{decided_pairs_decide}
 use Rattle.sig_table.specs.Tables.{IsTable}
 use Rattle.sig_table.specs.Views.{TableView}
-use Rattle.sig_engines.specs.Conflicts.{AddsConflicts, AddsFirstPairs, AddsFrontOfPairs, IsCutShort, IsSettled, KnownPair, count_of, counts_line, is_ambiguous, is_unknown, is_unrelated, last_line, pair_lines, pairs_of}
+use Rattle.sig_engines.specs.Conflicts.{AddsConflicts, AddsFrontOfPairs, IsCutShort, IsSettled, KnownPair, count_of, counts_line, is_ambiguous, is_unknown, is_unrelated, last_line, pair_lines, pairs_of}
 use Rattle.sig_engines.specs.Pairs.{AreTold}
 use Rattle.sig_engines.specs.Tellings.{Tells}
 use Rattle.sig_engines.specs.declared.counts.Counts.{Counts}

@@ -4,7 +4,7 @@ use Rattle.std.specs.Prelude.{Contains, IfSome, IsTrue, MatchOption, is_some, no
 use Rattle.std.proofs.lemmas.Bool.{cases_eq, false≢true}
 use Rattle.std.proofs.lemmas.List.{append-nil, get_or-drop, take_rest}
 use Rattle.std.proofs.lemmas.List.Elements.{All-head, All-tail}
-use Rattle.std.proofs.lemmas.Option.{same_Some}
+use Rattle.std.proofs.lemmas.Option.{none-some, same_Some}
 use Rattle.memchr.specs.Find.{FindsNeedle, OccursAt}
 use Rattle.sig_auto.specs.ByteCuts.{AddsSlotCuts, AddsStateCuts}
 use Rattle.sig_auto.specs.Runs.{EndsIn, FollowsOn, IsSetOf, IsStepOf}
@@ -19,7 +19,7 @@ use Rattle.sig_bits.specs.ByteClasses.{Holds}
 use Rattle.sig_bits.specs.declared.byte_class.ByteClass.{ByteClass}
 use Rattle.sig_table.specs.Views.{SequenceView}
 use Rattle.sig_match.specs.Scans.{IsSequenceScanOf, SequenceScanView}
-use Rattle.sig_match.specs.Rests.{AreCutsOf, FrontAt, GoesBy, GoesLater, IsLeftAlike, IsLeftOn, IsLeftTo, IsOnlyWay, IsPassed, IsReached, IsRest, LeadsOnlyTo, Misses, Opens, OpensLater, Reaches, front_at, no_front}
+use Rattle.sig_match.specs.Rests.{AreCutsOf, Fades, FrontAt, GoesBy, GoesLater, IsFollower, IsNoLoss, IsLeftAlike, IsLeftOn, IsLeftTo, IsOnlyWay, IsPassed, IsReached, IsRest, LeadsOnlyTo, Misses, Opens, OpensLater, Reaches, front_at, no_front}
 
 -- what misses the front is not a way on
 goes_not : (tree : Tree) (front bytes : List ℕ) (p q : ℕ) → IsBytes bytes → GoesBy tree p front → Misses front bytes → Reaches tree p bytes q → ⊥
@@ -55,19 +55,6 @@ opens_later_not : (skip : ℕ) (tree : Tree) (front bytes : List ℕ) (b r q : �
 opens_later_not zero tree front bytes b r q are opens misses reaches = opens_not tree front bytes b r q are opens misses reaches
 opens_later_not (suc n) tree front bytes b r q are opens misses reaches = goes_later_not n tree front bytes r q are opens misses reaches
 
--- bytes that are passed over lead nowhere else
-pub passed_forward : (tree : Tree) (set : List ℕ) (exits : ByteClass) (front : FrontAt) (n : ℕ) (bytes : List ℕ) (q : ℕ) → IsRest tree set exits front → IsBytes bytes → ((x : ℕ) → x < n → IsPassed exits front (drop x bytes)) → IsReached tree set bytes q → IsReached tree set (drop n bytes) q
-passed_forward tree set exits front zero bytes q rest are passed reached = reached
-passed_forward tree set exits front (suc n) [] q rest are passed reached = reached
-passed_forward tree set exits front (suc n) (b ∷ bytes) q rest are passed reached =
-    let byte : b < 256 = All-head (λ x. x < 256) b bytes are in
-    let later = All-tail (λ x. x < 256) b bytes are in
-    let on = reached.2 in
-    ⊎_elim
-    (λ inside. passed_forward tree set exits front n bytes q rest later (λ x below. passed (suc x) (omega arith)) (on.0, inside, on.3))
-    (λ out. absurd (⊎_elim (λ never. never out.0) (λ misses. opens_later_not front.skip tree front.bytes bytes b on.0 q later out.1 misses on.3) (passed 0 (omega arith))))
-    (rest.leaves reached.0 on.0 b byte reached.1 on.1 on.2)
-
 -- states that are there again after any byte are so behind many
 pub stay_back : (tree : Tree) (set : List ℕ) (n : ℕ) (bytes : List ℕ) (q : ℕ) → ((r b : ℕ) → b < 256 → HasBit set r → IsStepOf tree set b r) → IsBytes bytes → IsReached tree set (drop n bytes) q → IsReached tree set bytes q
 stay_back tree set zero bytes q stays are reached = reached
@@ -76,6 +63,31 @@ stay_back tree set (suc n) (b ∷ bytes) q stays are reached =
     let more = stay_back tree set n bytes q stays (All-tail (λ x. x < 256) b bytes are) reached in
     let before = stays more.0 b (All-head (λ x. x < 256) b bytes are) more.1 in
     (before.0, before.1, (more.0, before.2, before.3, more.2))
+
+-- what fades leads nowhere else behind as many bytes
+fades_forward : (n : ℕ) (tree : Tree) (set bytes : List ℕ) (p q : ℕ) → ((r b : ℕ) → b < 256 → HasBit set r → IsStepOf tree set b r) → IsBytes bytes → n ≤ length bytes → Fades tree set n p → Reaches tree p bytes q → IsReached tree set bytes q
+fades_forward zero tree set bytes p q stays are long never reaches = absurd never
+fades_forward (suc n) tree set [] p q stays are long fades reaches = absurd (omega arith)
+fades_forward (suc n) tree set (b ∷ bytes) p q stays are long fades reaches =
+    ⊎_elim
+    (λ on. (on.0, on.1, (reaches.0, on.2, reaches.2, reaches.3)))
+    (λ later. stay_back tree set 1 (b ∷ bytes) q stays are (fades_forward n tree set bytes reaches.0 q stays (All-tail (λ x. x < 256) b bytes are) (omega arith) later reaches.3))
+    (fades reaches.0 reaches.1)
+
+-- bytes that are passed over lead nowhere else
+pub passed_forward : (tree : Tree) (set : List ℕ) (exits : ByteClass) (front : FrontAt) (n : ℕ) (bytes : List ℕ) (q : ℕ) → IsRest tree set exits front → IsBytes bytes → ((x : ℕ) → x < n → IsPassed exits front (drop x bytes)) → IsReached tree set bytes q → IsReached tree set (drop n bytes) q
+passed_forward tree set exits front zero bytes q rest are passed reached = reached
+passed_forward tree set exits front (suc n) [] q rest are passed reached = reached
+passed_forward tree set exits front (suc n) (b ∷ bytes) q rest are passed reached =
+    let byte : b < 256 = All-head (λ x. x < 256) b bytes are in
+    let later = All-tail (λ x. x < 256) b bytes are in
+    let on = reached.2 in
+    let here = passed 0 (omega arith) in
+    let further : IsReached tree set bytes q → IsReached tree set (drop n bytes) q = λ there. passed_forward tree set exits front n bytes q rest later (λ x below. passed (suc x) (omega arith)) there in
+    ⊎_elim
+    (λ kept. ⊎_elim (λ inside. further (on.0, inside, on.3)) (λ fades. further (fades_forward front.depth tree set bytes on.0 q rest.stays later here.0 fades on.3)) kept)
+    (λ out. absurd (⊎_elim (λ never. never out.0) (λ misses. opens_later_not front.skip tree front.bytes bytes b on.0 q later out.1 misses on.3) here.1))
+    (rest.leaves reached.0 on.0 b byte reached.1 on.1 on.2)
 
 -- and the set is there again behind them
 pub passed_back : (tree : Tree) (set : List ℕ) (exits : ByteClass) (front : FrontAt) (n : ℕ) (bytes : List ℕ) (q : ℕ) → IsRest tree set exits front → IsBytes bytes → IsReached tree set (drop n bytes) q → IsReached tree set bytes q
@@ -265,35 +277,35 @@ pub exits_without : (exits : ByteClass) (n end : ℕ) (next : Bool) → next ≡
 exits_without exits n end next none = (λ b holds. holds, λ leaves. absurd (false≢true (sym none ∙ leaves)))
 
 -- all bytes are tried
-pub IsRest-from_exits : (tree : Tree) (set : List ℕ) (exits : ByteClass) (n : ℕ) → 256 ≤ n → ExitsBelow tree set exits n → IsRest tree set exits no_front
+pub IsRest-from_exits : (tree : Tree) (set : List ℕ) (exits : ByteClass) (n : ℕ) → 256 ≤ n → ExitsBelow tree set exits n → IsRest tree set exits (no_front 0)
 IsRest-from_exits tree set exits n all found = record {
   stays = λ q b byte bit. found.stays q b (omega arith) bit;
-  leaves = λ p q b byte bit follows takes. ⊎_elim (λ inside. inl inside) (λ exit. inr (exit, tt)) (found.leave p q b (omega arith) bit follows takes);
+  leaves = λ p q b byte bit follows takes. ⊎_elim (λ inside. inl (inl inside)) (λ exit. inr (exit, tt)) (found.leave p q b (omega arith) bit follows takes);
 }
 
--- among the first states the second set has none that the first has not, or this one alone
-abbrev pub IsLoneBelow : List ℕ → List ℕ → ℕ → Option ℕ → Type 0
-IsLoneBelow set next n None = (q : ℕ) → q < n → HasBit next q → HasBit set q
-IsLoneBelow set next n (Some s) = (q : ℕ) → q < n → HasBit next q → HasBit set q ⊎ (q ≡ s)
+-- among the first states the second set has none that is lost, or this one alone
+abbrev pub IsLoneBelow : (ℕ → Type 0) → List ℕ → ℕ → Option ℕ → Type 0
+IsLoneBelow Kept next n None = (q : ℕ) → q < n → HasBit next q → Kept q
+IsLoneBelow Kept next n (Some s) = (q : ℕ) → q < n → HasBit next q → Kept q ⊎ (q ≡ s)
 
 -- no state is looked at yet
-pub IsLoneBelow-none : (set next : List ℕ) → IsLoneBelow set next 0 None
-IsLoneBelow-none set next = λ q below bit. absurd (omega arith)
+pub IsLoneBelow-none : (Kept : ℕ → Type 0) (next : List ℕ) → IsLoneBelow Kept next 0 None
+IsLoneBelow-none Kept next = λ q below bit. absurd (omega arith)
 
--- one more state that is not new
-pub IsLoneBelow-old : (set next : List ℕ) (n : ℕ) (found : Option ℕ) → (HasBit next n → HasBit set n) → IsLoneBelow set next n found → IsLoneBelow set next (n + 1) found
-IsLoneBelow-old set next n None old before = λ q below bit. ⊎_elim (λ (same : q ≡ n). subst (λ a. HasBit set a) (sym same) (old (subst (λ a. HasBit next a) same bit))) (λ other. before q (omega arith) bit) (cases_eq q n)
-IsLoneBelow-old set next n (Some s) old before = λ q below bit. ⊎_elim (λ (same : q ≡ n). inl (subst (λ a. HasBit set a) (sym same) (old (subst (λ a. HasBit next a) same bit)))) (λ other. before q (omega arith) bit) (cases_eq q n)
+-- one more state that is not lost
+pub IsLoneBelow-old : (Kept : ℕ → Type 0) (next : List ℕ) (n : ℕ) (found : Option ℕ) → (HasBit next n → Kept n) → IsLoneBelow Kept next n found → IsLoneBelow Kept next (n + 1) found
+IsLoneBelow-old Kept next n None old before = λ q below bit. ⊎_elim (λ (same : q ≡ n). subst Kept (sym same) (old (subst (λ a. HasBit next a) same bit))) (λ other. before q (omega arith) bit) (cases_eq q n)
+IsLoneBelow-old Kept next n (Some s) old before = λ q below bit. ⊎_elim (λ (same : q ≡ n). inl (subst Kept (sym same) (old (subst (λ a. HasBit next a) same bit)))) (λ other. before q (omega arith) bit) (cases_eq q n)
 
--- the first that is new
-pub IsLoneBelow-new : (set next : List ℕ) (n : ℕ) (found : Option ℕ) → is_some found ≡ false → IsLoneBelow set next n found → IsLoneBelow set next (n + 1) (Some n)
-IsLoneBelow-new set next n None first before = λ q below bit. ⊎_elim (λ same. inr same) (λ other. inl (before q (omega arith) bit)) (cases_eq q n)
-IsLoneBelow-new set next n (Some s) first before = λ q below bit. absurd (false≢true (sym first))
+-- the first one that may be
+pub IsLoneBelow-new : (Kept : ℕ → Type 0) (next : List ℕ) (n : ℕ) (found : Option ℕ) → is_some found ≡ false → IsLoneBelow Kept next n found → IsLoneBelow Kept next (n + 1) (Some n)
+IsLoneBelow-new Kept next n None first before = λ q below bit. ⊎_elim (λ same. inr same) (λ other. inl (before q (omega arith) bit)) (cases_eq q n)
+IsLoneBelow-new Kept next n (Some s) first before = λ q below bit. absurd (false≢true (sym first))
 
 -- all states are looked at
-pub IsLoneBelow-all : (set next : List ℕ) (slots n : ℕ) (found : Option ℕ) → slots < n → IsLoneBelow set next n found → IfSome found (λ s. (q : ℕ) → q ≤ slots → HasBit next q → HasBit set q ⊎ (q ≡ s))
-IsLoneBelow-all set next slots n None all below = tt
-IsLoneBelow-all set next slots n (Some s) all below = λ q within bit. below q (omega arith) bit
+pub IsLoneBelow-all : (Kept : ℕ → Type 0) (next : List ℕ) (slots n : ℕ) (found : Option ℕ) → slots < n → IsLoneBelow Kept next n found → IfSome found (λ s. (q : ℕ) → q ≤ slots → HasBit next q → Kept q ⊎ (q ≡ s))
+IsLoneBelow-all Kept next slots n None all below = tt
+IsLoneBelow-all Kept next slots n (Some s) all below = λ q within bit. below q (omega arith) bit
 
 -- a state that the first set has, or that the second has not
 pub old_by_both : (set next : List ℕ) (n : ℕ) (has : Bool) → has ≡ true → (IsTrue has ↔ HasBit set n) → HasBit next n → HasBit set n
@@ -319,6 +331,10 @@ only_way_by tree live state byte way ways one two r lives lone members first sec
     let same : b ≡ byte = lone b ((lives b small).1 (q, follows, takes)) in
     (same, lone_of ways one two way q r first second none ((members q).1 (follows, subst (λ a. Takes tree q a) same takes)))
 
+-- nothing fades within no byte
+pub no_loss_is_kept : (tree : Tree) (set : List ℕ) (q : ℕ) → IsNoLoss tree set 0 q → HasBit set q
+no_loss_is_kept tree set q kept = ⊎_elim (λ inside. inside) (λ never. absurd never) kept
+
 -- on the first bytes this state alone is new
 pub record LeftBelow (tree : Tree) (set : List ℕ) (found : Option ℕ) (n : ℕ) : Type 0 where
   pub below : (b : ℕ) → b < n → IsLeftTo tree set found b
@@ -332,9 +348,9 @@ pub left_to_same : (tree : Tree) (set : List ℕ) (found new : Option ℕ) (b : 
 left_to_same tree set found new b kept left p q bit follows takes = ⊎_elim (λ inside. inl inside) (λ is. inr (kept q is)) (left p q bit follows takes)
 
 -- a byte that is no exit leads to no state outside
-pub left_to_none : (tree : Tree) (set : List ℕ) (exits : ByteClass) (found : Option ℕ) (b : ℕ) → b < 256 → IsRest tree set exits no_front → ¬ Holds exits b → IsLeftTo tree set found b
+pub left_to_none : (tree : Tree) (set : List ℕ) (exits : ByteClass) (found : Option ℕ) (b : ℕ) → b < 256 → IsRest tree set exits (no_front 0) → ¬ Holds exits b → IsLeftTo tree set found b
 left_to_none tree set exits found b small rest none p q bit follows takes =
-    ⊎_elim (λ inside. inl inside) (λ out. absurd (none out.0)) (rest.leaves p q b small bit follows takes)
+    ⊎_elim (λ kept. inl (no_loss_is_kept tree set q kept)) (λ out. absurd (none out.0)) (rest.leaves p q b small bit follows takes)
 
 -- all bytes up to the next cut lead to the same states as the first
 pub left_to_along : (tree : Tree) (set : List ℕ) (cuts : ByteClass) (found : Option ℕ) (n end k : ℕ) → AreCutsOf tree set cuts → ((b : ℕ) → n < b → b < end → ¬ Holds cuts b) → end ≤ 256 → IsLeftTo tree set found n → n + k < end → IsLeftTo tree set found (n + k)
@@ -359,10 +375,10 @@ LeftBelow-more tree set cuts found new n end are none few kept here before = rec
 }
 
 -- the state that alone is new behind a step
-pub left_to_new : (tree : Tree) (set next : List ℕ) (b state : ℕ) → ((q : ℕ) → HasBit next q ↔ IsStepOf tree set b q) → ((q : ℕ) → q ≤ slots_of tree → HasBit next q → HasBit set q ⊎ (q ≡ state)) → IsLeftTo tree set (Some state) b
+pub left_to_new : (tree : Tree) (set next : List ℕ) (b state : ℕ) → ((q : ℕ) → HasBit next q ↔ IsStepOf tree set b q) → ((q : ℕ) → q ≤ slots_of tree → HasBit next q → IsNoLoss tree set 0 q ⊎ (q ≡ state)) → IsLeftTo tree set (Some state) b
 left_to_new tree set next b state step new p q bit follows takes =
     ⊎_elim
-    (λ inside. inl inside)
+    (λ kept. inl (no_loss_is_kept tree set q kept))
     (λ is. inr (ap Some (sym is)))
     (new q (follows_to_a_slot tree p q follows) ((step q).1 (p, bit, follows, takes)))
 
@@ -372,22 +388,22 @@ left_to_all tree set None n all left = tt
 left_to_all tree set (Some state) n all left = λ b small. left.below b (omega arith)
 
 -- whatever leads on from the new state is the front
-pub later_front_known : (tree : Tree) (set : List ℕ) (exits : ByteClass) (state : ℕ) (front : List ℕ) → LeadsOnlyTo tree set state → GoesBy tree state front → IsRest tree set exits no_front → IsRest tree set exits (front_at 1 front)
+pub later_front_known : (tree : Tree) (set : List ℕ) (exits : ByteClass) (state : ℕ) (front : List ℕ) → LeadsOnlyTo tree set state → GoesBy tree state front → IsRest tree set exits (no_front 0) → IsRest tree set exits (front_at 0 1 front)
 later_front_known tree set exits state front left goes rest = record {
   stays = rest.stays;
   leaves = λ p q b small bit follows takes.
       ⊎_elim
-      (λ inside. inl inside)
+      (λ kept. inl kept)
       (λ out.
       ⊎_elim
-      (λ inside. inl inside)
+      (λ inside. inl (inl inside))
       (λ (is : Some state ≡ Some q). inr (out.0, subst (λ r. GoesBy tree r front) (same_Some state q is) goes))
       (left b small p q bit follows takes))
       (rest.leaves p q b small bit follows takes);
 }
 
 -- no front behind the first byte is known either
-pub IsRest-no_later_front : (tree : Tree) (set : List ℕ) (exits : ByteClass) → IsRest tree set exits no_front → IsRest tree set exits (front_at 1 [])
+pub IsRest-no_later_front : (tree : Tree) (set : List ℕ) (exits : ByteClass) → IsRest tree set exits (no_front 0) → IsRest tree set exits (front_at 0 1 [])
 IsRest-no_later_front tree set exits rest = record {
   stays = rest.stays;
   leaves = λ p q b small bit follows takes. ⊎_elim (λ inside. inl inside) (λ out. inr (out.0, tt)) (rest.leaves p q b small bit follows takes);
@@ -401,16 +417,15 @@ goes_by_way tree p byte state (f ∷ front) only opens = λ q b small follows ta
     (is.0 ∙ opens.0, subst (λ r. GoesBy tree r front) (sym is.1) opens.1)
 
 -- a byte that is no exit is passed over
-pub passed_by_byte : (exits : ByteClass) (front : FrontAt) (bytes : List ℕ) (x : ℕ) → ¬ Holds exits (get_or bytes x 0) → IsPassed exits front (drop x bytes)
-passed_by_byte exits front [] zero none = tt
-passed_by_byte exits front [] (suc x) none = tt
-passed_by_byte exits front (b ∷ bytes) zero none = inl none
-passed_by_byte exits front (b ∷ bytes) (suc x) none = passed_by_byte exits front bytes x none
+pub passed_by_byte : (exits : ByteClass) (front : FrontAt) (bytes : List ℕ) (x : ℕ) → front.depth + x < length bytes → ¬ Holds exits (get_or bytes x 0) → IsPassed exits front (drop x bytes)
+passed_by_byte exits front [] x deep none = absurd (omega arith)
+passed_by_byte exits front (b ∷ bytes) zero deep none = (omega arith, inl none)
+passed_by_byte exits front (b ∷ bytes) (suc x) deep none = passed_by_byte exits front bytes x (omega arith) none
 
 -- so are bytes that miss the front
-pub passed_by_miss : (exits : ByteClass) (front : FrontAt) (bytes : List ℕ) → Misses front.bytes (drop front.skip bytes) → IsPassed exits front bytes
-passed_by_miss exits front [] misses = tt
-passed_by_miss exits front (b ∷ bytes) misses = inr misses
+pub passed_by_miss : (exits : ByteClass) (front : FrontAt) (bytes : List ℕ) → front.depth < length bytes → Misses front.bytes (drop front.skip bytes) → IsPassed exits front bytes
+passed_by_miss exits front [] deep misses = tt
+passed_by_miss exits front (b ∷ bytes) deep misses = (omega arith, inr misses)
 
 -- where the front does not occur within the bytes, they miss it
 pub missed_by_none : (bytes front : List ℕ) (x : ℕ) → x + length front ≤ length bytes → (OccursAt bytes front x → ⊥) → Misses front (drop x bytes)
@@ -436,17 +451,17 @@ pub missed_whole : (bytes front : List ℕ) (n x : ℕ) → FindsNeedle bytes fr
 missed_whole bytes front n x none end some below = missed_by_none bytes front x (omega arith) (none x (omega arith) (omega arith))
 
 -- the bytes of the front are known
-pub front_known : (tree : Tree) (set next : List ℕ) (exits : ByteClass) (byte state : ℕ) (front : List ℕ) → ((a : ℕ) → Holds exits a → a ≡ byte) → ((q : ℕ) → HasBit next q ↔ IsStepOf tree set byte q) → ((q : ℕ) → q ≤ slots_of tree → HasBit next q → HasBit set q ⊎ (q ≡ state)) → Opens tree state byte front → IsRest tree set exits no_front → IsRest tree set exits (front_at 0 front)
-front_known tree set next exits byte state front lone step new opens rest = record {
+pub front_known : (tree : Tree) (set next : List ℕ) (exits : ByteClass) (depth byte state : ℕ) (front : List ℕ) → ((a : ℕ) → Holds exits a → a ≡ byte) → ((q : ℕ) → HasBit next q ↔ IsStepOf tree set byte q) → ((q : ℕ) → q ≤ slots_of tree → HasBit next q → IsNoLoss tree set depth q ⊎ (q ≡ state)) → Opens tree state byte front → IsRest tree set exits (no_front depth) → IsRest tree set exits (front_at depth 0 front)
+front_known tree set next exits depth byte state front lone step new opens rest = record {
   stays = rest.stays;
   leaves = λ p q b small bit follows takes.
       ⊎_elim
-      (λ inside. inl inside)
+      (λ kept. inl kept)
       (λ out.
       let same : b ≡ byte = lone b out.0 in
       let stepped : HasBit next q = (step q).1 (p, bit, follows, subst (λ a. Takes tree q a) same takes) in
       ⊎_elim
-      (λ inside. inl inside)
+      (λ kept. inl kept)
       (λ (is : q ≡ state). inr (out.0, subst (λ r. Opens tree r b front) (sym is) (subst (λ a. Opens tree state a front) (sym same) opens)))
       (new q (follows_to_a_slot tree p q follows) stepped))
       (rest.leaves p q b small bit follows takes);
@@ -532,17 +547,18 @@ passed_to view scan rest exits front bytes from to same set_is is are after pass
     subst P (drop_further bytes from n to end) (passed_view view scan rest exits front n (drop from bytes) same set_is is (bytes_behind from bytes are) here)
 
 -- bytes that miss the front, looked at from where it begins
-pub passed_by_later_miss : (exits : ByteClass) (front : FrontAt) (bytes later : List ℕ) (x : ℕ) → later ≡ drop front.skip bytes → Misses front.bytes (drop x later) → IsPassed exits front (drop x bytes)
-passed_by_later_miss exits front bytes later x same misses =
+pub passed_by_later_miss : (exits : ByteClass) (front : FrontAt) (bytes later : List ℕ) (x : ℕ) → front.depth + x < length bytes → later ≡ drop front.skip bytes → Misses front.bytes (drop x later) → IsPassed exits front (drop x bytes)
+passed_by_later_miss exits front bytes later x deep same misses =
+    let long = length-drop x bytes in
     let first : drop x (drop front.skip bytes) ≡ drop (front.skip + x) bytes = drop_further bytes front.skip x (front.skip + x) refl in
     let second : drop front.skip (drop x bytes) ≡ drop (front.skip + x) bytes = drop_further bytes x front.skip (front.skip + x) (omega arith) in
-    passed_by_miss exits front (drop x bytes) (subst (λ l. Misses front.bytes l) (ap (λ l. drop x l) same ∙ first ∙ sym second) misses)
+    passed_by_miss exits front (drop x bytes) (omega arith) (subst (λ l. Misses front.bytes l) (ap (λ l. drop x l) same ∙ first ∙ sym second) misses)
 
 -- a place before what is known, or before the next one behind it
-pub passed_in : (exits : ByteClass) (front : FrontAt) (bytes seen : List ℕ) (at n x : ℕ) → seen ≡ bytes → (x < at → Misses front.bytes (drop (x + front.skip) bytes)) → ((y : ℕ) → y < n → IsPassed exits front (drop y (take (length seen - at) (drop at seen)))) → x < at + n → IsPassed exits front (drop x bytes)
+pub passed_in : (exits : ByteClass) (front : FrontAt) (bytes seen : List ℕ) (at n x : ℕ) → seen ≡ bytes → (x < at → (front.depth + x < length bytes) × Misses front.bytes (drop (x + front.skip) bytes)) → ((y : ℕ) → y < n → IsPassed exits front (drop y (take (length seen - at) (drop at seen)))) → x < at + n → IsPassed exits front (drop x bytes)
 passed_in exits front bytes seen at n x same missed passed before =
     ⊎_elim
-    (λ below. passed_by_miss exits front (drop x bytes) (subst (λ l. Misses front.bytes l) (sym (drop_further bytes x front.skip (x + front.skip) refl)) (missed below)))
+    (λ below. let long = length-drop x bytes in let here = missed below in let deep = here.0 in passed_by_miss exits front (drop x bytes) (omega arith) (subst (λ l. Misses front.bytes l) (sym (drop_further bytes x front.skip (x + front.skip) refl)) here.1))
     (λ (behind : at ≤ x).
     let y : ℕ = x - at in
     let further : drop y (drop at bytes) ≡ drop x bytes = drop_further bytes at y x (omega arith) in
@@ -569,3 +585,121 @@ scan_steps_on file piece from to b s scan new within byte same step passed is =
     let head : drop from piece ≡ get_or piece from 0 ∷ drop (from + 1) piece = rw add-one (drop-cons piece from 0 within) in
     let first : drop from piece ≡ b ∷ drop (from + 1) piece = head ∙ ap (λ k. k ∷ drop (from + 1) piece) (sym byte) in
     scan_moves file (drop (from + 1) piece) (drop to piece) s new passed (scan_steps file (drop (from + 1) piece) b s scan new same step (subst P first is))
+
+-- on byte b no state comes that is lost
+abbrev pub IsLastingOn : Tree → List ℕ → ByteClass → ℕ → ℕ → Type 0
+IsLastingOn tree set lasting depth b = (p q : ℕ) → HasBit set p → Follows tree p q → Takes tree q b → IsNoLoss tree set depth q ⊎ Holds lasting b
+
+-- what comes on the first bytes is not lost, or they last
+pub record LastingBelow (tree : Tree) (set : List ℕ) (lasting : ByteClass) (depth n : ℕ) : Type 0 where
+  pub below : (b : ℕ) → b < n → IsLastingOn tree set lasting depth b
+
+-- no byte is asked yet
+pub LastingBelow-none : (tree : Tree) (set : List ℕ) (lasting : ByteClass) (depth : ℕ) → LastingBelow tree set lasting depth 0
+LastingBelow-none tree set lasting depth = record { below = λ b below. absurd (omega arith) }
+
+-- all bytes up to the next cut lead to the same states
+lasting_along : (tree : Tree) (set : List ℕ) (cuts : ByteClass) (depth n end k : ℕ) → AreCutsOf tree set cuts → ((b : ℕ) → n < b → b < end → ¬ Holds cuts b) → end ≤ 256 → ((p q : ℕ) → HasBit set p → Follows tree p q → Takes tree q n → IsNoLoss tree set depth q) → n + k < end → (p q : ℕ) → HasBit set p → Follows tree p q → Takes tree q (n + k) → IsNoLoss tree set depth q
+lasting_along tree set cuts depth n end zero are none few kept within p q bit follows takes =
+    let same : n + 0 ≡ n = omega arith in
+    kept p q bit follows (subst (λ b. Takes tree q b) same takes)
+lasting_along tree set cuts depth n end (suc k) are none few kept within p q bit follows takes =
+    let same : n + suc k ≡ n + k + 1 = omega arith in
+    let alike = are (n + k) (omega arith) (none (n + k + 1) (omega arith) (omega arith)) p q bit follows in
+    lasting_along tree set cuts depth n end k are none few kept (omega arith) p q bit follows (alike.1 (subst (λ b. Takes tree q b) same takes))
+
+-- those up to the next cut lead to no state that is lost
+pub LastingBelow-kept : (tree : Tree) (set : List ℕ) (cuts lasting : ByteClass) (depth n end : ℕ) → AreCutsOf tree set cuts → ((b : ℕ) → n < b → b < end → ¬ Holds cuts b) → end ≤ 256 → ((p q : ℕ) → HasBit set p → Follows tree p q → Takes tree q n → IsNoLoss tree set depth q) → LastingBelow tree set lasting depth n → LastingBelow tree set lasting depth end
+LastingBelow-kept tree set cuts lasting depth n end are none few kept before = record {
+  below = λ b within p q bit follows takes.
+      ⊎_elim
+      (λ old. before.below b old p q bit follows takes)
+      (λ after.
+      let k : ℕ = b - n in
+      let is : b ≡ n + k = omega arith in
+      inl (lasting_along tree set cuts depth n end k are none few kept (omega arith) p q bit follows (subst (λ a. Takes tree q a) is takes)))
+      (below_or b n);
+}
+
+-- or they are added
+pub LastingBelow-added : (tree : Tree) (set : List ℕ) (lasting new range : ByteClass) (depth n last end : ℕ) → last + 1 ≡ end → ((b : ℕ) → Holds new b ↔ (Holds lasting b ⊎ Holds range b)) → ((b : ℕ) → Holds range b ↔ ((n ≤ b) × (b ≤ last))) → LastingBelow tree set lasting depth n → LastingBelow tree set new depth end
+LastingBelow-added tree set lasting new range depth n last end is added ranged before = record {
+  below = λ b within p q bit follows takes.
+      ⊎_elim
+      (λ old. ⊎_elim (λ kept. inl kept) (λ holds. inr ((added b).1 (inl holds))) (before.below b old p q bit follows takes))
+      (λ after. inr ((added b).1 (inr ((ranged b).1 (after, omega arith)))))
+      (below_or b n);
+}
+
+-- on a byte that is no exit none is lost
+pub kept_on_no_exit : (tree : Tree) (set : List ℕ) (exits : ByteClass) (depth b : ℕ) → b < 256 → IsRest tree set exits (no_front 0) → ¬ Holds exits b → (p q : ℕ) → HasBit set p → Follows tree p q → Takes tree q b → IsNoLoss tree set depth q
+kept_on_no_exit tree set exits depth b small rest none p q bit follows takes =
+    ⊎_elim (λ kept. inl (no_loss_is_kept tree set q kept)) (λ out. absurd (none out.0)) (rest.leaves p q b small bit follows takes)
+
+-- nor where all that comes fades
+pub kept_by_fading : (tree : Tree) (set next : List ℕ) (depth b : ℕ) → ((q : ℕ) → HasBit next q ↔ IsStepOf tree set b q) → ((q : ℕ) → q ≤ slots_of tree → HasBit next q → IsNoLoss tree set depth q) → (p q : ℕ) → HasBit set p → Follows tree p q → Takes tree q b → IsNoLoss tree set depth q
+kept_by_fading tree set next depth b step all p q bit follows takes = all q (follows_to_a_slot tree p q follows) ((step q).1 (p, bit, follows, takes))
+
+-- all bytes are asked
+pub IsRest-lasting : (tree : Tree) (set : List ℕ) (exits lasting : ByteClass) (depth n : ℕ) → 256 ≤ n → IsRest tree set exits (no_front 0) → LastingBelow tree set lasting depth n → IsRest tree set lasting (no_front depth)
+IsRest-lasting tree set exits lasting depth n all rest below = record {
+  stays = rest.stays;
+  leaves = λ p q b small bit follows takes. ⊎_elim (λ kept. inl kept) (λ holds. inr (holds, tt)) (below.below b (omega arith) p q bit follows takes);
+}
+
+-- the first states are in the set or fade
+pub record AllKeptBelow (tree : Tree) (set next : List ℕ) (depth n : ℕ) : Type 0 where
+  pub below : (q : ℕ) → q < n → HasBit next q → IsNoLoss tree set depth q
+
+pub AllKeptBelow-none : (tree : Tree) (set next : List ℕ) (depth : ℕ) → AllKeptBelow tree set next depth 0
+AllKeptBelow-none tree set next depth = record { below = λ q below. absurd (omega arith) }
+
+-- so is one more
+pub AllKeptBelow-more : (tree : Tree) (set next : List ℕ) (depth n : ℕ) → (HasBit next n → IsNoLoss tree set depth n) → AllKeptBelow tree set next depth n → AllKeptBelow tree set next depth (n + 1)
+AllKeptBelow-more tree set next depth n here before = record {
+  below = λ q within bit.
+      ⊎_elim
+      (λ (same : q ≡ n). subst (λ r. IsNoLoss tree set depth r) (sym same) (here (subst (λ r. HasBit next r) same bit)))
+      (λ other. before.below q (omega arith) bit)
+      (cases_eq q n);
+}
+
+-- of the first states those that follow this one follow the set too, or are this other one alone
+abbrev pub IsWayBelow : Tree → List ℕ → ℕ → ℕ → Option ℕ → Type 0
+IsWayBelow tree set state n None = (q : ℕ) → q < n → Follows tree state q → IsFollower tree set q
+IsWayBelow tree set state n (Some way) = (q : ℕ) → q < n → Follows tree state q → IsFollower tree set q ⊎ (q ≡ way)
+
+-- no state is asked yet, and none follows a state as the start
+pub IsWayBelow-none : (tree : Tree) (set : List ℕ) (state : ℕ) → IsWayBelow tree set state 1 None
+IsWayBelow-none tree set state = λ q below follows. absurd (let above = follows_above_the_start tree state q follows in omega arith)
+
+-- one that is no way
+pub IsWayBelow-old : (tree : Tree) (set : List ℕ) (state n : ℕ) (way : Option ℕ) → (Follows tree state n → IsFollower tree set n) → IsWayBelow tree set state n way → IsWayBelow tree set state (n + 1) way
+IsWayBelow-old tree set state n None old before = λ q below follows. ⊎_elim (λ (same : q ≡ n). subst (λ r. IsFollower tree set r) (sym same) (old (subst (λ r. Follows tree state r) same follows))) (λ other. before q (omega arith) follows) (cases_eq q n)
+IsWayBelow-old tree set state n (Some way) old before = λ q below follows. ⊎_elim (λ (same : q ≡ n). inl (subst (λ r. IsFollower tree set r) (sym same) (old (subst (λ r. Follows tree state r) same follows)))) (λ other. before q (omega arith) follows) (cases_eq q n)
+
+-- the first one that is
+pub IsWayBelow-new : (tree : Tree) (set : List ℕ) (state n : ℕ) (way : Option ℕ) → is_some way ≡ false → IsWayBelow tree set state n way → IsWayBelow tree set state (n + 1) (Some n)
+IsWayBelow-new tree set state n None first before = λ q below follows. ⊎_elim (λ same. inr same) (λ other. inl (before q (omega arith) follows)) (cases_eq q n)
+IsWayBelow-new tree set state n (Some way) first before = λ q below follows. absurd (false≢true (sym first))
+
+none_is_not_some : (way : ℕ) → Some way ≡ None → ⊥
+none_is_not_some way is = none-some way (sym is)
+
+-- all are asked: there is no way
+pub fades_at_once : (tree : Tree) (set : List ℕ) (state depth n : ℕ) (way : Option ℕ) → slots_of tree < n → 0 < depth → way ≡ None → IsWayBelow tree set state n way → Fades tree set depth state
+fades_at_once tree set state zero n way all some none below = absurd (omega arith)
+fades_at_once tree set state (suc depth) n None all some none below = λ r follows. inl (below r (let within = follows_to_a_slot tree state r follows in omega arith) follows)
+fades_at_once tree set state (suc depth) n (Some way) all some none below = absurd (none_is_not_some way none)
+
+-- or the way fades
+pub fades_later : (tree : Tree) (set : List ℕ) (state depth n q : ℕ) (way : Option ℕ) → slots_of tree < n → 0 < depth → way ≡ Some q → IsWayBelow tree set state n way → Fades tree set (depth - 1) q → Fades tree set depth state
+fades_later tree set state zero n q way all some is below fades = absurd (omega arith)
+fades_later tree set state (suc depth) n q None all some is below fades = λ r follows. inl (below r (let within = follows_to_a_slot tree state r follows in omega arith) follows)
+fades_later tree set state (suc depth) n q (Some way) all some is below fades = λ r follows.
+    let same : suc depth - 1 ≡ depth = omega arith in
+    let way_is : way ≡ q = same_Some way q is in
+    ⊎_elim
+    (λ on. inl on)
+    (λ (at : r ≡ way). inr (subst (λ k. Fades tree set k r) same (subst (λ k. Fades tree set (suc depth - 1) k) (sym (at ∙ way_is)) fades)))
+    (below r (let within = follows_to_a_slot tree state r follows in omega arith) follows)

@@ -1,5 +1,5 @@
 -- Sets of states in which a scan rests, and the bytes by which they are left.
-use Rattle.std.specs.Prelude.{◌≡◌, ◌≢◌, ◌⊎◌, ◌↔◌, ℕ, zero, suc, ◌+◌, ◌<◌, Bool, false, List, [], ◌∷◌, Option, Some, drop, ⊤}
+use Rattle.std.specs.Prelude.{◌≡◌, ◌≢◌, ◌⊎◌, ◌↔◌, ℕ, zero, suc, ◌+◌, ◌<◌, ◌≤◌, Bool, false, List, [], ◌∷◌, Option, Some, drop, length, ⊤}
 use Rattle.sig_auto.specs.Runs.{IsStepOf}
 use Rattle.sig_auto.specs.Tracks.{Follows}
 use Rattle.sig_auto.specs.Trees.{Tree}
@@ -31,18 +31,32 @@ abbrev pub Opens : Tree → ℕ → ℕ → List ℕ → Type 0
 Opens tree q b [] = ⊤
 Opens tree q b (f ∷ front) = (b ≡ f) × GoesBy tree q front
 
--- bytes that every way out of a set has, behind so many others
+-- bytes that every way out of a set has, behind so many others, but for ways that fade within so many
 pub record FrontAt : Type 0 where
+  pub depth : ℕ
   pub skip : ℕ
   pub bytes : List ℕ
 
 -- these bytes, behind so many others
-abbrev pub front_at : ℕ → List ℕ → FrontAt
-front_at skip bytes = record { skip = skip; bytes = bytes }
+abbrev pub front_at : ℕ → ℕ → List ℕ → FrontAt
+front_at depth skip bytes = record { depth = depth; skip = skip; bytes = bytes }
 
--- none is known
-abbrev pub no_front : FrontAt
-no_front = front_at 0 []
+-- none is known, of ways that do not fade
+abbrev pub no_front : ℕ → FrontAt
+no_front depth = front_at depth 0 []
+
+-- q follows some state of the set
+abbrev pub IsFollower : Tree → List ℕ → ℕ → Type 0
+IsFollower tree set q = (p : ℕ) × HasBit set p × Follows tree p q
+
+-- within so many bytes all ways on from state q are also those of the set
+abbrev pub Fades : Tree → List ℕ → ℕ → ℕ → Type 0
+Fades tree set zero q = ⊥
+Fades tree set (suc n) q = (r : ℕ) → Follows tree q r → IsFollower tree set r ⊎ Fades tree set n r
+
+-- state q is in the set, or fades
+abbrev pub IsNoLoss : Tree → List ℕ → ℕ → ℕ → Type 0
+IsNoLoss tree set depth q = HasBit set q ⊎ Fades tree set depth q
 
 -- behind so many bytes, whatever leads on from state p is these bytes, as far as they go
 abbrev pub GoesLater : ℕ → Tree → ℕ → List ℕ → Type 0
@@ -54,10 +68,10 @@ abbrev pub OpensLater : ℕ → Tree → ℕ → ℕ → List ℕ → Type 0
 OpensLater zero tree q b front = Opens tree q b front
 OpensLater (suc n) tree q b front = GoesLater n tree q front
 
--- each state of the set is there again after any byte, and a state outside comes only on an exit byte, with which a way out begins that has the front
+-- each state of the set is there again after any byte, and a state outside fades, or comes only on an exit byte, with which a way out begins that has the front
 pub record IsRest (tree : Tree) (set : List ℕ) (exits : ByteClass) (front : FrontAt) : Type 0 where
   pub stays : (q b : ℕ) → b < 256 → HasBit set q → IsStepOf tree set b q
-  pub leaves : (p q b : ℕ) → b < 256 → HasBit set p → Follows tree p q → Takes tree q b → HasBit set q ⊎ (Holds exits b × OpensLater front.skip tree q b front.bytes)
+  pub leaves : (p q b : ℕ) → b < 256 → HasBit set p → Follows tree p q → Takes tree q b → IsNoLoss tree set front.depth q ⊎ (Holds exits b × OpensLater front.skip tree q b front.bytes)
 
 -- the bytes differ from the front at a place that both have
 abbrev pub Misses : List ℕ → List ℕ → Type 0
@@ -68,7 +82,7 @@ Misses (f ∷ front) (b ∷ bytes) = (b ≢ f) ⊎ Misses front bytes
 -- no way out of a set of these exits and this front begins with these bytes
 abbrev pub IsPassed : ByteClass → FrontAt → List ℕ → Type 0
 IsPassed exits front [] = ⊤
-IsPassed exits front (b ∷ bytes) = (¬ Holds exits b) ⊎ Misses front.bytes (drop front.skip (b ∷ bytes))
+IsPassed exits front (b ∷ bytes) = (front.depth ≤ length bytes) × ((¬ Holds exits b) ⊎ Misses front.bytes (drop front.skip (b ∷ bytes)))
 
 -- each state that follows one of the set takes both bytes or neither
 abbrev pub IsLeftAlike : Tree → List ℕ → ℕ → ℕ → Type 0

@@ -5,4 +5,4 @@ use Rattle.sig_match.specs.Rests.{FrontAt, front_at}
 
 -- the bytes that are known of each way out, and behind how many others they stand
 abbrev pub front_of : Way → FrontAt
-front_of way = front_at way.skip (take way.len way.front)
+front_of way = front_at way.depth way.skip (take way.len way.front)

@@ -1,13 +1,13 @@
 //! How a sequence leaves a set of states, found out by its automaton.
 
-ghost use Rattle.std.specs.Prelude.{◌≡◌, ◌⊎◌, ◌↔◌, ℕ, ◌<◌, ◌≤◌, IfSome, length, take};
+ghost use Rattle.std.specs.Prelude.{◌≡◌, ◌⊎◌, ◌↔◌, ℕ, ◌<◌, ◌≤◌, IfSome, IsTrue, length, take};
 ghost use Rattle.sig_auto.specs.Tracks.{Follows};
 ghost use Rattle.sig_auto.specs.Trees.{whole_tree};
 ghost use Rattle.sig_auto.specs.TreeSlots.{Takes, set_len, slots_of};
 ghost use Rattle.sig_bits.specs.BitSets.{HasBit};
 ghost use Rattle.sig_bits.specs.ByteClasses.{Holds};
 ghost use Rattle.sig_match.specs.Ways.{front_of};
-ghost use Rattle.sig_match.specs.Rests.{AreCutsOf, GoesBy, IsLeftOn, IsOnlyWay, IsRest, LeadsOnlyTo, Opens, front_at, no_front};
+ghost use Rattle.sig_match.specs.Rests.{AreCutsOf, Fades, GoesBy, IsFollower, IsLeftOn, IsNoLoss, IsOnlyWay, IsRest, LeadsOnlyTo, Opens, front_at, no_front};
 
 use crate::scan::way::{FRONT, Way};
 use sig_auto::Auto;
@@ -15,6 +15,9 @@ use sig_bits::{ByteClass, get_bit, subset};
 
 // The greatest set, in bytes, whose states are asked one by one.
 const FEW: usize = 8;
+
+// Within how many bytes a way comes to nothing of which that is known.
+const DEPTH: usize = 64;
 
 /// The way out of the set, or nothing where the sequence does not rest in it: some byte takes a
 /// state out of it.
@@ -25,21 +28,43 @@ pub(crate) fn way_of(auto: &Auto, set: &[u8], next: &mut [u8]) -> Option<Way>
 {
     let exits = exits_of(auto, set, next)?;
     let mut front = [0; FRONT];
-    let len = add_front(auto, set, next, &exits, &mut front);
+    let len = add_front(auto, set, next, &exits, 0, &mut front);
     if len > 0 {
         return Some(Way {
             exits,
             front,
             len,
             skip: 0,
+            depth: 0,
         });
     }
     let len = add_later_front(auto, set, next, &exits, &mut front);
+    if len > 0 || set.len() > FEW {
+        return Some(Way {
+            exits,
+            front,
+            len,
+            skip: 1,
+            depth: 0,
+        });
+    }
+    let lasting = lasting_exits(auto, set, next, &exits);
+    let len = add_front(auto, set, next, &lasting, DEPTH, &mut front);
+    if len > 0 {
+        return Some(Way {
+            exits: lasting,
+            front,
+            len,
+            skip: 0,
+            depth: DEPTH,
+        });
+    }
     Some(Way {
         exits,
         front,
         len,
-        skip: 1,
+        skip: 0,
+        depth: 0,
     })
 }
 
@@ -47,7 +72,7 @@ pub(crate) fn way_of(auto: &Auto, set: &[u8], next: &mut [u8]) -> Option<Way>
 fn exits_of(auto: &Auto, set: &[u8], next: &mut [u8]) -> Option<ByteClass>
     requires set_len { length set.now ≡ set_len (whole_tree auto.now) }
     requires next_len { length next.old ≡ set_len (whole_tree auto.now) }
-    ensures { IfSome result (λ exits. IsRest (whole_tree auto.now) set.now exits no_front) }
+    ensures { IfSome result (λ exits. IsRest (whole_tree auto.now) set.now exits (no_front 0)) }
 {
     let cuts = cuts_of(auto, set);
     let mut exits = ByteClass::none();
@@ -108,17 +133,25 @@ fn leaves_on(auto: &Auto, set: &[u8], byte: u8, next: &mut [u8]) -> Option<bool>
 }
 
 // Writes the bytes with which each way out begins, and answers how many they are.
-fn add_front(auto: &Auto, set: &[u8], next: &mut [u8], exits: &ByteClass, room: &mut [u8]) -> usize
+fn add_front(
+    auto: &Auto,
+    set: &[u8],
+    next: &mut [u8],
+    exits: &ByteClass,
+    depth: usize,
+    room: &mut [u8],
+) -> usize
     requires set_len { length set.now ≡ set_len (whole_tree auto.now) }
     requires next_len { length next.old ≡ set_len (whole_tree auto.now) }
-    ensures rest { IsRest (whole_tree auto.now) set.now exits.now no_front → IsRest (whole_tree auto.now) set.now exits.now (front_at 0 (take result room.new)) }
+    ensures rest { IsRest (whole_tree auto.now) set.now exits.now (no_front depth)
+        → IsRest (whole_tree auto.now) set.now exits.now (front_at depth 0 (take result room.new)) }
     ensures within { result ≤ length room.new }
 {
     let Some(byte) = lone_byte(exits) else {
         return 0;
     };
     auto.step_set(set, byte, next);
-    let Some(state) = lone_new(auto, set, next) else {
+    let Some(state) = lone_new(auto, set, next, depth) else {
         return 0;
     };
     spell(auto, byte, state, room)
@@ -134,7 +167,8 @@ fn add_later_front(
 ) -> usize
     requires set_len { length set.now ≡ set_len (whole_tree auto.now) }
     requires next_len { length next.old ≡ set_len (whole_tree auto.now) }
-    ensures rest { IsRest (whole_tree auto.now) set.now exits.now no_front → IsRest (whole_tree auto.now) set.now exits.now (front_at 1 (take result room.new)) }
+    ensures rest { IsRest (whole_tree auto.now) set.now exits.now (no_front 0)
+        → IsRest (whole_tree auto.now) set.now exits.now (front_at 0 1 (take result room.new)) }
     ensures within { result ≤ length room.new }
 {
     match first_state(auto, set, next, exits) {
@@ -147,7 +181,7 @@ fn add_later_front(
 fn first_state(auto: &Auto, set: &[u8], next: &mut [u8], exits: &ByteClass) -> Option<u32>
     requires set_len { length set.now ≡ set_len (whole_tree auto.now) }
     requires next_len { length next.old ≡ set_len (whole_tree auto.now) }
-    ensures { IsRest (whole_tree auto.now) set.now exits.now no_front → IfSome result (LeadsOnlyTo (whole_tree auto.now) set.now) }
+    ensures { IsRest (whole_tree auto.now) set.now exits.now (no_front 0) → IfSome result (LeadsOnlyTo (whole_tree auto.now) set.now) }
 {
     let cuts = cuts_of(auto, set);
     let mut found = None;
@@ -155,7 +189,7 @@ fn first_state(auto: &Auto, set: &[u8], next: &mut [u8], exits: &ByteClass) -> O
     while at < 256 {
         if exits.contains(at as u8) {
             auto.step_set(set, at as u8, next);
-            let state = lone_new(auto, set, next)?;
+            let state = lone_new(auto, set, next, 0)?;
             if found.unwrap_or(state) != state {
                 return None;
             }
@@ -164,6 +198,82 @@ fn first_state(auto: &Auto, set: &[u8], next: &mut [u8], exits: &ByteClass) -> O
         at = next_cut(&cuts, at);
     }
     found
+}
+
+// The exits on which a state comes that does not fade.
+fn lasting_exits(auto: &Auto, set: &[u8], next: &mut [u8], exits: &ByteClass) -> ByteClass
+    requires set_len { length set.now ≡ set_len (whole_tree auto.now) }
+    requires next_len { length next.old ≡ set_len (whole_tree auto.now) }
+    ensures { IsRest (whole_tree auto.now) set.now exits.now (no_front 0) → IsRest (whole_tree auto.now) set.now result (no_front 64) }
+{
+    let cuts = cuts_of(auto, set);
+    let mut lasting = ByteClass::none();
+    let mut at = 0;
+    while at < 256 {
+        let end = next_cut(&cuts, at);
+        if exits.contains(at as u8) {
+            auto.step_set(set, at as u8, next);
+            if !all_fade(auto, set, next) {
+                lasting.extend(&ByteClass::range(at as u8, (end - 1) as u8));
+            }
+        }
+        at = end;
+    }
+    lasting
+}
+
+// Whether each state of the second set is in the first or fades.
+fn all_fade(auto: &Auto, set: &[u8], next: &[u8]) -> bool
+    requires set_len { length set.now ≡ set_len (whole_tree auto.now) }
+    requires next_len { length next.now ≡ set_len (whole_tree auto.now) }
+    ensures { IsTrue result → (q : ℕ) → q ≤ slots_of (whole_tree auto.now) → HasBit next.now q → IsNoLoss (whole_tree auto.now) set.now 64 q }
+{
+    for state in 0..auto.slots() + 1 {
+        if get_bit(next, state as usize)
+            && !get_bit(set, state as usize)
+            && !fades(auto, set, state, DEPTH)
+        {
+            return false;
+        }
+    }
+    true
+}
+
+// Whether all ways on from the state are also those of the set within so many bytes: each state that
+// follows it follows the set too, or one does not, and fades.
+fn fades(auto: &Auto, set: &[u8], state: u32, depth: usize) -> bool
+    requires { length set.now ≡ set_len (whole_tree auto.now) }
+    ensures { IsTrue result → Fades (whole_tree auto.now) set.now depth state }
+{
+    if depth == 0 {
+        return false;
+    }
+    let mut way = None;
+    for q in 1..auto.slots() + 1 {
+        if auto.follows(state, q) && !follows_some(auto, set, q) {
+            if way.is_some() {
+                return false;
+            }
+            way = Some(q);
+        }
+    }
+    match way {
+        Some(q) => fades(auto, set, q, depth - 1),
+        None => true,
+    }
+}
+
+// Whether the state follows some state of the set.
+fn follows_some(auto: &Auto, set: &[u8], q: u32) -> bool
+    requires { length set.now ≡ set_len (whole_tree auto.now) }
+    ensures { IsTrue result → IsFollower (whole_tree auto.now) set.now q }
+{
+    for p in 0..auto.slots() + 1 {
+        if get_bit(set, p as usize) && auto.follows(p, q) {
+            return true;
+        }
+    }
+    false
 }
 
 // The byte of the class, where it has one alone.
@@ -177,15 +287,18 @@ fn lone_byte(class: &ByteClass) -> Option<u8>
     }
 }
 
-// The state of the second set that the first has not, where it is one alone.
-fn lone_new(auto: &Auto, set: &[u8], next: &[u8]) -> Option<u32>
+// The state of the second set that the first has not and that does not fade, where it is one alone.
+fn lone_new(auto: &Auto, set: &[u8], next: &[u8], depth: usize) -> Option<u32>
     requires set_len { length set.now ≡ set_len (whole_tree auto.now) }
     requires next_len { length next.now ≡ set_len (whole_tree auto.now) }
-    ensures { IfSome result (λ s. (q : ℕ) → q ≤ slots_of (whole_tree auto.now) → HasBit next.now q → HasBit set.now q ⊎ (q ≡ s)) }
+    ensures { IfSome result (λ s. (q : ℕ) → q ≤ slots_of (whole_tree auto.now) → HasBit next.now q → IsNoLoss (whole_tree auto.now) set.now depth q ⊎ (q ≡ s)) }
 {
     let mut found = None;
     for state in 0..auto.slots() + 1 {
-        if get_bit(next, state as usize) && !get_bit(set, state as usize) {
+        if get_bit(next, state as usize)
+            && !get_bit(set, state as usize)
+            && !fades(auto, set, state, depth)
+        {
             if found.is_some() {
                 return None;
             }

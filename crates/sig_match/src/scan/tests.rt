@@ -414,9 +414,11 @@ fn the_plain_scan_agrees_on_a_run_that_is_nearly_met(rt: HostRuntime) -> Result<
     Ok(())
 }
 
-// Sequences of few states that bytes 41 and 42 alone keep from resting. The last but one has as many states as
-// a word has bits, and the last one more.
+// Sequences of few states that bytes 41 and 42 alone keep from resting, or of which the beginning is met
+// again and again. The last but one has as many states as a word has bits, and the last one more.
 const AWAKE: &[&str] = &[
+    "Variable,,,41*4243",
+    "Variable,,,4142*4143",
     "Variable,,,41??42??43",
     "Variable,,,41{0-9}42??43",
     "Variable,,,(41|4142)43",

@@ -5,7 +5,7 @@
 //! the bytes that have to follow stand behind any of them: of `[41:5A]4243` that may begin anywhere the
 //! front is `42 43`, and it skips one byte. So the file is searched for a front and not stepped through.
 
-ghost use Rattle.std.specs.Prelude.{◌≡◌, ℕ, ◌<◌, ◌≤◌, false, IsTrue, drop, length, slice_index, take};
+ghost use Rattle.std.specs.Prelude.{◌≡◌, ℕ, ◌+◌, ◌<◌, ◌≤◌, false, IsTrue, drop, length, slice_index, take};
 ghost use Rattle.sig_bits.specs.ByteClasses.{Holds};
 ghost use Rattle.sig_bits.specs.Bytes.{IsBytes};
 ghost use Rattle.sig_match.specs.Rests.{IsPassed, Misses};
@@ -29,6 +29,8 @@ pub(crate) struct Way {
     pub(crate) front: [u8; FRONT],
     pub(crate) len: usize,
     pub(crate) skip: usize,
+    // Of other ways out nothing is left behind so many bytes.
+    pub(crate) depth: usize,
     ghost within: { len ≤ 8 },
     ghost near: { skip ≤ 1 },
 }
@@ -46,6 +48,7 @@ impl Way {
             front: [0; FRONT],
             len: 0,
             skip: 0,
+            depth: 0,
         }
     }
 
@@ -67,7 +70,7 @@ impl Way {
     {
         let bytes = piece.bytes();
         let known = piece.known_of(number, &self.front[..self.len]);
-        let at = from.max(known.saturating_sub(self.skip).min(bytes.len()));
+        let at = from.max(known.saturating_sub(self.skip).min(self.places(bytes)));
         at + self.next(&bytes[at..])
     }
 
@@ -88,6 +91,9 @@ impl Way {
     fn may_leave(&self, bytes: &[u8]) -> bool
         ensures { result ≡ false → IsPassed self.now.exits (front_of self.now) bytes.now }
     {
+        if bytes.len() <= self.depth {
+            return true;
+        }
         if self.len > 0 {
             return may_begin(&self.front[..self.len], self.behind_skip(bytes));
         }
@@ -102,11 +108,20 @@ impl Way {
         ensures within { result ≤ length bytes.now }
         ensures passed { (x : ℕ) → x < result → IsPassed self.now.exits (front_of self.now) (drop x bytes.now) }
     {
-        if self.len > 0 {
+        let at = if self.len > 0 {
             next_front(&self.front[..self.len], self.behind_skip(bytes))
         } else {
             next_exit(&self.exits, bytes)
-        }
+        };
+        at.min(self.places(bytes))
+    }
+
+    // Behind so many of the first places there are as many bytes as a way takes to fade.
+    fn places(&self, bytes: &[u8]) -> usize
+        ensures within { result ≤ length bytes.now }
+        ensures deep { (x : ℕ) → x < result → self.now.depth + x < length bytes.now }
+    {
+        bytes.len().saturating_sub(self.depth)
     }
 
     // The bytes of a way out from those of its front on.

@@ -25,5 +25,5 @@ returns-clause-shows g c =
     record {
       shows = λ due is. printed c.write_report.result _ before after _ c.write_report.ensures.prints is;
       waits = λ early. absurd (omega arith);
-      ends = λ some within. c.next_report.ensures some;
+      ends = λ some within. c.next_report-self.ensures some;
     }

@@ -8,7 +8,7 @@ use Rattle.sig_match.proofs.scan.rest.first_state.Given as goal
 abbrev pub invariant-loop-at : goal.invariant-loop-at
 invariant-loop-at l = record {
   within : l.at ≤ 256;
-  below : IsRest (whole_tree l.auto') l.set l.exits no_front → LeftBelow (whole_tree l.auto') l.set l.found l.at;
+  below : IsRest (whole_tree l.auto') l.set l.exits (no_front 0) → LeftBelow (whole_tree l.auto') l.set l.found l.at;
 }
 
 abbrev pub decreases-loop-at : goal.decreases-loop-at

@@ -1,10 +1,13 @@
+use Rattle.std.proofs.Common.{arith}
 use Rattle.sig_match.specs.Ways.{front_of}
 use Rattle.sig_match.proofs.RestLemmas.{passed_by_byte, passed_by_later_miss}
 use Rattle.sig_match.proofs.scan.way.Way.next.Goals as goal
+use Rattle.sig_match.proofs.scan.way.Way.next.Goals.{then-self-gt0, else-self-gt0}
 
-pub returns-then-self-gt0-clause-passed : goal.returns-then-self-gt0-clause-passed
-returns-then-self-gt0-clause-passed c x below =
-    passed_by_later_miss c.args.self.now.exits (front_of c.args.self.now) c.args.bytes.now _ x c.behind_skip.ensures (c.next_front.ensures.passed x below)
-
-pub returns-else-self-gt0-clause-passed : goal.returns-else-self-gt0-clause-passed
-returns-else-self-gt0-clause-passed c x below = passed_by_byte _ _ _ x (c.next_exit.ensures.passed x below)
+pub returns-clause-passed : goal.returns-clause-passed
+returns-clause-passed c x below =
+    let deep = c.places.ensures.deep x (omega arith) in
+    elim c.if-self-gt0.branch [
+      | then-self-gt0 w ↦ passed_by_later_miss c.args.self.now.exits (front_of c.args.self.now) c.args.bytes.now _ x deep w.behind_skip.ensures (w.next_front-at.ensures.passed x (omega arith))
+      | else-self-gt0 w ↦ passed_by_byte c.args.self.now.exits (front_of c.args.self.now) c.args.bytes.now x deep (w.next_exit-at.ensures.passed x (omega arith))
+    ]

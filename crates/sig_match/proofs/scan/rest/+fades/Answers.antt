@@ -1,0 +1,34 @@
+use Rattle.std.proofs.Common.{◌∙◌, ◌+◌, ℕ, Option, List, arith, subst, sym}
+use Rattle.std.proofs.lemmas.Bool.{false≢true}
+use Rattle.sig_auto.specs.Tracks.{Follows}
+use Rattle.sig_auto.specs.Trees.{Tree, whole_tree}
+use Rattle.sig_match.specs.Rests.{IsFollower}
+use Rattle.sig_match.proofs.RestLemmas.{IsWayBelow, IsWayBelow-new, IsWayBelow-none, IsWayBelow-old, fades_at_once, fades_later}
+use Rattle.sig_match.proofs.scan.rest.+fades.Goals as goal
+use Rattle.sig_match.proofs.scan.rest.+fades.Goals.{then-follows+then-not-follows_some+else-is_some, else-follows, else-follows-via-then-follows+else-not-follows_some, else-follows-via-else-follows}
+
+pub loop-q-init : goal.loop-q-init
+loop-q-init t c = IsWayBelow-none _ _ _
+
+pub loop-q-preserved : goal.loop-q-preserved
+loop-q-preserved t c =
+    let tree : Tree = whole_tree c.args.auto.now in
+    let set : List ℕ = c.args.set.now in
+    let q : ℕ = c.loop-q.q in
+    let P : Option ℕ → Type 0 = λ way. IsWayBelow tree set c.args.state (q + 1) way in
+    elim c.if-follows.branch [
+      | then-follows+then-not-follows_some+else-is_some w ↦ subst P (sym w.way'-is) (IsWayBelow-new tree set c.args.state q _ (sym w.is_some.ensures ∙ w.if-is_some.false) c.loop-q.invariant)
+      | else-follows w ↦
+          let old : Follows tree c.args.state q → IsFollower tree set q =
+          elim w.else-follows.branch [
+            | else-follows-via-then-follows+else-not-follows_some v ↦ (λ follows. v.follows_some.ensures v.if-not-follows_some.false)
+            | else-follows-via-else-follows v ↦ (λ follows. absurd (false≢true (sym v.if-follows.false ∙ c.follows.ensures.1 follows)))
+          ] in
+          subst P (sym w.way'-is) (IsWayBelow-old tree set c.args.state q _ old c.loop-q.invariant)
+    ]
+
+pub returns-in-Some : goal.returns-in-Some
+returns-in-Some t c is = fades_later _ _ _ _ c.loop-q.q _ _ (let slots = c.slots-q-end.ensures.slots in omega arith) (omega arith) c.in-Some.is c.loop-q.invariant (c.fades.ensures is)
+
+pub returns-in-None : goal.returns-in-None
+returns-in-None t c is = fades_at_once _ _ _ _ c.loop-q.q _ (let slots = c.slots-q-end.ensures.slots in omega arith) (omega arith) c.in-None.is c.loop-q.invariant
