@@ -39,7 +39,7 @@ pub(crate) fn way_of(auto: &Auto, set: &[u8], next: &mut [u8]) -> Option<Way>
         });
     }
     let len = add_later_front(auto, set, next, &exits, &mut front);
-    if len > 0 || set.len() > FEW {
+    if len > 0 || set.len() > FEW || !has_several(auto, set) {
         return Some(Way {
             exits,
             front,
@@ -198,6 +198,22 @@ fn first_state(auto: &Auto, set: &[u8], next: &mut [u8], exits: &ByteClass) -> O
         at = next_cut(&cuts, at);
     }
     found
+}
+
+// Whether the set has several states. In one of a single state nothing fades: no way leads back to it.
+fn has_several(auto: &Auto, set: &[u8]) -> bool
+    requires { length set.now ≡ set_len (whole_tree auto.now) }
+{
+    let mut found = false;
+    for p in 0..auto.slots() + 1 {
+        if get_bit(set, p as usize) {
+            if found {
+                return true;
+            }
+            found = true;
+        }
+    }
+    false
 }
 
 // The exits on which a state comes that does not fade.
