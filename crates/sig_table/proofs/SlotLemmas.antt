@@ -1,5 +1,5 @@
 -- The ends of the counts of slots.
-use Rattle.std.proofs.Common.{◌≡◌, ℕ, ◌+◌, ◌-◌, ◌<◌, ◌≤◌, ◌⊎◌, Bool, true, false, nat_lt, List, [], ◌∷◌, drop, length, min, sym, ◌∙◌, refl, inl, inr, arith, rules, tests, Option, Some, None, is_some, not}
+use Rattle.std.proofs.Common.{◌≡◌, ℕ, ◌+◌, ◌-◌, ◌<◌, ◌≤◌, ◌⊎◌, true, false, nat_lt, List, [], ◌∷◌, drop, length, min, sym, ◌∙◌, refl, inl, inr, arith, rules, tests, Some, None}
 use Rattle.std.proofs.lemmas.Bool.{cases_Bool}
 use Rattle.std.proofs.lemmas.List.{drop_all}
 use Rattle.sig_table.specs.Budgets.{minus}

@@ -3,6 +3,7 @@ use Rattle.std.specs.Prelude.{ℕ, List, [], ◌∷◌, ◌++◌, codes, map, Op
 use Rattle.std.specs.Fmt.{decimal}
 use Rattle.std.specs.List.{flat_map}
 use Rattle.sig_expr.specs.Canon.{canon}
+use Rattle.sig_table.specs.Judging.{Records}
 use Rattle.sig_table.specs.declared.position.Position.{Position}
 use Rattle.sig_table.specs.declared.position.Position.TheVariants as position
 use Rattle.sig_table.specs.declared.puid.Puid.{Puid}
@@ -29,7 +30,7 @@ abbrev pub sequence_record : List ℕ → ℕ → SequenceView → List (List �
 sequence_record name number sequence = name ∷ decimal number ∷ (position_fields sequence.position ++ canon sequence.items ∷ [])
 
 -- the records of a signature: one for each sequence
-abbrev pub records_of_signature : List Puid → SignatureView → List (List (List ℕ))
+abbrev pub records_of_signature : List Puid → SignatureView → Records
 records_of_signature formats s = map (sequence_record (name_of formats s.format) s.number) s.sequences
 
 -- the first record of a signature file
@@ -41,7 +42,7 @@ abbrev pub priority_header : List (List ℕ)
 priority_header = codes "higher" ∷ codes "lower" ∷ []
 
 -- the records of the signature file: signatures in table order, the sequences of each together
-abbrev pub signature_records : TableView → List (List (List ℕ))
+abbrev pub signature_records : TableView → Records
 signature_records t = signature_header ∷ flat_map (records_of_signature t.formats) t.signatures
 
 -- the record of a pair
@@ -49,7 +50,7 @@ abbrev pub pair_record : List Puid → ℕ × ℕ → List (List ℕ)
 pair_record formats pair = name_of formats pair.0 ∷ name_of formats pair.1 ∷ []
 
 -- the records of the priority file: the pairs in their order
-abbrev pub priority_records : TableView → List (List (List ℕ))
+abbrev pub priority_records : TableView → Records
 priority_records t = priority_header ∷ map (pair_record t.formats) t.priorities
 
 -- fields with commas between them

@@ -7,7 +7,7 @@ use Rattle.sig_table.specs.declared.error.TableFile.TheVariants.{Signatures}
 use Rattle.sig_table.specs.declared.puid.Puid.{Puid}
 use Rattle.sig_table.specs.declared.row.Row.{Row}
 use Rattle.sig_table.specs.Views.{SignatureView, TableView}
-use Rattle.sig_table.specs.Judging.{FirstOf, WriteAll}
+use Rattle.sig_table.specs.Judging.{FirstOf, Records, WriteAll}
 use Rattle.sig_table.specs.Loading.{is_signature_header}
 use Rattle.sig_table.specs.Puids.{puid_eq}
 use Rattle.sig_table.specs.Rows.{row_of}
@@ -60,9 +60,9 @@ pub record AreRows (rows : List Row) : Type 0 where
   pub few_signatures : length (numbers_of rows) ≤ 4000
 
 -- behind a header, each record writes a row of one table, and the table is that of the rows
-pub record IsTableOf (file : List (List (List ℕ))) (table : TableView) : Type 0 where
+pub record IsTableOf (file : Records) (table : TableView) : Type 0 where
   pub header : List (List ℕ)
-  pub records : List (List (List ℕ))
+  pub records : Records
   pub cut : file ≡ header ∷ records
   pub is_header : is_signature_header header ≡ true
   pub rows : List Row
@@ -98,11 +98,11 @@ abbrev pub IsFaultAfter : List Row → ℕ → List (List ℕ) → TableError �
 IsFaultAfter rows n fields fault = (row_of n fields ≡ Err fault) ⊎ ((row : Row) × (row_of n fields ≡ Ok row) × IsFaultOfRow rows n row fault)
 
 -- behind a header, some record has this fault, and those before it write rows of one table
-pub record HasFirstFault (file : List (List (List ℕ))) (fault : TableError) : Type 0 where
+pub record HasFirstFault (file : Records) (fault : TableError) : Type 0 where
   pub header : List (List ℕ)
-  pub earlier : List (List (List ℕ))
+  pub earlier : Records
   pub fields : List (List ℕ)
-  pub later : List (List (List ℕ))
+  pub later : Records
   pub cut : file ≡ header ∷ (earlier ++ fields ∷ later)
   pub is_header : is_signature_header header ≡ true
   pub rows : List Row
@@ -111,9 +111,9 @@ pub record HasFirstFault (file : List (List (List ℕ))) (fault : TableError) : 
   pub has : IsFaultAfter rows (1 + length earlier) fields fault
 
 -- the file begins with the header
-abbrev pub BeginsWithHeader : List (List (List ℕ)) → Type 0
-BeginsWithHeader file = (header : List (List ℕ)) × (records : List (List (List ℕ))) × (file ≡ header ∷ records) × (is_signature_header header ≡ true)
+abbrev pub BeginsWithHeader : Records → Type 0
+BeginsWithHeader file = (header : List (List ℕ)) × (records : Records) × (file ≡ header ∷ records) × (is_signature_header header ≡ true)
 
 -- there is no header, or some record has the fault
-abbrev pub IsFaultOf : List (List (List ℕ)) → TableError → Type 0
+abbrev pub IsFaultOf : Records → TableError → Type 0
 IsFaultOf file fault = ((BeginsWithHeader file → ⊥) × (fault ≡ error.Header Signatures)) ⊎ HasFirstFault file fault

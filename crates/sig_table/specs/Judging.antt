@@ -4,6 +4,10 @@ use Rattle.std.specs.Bool.{OnFalse}
 use Rattle.sig_table.specs.declared.error.TableError.{TableError}
 use Rattle.sig_table.specs.declared.error.TableError.TheVariants as error
 
+-- the records of a file, its header first: fields of characters
+abbrev pub Records : Type 0
+Records = List (List (List ℕ))
+
 infixl 10 ◌>>=◌
 -- a value read on, or the fault that is there
 abbrev pub ◌>>=◌ : {A B : Type 0} → Result A TableError → (A → Result B TableError) → Result B TableError
@@ -45,12 +49,12 @@ unless None rest = rest
 unless (Some fault) rest = Err fault
 
 -- what these records give, each judged by its number and what those before it gave, or the first fault
-unfoldable pub judged : {S : Type 0} → (ℕ → S → List (List ℕ) → Result S TableError) → ℕ → S → List (List (List ℕ)) → Result S TableError
+unfoldable pub judged : {S : Type 0} → (ℕ → S → List (List ℕ) → Result S TableError) → ℕ → S → Records → Result S TableError
 judged judge row_number done [] = Ok done
 judged judge row_number done (fields ∷ later) = judge row_number done fields >>= (λ more. judged judge (row_number + 1) more later)
 
 -- each record writes the row in its place, the first one being of this number
-abbrev pub WriteAll : {R : Type 0} → (ℕ → List (List ℕ) → R → Type 0) → ℕ → List (List (List ℕ)) → List R → Type 0
+abbrev pub WriteAll : {R : Type 0} → (ℕ → List (List ℕ) → R → Type 0) → ℕ → Records → List R → Type 0
 WriteAll Writes n [] rows = rows ≡ []
 WriteAll Writes n (fields ∷ later) [] = ⊥
 WriteAll Writes n (fields ∷ later) (row ∷ rows) = Writes n fields row × WriteAll Writes (n + 1) later rows

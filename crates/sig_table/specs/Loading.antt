@@ -13,11 +13,11 @@ use Rattle.sig_table.specs.Views.{SequenceView, SignatureView, TableView}
 use Rattle.sig_table.specs.Puids.{puid_eq, puid_of}
 use Rattle.sig_table.specs.Ranking.{is_above}
 use Rattle.sig_table.specs.Slots.{slot_count}
-use Rattle.sig_table.specs.Judging.{◌>>=◌, judged, unless}
+use Rattle.sig_table.specs.Judging.{◌>>=◌, Records, judged, unless}
 use Rattle.sig_table.specs.Rows.{is_word, row_of, text_at}
 
 -- the records of a text, as `csv` gives them with its default dialect
-unfoldable pub records_of : List ℕ → List (List (List ℕ))
+unfoldable pub records_of : List ℕ → Records
 records_of text = records default_config (strip_bom text)
 
 -- whether the fault is one of the signature file, a failed read of it included
@@ -85,7 +85,7 @@ unfoldable pub with_record : ℕ → TableView → List (List ℕ) → Result Ta
 with_record n table fields = row_of n fields >>= (λ row. unless (fault_in table n row) (Ok (with_row table row)))
 
 -- the table with these records, which are counted on
-abbrev pub table_from : ℕ → TableView → List (List (List ℕ)) → Result TableView TableError
+abbrev pub table_from : ℕ → TableView → Records → Result TableView TableError
 table_from n table records = judged with_record n table records
 
 -- no row
@@ -104,7 +104,7 @@ abbrev pub is_priority_header : List (List ℕ) → Bool
 is_priority_header fields = (length fields == 2) && is_word (text_at fields 0) (codes "higher") && is_word (text_at fields 1) (codes "lower")
 
 -- the table of a signature file, with no priority, or its first fault
-unfoldable pub signatures_of : List (List (List ℕ)) → Result TableView TableError
+unfoldable pub signatures_of : Records → Result TableView TableError
 signatures_of [] = Err (error.Header Signatures)
 signatures_of (header ∷ rows) = if is_signature_header header then table_from 1 empty_table rows else Err (error.Header Signatures)
 
@@ -144,14 +144,14 @@ unfoldable pub with_pair : List Puid → ℕ → List (ℕ × ℕ) → List (Lis
 with_pair formats n pairs fields = pair_of formats n fields >>= (λ pair. unless (pair_fault pairs n pair) (Ok (pairs ++ pair ∷ [])))
 
 -- the pairs with these records, which are counted on
-abbrev pub pairs_from : List Puid → ℕ → List (ℕ × ℕ) → List (List (List ℕ)) → Result (List (ℕ × ℕ)) TableError
+abbrev pub pairs_from : List Puid → ℕ → List (ℕ × ℕ) → Records → Result (List (ℕ × ℕ)) TableError
 pairs_from formats n pairs records = judged (with_pair formats) n pairs records
 
 -- the pairs of a priority file in the order of their rows, or its first fault
-unfoldable pub pairs_of : List Puid → List (List (List ℕ)) → Result (List (ℕ × ℕ)) TableError
+unfoldable pub pairs_of : List Puid → Records → Result (List (ℕ × ℕ)) TableError
 pairs_of formats [] = Err (error.Header Priorities)
 pairs_of formats (header ∷ rows) = if is_priority_header header then pairs_from formats 1 [] rows else Err (error.Header Priorities)
 
 -- the table of the records of both files, or their first fault: the signature file is judged first
-unfoldable pub table_of : List (List (List ℕ)) → List (List (List ℕ)) → Result TableView TableError
+unfoldable pub table_of : Records → Records → Result TableView TableError
 table_of signatures priorities = signatures_of signatures >>= (λ table. pairs_of table.formats priorities >>= (λ pairs. Ok (record table { priorities = pairs })))

@@ -1,6 +1,7 @@
 //! Laws of tables and their texts.
 
 ghost use Rattle.std.specs.Prelude.{◌≡◌, ◌↔◌, ℕ, ◌<◌, List, [], All, Contains, length, Err, Ok};
+ghost use Rattle.sig_table.specs.Judging.{Records};
 ghost use Rattle.sig_table.specs.declared.error.TableError.{TableError};
 ghost use Rattle.sig_table.specs.declared.puid.Puid.{Puid};
 ghost use Rattle.sig_table.specs.declared.row.Row.{Row};
@@ -18,13 +19,13 @@ ghost use Rattle.sig_table.specs.Tables.{AllDifferent, HasAllSignatures, IsNumbe
 /// first row, and for each number its rows' sequences in row order. No row has a fault. And each
 /// table of rows without a fault is given.
 pub fn rows_are_gathered()
-    ensures { (file : List (List (List ℕ))) (table : TableView) → signatures_of file ≡ Ok table ↔ IsTableOf file table }
+    ensures { (file : Records) (table : TableView) → signatures_of file ≡ Ok table ↔ IsTableOf file table }
 {}
 
 /// A refused signature file has no header, or a first faulty row: those before it make a table, and
 /// the fault is the first that the row has. And each such fault is given.
 pub fn first_fault_is_told()
-    ensures { (file : List (List (List ℕ))) (fault : TableError) → signatures_of file ≡ Err fault ↔ IsFaultOf file fault }
+    ensures { (file : Records) (fault : TableError) → signatures_of file ≡ Err fault ↔ IsFaultOf file fault }
 {}
 
 /// A record gives a row exactly where its fields are the texts of the row's parts.
@@ -42,14 +43,14 @@ pub fn pairs_are_spelled()
 /// The pairs of a priority file are those of its rows, in their order: none stands twice, and they
 /// make no cycle. And all such pairs are given.
 pub fn pairs_are_listed()
-    ensures { (formats : List Puid) (file : List (List (List ℕ))) (pairs : List (ℕ × ℕ)) → pairs_of formats file ≡ Ok pairs ↔ ArePairsOf formats file pairs }
+    ensures { (formats : List Puid) (file : Records) (pairs : List (ℕ × ℕ)) → pairs_of formats file ≡ Ok pairs ↔ ArePairsOf formats file pairs }
 {}
 
 /// A refused priority file has no header, or a first faulty row: those before it give priorities, and
 /// it writes no pair, or one of theirs, or else one that makes a cycle with them. And each such
 /// fault is given.
 pub fn first_priority_fault_is_told()
-    ensures { (formats : List Puid) (file : List (List (List ℕ))) (fault : TableError) → pairs_of formats file ≡ Err fault ↔ IsPriorityFaultOf formats file fault }
+    ensures { (formats : List Puid) (file : Records) (fault : TableError) → pairs_of formats file ≡ Err fault ↔ IsPriorityFaultOf formats file fault }
 {}
 
 /// Loading what was written gives the same table, where each format has a signature.

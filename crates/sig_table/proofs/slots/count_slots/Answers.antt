@@ -1,4 +1,4 @@
-use Rattle.std.proofs.Common.{◌≡◌, sym, sum_by}
+use Rattle.std.proofs.Common.{sym, sum_by}
 use Rattle.sig_table.specs.Slots.{item_slots, position_slots, slot_count}
 use Rattle.sig_table.proofs.SlotLemmas.{past-items, past-position, within-items}
 use Rattle.sig_table.proofs.slots.count_slots.Goals as goal
