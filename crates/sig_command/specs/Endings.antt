@@ -1,5 +1,5 @@
 -- What the status of a run says: of the output, of the error output and of the words.
-use Rattle.std.specs.Prelude.{◌≡◌, ℕ, ◌<◌, ◌≤◌, ◌⊎◌, Bool, true, false, List, Option}
+use Rattle.std.specs.Prelude.{◌≡◌, ℕ, ◌<◌, ◌≤◌, ◌⊎◌, Bool, true, false, List, Option, None}
 use Rattle.clap.specs.Words.{Text}
 use Rattle.sig_command.specs.CommandLine.{AreTaken, IsHelpAsked}
 use Rattle.sig_command.specs.Faults.{Reports, ReportsFault}
@@ -24,6 +24,10 @@ pub record AnswersBy (held : Holding) (words : List Text) (status : ℕ) (before
   pub answered : status ≡ 0 → IsHelpAsked words ⊎ AnswersWords held words true before after
   pub denied : status ≡ 1 → AnswersWords held words false before after
   pub taken : AreTaken words → status ≡ 0 → AnswersWords held words true before after
+
+-- some words ask for help, or are answered with a yes
+abbrev pub AnswersSomeWords : Option (List ℕ) → Option (List ℕ) → Type 0
+AnswersSomeWords before after = (words : List Text) × (IsHelpAsked words ⊎ AnswersWords None words true before after)
 
 -- with 2 and 3 words that ask for something get the line of a fault of just that, unless a write to the error output failed; `written` and `err_written` tell what an output has written
 abbrev pub ReportsBy : {R W E : Type 0} → (R → Bool) → Holding → List Text → ℕ → (W → Option (List ℕ)) → (before after : W) → (E → Bool) → (E → Option (List ℕ)) → (err_before err_after : E) → Type 0

@@ -6,7 +6,7 @@ ghost use Rattle.clap.specs.Words.{Text};
 ghost use Rattle.sig_command.specs.Requests.{Answers, AnswersWords, CutsSomeWords, CutsWords, HasFiles, IsFaultOf, IsLoadFault, JoinsBoth, KeepsOrCuts, MakesOut, MakesWords, ShowsSomeWords, ShowsWords, TellsOf, file_fault};
 ghost use Rattle.sig_engines.specs.Stores.{IsTableOf, Opens};
 ghost use Rattle.sig_command.specs.CommandLine.{AreTaken, IsHelpAsked, texts_of};
-ghost use Rattle.sig_command.specs.Endings.{AnswersBy, KeepsErrors, KeepsOutput, ReportsBy, ReportsMemory};
+ghost use Rattle.sig_command.specs.Endings.{AnswersBy, AnswersSomeWords, KeepsErrors, KeepsOutput, ReportsBy, ReportsMemory};
 ghost use Rattle.sig_table.specs.Tables.{IsTable};
 
 use crate::args::{Request, read_args, request_of};
@@ -36,7 +36,7 @@ pub fn run<R: Env + Files + AllocGlobal, W: Output, E: Output>(
         result (E.failed err.new) err.old err.new (E.written err.old) (E.written err.new) }
 
     // What is shown answers some words, or they ask for help.
-    ensures answered { result ≡ 0 → (words : List Text) × (IsHelpAsked words ⊎ AnswersWords None words true (W.written out.old) (W.written out.new)) }
+    ensures answered { result ≡ 0 → AnswersSomeWords (W.written out.old) (W.written out.new) }
     ensures denied { result ≡ 1 → (words : List Text) × AnswersWords None words false (W.written out.old) (W.written out.new) }
 {
     match words_of(rt) {

@@ -1,10 +1,8 @@
--- Sets of states as the bits of one number, and their steps.
-use Rattle.std.proofs.Common.{◌≡◌, ◌≢◌, ◌↔◌, ◌⊎◌, inl, inr, ⊎_elim, ℕ, ◌+◌, ◌-◌, ◌*◌, ◌/◌, ◌%◌, ◌^◌, ◌<◌, ◌≤◌, min, max, List, [], ◌∷◌, ◌++◌, append_assoc, length, get_or, take, drop, set, get_or-set_same, get_or-set_other, replicate, refl, sym, ap, subst, ◌∙◌, arith, add-one, drop-cons, w64, bit_and, bit_or}
-use Rattle.std.specs.Int.{bit_at, trailing_zeros}
-use Rattle.std.proofs.lemmas.Bool.{cases_eq, cases_lt}
-use Rattle.std.proofs.lemmas.List.{get_or-replicate, take_rest}
-use Rattle.std.proofs.lemmas.Nat.{and_le_r, mod_below, pow_below, pow_pos, shr_split}
-use Rattle.std.proofs.lemmas.Nat.Bits.{bit_at_above, bit_at_and, bit_at_cat_high, bit_at_cat_low, bit_at_ones_above, bit_at_or, bit_at-lt, bit_at-pow_other, bit_at-pow_same, bit_at-trailing_zeros, bit_at-zero, bit_at_set_other, bit_at_set_same, same_from_bits_below}
+-- The follow relation and the slots of each byte, by sets of states, and the steps that they make.
+use Rattle.std.proofs.Common.{◌≡◌, ◌≢◌, ◌↔◌, ◌⊎◌, inl, inr, ⊎_elim, ℕ, zero, suc, ◌+◌, ◌-◌, ◌*◌, ◌<◌, ◌≤◌, List, [], ◌∷◌, ◌++◌, append_assoc, length, get_or, get_or-set_same, get_or-set_other, take, drop, set, replicate, Bool, refl, sym, ap, subst, ◌∙◌, arith, add-one, drop-cons}
+use Rattle.std.specs.Prelude.{IfSome, IsTrue, None, Option, Some, is_some, true}
+use Rattle.std.proofs.lemmas.Bool.{cases_eq, cases_lt, false≢true}
+use Rattle.std.proofs.lemmas.List.{take_rest}
 use Rattle.sig_auto.specs.Tracks.{Follows, Track}
 use Rattle.sig_auto.specs.Trees.{Tree, whole_tree}
 use Rattle.sig_auto.specs.TreeSlots.{Takes, set_len, slots_of}
@@ -13,148 +11,11 @@ use Rattle.sig_bits.specs.BitSets.{HasBit}
 use Rattle.sig_bits.specs.ByteClasses.{Holds}
 use Rattle.sig_bits.specs.declared.byte_class.ByteClass.{ByteClass}
 use Rattle.sig_bits.proofs.Exports.{bits_are_within}
-use Rattle.sig_match.specs.Narrow.{HasBitOf, IsNarrow, IsStepBy}
+use Rattle.sig_match.specs.declared.scan.narrow.Narrow.{Narrow}
+use Rattle.sig_match.specs.Narrow.{HasAt, IsBlank, IsFar, IsGrouped, IsGroupedBy, IsNarrow, IsStepBy, Leads}
 use Rattle.sig_match.specs.Rests.{IsReached, Reaches}
 use Rattle.sig_match.specs.Scans.{SequenceScanView}
 use Rattle.sig_match.proofs.RestLemmas.{drop_further}
-
--- 0 has no bit
-pub no_bit_of_zero : (q : ℕ) → HasBitOf 0 q → ⊥
-unfolding HasBitOf
-no_bit_of_zero q bit = omega (arith, bit_at-zero q)
-
--- a number of 64 bits has none above
-pub bits_of_a_word : (n q : ℕ) → n < 18446744073709551616 → HasBitOf n q → q < 64
-unfolding HasBitOf
-bits_of_a_word n q small bit = ⊎_elim (λ below. below) (λ above. absurd (omega (arith, bit_at_above n 64 q small above))) (cases_lt q 64)
-
--- a bit is the one that is set, or was there
-pub bits_with : (n k r : ℕ) → k < 64 → HasBitOf (bit_or n (1 * 2 ^ k % 18446744073709551616)) r ↔ ((r ≡ k) ⊎ HasBitOf n r)
-unfolding HasBitOf
-bits_with n k r within =
-    ⊎_elim (λ same. (λ _. inl same, λ _. rw same (bit_at_set_same w64 n k within)))
-    (λ other. let kept : bit_at (bit_or n (1 * 2 ^ k % 18446744073709551616)) r ≡ bit_at n r = bit_at_set_other w64 n k within r other in (λ h. inr (sym kept ∙ h), λ h. kept ∙ ⊎_elim (λ same. absurd (other same)) (λ had. had) h))
-    (cases_eq r k)
-
--- a bit of either
-pub bits_of_or : (a b q : ℕ) → HasBitOf (bit_or a b) q ↔ (HasBitOf a q ⊎ HasBitOf b q)
-unfolding HasBitOf
-bits_of_or a b q =
-    let either : bit_at (bit_or a b) q ≡ max (bit_at a q) (bit_at b q) = bit_at_or a b q in
-    let first : bit_at a q < 2 = bit_at-lt a q in
-    let second : bit_at b q < 2 = bit_at-lt b q in
-    (λ h. ⊎_elim (λ e. inl e) (λ e. inr (omega arith)) (cases_eq (bit_at a q) 1), λ h. ⊎_elim (λ e. omega arith) (λ e. omega arith) h)
-
--- a bit of both
-pub bits_of_and : (a b q : ℕ) → HasBitOf (bit_and a b) q ↔ (HasBitOf a q × HasBitOf b q)
-unfolding HasBitOf
-bits_of_and a b q =
-    let both : bit_at (bit_and a b) q ≡ min (bit_at a q) (bit_at b q) = bit_at_and a b q in
-    let first : bit_at a q < 2 = bit_at-lt a q in
-    let second : bit_at b q < 2 = bit_at-lt b q in
-    (λ h. (omega arith, omega arith), λ h. let one = h.0 in let two = h.1 in omega arith)
-
--- the low bits of a number alone
-bit_at-low : (n k i : ℕ) → i < k → bit_at (n % 2 ^ k) i ≡ bit_at n i
-bit_at-low n k i below = sym (bit_at_cat_low (n / 2 ^ k) k (n % 2 ^ k) i below) ∙ ap (λ m. bit_at m i) (shr_split n k)
-
--- those of a number whose lowest bit is t
-lowest_alone : (n t : ℕ) → bit_at n t ≡ 1 → ((i : ℕ) → i < t → bit_at n i ≡ 0) → n % 2 ^ (t + 1) ≡ 2 ^ t
-lowest_alone n t one none =
-    same_from_bits_below (t + 1) (n % 2 ^ (t + 1)) (2 ^ t) (mod_below n (2 ^ (t + 1)) (pow_pos (t + 1))) (pow_below t (t + 1) (omega arith))
-    (λ i below.
-    bit_at-low n (t + 1) i below
-    ∙ ⊎_elim
-    (λ (same : i ≡ t). ap (λ j. bit_at n j) same ∙ one ∙ sym (ap (λ j. bit_at (2 ^ t) j) same ∙ bit_at-pow_same t))
-    (λ (other : i ≢ t). none i (omega arith) ∙ sym (bit_at-pow_other t i other))
-    (cases_eq i t))
-
-one_less : (x y n : ℕ) → x + y ≡ n → 0 < y → n - 1 ≡ x + (y - 1)
-one_less x y n is some = omega arith
-
--- n & (n - 1) has the bits of n but for the lowest
-bit_at-rest : (n t i : ℕ) → bit_at n t ≡ 1 → ((i : ℕ) → i < t → bit_at n i ≡ 0) → i ≢ t → bit_at n i ≡ 1 → bit_at (n - 1) i ≡ 1
-bit_at-rest n t i one none other bit =
-    ⊎_elim
-    (λ (low : i < t). absurd (omega (arith, none i low)))
-    (λ (high : t ≤ i).
-    let h : ℕ = n / 2 ^ (t + 1) in
-    let is : h * 2 ^ (t + 1) + 2 ^ t ≡ n = ap (λ m. h * 2 ^ (t + 1) + m) (sym (lowest_alone n t one none)) ∙ shr_split n (t + 1) in
-    let less : n - 1 ≡ h * 2 ^ (t + 1) + (2 ^ t - 1) = one_less (h * 2 ^ (t + 1)) (2 ^ t) n is (pow_pos t) in
-    let grows : 2 ^ t < 2 ^ (t + 1) = pow_below t (t + 1) (omega arith) in
-    let above : t + 1 ≤ i = omega arith in
-    let second : bit_at (n - 1) i ≡ bit_at h (i - (t + 1)) = ap (λ m. bit_at m i) less ∙ bit_at_cat_high h (t + 1) (2 ^ t - 1) i (omega arith) above in
-    let first : bit_at n i ≡ bit_at h (i - (t + 1)) = ap (λ m. bit_at m i) (sym is) ∙ bit_at_cat_high h (t + 1) (2 ^ t) i grows above in
-    second ∙ sym first ∙ bit)
-    (cases_lt i t)
-
-bit_at-lowest_gone : (n t : ℕ) → bit_at n t ≡ 1 → ((i : ℕ) → i < t → bit_at n i ≡ 0) → bit_at (n - 1) t ≡ 0
-bit_at-lowest_gone n t one none =
-    let h : ℕ = n / 2 ^ (t + 1) in
-    let is : h * 2 ^ (t + 1) + 2 ^ t ≡ n = ap (λ m. h * 2 ^ (t + 1) + m) (sym (lowest_alone n t one none)) ∙ shr_split n (t + 1) in
-    let less : n - 1 ≡ h * 2 ^ (t + 1) + (2 ^ t - 1) = one_less (h * 2 ^ (t + 1)) (2 ^ t) n is (pow_pos t) in
-    ap (λ m. bit_at m t) less ∙ bit_at_cat_low h (t + 1) (2 ^ t - 1) t (omega arith) ∙ bit_at_ones_above t t (omega arith)
-
--- the lowest bit of a number, and the others
-pub record IsLowest (n t : ℕ) : Type 0 where
-  pub within : t < 64
-  pub bit : HasBitOf n t
-  pub others : (q : ℕ) → HasBitOf n q → (q ≡ t) ⊎ HasBitOf (bit_and n (n - 1)) q
-  pub gone : (q : ℕ) → HasBitOf (bit_and n (n - 1)) q → HasBitOf n q
-
-pub lowest_of : (n t : ℕ) → 0 < n → n < 18446744073709551616 → t ≡ trailing_zeros w64 n → IsLowest n t
-unfolding HasBitOf
-lowest_of n t some small is =
-    let low = bit_at-trailing_zeros w64 n some small in
-    let within : t < 64 = omega (arith, low.0) in
-    let one : bit_at n t ≡ 1 = ap (λ k. bit_at n k) is ∙ low.1 in
-    let none : (i : ℕ) → i < t → bit_at n i ≡ 0 = λ i below. low.2 i (omega arith) in
-    record {
-      within = within;
-      bit = one;
-      others = λ q bit. ⊎_elim (λ same. inl same) (λ other. inr ((bits_of_and n (n - 1) q).1 (bit, bit_at-rest n t q one none other bit))) (cases_eq q t);
-      gone = λ q bit. ((bits_of_and n (n - 1) q).0 bit).0;
-    }
-
--- what follows the states of the set is found, but for those that are left
-pub record StepsBelow (follow : List ℕ) (set left found : ℕ) : Type 0 where
-  pub small : left < 18446744073709551616
-  pub within : (p : ℕ) → HasBitOf left p → HasBitOf set p
-  pub sound : (q : ℕ) → HasBitOf found q → (p : ℕ) × HasBitOf set p × HasBitOf (get_or follow p 0) q
-  pub complete : (p q : ℕ) → HasBitOf set p → HasBitOf (get_or follow p 0) q → HasBitOf left p ⊎ HasBitOf found q
-
--- all are left
-pub StepsBelow-none : (follow : List ℕ) (set : ℕ) → set < 18446744073709551616 → StepsBelow follow set set 0
-StepsBelow-none follow set small = record {
-  small = small;
-  within = λ p bit. bit;
-  sound = λ q bit. absurd (no_bit_of_zero q bit);
-  complete = λ p q bit on. inl bit;
-}
-
--- one fewer is left
-pub StepsBelow-more : (follow : List ℕ) (set left found t : ℕ) → 0 < left → t ≡ trailing_zeros w64 left → StepsBelow follow set left found → StepsBelow follow set (bit_and left (left - 1)) (bit_or found (get_or follow t 0))
-StepsBelow-more follow set left found t some is before =
-    let lowest : IsLowest left t = lowest_of left t some before.small is in
-    record {
-      small = omega (arith, and_le_r left (left - 1), before.small);
-      within = λ p bit. before.within p (lowest.gone p bit);
-      sound = λ q bit. ⊎_elim (λ old. before.sound q old) (λ new. (t, before.within t lowest.bit, new)) ((bits_of_or found (get_or follow t 0) q).0 bit);
-      complete = λ p q bit on.
-          let join = bits_of_or found (get_or follow t 0) q in
-          ⊎_elim
-          (λ (remains : HasBitOf left p). ⊎_elim (λ (same : p ≡ t). inr (join.1 (inr (subst (λ k. HasBitOf (get_or follow k 0) q) same on)))) (λ stays. inl stays) (lowest.others p remains))
-          (λ (had : HasBitOf found q). inr (join.1 (inl had)))
-          (before.complete p q bit on);
-    }
-
--- none is
-pub StepsBelow-all : (follow column : List ℕ) (set left found byte q : ℕ) → left ≡ 0 → StepsBelow follow set left found → HasBitOf (bit_and found (get_or column byte 0)) q ↔ IsStepBy follow column set byte q
-StepsBelow-all follow column set left found byte q none all =
-    let both = bits_of_and found (get_or column byte 0) q in (
-      λ bit. (let h = both.0 bit in let on = all.sound q h.0 in (on.0, on.1, on.2, h.1)),
-      λ step. both.1 (⊎_elim (λ remains. absurd (no_bit_of_zero step.0 (subst (λ n. HasBitOf n step.0) none remains))) (λ found. found) (all.complete step.0 q step.1 step.2), step.3),
-    )
 
 before_is_slot : (tree : Tree) (track pre front rest : List ℕ) (x p : ℕ) → Track tree 0 track → 0 ∷ track ≡ pre ++ x ∷ (front ++ p ∷ rest) → p ≤ slots_of tree
 before_is_slot tree track pre [] rest x p is next = follows_to_a_slot tree x p (record { track = track; is_track = is; front = pre; back = rest; next = next })
@@ -167,211 +28,496 @@ before_is_state tree track [] back p q is next =
 before_is_state tree track (x ∷ front) back p q is next = before_is_slot tree track [] front (q ∷ back) x p is next
 
 -- what something follows is the start or a slot
-follows_from_a_state : (tree : Tree) (p q : ℕ) → Follows tree p q → p ≤ slots_of tree
+pub follows_from_a_state : (tree : Tree) (p q : ℕ) → Follows tree p q → p ≤ slots_of tree
 follows_from_a_state tree p q follows = before_is_state tree follows.track follows.front follows.back p q follows.is_track follows.next
 
--- the numbers say what follows the first states, and nothing of the others
-abbrev pub FollowsBelow : Tree → ℕ → List ℕ → Type 0
-FollowsBelow tree n follow = (p q : ℕ) → p < 64 → HasBitOf (get_or follow p 0) q ↔ ((p < n) × Follows tree p q)
+-- what is read within a list does not hang on what stands for the places past its end
+pub read_alike : {S : Type 0} (xs : List S) (i : ℕ) (d e : S) → i < length xs → get_or xs i d ≡ get_or xs i e
+read_alike [] i d e within = absurd (omega arith)
+read_alike (x ∷ xs) zero d e within = refl
+read_alike (x ∷ xs) (suc i) d e within = read_alike xs i d e (omega arith)
 
--- none is asked yet
-pub FollowsBelow-none : (tree : Tree) (k z : ℕ) → 64 ≤ k → z ≡ 0 → FollowsBelow tree 0 (replicate k z)
-FollowsBelow-none tree k z all none p q small =
-    let read : get_or (replicate k z) p 0 ≡ 0 = get_or-replicate k p z 0 (omega arith) ∙ none in (
-      λ bit. absurd (no_bit_of_zero q (subst (λ m. HasBitOf m q) read bit)),
-      λ h. absurd (omega (arith, h.0)),
-    )
+-- what is read of a list of one value, or past its end, is that value
+read_same : {S : Type 0} (k i : ℕ) (z : S) → get_or (replicate k z) i z ≡ z
+read_same zero i z = refl
+read_same (suc k) zero z = refl
+read_same (suc k) (suc i) z = read_same k i z
 
--- one more is
-pub FollowsBelow-more : (tree : Tree) (n word : ℕ) (follow : List ℕ) → n < length follow → ((q : ℕ) → HasBitOf word q ↔ Follows tree n q) → FollowsBelow tree n follow → FollowsBelow tree (n + 1) (set follow n word)
-FollowsBelow-more tree n word follow within here before p q small =
-    let Q : ℕ → Type 0 = λ m. HasBitOf m q ↔ ((p < n + 1) × Follows tree p q) in
-    ⊎_elim
-    (λ (same : p ≡ n).
-    let read : get_or (set follow n word) p 0 ≡ word = ap (λ k. get_or (set follow n word) k 0) same ∙ get_or-set_same follow n word 0 within in
-    subst Q (sym read) (λ bit. (omega arith, subst (λ k. Follows tree k q) (sym same) ((here q).0 bit)), λ h. (here q).1 (subst (λ k. Follows tree k q) same h.1)))
-    (λ (other : p ≢ n).
-    subst Q (sym (get_or-set_other follow n p word 0 other)) (
-      λ bit. (let h = (before p q small).0 bit in (omega (arith, h.0), h.1)),
-      λ h. (before p q small).1 (omega (arith, h.0), h.1),
-    ))
-    (cases_eq p n)
+-- where there is a value of which the one holds, the other holds of it
+pub some_more : {A : Type 0} (o : Option A) (P Q : A → Type 0) → ((x : A) → P x → Q x) → IfSome o P → IfSome o Q
+some_more None P Q more h = h
+some_more (Some x) P Q more h = more x h
 
--- the number says which slots before this one follow the state
-abbrev pub FollowersBelow : Tree → ℕ → ℕ → ℕ → Type 0
-FollowersBelow tree p n word = (q : ℕ) → HasBitOf word q ↔ ((q < n) × Follows tree p q)
+-- what holds where there is a value holds
+pub held_of : {A : Type 0} (o : Option A) (P : Type 0) → is_some o ≡ true → IfSome o (λ _. P) → P
+held_of None P some h = absurd (false≢true some)
+held_of (Some x) P some h = h
 
--- none does
-pub FollowersBelow-none : (tree : Tree) (p : ℕ) → FollowersBelow tree p 1 0
-FollowersBelow-none tree p q = (λ bit. absurd (no_bit_of_zero q bit), λ h. absurd (omega (arith, h.0, follows_above_the_start tree p q h.1)))
+module _ {S : Type 0} (Has : S → ℕ → Type 0) where
+  -- a set in a list has the states that it has where it is read
+  pub has_at : (xs : List S) (i q : ℕ) (d : S) → i < length xs → HasAt Has xs i q ↔ Has (get_or xs i d) q
+  has_at xs i q d within = (λ h. h d, λ h e. subst (λ s. Has s q) (read_alike xs i d e within) h)
 
--- this one does too
-pub FollowersBelow-with : (tree : Tree) (p n word new : ℕ) → Follows tree p n → ((q : ℕ) → HasBitOf new q ↔ ((q ≡ n) ⊎ HasBitOf word q)) → FollowersBelow tree p n word → FollowersBelow tree p (n + 1) new
-FollowersBelow-with tree p n word new follows added before q = (
-  λ bit. ⊎_elim (λ (same : q ≡ n). (omega arith, subst (λ k. Follows tree p k) (sym same) follows)) (λ had. let h = (before q).0 had in (omega (arith, h.0), h.1)) ((added q).0 bit),
-  λ h. (added q).1 (⊎_elim (λ same. inl same) (λ (other : q ≢ n). inr ((before q).1 (omega (arith, h.0), h.1))) (cases_eq q n)),
-)
+  -- sets of no state have none
+  pub none_at : (k i q : ℕ) (z : S) → ((r : ℕ) → Has z r → ⊥) → HasAt Has (replicate k z) i q → ⊥
+  none_at k i q z none h = none q (subst (λ s. Has s q) (read_same k i z) (h z))
 
--- this one does not
-pub FollowersBelow-without : (tree : Tree) (p n word : ℕ) → (Follows tree p n → ⊥) → FollowersBelow tree p n word → FollowersBelow tree p (n + 1) word
-FollowersBelow-without tree p n word none before q = (
-  λ bit. (let h = (before q).0 bit in (omega (arith, h.0), h.1)),
-  λ h. ⊎_elim (λ (same : q ≡ n). absurd (none (subst (λ k. Follows tree p k) same h.1))) (λ (other : q ≢ n). (before q).1 (omega (arith, h.0), h.1)) (cases_eq q n),
-)
+  -- nothing is asked yet
+  pub is_blank : (n : Narrow S) (l : ℕ) (z : S) → ((r : ℕ) → Has z r → ⊥) → n.groups ≡ 0 → n.stay ≡ z → n.one ≡ z → n.two ≡ z → n.column ≡ replicate l z → IsBlank Has n
+  is_blank n l z none groups stay one two column = record {
+    groups = groups;
+    leads = λ p q h.
+        ⊎_elim (λ x. none p (subst (λ s. Has s p) stay x.1))
+        (λ h. ⊎_elim (λ x. none p (subst (λ s. Has s p) one x.1))
+        (λ h. ⊎_elim (λ x. none p (subst (λ s. Has s p) two x.1))
+        (λ x. omega (arith, x.1, groups)) h) h) h;
+    takes = λ b q h. none_at l b q z none (subst (λ l. HasAt Has l b q) column h);
+  }
 
--- all slots are asked
-pub FollowersBelow-all : (tree : Tree) (p n word q : ℕ) → slots_of tree < n → FollowersBelow tree p n word → HasBitOf word q ↔ Follows tree p q
-FollowersBelow-all tree p n word q all below = (
-  λ bit. ((below q).0 bit).1,
-  λ follows. (below q).1 (omega (arith, follows_to_a_slot tree p q follows), follows),
-)
-
--- the slot is added at the first bytes of the class
-abbrev pub AddsBelow : ByteClass → ℕ → ℕ → List ℕ → List ℕ → Type 0
-AddsBelow class q n old new = (b r : ℕ) → b < 256 → HasBitOf (get_or new b 0) r ↔ (((r ≡ q) × (b < n) × Holds class b) ⊎ HasBitOf (get_or old b 0) r)
-
--- at none yet
-pub AddsBelow-none : (class : ByteClass) (q : ℕ) (column : List ℕ) → AddsBelow class q 0 column column
-AddsBelow-none class q column b r small = (λ bit. inr bit, λ h. ⊎_elim (λ new. absurd (omega (arith, new.1))) (λ old. old) h)
-
--- at this one too
-pub AddsBelow-with : (class : ByteClass) (q n word : ℕ) (old new : List ℕ) → n < length new → Holds class n → ((r : ℕ) → HasBitOf word r ↔ ((r ≡ q) ⊎ HasBitOf (get_or new n 0) r)) → AddsBelow class q n old new → AddsBelow class q (n + 1) old (set new n word)
-AddsBelow-with class q n word old new within holds added before b r small =
-    ⊎_elim
-    (λ (same : b ≡ n).
-    let here : get_or (set new n word) b 0 ≡ word = ap (λ k. get_or (set new n word) k 0) same ∙ get_or-set_same new n word 0 within in
-    let Q : ℕ → Type 0 = λ m. HasBitOf m r ↔ (((r ≡ q) × (b < n + 1) × Holds class b) ⊎ HasBitOf (get_or old b 0) r) in
-    let at : HasBitOf (get_or new n 0) r ↔ HasBitOf (get_or new b 0) r = (subst (λ k. HasBitOf (get_or new k 0) r) (sym same), subst (λ k. HasBitOf (get_or new k 0) r) same) in
-    subst Q (sym here) (
-      λ bit. ⊎_elim (λ slot. inl (slot, omega arith, subst (λ k. Holds class k) (sym same) holds)) (λ had. ⊎_elim (λ one. absurd (omega (arith, one.1))) (λ first. inr first) ((before b r small).0 (at.0 had))) ((added r).0 bit),
-      λ h. (added r).1 (⊎_elim (λ one. inl one.0) (λ first. inr (at.1 ((before b r small).1 (inr first)))) h),
-    ))
-    (λ (other : b ≢ n).
-    let Q : ℕ → Type 0 = λ m. HasBitOf m r ↔ (((r ≡ q) × (b < n + 1) × Holds class b) ⊎ HasBitOf (get_or old b 0) r) in
-    subst Q (sym (get_or-set_other new n b word 0 other)) (
-      λ bit. ⊎_elim (λ one. inl (one.0, omega (arith, one.1), one.2)) (λ first. inr first) ((before b r small).0 bit),
-      λ h. (before b r small).1 (⊎_elim (λ one. inl (one.0, omega (arith, one.1), one.2)) (λ first. inr first) h),
-    ))
-    (cases_eq b n)
-
--- the byte is not of the class
-pub AddsBelow-without : (class : ByteClass) (q n : ℕ) (old new : List ℕ) → (Holds class n → ⊥) → AddsBelow class q n old new → AddsBelow class q (n + 1) old new
-AddsBelow-without class q n old new none before b r small = (
-  λ bit. ⊎_elim (λ one. inl (one.0, omega (arith, one.1), one.2)) (λ first. inr first) ((before b r small).0 bit),
-  λ h. (before b r small).1 (⊎_elim (λ one. ⊎_elim (λ (same : b ≡ n). absurd (none (subst (λ k. Holds class k) same one.2))) (λ (other : b ≢ n). inl (one.0, omega (arith, one.1), one.2)) (cases_eq b n)) (λ first. inr first) h),
-)
-
--- all bytes are asked
-pub AddsBelow-all : (class : ByteClass) (q n : ℕ) (old new : List ℕ) (b r : ℕ) → 256 ≤ n → b < 256 → AddsBelow class q n old new → HasBitOf (get_or new b 0) r ↔ (((r ≡ q) × Holds class b) ⊎ HasBitOf (get_or old b 0) r)
-AddsBelow-all class q n old new b r all small below = (
-  λ bit. ⊎_elim (λ one. inl (one.0, one.2)) (λ first. inr first) ((below b r small).0 bit),
-  λ h. (below b r small).1 (⊎_elim (λ one. inl (one.0, omega arith, one.1)) (λ first. inr first) h),
-)
-
--- the numbers say which of the first slots take each byte
-abbrev pub TakenBelow : Tree → ℕ → List ℕ → Type 0
-TakenBelow tree n column = (b q : ℕ) → b < 256 → HasBitOf (get_or column b 0) q ↔ ((0 < q) × (q < n) × Takes tree q b)
-
--- none does
-pub TakenBelow-none : (tree : Tree) (k z : ℕ) → 256 ≤ k → z ≡ 0 → TakenBelow tree 1 (replicate k z)
-TakenBelow-none tree k z all none b q small =
-    let read : get_or (replicate k z) b 0 ≡ 0 = get_or-replicate k b z 0 (omega arith) ∙ none in (
-      λ bit. absurd (no_bit_of_zero q (subst (λ m. HasBitOf m q) read bit)),
-      λ h. absurd (omega (arith, h.0, h.1)),
-    )
-
--- one more slot
-pub TakenBelow-more : (tree : Tree) (class : ByteClass) (n : ℕ) (old new : List ℕ) → 0 < n → ((b : ℕ) → b < 256 → Holds class b ↔ Takes tree n b) → ((b r : ℕ) → b < 256 → HasBitOf (get_or new b 0) r ↔ (((r ≡ n) × Holds class b) ⊎ HasBitOf (get_or old b 0) r)) → TakenBelow tree n old → TakenBelow tree (n + 1) new
-TakenBelow-more tree class n old new some is added before b q small = (
-  λ bit.
+  -- one set of a list is another one
+  pub at_set : (xs : List S) (i j q : ℕ) (y d : S) → i < length xs → HasAt Has (set xs i y) j q ↔ (((j ≡ i) × Has y q) ⊎ ((j ≢ i) × HasAt Has xs j q))
+  at_set xs i j q y d within =
       ⊎_elim
-      (λ one. let same : q ≡ n = one.0 in (omega arith, omega arith, subst (λ k. Takes tree k b) (sym same) ((is b small).0 one.1)))
-      (λ first. (let h = (before b q small).0 first in (h.0, omega (arith, h.1), h.2)))
-      ((added b q small).0 bit),
-  λ h.
-      (added b q small).1
-      (⊎_elim
-      (λ (same : q ≡ n). inl (same, (is b small).1 (subst (λ k. Takes tree k b) same h.2)))
-      (λ (other : q ≢ n). inr ((before b q small).1 (h.0, omega (arith, h.1), h.2)))
-      (cases_eq q n)),
-)
+      (λ (same : j ≡ i).
+      let here : (e : S) → get_or (set xs i y) j e ≡ y = λ e. ap (λ k. get_or (set xs i y) k e) same ∙ get_or-set_same xs i y e within in (
+        λ h. inl (same, subst (λ s. Has s q) (here d) (h d)),
+        λ h. ⊎_elim (λ x e. subst (λ s. Has s q) (sym (here e)) x.1) (λ x. absurd (x.0 same)) h,
+      ))
+      (λ (other : j ≢ i).
+      let there : (e : S) → get_or (set xs i y) j e ≡ get_or xs j e = λ e. get_or-set_other xs i j y e other in (
+        λ h. inr (other, λ e. subst (λ s. Has s q) (there e) (h e)),
+        λ h. ⊎_elim (λ x. absurd (other x.0)) (λ x e. subst (λ s. Has s q) (sym (there e)) (x.1 e)) h,
+      ))
+      (cases_eq j i)
 
--- all states and slots are
-pub narrow_from_all : (tree : Tree) (n m : ℕ) (follow column : List ℕ) → m ≡ slots_of tree + 1 → n ≡ slots_of tree + 1 → FollowsBelow tree m follow → TakenBelow tree n column → IsNarrow tree follow column
-narrow_from_all tree n m follow column all end follows takes = record {
-  follows = λ p q small. (
-    λ bit. ((follows p q small).0 bit).1,
-    λ on. (follows p q small).1 (omega (arith, follows_from_a_state tree p q on), on),
-  );
-  takes = λ b q small. (
-    λ bit. (let h = (takes b q small).0 bit in (h.0, omega (arith, h.1), h.2)),
-    λ h. (takes b q small).1 (h.0, omega (arith, h.1), h.2),
-  );
-}
+  -- the one that was set
+  pub set_at : (xs : List S) (i q : ℕ) (y d : S) → i < length xs → HasAt Has (set xs i y) i q ↔ Has y q
+  set_at xs i q y d within = (
+    λ h. ⊎_elim (λ x. x.1) (λ x. absurd (x.0 refl)) ((at_set xs i i q y d within).0 h),
+    λ h. (at_set xs i i q y d within).1 (inl (refl, h)),
+  )
 
--- the bytes lead from some state of the number to q
-abbrev pub IsReachedFrom : Tree → ℕ → List ℕ → ℕ → Type 0
-IsReachedFrom tree word bytes q = (p : ℕ) × HasBitOf word p × Reaches tree p bytes q
+  -- what is equal but for the sets of the bytes leads alike
+  pub same_leads : (old new : Narrow S) → new.stay ≡ old.stay → new.one ≡ old.one → new.two ≡ old.two → new.from ≡ old.from → new.to ≡ old.to → new.groups ≡ old.groups → (p q : ℕ) → Leads Has new p q ↔ Leads Has old p q
+  same_leads old new stay one two from to groups p q = (
+    λ h.
+        ⊎_elim (λ x. inl (x.0, subst (λ s. Has s p) stay x.1))
+        (λ h. ⊎_elim (λ x. inr (inl (x.0, subst (λ s. Has s p) one x.1)))
+        (λ h. ⊎_elim (λ x. inr (inr (inl (x.0, subst (λ s. Has s p) two x.1))))
+        (λ x. inr (inr (inr (x.0, omega (arith, x.1, groups), subst (λ l. HasAt Has l x.0 p) from x.2, subst (λ l. HasAt Has l x.0 q) to x.3)))) h) h) h,
+    λ h.
+        ⊎_elim (λ x. inl (x.0, subst (λ s. Has s p) (sym stay) x.1))
+        (λ h. ⊎_elim (λ x. inr (inl (x.0, subst (λ s. Has s p) (sym one) x.1)))
+        (λ h. ⊎_elim (λ x. inr (inr (inl (x.0, subst (λ s. Has s p) (sym two) x.1))))
+        (λ x. inr (inr (inr (x.0, omega (arith, x.1, groups), subst (λ l. HasAt Has l x.0 p) (sym from) x.2, subst (λ l. HasAt Has l x.0 q) (sym to) x.3)))) h) h) h,
+  )
 
--- so it is behind one byte, from the next number
-pub word_steps : (tree : Tree) (follow column : List ℕ) (word next b : ℕ) (bytes : List ℕ) (q : ℕ) → IsNarrow tree follow column → word < 18446744073709551616 → b < 256 → ((r : ℕ) → HasBitOf next r ↔ IsStepBy follow column word b r) → IsReachedFrom tree word (b ∷ bytes) q ↔ IsReachedFrom tree next bytes q
-word_steps tree follow column word next b bytes q narrow small byte step = (
-  λ h.
-      let p : ℕ = h.0 in
-      let r : ℕ = h.2.0 in
-      let follows = (narrow.follows p r (bits_of_a_word word p small h.1)).1 h.2.1 in
-      let takes = (narrow.takes b r byte).1 (follows_above_the_start tree p r h.2.1, follows_to_a_slot tree p r h.2.1, h.2.2) in
-      (r, (step r).1 (p, h.1, follows, takes), h.2.3),
-  λ h.
-      let r : ℕ = h.0 in
-      let before = (step r).0 h.1 in
-      let p : ℕ = before.0 in
-      let follows = (narrow.follows p r (bits_of_a_word word p small before.1)).0 before.2 in
-      (p, before.1, (r, follows, ((narrow.takes b r byte).0 before.3).2, h.2)),
-)
+  -- the slot is added at the first bytes of the class
+  abbrev pub AddsBelow : ByteClass → ℕ → ℕ → List S → List S → Type 0
+  AddsBelow class q n old new = (b r : ℕ) → b < 256 → HasAt Has new b r ↔ (((r ≡ q) × (b < n) × Holds class b) ⊎ HasAt Has old b r)
 
--- a set, and the number to which the bytes so far lead from it
-pub record GoesByWords (tree : Tree) (set bytes : List ℕ) (at word : ℕ) : Type 0 where
-  pub small : word < 18446744073709551616
-  pub within : (q : ℕ) → HasBitOf word q → q < 8 * set_len tree
-  pub same : (q : ℕ) → IsReached tree set bytes q ↔ IsReachedFrom tree word (drop at bytes) q
+  -- at none yet
+  pub AddsBelow-none : (class : ByteClass) (q : ℕ) (column : List S) → AddsBelow class q 0 column column
+  AddsBelow-none class q column b r small = (λ bit. inr bit, λ h. ⊎_elim (λ new. absurd (omega (arith, new.1))) (λ old. old) h)
 
--- no byte yet
-pub GoesByWords-none : (tree : Tree) (set bytes : List ℕ) (word : ℕ) → word < 18446744073709551616 → length set ≡ set_len tree → ((q : ℕ) → HasBitOf word q ↔ HasBit set q) → GoesByWords tree set bytes 0 word
-GoesByWords-none tree set bytes word small long is = record {
-  small = small;
-  within = λ q bit. (let inside = bits_are_within set q ((is q).0 bit) in omega arith);
-  same = λ q. (λ h. (h.0, (is h.0).1 h.1, h.2), λ h. (h.0, (is h.0).0 h.1, h.2));
-}
+  -- at this one too, if the class has it
+  pub AddsBelow-more : (class : ByteClass) (q n : ℕ) (is_so : Bool) (old new : List S) (word d : S) → n < length new → (IsTrue is_so ↔ Holds class n) → ((r : ℕ) → Has word r ↔ ((IsTrue is_so × (r ≡ q)) ⊎ Has (get_or new n d) r)) → AddsBelow class q n old new → AddsBelow class q (n + 1) old (set new n word)
+  AddsBelow-more class q n is_so old new word d within holds added before b r small =
+      let at = at_set new n b r word d within in
+      let here : HasAt Has new n r ↔ Has (get_or new n d) r = has_at new n r d within in (
+        λ h.
+            ⊎_elim
+            (λ x.
+            let same : b ≡ n = x.0 in
+            ⊎_elim
+            (λ one. inl (one.1, omega arith, subst (λ k. Holds class k) (sym same) (holds.0 one.0)))
+            (λ had. ⊎_elim (λ one. absurd (omega (arith, one.1))) (λ first. inr first) ((before b r small).0 (subst (λ k. HasAt Has new k r) (sym same) (here.1 had))))
+            ((added r).0 x.1))
+            (λ x. ⊎_elim (λ one. inl (one.0, omega (arith, one.1), one.2)) (λ first. inr first) ((before b r small).0 x.1))
+            (at.0 h),
+        λ h.
+            at.1
+            (⊎_elim
+            (λ (same : b ≡ n).
+            inl (same, (added r).1
+            (⊎_elim
+            (λ one. inl (holds.1 (subst (λ k. Holds class k) same one.2), one.0))
+            (λ first. inr (here.0 (subst (λ k. HasAt Has new k r) same ((before b r small).1 (inr first)))))
+            h)))
+            (λ (other : b ≢ n).
+            inr (other, (before b r small).1 (⊎_elim (λ one. inl (one.0, omega (arith, one.1), one.2)) (λ first. inr first) h)))
+            (cases_eq b n)),
+      )
 
--- one more byte
-pub GoesByWords-more : (tree : Tree) (set bytes follow column : List ℕ) (at word next b : ℕ) → IsNarrow tree follow column → at < length bytes → b ≡ get_or bytes at 0 → b < 256 → next < 18446744073709551616 → ((r : ℕ) → HasBitOf next r ↔ IsStepBy follow column word b r) → GoesByWords tree set bytes at word → GoesByWords tree set bytes (at + 1) next
-GoesByWords-more tree set bytes follow column at word next b narrow inside is byte small step before =
-    let head : drop at bytes ≡ get_or bytes at 0 ∷ drop (at + 1) bytes = rw add-one (drop-cons bytes at 0 inside) in
-    let first : drop at bytes ≡ b ∷ drop (at + 1) bytes = head ∙ ap (λ k. k ∷ drop (at + 1) bytes) (sym is) in
-    record {
-      small = small;
-      within = λ q bit.
-          let slot = ((narrow.takes b q byte).0 ((step q).0 bit).3).1 in
-          omega (arith, slot);
-      same = λ q.
-          let one = word_steps tree follow column word next b (drop (at + 1) bytes) q narrow before.small byte step in
-          let P : List ℕ → Type 0 = λ l. IsReached tree set bytes q ↔ IsReachedFrom tree word l q in
-          let so : P (b ∷ drop (at + 1) bytes) = subst P first (before.same q) in
-          (λ h. one.0 (so.0 h), λ h. so.1 (one.1 h));
-    }
+  -- all bytes are asked
+  pub AddsBelow-all : (class : ByteClass) (q n : ℕ) (old new : List S) (b r : ℕ) → 256 ≤ n → b < 256 → AddsBelow class q n old new → HasAt Has new b r ↔ (((r ≡ q) × Holds class b) ⊎ HasAt Has old b r)
+  AddsBelow-all class q n old new b r all small below = (
+    λ bit. ⊎_elim (λ one. inl (one.0, one.2)) (λ first. inr first) ((below b r small).0 bit),
+    λ h. (below b r small).1 (⊎_elim (λ one. inl (one.0, omega arith, one.1)) (λ first. inr first) h),
+  )
 
--- the number is written as a set again
-pub GoesByWords-all : (tree : Tree) (set new bytes : List ℕ) (at word q : ℕ) → length set ≡ set_len tree → length new ≡ set_len tree → ((q : ℕ) → q < 8 * length set → HasBit new q ↔ HasBitOf word q) → GoesByWords tree set bytes at word → IsReached tree set bytes q ↔ IsReached tree new (drop at bytes) q
-GoesByWords-all tree set new bytes at word q long long_new written goes = (
-  λ h.
-      let on = (goes.same q).0 h in
-      let inside = goes.within on.0 on.1 in
-      (on.0, (written on.0 (omega arith)).1 on.1, on.2),
-  λ h.
-      let inside = bits_are_within new h.0 h.1 in
-      (goes.same q).1 (h.0, (written h.0 (omega arith)).0 h.1, h.2),
-)
+  -- the sets say which of the first slots take each byte
+  abbrev pub TakenBelow : Tree → ℕ → List S → Type 0
+  TakenBelow tree n column = (b q : ℕ) → b < 256 → HasAt Has column b q ↔ ((0 < q) × (q < n) × Takes tree q b)
+
+  -- none does
+  pub TakenBelow-none : (tree : Tree) (n : Narrow S) → IsBlank Has n → TakenBelow tree 1 n.column
+  TakenBelow-none tree n blank b q small = (λ h. absurd (blank.takes b q h), λ h. absurd (omega (arith, h.0, h.1)))
+
+  -- one more slot
+  pub TakenBelow-more : (tree : Tree) (class : ByteClass) (n : ℕ) (old new : List S) → 0 < n → ((b : ℕ) → b < 256 → Holds class b ↔ Takes tree n b) → ((b r : ℕ) → b < 256 → HasAt Has new b r ↔ (((r ≡ n) × Holds class b) ⊎ HasAt Has old b r)) → TakenBelow tree n old → TakenBelow tree (n + 1) new
+  TakenBelow-more tree class n old new some is added before b q small = (
+    λ bit.
+        ⊎_elim
+        (λ one. let same : q ≡ n = one.0 in (omega arith, omega arith, subst (λ k. Takes tree k b) (sym same) ((is b small).0 one.1)))
+        (λ first. (let h = (before b q small).0 first in (h.0, omega (arith, h.1), h.2)))
+        ((added b q small).0 bit),
+    λ h.
+        (added b q small).1
+        (⊎_elim
+        (λ (same : q ≡ n). inl (same, (is b small).1 (subst (λ k. Takes tree k b) same h.2)))
+        (λ (other : q ≢ n). inr ((before b q small).1 (h.0, omega (arith, h.1), h.2)))
+        (cases_eq q n)),
+  )
+
+  -- it says what follows the first states, and nothing of the others
+  abbrev pub FollowsBelow : Tree → ℕ → Narrow S → Type 0
+  FollowsBelow tree n narrow = (p q : ℕ) → Leads Has narrow p q ↔ ((p < n) × Follows tree p q)
+
+  -- none is asked yet
+  pub FollowsBelow-none : (tree : Tree) (n : Narrow S) → IsBlank Has n → FollowsBelow tree 0 n
+  FollowsBelow-none tree n blank p q = (λ h. absurd (blank.leads p q h), λ h. absurd (omega (arith, h.0)))
+
+  -- one more is
+  pub FollowsBelow-more : (tree : Tree) (n : ℕ) (old new : Narrow S) → ((r q : ℕ) → Leads Has new r q ↔ (((r ≡ n) × Follows tree n q) ⊎ Leads Has old r q)) → FollowsBelow tree n old → FollowsBelow tree (n + 1) new
+  FollowsBelow-more tree n old new added before p q = (
+    λ h.
+        ⊎_elim
+        (λ one. let same : p ≡ n = one.0 in (omega arith, subst (λ k. Follows tree k q) (sym same) one.1))
+        (λ first. (let h = (before p q).0 first in (omega (arith, h.0), h.1)))
+        ((added p q).0 h),
+    λ h.
+        (added p q).1
+        (⊎_elim
+        (λ (same : p ≡ n). inl (same, subst (λ k. Follows tree k q) same h.1))
+        (λ (other : p ≢ n). inr ((before p q).1 (omega (arith, h.0), h.1)))
+        (cases_eq p n)),
+  )
+
+  -- it leads as before
+  pub FollowsBelow-same : (tree : Tree) (n : ℕ) (old new : Narrow S) → ((p q : ℕ) → Leads Has new p q ↔ Leads Has old p q) → FollowsBelow tree n old → FollowsBelow tree n new
+  FollowsBelow-same tree n old new same below p q = (λ h. (below p q).0 ((same p q).0 h), λ h. (same p q).1 ((below p q).1 h))
+
+  -- all states and slots are asked
+  pub narrow_from_all : (tree : Tree) (m n : ℕ) (narrow : Narrow S) → slots_of tree < m → n ≡ slots_of tree + 1 → narrow.groups ≤ 64 → FollowsBelow tree m narrow → TakenBelow tree n narrow.column → IsNarrow Has tree narrow
+  narrow_from_all tree m n narrow all end few follows takes = record {
+    few = few;
+    follows = λ p q. (
+      λ h. ((follows p q).0 h).1,
+      λ on. (let state = follows_from_a_state tree p q on in (follows p q).1 (omega arith, on)),
+    );
+    takes = λ b q small. (
+      λ bit. (let h = (takes b q small).0 bit in (h.0, omega (arith, h.1), h.2)),
+      λ h. (takes b q small).1 (h.0, omega (arith, h.1), h.2),
+    );
+  }
+
+  -- the set has the far followers before this one
+  abbrev pub FarBelow : Tree → ℕ → ℕ → S → Type 0
+  FarBelow tree p n far = (q : ℕ) → Has far q ↔ ((q < n) × IsFar p q × Follows tree p q)
+
+  pub FarBelow-none : (tree : Tree) (p : ℕ) (far : S) → ((q : ℕ) → Has far q → ⊥) → FarBelow tree p 1 far
+  FarBelow-none tree p far none q = (λ h. absurd (none q h), λ h. absurd (omega (arith, h.0, follows_above_the_start tree p q h.2)))
+
+  pub FarBelow-more : (tree : Tree) (p n : ℕ) (is_so : Bool) (old new : S) → (IsTrue is_so ↔ (IsFar p n × Follows tree p n)) → ((r : ℕ) → Has new r ↔ ((IsTrue is_so × (r ≡ n)) ⊎ Has old r)) → FarBelow tree p n old → FarBelow tree p (n + 1) new
+  FarBelow-more tree p n is_so old new is added before q =
+      let P : ℕ → Type 0 = λ k. IsFar p k × Follows tree p k in (
+        λ h. ⊎_elim (λ one. let same : q ≡ n = one.1 in (omega arith, (subst P (sym same) (is.0 one.0)).0, (subst P (sym same) (is.0 one.0)).1)) (λ had. (let h = (before q).0 had in (omega (arith, h.0), h.1, h.2))) ((added q).0 h),
+        λ h. (added q).1 (⊎_elim (λ (same : q ≡ n). inl (is.1 (subst P same (h.1, h.2)), same)) (λ (other : q ≢ n). inr ((before q).1 (omega (arith, h.0), h.1, h.2))) (cases_eq q n)),
+      )
+
+  pub FarBelow-all : (tree : Tree) (p n : ℕ) (far : S) (q : ℕ) → slots_of tree < n → FarBelow tree p n far → Has far q ↔ (IsFar p q × Follows tree p q)
+  FarBelow-all tree p n far q all below = (
+    λ h. (let is = (below q).0 h in (is.1, is.2)),
+    λ h. (let slot = follows_to_a_slot tree p q h.1 in (below q).1 (omega arith, h.0, h.1)),
+  )
+
+  -- a state is added to a group
+  pub grouped_with : (groups : ℕ) (from to : List S) (p g : ℕ) (far with d : S) → g < groups → groups ≤ length from → ((r : ℕ) → Has with r ↔ ((r ≡ p) ⊎ Has (get_or from g d) r)) → ((q : ℕ) → HasAt Has to g q ↔ Has far q) → (r q : ℕ) → IsGroupedBy Has groups (set from g with) to r q ↔ (((r ≡ p) × Has far q) ⊎ IsGroupedBy Has groups from to r q)
+  grouped_with groups from to p g far with d within room added leads r q =
+      let at : (k : ℕ) → HasAt Has (set from g with) k r ↔ (((k ≡ g) × Has with r) ⊎ ((k ≢ g) × HasAt Has from k r)) = λ k. at_set from g k r with d (omega arith) in
+      let here : HasAt Has from g r ↔ Has (get_or from g d) r = has_at from g r d (omega arith) in (
+        λ h.
+            ⊎_elim
+            (λ x.
+            let goes : HasAt Has to g q = subst (λ j. HasAt Has to j q) x.0 h.3 in
+            ⊎_elim (λ one. inl (one, (leads q).0 goes)) (λ had. inr (g, within, here.1 had, goes)) ((added r).0 x.1))
+            (λ x. inr (h.0, h.1, x.1, h.3))
+            ((at h.0).0 h.2),
+        λ h.
+            ⊎_elim
+            (λ one. (g, within, (at g).1 (inl (refl, (added r).1 (inl one.0))), (leads q).1 one.1))
+            (λ old.
+            let stands : HasAt Has (set from g with) old.0 r =
+                (at old.0).1
+                (⊎_elim
+                (λ (same : old.0 ≡ g). inl (same, (added r).1 (inr (here.0 (subst (λ j. HasAt Has from j r) same old.2)))))
+                (λ (other : old.0 ≢ g). inr (other, old.2))
+                (cases_eq old.0 g)) in
+            (old.0, old.1, stands, old.3))
+            h,
+      )
+
+  -- a group of no state is added
+  pub grouped_new : (groups : ℕ) (from to : List S) (far none d : S) → groups < length from → groups < length to → ((r : ℕ) → Has none r → ⊥) → (r q : ℕ) → IsGroupedBy Has (groups + 1) (set from groups none) (set to groups far) r q ↔ IsGroupedBy Has groups from to r q
+  grouped_new groups from to far none d room room_to empty r q = (
+    λ h.
+        let stands = (at_set from groups h.0 r none d room).0 h.2 in
+        let goes = (at_set to groups h.0 q far d room_to).0 h.3 in
+        ⊎_elim (λ x. absurd (empty r x.1))
+        (λ x. ⊎_elim (λ y. absurd (x.0 y.0)) (λ y. (h.0, omega (arith, h.1, x.0), x.1, y.1)) goes)
+        stands,
+    λ h.
+        let other : h.0 ≢ groups = λ same. omega (arith, h.1, same) in
+        (h.0, omega (arith, h.1), (at_set from groups h.0 r none d room).1 (inr (other, h.2)), (at_set to groups h.0 q far d room_to).1 (inr (other, h.3))),
+  )
+
+  -- one state is asked
+  pub state_added : (tree : Tree) (old : Narrow S) (new_stay new_one new_two : S) (groups : ℕ) (from to : List S) (p : ℕ) (far : S) (stay one two : Bool) → (IsTrue stay ↔ Follows tree p p) → (IsTrue one ↔ Follows tree p (p + 1)) → (IsTrue two ↔ Follows tree p (p + 2)) → ((r : ℕ) → Has new_stay r ↔ ((IsTrue stay × (r ≡ p)) ⊎ Has old.stay r)) → ((r : ℕ) → Has new_one r ↔ ((IsTrue one × (r ≡ p)) ⊎ Has old.one r)) → ((r : ℕ) → Has new_two r ↔ ((IsTrue two × (r ≡ p)) ⊎ Has old.two r)) → ((q : ℕ) → Has far q ↔ (IsFar p q × Follows tree p q)) → ((r q : ℕ) → IsGroupedBy Has groups from to r q ↔ (((r ≡ p) × Has far q) ⊎ IsGrouped Has old r q)) → (r q : ℕ) → Leads Has (record { stay = new_stay; one = new_one; two = new_two; from = from; to = to; groups = groups; column = old.column }) r q ↔ (((r ≡ p) × Follows tree p q) ⊎ Leads Has old r q)
+  state_added tree old new_stay new_one new_two groups from to p far stay one two stays ones twos with_stay with_one with_two is_far with_far r q =
+      let F : ℕ → Type 0 = λ k. Follows tree p k in (
+        λ h.
+            ⊎_elim
+            (λ x. ⊎_elim (λ y. inl (y.1, subst F (sym (x.0 ∙ y.1)) (stays.0 y.0))) (λ y. inr (inl (x.0, y))) ((with_stay r).0 x.1))
+            (λ h. ⊎_elim
+            (λ x. ⊎_elim (λ y. inl (y.1, subst F (sym (x.0 ∙ ap (λ k. k + 1) y.1)) (ones.0 y.0))) (λ y. inr (inr (inl (x.0, y)))) ((with_one r).0 x.1))
+            (λ h. ⊎_elim
+            (λ x. ⊎_elim (λ y. inl (y.1, subst F (sym (x.0 ∙ ap (λ k. k + 2) y.1)) (twos.0 y.0))) (λ y. inr (inr (inr (inl (x.0, y))))) ((with_two r).0 x.1))
+            (λ x. ⊎_elim (λ y. inl (y.0, ((is_far q).0 y.1).1)) (λ y. inr (inr (inr (inr y)))) ((with_far r q).0 x))
+            h) h) h,
+        λ h.
+            ⊎_elim
+            (λ x.
+            let same : r ≡ p = x.0 in
+            ⊎_elim
+            (λ (e : q ≡ p). inl (e ∙ sym same, (with_stay r).1 (inl (stays.1 (subst F e x.1), same))))
+            (λ (not_stay : q ≢ p).
+            ⊎_elim
+            (λ (e : q ≡ p + 1). inr (inl (omega arith, (with_one r).1 (inl (ones.1 (subst F e x.1), same)))))
+            (λ (not_one : q ≢ p + 1).
+            ⊎_elim
+            (λ (e : q ≡ p + 2). inr (inr (inl (omega arith, (with_two r).1 (inl (twos.1 (subst F e x.1), same))))))
+            (λ (not_two : q ≢ p + 2).
+            let away : IsFar p q = ⊎_elim (λ below. inl below) (λ above. inr (omega arith)) (cases_lt q p) in
+            inr (inr (inr ((with_far r q).1 (inl (same, (is_far q).1 (away, x.1)))))))
+            (cases_eq q (p + 2)))
+            (cases_eq q (p + 1)))
+            (cases_eq q p))
+            (λ h. ⊎_elim
+            (λ x. inl (x.0, (with_stay r).1 (inr x.1)))
+            (λ h. ⊎_elim
+            (λ x. inr (inl (x.0, (with_one r).1 (inr x.1))))
+            (λ h. ⊎_elim
+            (λ x. inr (inr (inl (x.0, (with_two r).1 (inr x.1)))))
+            (λ x. inr (inr (inr ((with_far r q).1 (inr x)))))
+            h) h) h)
+            h,
+      )
+
+  -- q is led to by the first groups from a state of the set
+  abbrev pub GroupedBelow : Narrow S → S → ℕ → ℕ → Type 0
+  GroupedBelow n set k q = (g : ℕ) × (g < k) × (p : ℕ) × Has set p × HasAt Has n.from g p × HasAt Has n.to g q
+
+  -- a set has what those near and the first groups lead to
+  abbrev pub FoundBelow : Narrow S → S → S → ℕ → S → Type 0
+  FoundBelow n set near k found = (q : ℕ) → Has found q ↔ (Has near q ⊎ GroupedBelow n set k q)
+
+  pub FoundBelow-none : (n : Narrow S) (set near : S) → FoundBelow n set near 0 near
+  FoundBelow-none n states near q = (λ h. inl h, λ h. ⊎_elim (λ x. x) (λ x. absurd (omega (arith, x.1))) h)
+
+  -- one group more leads on
+  pub FoundBelow-with : (n : Narrow S) (set near found new both : S) (k : ℕ) (d e : S) → k < length n.from → k < length n.to → ((q : ℕ) → Has both q ↔ (Has set q × Has (get_or n.from k d) q)) → (q : ℕ) × Has both q → ((q : ℕ) → Has new q ↔ (Has found q ⊎ Has (get_or n.to k e) q)) → FoundBelow n set near k found → FoundBelow n set near (k + 1) new
+  FoundBelow-with n states near found new both k d e within within_to common some joined before q =
+      let p : ℕ = some.0 in
+      let stands = (common p).0 some.1 in
+      let at : HasAt Has n.from k p = (has_at n.from k p d within).1 stands.1 in (
+        λ h.
+            ⊎_elim
+            (λ old. ⊎_elim (λ x. inl x) (λ x. inr (x.0, omega (arith, x.1), x.2, x.3, x.4, x.5)) ((before q).0 old))
+            (λ new. inr (k, omega arith, p, stands.0, at, (has_at n.to k q e within_to).1 new))
+            ((joined q).0 h),
+        λ h.
+            (joined q).1
+            (⊎_elim
+            (λ x. inl ((before q).1 (inl x)))
+            (λ x.
+            ⊎_elim
+            (λ (same : x.0 ≡ k). inr ((subst (λ g. HasAt Has n.to g q) same x.5) e))
+            (λ (other : x.0 ≢ k). inl ((before q).1 (inr (x.0, omega (arith, x.1), x.2, x.3, x.4, x.5))))
+            (cases_eq x.0 k))
+            h),
+      )
+
+  -- one group more does not
+  pub FoundBelow-without : (n : Narrow S) (set near found both : S) (k : ℕ) (d : S) → ((q : ℕ) → Has both q ↔ (Has set q × Has (get_or n.from k d) q)) → ((q : ℕ) → Has both q → ⊥) → FoundBelow n set near k found → FoundBelow n set near (k + 1) found
+  FoundBelow-without n states near found both k d common none before q = (
+    λ h. ⊎_elim (λ x. inl x) (λ x. inr (x.0, omega (arith, x.1), x.2, x.3, x.4, x.5)) ((before q).0 h),
+    λ h.
+        (before q).1
+        (⊎_elim
+        (λ x. inl x)
+        (λ x.
+        ⊎_elim
+        (λ (same : x.0 ≡ k). absurd (none x.2 ((common x.2).1 (x.3, (subst (λ g. HasAt Has n.from g x.2) same x.4) d))))
+        (λ (other : x.0 ≢ k). inr (x.0, omega (arith, x.1), x.2, x.3, x.4, x.5))
+        (cases_eq x.0 k))
+        h),
+  )
+
+  -- a state of the set leads near: to itself, to the next one, or to the one behind that
+  abbrev pub IsNear : Narrow S → S → ℕ → Type 0
+  IsNear n states q = (Has states q × Has n.stay q) ⊎ ((0 < q) × Has states (q - 1) × Has n.one (q - 1)) ⊎ ((1 < q) × Has states (q - 2) × Has n.two (q - 2))
+
+  -- a set has those, as far as there is room
+  abbrev pub AreNear : ℕ → Narrow S → S → S → Type 0
+  AreNear room n states near = (q : ℕ) → (Has near q → IsNear n states q) × (q < room → IsNear n states q → Has near q)
+
+  abbrev pub IsUp : ℕ → S → S → Type 0
+  IsUp room states up = (q : ℕ) → Has up q ↔ ((0 < q) × (q < room) × Has states (q - 1))
+
+  abbrev pub IsBoth : S → S → S → Type 0
+  IsBoth a b both = (q : ℕ) → Has both q ↔ (Has a q × Has b q)
+
+  abbrev pub IsEither : S → S → S → Type 0
+  IsEither a b either = (q : ℕ) → Has either q ↔ (Has a q ⊎ Has b q)
+
+  pub are_near : (room : ℕ) (n : Narrow S) (states stay ones one twos up two first near : S) → IsBoth states n.stay stay → IsBoth states n.one ones → IsUp room ones one → IsBoth states n.two twos → IsUp room twos up → IsUp room up two → IsEither stay one first → IsEither first two near → AreNear room n states near
+  are_near room n states stay ones one twos up two first near stays of_one ups_one of_two ups ups_two joins joins_two q =
+      let back : q - 1 - 1 ≡ q - 2 = omega arith in (
+        λ h.
+            ⊎_elim
+            (λ h. ⊎_elim (λ x. inl ((stays q).0 x)) (λ x. let h = (ups_one q).0 x in let is = (of_one (q - 1)).0 h.2 in inr (inl (h.0, is.0, is.1))) ((joins q).0 h))
+            (λ x.
+            let h = (ups_two q).0 x in
+            let i = (ups (q - 1)).0 h.2 in
+            let is = (of_two (q - 1 - 1)).0 i.2 in
+            inr (inr (omega (arith, i.0), subst (λ k. Has states k) back is.0, subst (λ k. Has n.two k) back is.1)))
+            ((joins_two q).0 h),
+        λ within h.
+            (joins_two q).1
+            (⊎_elim
+            (λ x. inl ((joins q).1 (inl ((stays q).1 x))))
+            (λ h. ⊎_elim
+            (λ x. inl ((joins q).1 (inr ((ups_one q).1 (x.0, within, (of_one (q - 1)).1 (x.1, x.2))))))
+            (λ x. inr ((ups_two q).1 (omega (arith, x.0), within, (ups (q - 1)).1 (omega (arith, x.0), omega (arith, within), (of_two (q - 1 - 1)).1 (subst (λ k. Has states k) (sym back) x.1, subst (λ k. Has n.two k) (sym back) x.2)))))
+            h)
+            h),
+      )
+
+  -- all groups are asked, and then the byte
+  pub FoundBelow-all : (room : ℕ) (n : Narrow S) (states near found column result d : S) (k byte : ℕ) → n.groups ≤ k → k ≤ n.groups → byte < length n.column → column ≡ get_or n.column byte d → AreNear room n states near → IsBoth found column result → FoundBelow n states near k found → (q : ℕ) → (Has result q → IsStepBy Has n states byte q) × (q < room → IsStepBy Has n states byte q → Has result q)
+  FoundBelow-all room n states near found column result d k byte all few within is_column nears both below q =
+      let at : HasAt Has n.column byte q ↔ Has column q = (
+        λ h. subst (λ s. Has s q) (sym is_column) (h d),
+        λ h. (has_at n.column byte q d within).1 (subst (λ s. Has s q) is_column h),
+      ) in (
+        λ h.
+            let one = (both q).0 h in
+            let takes = at.1 one.1 in
+            ⊎_elim
+            (λ x.
+            ⊎_elim
+            (λ y. (q, y.0, inl (refl, y.1), takes))
+            (λ x. ⊎_elim (λ y. (q - 1, y.1, inr (inl (omega (arith, y.0), y.2)), takes)) (λ y. (q - 2, y.1, inr (inr (inl (omega (arith, y.0), y.2))), takes)) x)
+            ((nears q).0 x))
+            (λ x. (x.2, x.3, inr (inr (inr (x.0, omega (arith, x.1, few), x.4, x.5))), takes))
+            ((below q).0 one.0),
+        λ inside h.
+            let p : ℕ = h.0 in
+            let state : Has states p = h.1 in
+            let near_it : IsNear n states q → Has near q ⊎ GroupedBelow n states k q = λ is. inl ((nears q).1 inside is) in
+            let found_it : Has near q ⊎ GroupedBelow n states k q =
+                ⊎_elim
+                (λ x. near_it (inl (subst (λ j. Has states j) (sym x.0) state, subst (λ j. Has n.stay j) (sym x.0) x.1)))
+                (λ y. ⊎_elim
+                (λ x. let back : p ≡ q - 1 = omega (arith, x.0) in near_it (inr (inl (omega (arith, x.0), subst (λ j. Has states j) back state, subst (λ j. Has n.one j) back x.1))))
+                (λ y. ⊎_elim
+                (λ x. let back : p ≡ q - 2 = omega (arith, x.0) in near_it (inr (inr (omega (arith, x.0), subst (λ j. Has states j) back state, subst (λ j. Has n.two j) back x.1))))
+                (λ x. inr (x.0, omega (arith, x.1, all), p, state, x.2, x.3))
+                y) y) h.2 in
+            (both q).1 ((below q).1 found_it, at.0 h.3),
+      )
+
+  -- one state more is asked for
+  pub states_more : (n : ℕ) (set : List ℕ) (is_so : Bool) (old new : S) → (IsTrue is_so ↔ HasBit set n) → ((r : ℕ) → Has new r ↔ ((IsTrue is_so × (r ≡ n)) ⊎ Has old r)) → ((r : ℕ) → Has old r ↔ ((r < n) × HasBit set r)) → (r : ℕ) → Has new r ↔ ((r < n + 1) × HasBit set r)
+  states_more n bits is_so old new is added before r = (
+    λ h. ⊎_elim (λ x. let same : r ≡ n = x.1 in (omega arith, subst (λ k. HasBit bits k) (sym same) (is.0 x.0))) (λ x. (let b = (before r).0 x in (omega (arith, b.0), b.1))) ((added r).0 h),
+    λ h. (added r).1 (⊎_elim (λ (same : r ≡ n). inl (is.1 (subst (λ k. HasBit bits k) same h.1), same)) (λ (other : r ≢ n). inr ((before r).1 (omega (arith, h.0), h.1))) (cases_eq r n)),
+  )
+
+  -- the bytes lead from some state of the set to q
+  abbrev pub IsReachedFrom : Tree → S → List ℕ → ℕ → Type 0
+  IsReachedFrom tree states bytes q = (p : ℕ) × Has states p × Reaches tree p bytes q
+
+  -- one set is the other one stepped by the byte, as far as there is room
+  abbrev pub AreStepped : ℕ → Narrow S → S → S → ℕ → Type 0
+  AreStepped room n states next b = (r : ℕ) → (Has next r → IsStepBy Has n states b r) × (r < room → IsStepBy Has n states b r → Has next r)
+
+  -- so it is behind one byte, from the next set
+  pub states_step : (room : ℕ) (tree : Tree) (n : Narrow S) (states next : S) (b : ℕ) (bytes : List ℕ) (q : ℕ) → slots_of tree < room → IsNarrow Has tree n → b < 256 → AreStepped room n states next b → IsReachedFrom tree states (b ∷ bytes) q ↔ IsReachedFrom tree next bytes q
+  states_step room tree n states next b bytes q few narrow byte step = (
+    λ h.
+        let p : ℕ = h.0 in
+        let r : ℕ = h.2.0 in
+        let slot = follows_to_a_slot tree p r h.2.1 in
+        let takes = (narrow.takes b r byte).1 (follows_above_the_start tree p r h.2.1, slot, h.2.2) in
+        (r, (step r).1 (omega (arith, slot, few)) (p, h.1, (narrow.follows p r).1 h.2.1, takes), h.2.3),
+    λ h.
+        let r : ℕ = h.0 in
+        let before = (step r).0 h.1 in
+        let p : ℕ = before.0 in
+        (p, before.1, (r, (narrow.follows p r).0 before.2, ((narrow.takes b r byte).0 before.3).2, h.2)),
+  )
+
+  -- a set, and the one to which the bytes so far lead from it
+  pub record GoesByWords (tree : Tree) (set bytes : List ℕ) (at : ℕ) (states : S) : Type 0 where
+    pub within : (q : ℕ) → Has states q → q < 8 * set_len tree
+    pub same : (q : ℕ) → IsReached tree set bytes q ↔ IsReachedFrom tree states (drop at bytes) q
+
+  -- no byte yet
+  pub GoesByWords-none : (tree : Tree) (set bytes : List ℕ) (states : S) → length set ≡ set_len tree → ((q : ℕ) → Has states q ↔ HasBit set q) → GoesByWords tree set bytes 0 states
+  GoesByWords-none tree set bytes states long is = record {
+    within = λ q bit. (let inside = bits_are_within set q ((is q).0 bit) in omega arith);
+    same = λ q. (λ h. (h.0, (is h.0).1 h.1, h.2), λ h. (h.0, (is h.0).0 h.1, h.2));
+  }
+
+  -- one more byte
+  pub GoesByWords-more : (room : ℕ) (tree : Tree) (set bytes : List ℕ) (n : Narrow S) (at : ℕ) (states next : S) (b : ℕ) → slots_of tree < room → IsNarrow Has tree n → at < length bytes → b ≡ get_or bytes at 0 → b < 256 → AreStepped room n states next b → GoesByWords tree set bytes at states → GoesByWords tree set bytes (at + 1) next
+  GoesByWords-more room tree set bytes n at states next b few narrow inside is byte step before =
+      let head : drop at bytes ≡ get_or bytes at 0 ∷ drop (at + 1) bytes = rw add-one (drop-cons bytes at 0 inside) in
+      let first : drop at bytes ≡ b ∷ drop (at + 1) bytes = head ∙ ap (λ k. k ∷ drop (at + 1) bytes) (sym is) in
+      record {
+        within = λ q bit.
+            let slot = ((narrow.takes b q byte).0 ((step q).0 bit).3).1 in
+            omega (arith, slot);
+        same = λ q.
+            let one = states_step room tree n states next b (drop (at + 1) bytes) q few narrow byte step in
+            let P : List ℕ → Type 0 = λ l. IsReached tree set bytes q ↔ IsReachedFrom tree states l q in
+            let so : P (b ∷ drop (at + 1) bytes) = subst P first (before.same q) in
+            (λ h. one.0 (so.0 h), λ h. so.1 (one.1 h));
+      }
+
+  -- the states are written as a set again
+  pub GoesByWords-all : (tree : Tree) (set new bytes : List ℕ) (at : ℕ) (states : S) (q : ℕ) → length set ≡ set_len tree → length new ≡ set_len tree → ((q : ℕ) → q < 8 * length set → HasBit new q ↔ Has states q) → GoesByWords tree set bytes at states → IsReached tree set bytes q ↔ IsReached tree new (drop at bytes) q
+  GoesByWords-all tree set new bytes at states q long long_new written goes = (
+    λ h.
+        let on = (goes.same q).0 h in
+        let inside = goes.within on.0 on.1 in
+        (on.0, (written on.0 (omega arith)).1 on.1, on.2),
+    λ h.
+        let inside = bits_are_within new h.0 h.1 in
+        (goes.same q).1 (h.0, (written h.0 (omega arith)).0 h.1, h.2),
+  )
 
 -- the same of a scan as callers see it, and of a piece from one place on
 pub goes_on_by_words : (view scan : SequenceScanView) (old new written bytes piece : List ℕ) (from count q : ℕ) → view ≡ scan → old ≡ view.set → written ≡ new → bytes ≡ piece → ((r : ℕ) → IsReached (whole_tree view.sequence) old (take (length bytes - from) (drop from bytes)) r ↔ IsReached (whole_tree view.sequence) new (drop count (take (length bytes - from) (drop from bytes))) r) → IsReached (whole_tree scan.sequence) scan.set (drop from piece) q ↔ IsReached (whole_tree scan.sequence) written (drop (from + count) piece) q

@@ -3,7 +3,7 @@ use Rattle.std.specs.Prelude.{◌≡◌, ◌≢◌, ◌⊎◌, ◌↔◌, ℕ, z
 use Rattle.sig_auto.specs.Runs.{IsStepOf}
 use Rattle.sig_auto.specs.Tracks.{Follows}
 use Rattle.sig_auto.specs.Trees.{Tree}
-use Rattle.sig_auto.specs.TreeSlots.{Takes}
+use Rattle.sig_auto.specs.TreeSlots.{Takes, slots_of}
 use Rattle.sig_bits.specs.BitSets.{HasBit}
 use Rattle.sig_bits.specs.ByteClasses.{Holds}
 use Rattle.sig_bits.specs.declared.byte_class.ByteClass.{ByteClass}
@@ -57,6 +57,10 @@ Fades tree set (suc n) q = (r : ℕ) → Follows tree q r → IsFollower tree se
 -- state q is in the set, or fades
 abbrev pub IsNoLoss : Tree → List ℕ → ℕ → ℕ → Type 0
 IsNoLoss tree set depth q = HasBit set q ⊎ Fades tree set depth q
+
+-- each state of the second set is in the first, or fades, or is this one
+abbrev pub IsLoneNew : Tree → List ℕ → List ℕ → ℕ → ℕ → Type 0
+IsLoneNew tree set next depth state = (q : ℕ) → q ≤ slots_of tree → HasBit next q → IsNoLoss tree set depth q ⊎ (q ≡ state)
 
 -- behind so many bytes, whatever leads on from state p is these bytes, as far as they go
 abbrev pub GoesLater : ℕ → Tree → ℕ → List ℕ → Type 0

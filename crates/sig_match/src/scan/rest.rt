@@ -7,7 +7,7 @@ ghost use Rattle.sig_auto.specs.TreeSlots.{Takes, set_len, slots_of};
 ghost use Rattle.sig_bits.specs.BitSets.{HasBit};
 ghost use Rattle.sig_bits.specs.ByteClasses.{Holds};
 ghost use Rattle.sig_match.specs.Ways.{front_of};
-ghost use Rattle.sig_match.specs.Rests.{AreCutsOf, Fades, GoesBy, IsFollower, IsLeftOn, IsNoLoss, IsOnlyWay, IsRest, LeadsOnlyTo, Opens, front_at, no_front};
+ghost use Rattle.sig_match.specs.Rests.{AreCutsOf, Fades, GoesBy, IsFollower, IsLeftOn, IsLoneNew, IsNoLoss, IsOnlyWay, IsRest, LeadsOnlyTo, Opens, front_at, no_front};
 
 use crate::scan::way::{FRONT, Way};
 use sig_auto::Auto;
@@ -307,7 +307,7 @@ fn lone_byte(class: &ByteClass) -> Option<u8>
 fn lone_new(auto: &Auto, set: &[u8], next: &[u8], depth: usize) -> Option<u32>
     requires set_len { length set.now ≡ set_len (whole_tree auto.now) }
     requires next_len { length next.now ≡ set_len (whole_tree auto.now) }
-    ensures { IfSome result (λ s. (q : ℕ) → q ≤ slots_of (whole_tree auto.now) → HasBit next.now q → IsNoLoss (whole_tree auto.now) set.now depth q ⊎ (q ≡ s)) }
+    ensures { IfSome result (IsLoneNew (whole_tree auto.now) set.now next.now depth) }
 {
     let mut found = None;
     for state in 0..auto.slots() + 1 {

@@ -13,7 +13,7 @@ ghost use Rattle.sig_table.specs.Tables.{IsSequence};
 ghost use Rattle.sig_table.specs.Views.{SequenceView};
 
 use crate::scan::fixed::{run_of, write_behind};
-use crate::scan::narrow::{WORD, go_by_words};
+use crate::scan::narrow::go_by_words;
 use crate::scan::piece::Piece;
 use crate::scan::rest::way_of;
 use crate::scan::sieve::Sieve;
@@ -35,12 +35,12 @@ const COMPARED: usize = 64;
 // A sequence that does not rest looks back once in so many bytes.
 const AGAIN: usize = 64;
 
-// The greatest set, in bytes, of a sequence that looks back.
+// The greatest set, in bytes, of a sequence that looks back or goes by words.
 const SMALL: usize = 32;
 
-// So many bytes in a row are stepped before the sequence goes on by words, and so many have to be left:
-// to make the words takes long.
-const AWAKE: usize = 1024;
+// So many bytes in a row, for each byte of the set, are stepped before the sequence goes on by words, and so
+// many have to be left: to ask the automaton all that follows takes long.
+const AWAKE: usize = 128;
 
 // The set, the room of the next one, and a set in which the sequence can rest, with the way out of it:
 // at first the one in which most files leave it, then the one in which it rested last. `number` is the
@@ -220,15 +220,15 @@ impl SequenceScan {
         ensures within { result ≤ length piece.now }
         ensures same { LeadsAlike (whole_tree self.old.sequence) self.old.set (drop from piece.now) self.new.set (drop result piece.now) }
     {
-        if self.resting || self.set.len() > WORD || self.awake < AWAKE {
+        if self.resting || self.set.len() > SMALL {
             return from;
         }
-        let bytes = piece.bytes();
-        if bytes.len() - from < AWAKE {
+        let behind = &piece.bytes()[from..];
+        let many = AWAKE * self.set.len();
+        if self.awake < many || behind.len() < many {
             return from;
         }
         self.awake = 0;
-        let behind = &bytes[from..];
         let count = go_by_words(&self.auto, &mut self.set, &self.rest, behind);
         self.resting = same_bytes(&self.set, &self.rest);
         from + count

@@ -1,8 +1,6 @@
-use Rattle.sig_match.proofs.NarrowLemmas.{StepsBelow}
+use Rattle.sig_match.proofs.NarrowLemmas.{FoundBelow}
 use Rattle.sig_match.proofs.scan.narrow.Narrow.step.Given as goal
 
-abbrev pub invariant-loop-left : goal.invariant-loop-left
-invariant-loop-left l = StepsBelow l.self.follow l.set l.left l.found
-
-abbrev pub decreases-loop-left : goal.decreases-loop-left
-decreases-loop-left l = l.left
+-- what the groups so far lead to is found
+abbrev pub invariant-loop-g : goal.invariant-loop-g
+invariant-loop-g g l = FoundBelow g.S.StateSet.has l.self l.set l.initial.found l.g l.found
