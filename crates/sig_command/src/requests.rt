@@ -5,7 +5,7 @@ ghost use Rattle.clap.specs.Values.{kind_of};
 ghost use Rattle.clap.specs.Words.{Text};
 ghost use Rattle.sig_command.specs.Requests.{Answers, AnswersWords, CutsSomeWords, CutsWords, HasFiles, IsFaultOf, IsLoadFault, JoinsBoth, KeepsOrCuts, MakesOut, MakesWords, ShowsSomeWords, ShowsWords, TellsOf, file_fault};
 ghost use Rattle.sig_engines.specs.Stores.{IsTableOf, Opens};
-ghost use Rattle.sig_command.specs.CommandLine.{AreTaken, IsHelpAsked, texts_of};
+ghost use Rattle.sig_command.specs.CommandLine.{AreTaken, texts_of};
 ghost use Rattle.sig_command.specs.Endings.{AnswersBy, AnswersSomeWords, KeepsErrors, KeepsOutput, ReportsBy, ReportsMemory};
 ghost use Rattle.sig_table.specs.Tables.{IsTable};
 

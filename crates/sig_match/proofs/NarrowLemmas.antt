@@ -139,11 +139,14 @@ module _ {S : Type 0} (Has : S → ℕ → Type 0) where
             at.1
             (⊎_elim
             (λ (same : b ≡ n).
-            inl (same, (added r).1
-            (⊎_elim
-            (λ one. inl (holds.1 (subst (λ k. Holds class k) same one.2), one.0))
-            (λ first. inr (here.0 (subst (λ k. HasAt Has new k r) same ((before b r small).1 (inr first)))))
-            h)))
+            inl (
+              same,
+              (added r).1
+                  (⊎_elim
+                  (λ one. inl (holds.1 (subst (λ k. Holds class k) same one.2), one.0))
+                  (λ first. inr (here.0 (subst (λ k. HasAt Has new k r) same ((before b r small).1 (inr first)))))
+                  h),
+            ))
             (λ (other : b ≢ n).
             inr (other, (before b r small).1 (⊎_elim (λ one. inl (one.0, omega (arith, one.1), one.2)) (λ first. inr first) h)))
             (cases_eq b n)),
@@ -259,11 +262,11 @@ module _ {S : Type 0} (Has : S → ℕ → Type 0) where
             (λ one. (g, within, (at g).1 (inl (refl, (added r).1 (inl one.0))), (leads q).1 one.1))
             (λ old.
             let stands : HasAt Has (set from g with) old.0 r =
-                (at old.0).1
-                (⊎_elim
-                (λ (same : old.0 ≡ g). inl (same, (added r).1 (inr (here.0 (subst (λ j. HasAt Has from j r) same old.2)))))
-                (λ (other : old.0 ≢ g). inr (other, old.2))
-                (cases_eq old.0 g)) in
+            (at old.0).1
+            (⊎_elim
+            (λ (same : old.0 ≡ g). inl (same, (added r).1 (inr (here.0 (subst (λ j. HasAt Has from j r) same old.2)))))
+            (λ (other : old.0 ≢ g). inr (other, old.2))
+            (cases_eq old.0 g)) in
             (old.0, old.1, stands, old.3))
             h,
       )
@@ -437,14 +440,14 @@ module _ {S : Type 0} (Has : S → ℕ → Type 0) where
             let state : Has states p = h.1 in
             let near_it : IsNear n states q → Has near q ⊎ GroupedBelow n states k q = λ is. inl ((nears q).1 inside is) in
             let found_it : Has near q ⊎ GroupedBelow n states k q =
-                ⊎_elim
-                (λ x. near_it (inl (subst (λ j. Has states j) (sym x.0) state, subst (λ j. Has n.stay j) (sym x.0) x.1)))
-                (λ y. ⊎_elim
-                (λ x. let back : p ≡ q - 1 = omega (arith, x.0) in near_it (inr (inl (omega (arith, x.0), subst (λ j. Has states j) back state, subst (λ j. Has n.one j) back x.1))))
-                (λ y. ⊎_elim
-                (λ x. let back : p ≡ q - 2 = omega (arith, x.0) in near_it (inr (inr (omega (arith, x.0), subst (λ j. Has states j) back state, subst (λ j. Has n.two j) back x.1))))
-                (λ x. inr (x.0, omega (arith, x.1, all), p, state, x.2, x.3))
-                y) y) h.2 in
+            ⊎_elim
+            (λ x. near_it (inl (subst (λ j. Has states j) (sym x.0) state, subst (λ j. Has n.stay j) (sym x.0) x.1)))
+            (λ y. ⊎_elim
+            (λ x. let back : p ≡ q - 1 = omega (arith, x.0) in near_it (inr (inl (omega (arith, x.0), subst (λ j. Has states j) back state, subst (λ j. Has n.one j) back x.1))))
+            (λ y. ⊎_elim
+            (λ x. let back : p ≡ q - 2 = omega (arith, x.0) in near_it (inr (inr (omega (arith, x.0), subst (λ j. Has states j) back state, subst (λ j. Has n.two j) back x.1))))
+            (λ x. inr (x.0, omega (arith, x.1, all), p, state, x.2, x.3))
+            y) y) h.2 in
             (both q).1 ((below q).1 found_it, at.0 h.3),
       )
 

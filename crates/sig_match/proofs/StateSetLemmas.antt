@@ -179,13 +179,13 @@ before_bit : (words : List ℕ) (q : ℕ) → BeforeBit words (q / 64) (q % 64) 
 before_bit words q =
     let P : ℕ → ℕ → Type 0 = λ k r. HasBitOf (get_or words k 0) r in
     let inside : 0 < q % 64 → P (q / 64) (q % 64 - 1) ↔ P ((q - 1) / 64) ((q - 1) % 64) = λ some.
-        let k : q / 64 ≡ (q - 1) / 64 = omega arith in
-        let r : q % 64 - 1 ≡ (q - 1) % 64 = omega arith in
-        (λ h. subst (λ j. P j ((q - 1) % 64)) k (subst (λ s. P (q / 64) s) r h), λ h. subst (λ j. P j (q % 64 - 1)) (sym k) (subst (λ s. P ((q - 1) / 64) s) (sym r) h)) in
+    let k : q / 64 ≡ (q - 1) / 64 = omega arith in
+    let r : q % 64 - 1 ≡ (q - 1) % 64 = omega arith in
+    (λ h. subst (λ j. P j ((q - 1) % 64)) k (subst (λ s. P (q / 64) s) r h), λ h. subst (λ j. P j (q % 64 - 1)) (sym k) (subst (λ s. P ((q - 1) / 64) s) (sym r) h)) in
     let border : q % 64 ≡ 0 → 0 < q → P (q / 64 - 1) 63 ↔ P ((q - 1) / 64) ((q - 1) % 64) = λ first some.
-        let k : q / 64 - 1 ≡ (q - 1) / 64 = omega arith in
-        let r : 63 ≡ (q - 1) % 64 = omega arith in
-        (λ h. subst (λ j. P j ((q - 1) % 64)) k (subst (λ s. P (q / 64 - 1) s) r h), λ h. subst (λ j. P j 63) (sym k) (subst (λ s. P ((q - 1) / 64) s) (sym r) h)) in (
+    let k : q / 64 - 1 ≡ (q - 1) / 64 = omega arith in
+    let r : 63 ≡ (q - 1) % 64 = omega arith in
+    (λ h. subst (λ j. P j ((q - 1) % 64)) k (subst (λ s. P (q / 64 - 1) s) r h), λ h. subst (λ j. P j 63) (sym k) (subst (λ s. P ((q - 1) / 64) s) (sym r) h)) in (
       λ h. ⊎_elim (λ x. (let some : 0 < q = omega (arith, x.0) in (some, (inside x.0).0 x.1))) (λ x. (let some : 0 < q = omega (arith, x.0, x.1) in (some, (border x.0 some).0 x.2))) h,
       λ h. ⊎_elim (λ (first : q % 64 ≡ 0). let some = h.0 in inr (first, omega arith, (border first some).1 h.1)) (λ (later : q % 64 ≢ 0). inl (omega arith, (inside (omega arith)).1 h.1)) (cases_eq (q % 64) 0),
     )
@@ -204,15 +204,15 @@ four_up a q long small =
       λ h. ⊎_elim (λ x. (bits_up (get_or a 0 0) r).1 (x.0, low, x.1)) (λ x. absurd (omega (arith, x.1))) h.1,
     ) in
     let other : (k : ℕ) → k < 3 → HasBitOf (bit_or (up (k + 1)) (carry k)) r ↔ ((k + 1 < 4) × BeforeBit a (k + 1) r) = λ k within.
-        let is = bits_behind (get_or a (k + 1) 0) (get_or a k 0) r (small k) in
-        let back : k + 1 - 1 ≡ k = omega arith in (
-          λ bit. (omega arith, ⊎_elim (λ x. inl (x.0, x.2)) (λ x. inr (x.0, omega arith, subst (λ j. HasBitOf (get_or a j 0) 63) (sym back) x.1)) (is.0 bit)),
-          λ h. is.1 (⊎_elim (λ x. inl (x.0, low, x.1)) (λ x. inr (x.0, subst (λ j. HasBitOf (get_or a j 0) 63) back x.2)) h.1),
-        ) in
+    let is = bits_behind (get_or a (k + 1) 0) (get_or a k 0) r (small k) in
+    let back : k + 1 - 1 ≡ k = omega arith in (
+      λ bit. (omega arith, ⊎_elim (λ x. inl (x.0, x.2)) (λ x. inr (x.0, omega arith, subst (λ j. HasBitOf (get_or a j 0) 63) (sym back) x.1)) (is.0 bit)),
+      λ h. is.1 (⊎_elim (λ x. inl (x.0, low, x.1)) (λ x. inr (x.0, subst (λ j. HasBitOf (get_or a j 0) 63) back x.2)) h.1),
+    ) in
     let at : HasBitOf (get_or all (q / 64) 0) r ↔ ((q / 64 < 4) × BeforeBit a (q / 64) r) =
-        by_fours (λ k. HasBitOf (get_or all k 0) r ↔ ((k < 4) × BeforeBit a k r)) (q / 64)
-        lowest (other 0 (omega arith)) (other 1 (omega arith)) (other 2 (omega arith))
-        (λ k past. (λ bit. absurd (no_bit_past all k r refl past bit), λ h. absurd (omega (arith, h.0)))) in
+    by_fours (λ k. HasBitOf (get_or all k 0) r ↔ ((k < 4) × BeforeBit a k r)) (q / 64)
+    lowest (other 0 (omega arith)) (other 1 (omega arith)) (other 2 (omega arith))
+    (λ k past. (λ bit. absurd (no_bit_past all k r refl past bit), λ h. absurd (omega (arith, h.0)))) in
     let before = before_bit a q in (
       λ bit. (let h = at.0 bit in let one = before.0 h.1 in (one.0, omega (arith, h.0), one.1)),
       λ h. at.1 (omega (arith, h.1), before.1 (h.0, h.2)),

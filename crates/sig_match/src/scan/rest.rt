@@ -1,9 +1,8 @@
 //! How a sequence leaves a set of states, found out by its automaton.
 
 ghost use Rattle.std.specs.Prelude.{◌≡◌, ◌⊎◌, ◌↔◌, ℕ, ◌<◌, ◌≤◌, IfSome, IsTrue, length, take};
-ghost use Rattle.sig_auto.specs.Tracks.{Follows};
 ghost use Rattle.sig_auto.specs.Trees.{whole_tree};
-ghost use Rattle.sig_auto.specs.TreeSlots.{Takes, set_len, slots_of};
+ghost use Rattle.sig_auto.specs.TreeSlots.{set_len, slots_of};
 ghost use Rattle.sig_bits.specs.BitSets.{HasBit};
 ghost use Rattle.sig_bits.specs.ByteClasses.{Holds};
 ghost use Rattle.sig_match.specs.Ways.{front_of};

@@ -414,8 +414,9 @@ fn the_plain_scan_agrees_on_a_run_that_is_nearly_met(rt: HostRuntime) -> Result<
     Ok(())
 }
 
-// Sequences of few states that bytes 41 and 42 alone keep from resting, or of which the beginning is met
-// again and again. The last but one has as many states as a word has bits, and the last one more.
+// Sequences that bytes 41 and 42 alone keep from resting, or of which the beginning is met again and again.
+// Those with 59 and 60 bytes between have as many states as a word has bits, and one more; those with 251 and
+// 252 as many as four words have, and one more. The states of the last one lead to more groups than there is room for.
 const AWAKE: &[&str] = &[
     "Variable,,,41*4243",
     "Variable,,,4142*4143",
@@ -424,8 +425,18 @@ const AWAKE: &[&str] = &[
     "Variable,,,(41|4142)43",
     "BOF,0,9,41*42{1-3}43",
     "EOF,0,2,41*4241??43",
-    "Variable,,,41{58}42",
     "Variable,,,41{59}42",
+    "Variable,,,41{60}42",
+    "Variable,,,41{0-200}42??43",
+    "Variable,,,41{190}(42|4143|[40:42]44)45",
+    "Variable,,,41{251}42",
+    "Variable,,,41{252}42",
+    "Variable,,,(41|42)(41|42)(41|42)(41|42)(41|42)(41|42)(41|42)(41|42)(41|42)(41|42)(41|42)(41|42)\
+     (41|42)(41|42)(41|42)(41|42)(41|42)(41|42)(41|42)(41|42)(41|42)(41|42)(41|42)(41|42)\
+     (41|42)(41|42)(41|42)(41|42)(41|42)(41|42)(41|42)(41|42)(41|42)(41|42)(41|42)(41|42)\
+     (41|42)(41|42)(41|42)(41|42)(41|42)(41|42)(41|42)(41|42)(41|42)(41|42)(41|42)(41|42)\
+     (41|42)(41|42)(41|42)(41|42)(41|42)(41|42)(41|42)(41|42)(41|42)(41|42)(41|42)(41|42)\
+     (41|42)(41|42)(41|42)(41|42)(41|42)(41|42)",
 ];
 
 // Whether they agree on those behind each of these pieces.
@@ -443,9 +454,9 @@ fn agree_awake(alloc: Global, pieces: &[&[u8]]) -> Result<bool, Fail> {
 fn agree_on_pattern(alloc: Global, pattern: &[u8]) -> Result<bool, Fail>
     requires { 0 < length pattern.now }
 {
-    let long = repeated(alloc, pattern, 2600)?;
-    let front = repeated(alloc, pattern, 1400)?;
-    let back = repeated(alloc, pattern, 1200)?;
+    let long = repeated(alloc, pattern, 9000)?;
+    let front = repeated(alloc, pattern, 4700)?;
+    let back = repeated(alloc, pattern, 4300)?;
     Ok(
         agree_awake(alloc, &[&long, b"C"])?
             && agree_awake(alloc, &[&front, b"BC", &back, b"", b"ABBC"])?
