@@ -23,3 +23,4 @@ mod ScanLemmas
 mod SieveLemmas
 mod SpanLemmas
 mod StandLemmas
+mod StateSetLemmas

@@ -26,4 +26,5 @@ pub mod Ways
 pub mod Runs
 pub mod Sieves
 pub mod Spans
+pub mod StateSets
 pub use Rattle.memchr.specs.Find

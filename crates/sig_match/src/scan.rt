@@ -25,6 +25,7 @@ mod sequence_scan;
 mod sieve;
 mod signature_scan;
 mod span;
+mod state_set;
 mod table_scan;
 #[cfg(test)]
 mod tests;
