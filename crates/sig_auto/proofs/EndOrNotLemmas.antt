@@ -67,7 +67,7 @@ leads_or_not tree P b q p trim own = elim own [
 ]
 
 -- only the start and slots are followed
-followed_is_state : (tree : Tree) (p q : ℕ) → Follows tree p q → p ≤ slots_of tree
+pub followed_is_state : (tree : Tree) (p q : ℕ) → Follows tree p q → p ≤ slots_of tree
 followed_is_state tree p q f = elim (cases_eq p 0) [
   | inl start ↦ omega arith
   | inr other ↦ let slot = (follows-slots tree 0 p q (rw (ne_eqb p 0 other) at (follows_shown tree p q f))).0 in omega arith

@@ -9,6 +9,8 @@ mod EndOrNotLemmas
 pub mod Exports
 mod LaterLemmas
 mod LocalLemmas
+mod MoveTreeLemmas
+mod MovesLemmas
 mod PruneLemmas
 mod RowLemmas
 mod RowPushLemmas
@@ -16,8 +18,10 @@ mod RunLaws
 mod RunLemmas
 mod RunTreeLemmas
 mod SameLemmas
+mod ShortLemmas
 mod SideLemmas
 mod SpelledLemmas
+mod StateSetLemmas
 mod StepLemmas
 mod SuccessorLemmas
 mod TakenLemmas

@@ -22,6 +22,10 @@ row_classes : (cs : List Class) → classes_of (row_tree cs) ≡ cs
 row_classes [] = refl
 row_classes (c ∷ cs) = ap (λ l. c ∷ l) (row_classes cs)
 
+-- the classes of a run
+pub run_classes : (tree : Tree) (cs : List Class) → tree ≡ row_tree cs → classes_of tree ≡ cs
+run_classes tree cs is = ap classes_of is ∙ row_classes cs
+
 pub row_class : (tree : Tree) (cs : List Class) (k : ℕ) → tree ≡ row_tree cs → class_of tree k ≡ get_or cs (k - 1) any
 row_class tree cs k is = ap (λ t. class_of t k) is ∙ ap (λ l. get_or l (k - 1) any) (row_classes cs)
 

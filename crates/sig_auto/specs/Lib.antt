@@ -12,10 +12,13 @@ pub mod Begins
 pub mod Counted
 pub mod Cuts
 pub mod Local
+pub mod Moves
 pub mod Same
 pub mod Seen
+pub mod Shorts
 pub mod Sides
 pub mod Spelled
+pub mod StateSets
 pub mod Stepping
 pub mod Successions
 pub mod Trim

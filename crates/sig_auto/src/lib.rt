@@ -9,9 +9,12 @@ mod behind;
 mod class;
 mod class_word;
 mod laws;
+mod moves;
 mod node;
 mod run;
+mod short;
 mod start;
+mod state_set;
 mod step;
 mod successors;
 mod unroll;
@@ -22,5 +25,7 @@ pub use laws::{
     accepts_by_an_end, runs_accept_what_stands, runs_are_decided, runs_begin, runs_go_on,
     slots_are_counted, states_are_slots,
 };
+pub use moves::Moves;
 pub use start::{accepts_empty, first_bytes};
+pub use state_set::{FourWords, StateSet};
 pub use successors::Successors;

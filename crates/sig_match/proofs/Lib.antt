@@ -23,4 +23,3 @@ mod ScanLemmas
 mod SieveLemmas
 mod SpanLemmas
 mod StandLemmas
-mod StateSetLemmas

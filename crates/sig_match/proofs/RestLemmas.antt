@@ -65,7 +65,7 @@ stay_back tree set (suc n) (b ∷ bytes) q stays are reached =
     (before.0, before.1, (more.0, before.2, before.3, more.2))
 
 -- what fades leads nowhere else behind as many bytes
-fades_forward : (n : ℕ) (tree : Tree) (set bytes : List ℕ) (p q : ℕ) → ((r b : ℕ) → b < 256 → HasBit set r → IsStepOf tree set b r) → IsBytes bytes → n ≤ length bytes → Fades tree set n p → Reaches tree p bytes q → IsReached tree set bytes q
+pub fades_forward : (n : ℕ) (tree : Tree) (set bytes : List ℕ) (p q : ℕ) → ((r b : ℕ) → b < 256 → HasBit set r → IsStepOf tree set b r) → IsBytes bytes → n ≤ length bytes → Fades tree set n p → Reaches tree p bytes q → IsReached tree set bytes q
 fades_forward zero tree set bytes p q stays are long never reaches = absurd never
 fades_forward (suc n) tree set [] p q stays are long fades reaches = absurd (omega arith)
 fades_forward (suc n) tree set (b ∷ bytes) p q stays are long fades reaches =

@@ -1,14 +1,16 @@
 -- Sequences that rest again behind bytes that came to nothing.
-use Rattle.std.proofs.Common.{◌≡◌, ◌↔◌, ℕ, zero, suc, ◌-◌, ◌<◌, ◌≤◌, List, [], ◌∷◌, ◌++◌, length, take, drop, subst, sym, ap, refl, ◌∙◌, arith}
+use Rattle.std.proofs.Common.{⊎_elim, ◌≡◌, ◌↔◌, ℕ, zero, suc, ◌-◌, ◌<◌, ◌≤◌, List, [], ◌∷◌, ◌++◌, length, take, drop, subst, sym, ap, refl, ◌∙◌, arith}
 use Rattle.std.proofs.lemmas.List.{take-append-drop, take_rest}
 use Rattle.sig_auto.specs.Runs.{IsStepOf}
 use Rattle.sig_auto.specs.Trees.{Tree, whole_tree}
+use Rattle.sig_auto.specs.TreeSlots.{slots_of}
+use Rattle.sig_auto.proofs.Exports.{followed_is_state}
 use Rattle.sig_bits.specs.BitSets.{HasBit}
 use Rattle.sig_bits.specs.Bytes.{IsBytes}
 use Rattle.sig_match.specs.Scans.{SequenceScanView}
 use Rattle.sig_bits.specs.declared.byte_class.ByteClass.{ByteClass}
-use Rattle.sig_match.specs.Rests.{FrontAt, IsPassed, IsReached, IsRest, LeadsAlike, Reaches}
-use Rattle.sig_match.proofs.RestLemmas.{bytes_behind, drop_further, passed_back, passed_forward}
+use Rattle.sig_match.specs.Rests.{FrontAt, IsPassed, IsNoLoss, IsReached, IsRest, IsShedTo, LeadsAlike, Reaches}
+use Rattle.sig_match.proofs.RestLemmas.{bytes_behind, fades_forward, drop_further, passed_back, passed_forward}
 
 -- bytes in two parts lead through a state between them
 reaches_in_parts : (tree : Tree) (p : ℕ) (first later : List ℕ) (q : ℕ) → Reaches tree p (first ++ later) q ↔ ((m : ℕ) × Reaches tree p first m × Reaches tree m later q)
@@ -77,3 +79,46 @@ pub passed_further : (exits : ByteClass) (front : FrontAt) (bytes later : List �
 passed_further exits front bytes later b n zero cut here more below = here
 passed_further exits front bytes later b n (suc x) cut here more below =
     subst (λ l. IsPassed exits front (drop (suc x) l)) (sym cut) (more x (omega arith))
+
+-- a state that leads on by some bytes is the start or a slot
+leading_is_state : (tree : Tree) (p q : ℕ) (bytes : List ℕ) → 0 < length bytes → Reaches tree p bytes q → p ≤ slots_of tree
+leading_is_state tree p q [] some on = absurd (omega arith)
+leading_is_state tree p q (b ∷ bytes) some on = followed_is_state tree p on.0 on.1
+
+-- without states that fade a set leads on as it did, behind as many bytes
+pub shed_alike : (tree : Tree) (set kept : List ℕ) (exits : ByteClass) (front : FrontAt) (bytes : List ℕ) → IsShedTo tree set kept → IsRest tree kept exits front → IsBytes bytes → 64 ≤ length bytes → LeadsAlike tree set bytes kept bytes
+shed_alike tree set kept exits front bytes sheds is are long q = (
+  λ h.
+      ⊎_elim
+      (λ inside. (h.0, inside, h.2))
+      (λ fades. fades_forward 64 tree kept bytes h.0 q is.stays are long fades h.2)
+      (sheds.fade h.0 (leading_is_state tree h.0 q bytes (omega arith) h.2) h.1),
+  λ h. (h.0, sheds.within h.0 h.1, h.2),
+)
+
+-- the same of a scan as callers see it
+pub sheds : (view scan : SequenceScanView) (kept new : List ℕ) (exits : ByteClass) (front : FrontAt) (bytes : List ℕ) → view ≡ scan → new ≡ kept → IsShedTo (whole_tree scan.sequence) scan.set kept → IsRest (whole_tree view.sequence) kept exits front → IsBytes bytes → 64 ≤ length bytes → LeadsAlike (whole_tree scan.sequence) scan.set bytes new bytes
+sheds view scan kept new exits front bytes same new_is shed is are long =
+    let rest : IsRest (whole_tree scan.sequence) kept exits front = subst (λ (v : SequenceScanView). IsRest (whole_tree v.sequence) kept exits front) same is in
+    subst (λ l. LeadsAlike (whole_tree scan.sequence) scan.set bytes l bytes) (sym new_is) (shed_alike (whole_tree scan.sequence) scan.set kept exits front bytes shed rest are long)
+
+-- a set's states that two tests found to be within it, where the others fade
+pub sheds_by_tests : (view scan : SequenceScanView) (kept one two : List ℕ) → view ≡ scan → one ≡ view.set → two ≡ view.set → ((q : ℕ) → HasBit kept q → HasBit one q) → ((q : ℕ) → q ≤ slots_of (whole_tree view.sequence) → HasBit two q → IsNoLoss (whole_tree view.sequence) kept 64 q) → IsShedTo (whole_tree scan.sequence) scan.set kept
+sheds_by_tests view scan kept one two same one_is two_is within fade =
+    let shed : IsShedTo (whole_tree view.sequence) view.set kept = record {
+      within = λ q bit. subst (λ l. HasBit l q) one_is (within q bit);
+      fade = λ q small bit. fade q small (subst (λ l. HasBit l q) (sym two_is) bit);
+    } in
+    subst (λ (v : SequenceScanView). IsShedTo (whole_tree v.sequence) v.set kept) same shed
+
+-- the bytes behind a place are what is left of the piece
+pub alike_behind : (tree : Tree) (set new bytes piece : List ℕ) (at : ℕ) → bytes ≡ piece → LeadsAlike tree set (take (length bytes - at) (drop at bytes)) new (take (length bytes - at) (drop at bytes)) → LeadsAlike tree set (drop at piece) new (drop at piece)
+alike_behind tree set new bytes piece at piece_is alike =
+    let Alike : List ℕ → Type 0 = λ l. LeadsAlike tree set l new l in
+    subst (λ l. Alike (drop at l)) piece_is (subst Alike (take_rest bytes at) alike)
+
+-- one set leads on as another, and that as a third
+pub alike_twice : (one two : SequenceScanView) (new bytes : List ℕ) → two.sequence ≡ one.sequence → LeadsAlike (whole_tree one.sequence) one.set bytes two.set bytes → LeadsAlike (whole_tree two.sequence) two.set bytes new bytes → LeadsAlike (whole_tree one.sequence) one.set bytes new bytes
+alike_twice one two new bytes same first second q =
+    let on = subst (λ s. IsReached (whole_tree s) two.set bytes q ↔ IsReached (whole_tree s) new bytes q) same (second q) in
+    (λ h. on.0 ((first q).0 h), λ h. (first q).1 (on.1 h))

@@ -26,5 +26,4 @@ pub mod Ways
 pub mod Runs
 pub mod Sieves
 pub mod Spans
-pub mod StateSets
 pub use Rattle.memchr.specs.Find

@@ -58,6 +58,11 @@ Fades tree set (suc n) q = (r : ℕ) → Follows tree q r → IsFollower tree se
 abbrev pub IsNoLoss : Tree → List ℕ → ℕ → ℕ → Type 0
 IsNoLoss tree set depth q = HasBit set q ⊎ Fades tree set depth q
 
+-- the second set has states of the first alone, and each other one of the first fades
+pub record IsShedTo (tree : Tree) (set kept : List ℕ) : Type 0 where
+  pub within : (q : ℕ) → HasBit kept q → HasBit set q
+  pub fade : (q : ℕ) → q ≤ slots_of tree → HasBit set q → IsNoLoss tree kept 64 q
+
 -- each state of the second set is in the first, or fades, or is this one
 abbrev pub IsLoneNew : Tree → List ℕ → List ℕ → ℕ → ℕ → Type 0
 IsLoneNew tree set next depth state = (q : ℕ) → q ≤ slots_of tree → HasBit next q → IsNoLoss tree set depth q ⊎ (q ≡ state)

@@ -25,7 +25,6 @@ mod sequence_scan;
 mod sieve;
 mod signature_scan;
 mod span;
-mod state_set;
 mod table_scan;
 #[cfg(test)]
 mod tests;

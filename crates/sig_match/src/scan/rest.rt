@@ -12,11 +12,11 @@ use crate::scan::way::{FRONT, Way};
 use sig_auto::Auto;
 use sig_bits::{ByteClass, get_bit, subset};
 
-// The greatest set, in bytes, whose states are asked one by one.
-const FEW: usize = 8;
+/// The greatest set, in bytes, whose states are asked one by one.
+pub(crate) const FEW: usize = 8;
 
-// Within how many bytes a way comes to nothing of which that is known.
-const DEPTH: usize = 64;
+/// Within how many bytes a way comes to nothing of which that is known.
+pub(crate) const DEPTH: usize = 64;
 
 /// The way out of the set, or nothing where the sequence does not rest in it: some byte takes a
 /// state out of it.
@@ -237,8 +237,8 @@ fn lasting_exits(auto: &Auto, set: &[u8], next: &mut [u8], exits: &ByteClass) ->
     lasting
 }
 
-// Whether each state of the second set is in the first or fades.
-fn all_fade(auto: &Auto, set: &[u8], next: &[u8]) -> bool
+/// Whether each state of the second set is in the first or fades.
+pub(crate) fn all_fade(auto: &Auto, set: &[u8], next: &[u8]) -> bool
     requires set_len { length set.now ≡ set_len (whole_tree auto.now) }
     requires next_len { length next.now ≡ set_len (whole_tree auto.now) }
     ensures { IsTrue result → (q : ℕ) → q ≤ slots_of (whole_tree auto.now) → HasBit next.now q → IsNoLoss (whole_tree auto.now) set.now 64 q }

@@ -6,7 +6,7 @@ ghost use Rattle.sig_auto.specs.Trees.{whole_tree};
 ghost use Rattle.sig_auto.specs.TreeSlots.{set_len};
 ghost use Rattle.sig_bits.specs.BitSets.{HasBit};
 ghost use Rattle.sig_bits.specs.Bytes.{IsBytes};
-ghost use Rattle.sig_match.specs.Rests.{IsReached, LeadsAlike};
+ghost use Rattle.sig_match.specs.Rests.{IsReached, IsShedTo, LeadsAlike};
 ghost use Rattle.sig_match.specs.Scans.{IsSequenceScanOf};
 ghost use Rattle.sig_table.specs.Standing.{Stands};
 ghost use Rattle.sig_table.specs.Tables.{IsSequence};
@@ -15,12 +15,12 @@ ghost use Rattle.sig_table.specs.Views.{SequenceView};
 use crate::scan::fixed::{run_of, write_behind};
 use crate::scan::narrow::go_by_words;
 use crate::scan::piece::Piece;
-use crate::scan::rest::way_of;
+use crate::scan::rest::{DEPTH, FEW, all_fade, way_of};
 use crate::scan::sieve::Sieve;
 use crate::scan::span::climbs;
 use crate::scan::way::{FRONT, Way, same_bytes};
 use sig_auto::Auto;
-use sig_bits::{and_any, clear, get_bit, set_bit};
+use sig_bits::{and_any, clear, get_bit, set_bit, subset};
 use sig_table::Sequence;
 use std::alloc::{AllocError, Global};
 use std::marker::Model;
@@ -34,6 +34,10 @@ const COMPARED: usize = 64;
 
 // A sequence that does not rest looks back once in so many bytes.
 const AGAIN: usize = 64;
+
+// When so many bytes were stepped, a sequence that does not rest asks whether it could without states that
+// fade. They are more than those at the end of a piece that are stepped after each rest.
+const SHED: usize = 96;
 
 // The greatest set, in bytes, of a sequence that looks back or goes by words.
 const SMALL: usize = 32;
@@ -128,8 +132,13 @@ impl SequenceScan {
         if self.way.len == 0 {
             self.rest_behind(0xFF, &mut ahead);
         }
-        if !self.climbs {
-            self.number = self.way.put_into(sieve)?;
+        if self.climbs {
+            return Ok(());
+        }
+        self.number = self.way.put_into(sieve)?;
+        let may_rest = and_any(&self.rest, &self.rest);
+        if may_rest && self.number == usize::MAX {
+            self.auto.note_steps(alloc)?;
         }
         Ok(())
     }
@@ -169,6 +178,7 @@ impl SequenceScan {
             self.step(bytes[from]);
             self.settle();
             self.retreat(piece, from + 1);
+            self.shed(piece, from + 1);
             from = self.next_place(piece, from + 1);
             from = self.go_narrow(piece, from);
         }
@@ -332,6 +342,59 @@ impl SequenceScan {
             self.set.copy_from_slice(&self.rest);
             self.resting = true;
         }
+    }
+
+    // Lets go of states that fade, where the sequence can rest without them. Of `41*4344` anywhere a file of 41
+    // leads to the slot of the 41 again and again, and behind the first of them never to anything new.
+    fn shed(&mut self, piece: &Piece<'_>, at: usize)
+        requires { at ≤ length piece.now }
+        ensures sequence { self.new.sequence ≡ self.old.sequence }
+        ensures same { LeadsAlike (whole_tree self.old.sequence) self.old.set (drop at piece.now) self.new.set (drop at piece.now) }
+    {
+        if self.resting || self.awake != SHED || self.set.len() > FEW {
+            return;
+        }
+        let behind = &piece.bytes()[at..];
+        if behind.len() < DEPTH {
+            return;
+        }
+        self.shed_behind(0x00, behind);
+        if !self.resting {
+            self.shed_behind(0xFF, behind);
+        }
+    }
+
+    // Lets go of states that fade before these bytes, if the set behind the byte is one to rest in without them.
+    fn shed_behind(&mut self, byte: u8, left: &[u8])
+        requires few { length self.old.set ≤ 8 }
+        requires deep { 64 ≤ length left.now }
+        requires bytes { IsBytes left.now }
+        ensures sequence { self.new.sequence ≡ self.old.sequence }
+        ensures few { length self.new.set ≡ length self.old.set }
+        ensures same { LeadsAlike (whole_tree self.old.sequence) self.old.set left.now self.new.set left.now }
+    {
+        let mut room = [0; FEW];
+        let kept = &mut room[..self.set.len()];
+        if !self.keeps_behind(byte, kept) {
+            return;
+        }
+        if let Some(way) = way_of(&self.auto, kept, &mut self.next) {
+            self.rest.copy_from_slice(kept);
+            self.set.copy_from_slice(kept);
+            self.way = way;
+            self.resting = true;
+        }
+    }
+
+    // Writes the states behind the byte, and answers whether they are states of the set, of which the others
+    // fade.
+    fn keeps_behind(&self, byte: u8, kept: &mut [u8]) -> bool
+        requires { length kept.old ≡ set_len (whole_tree self.now.sequence) }
+        ensures len { length kept.new ≡ length kept.old }
+        ensures sheds { IsTrue result → IsShedTo (whole_tree self.now.sequence) self.now.set kept.new }
+    {
+        self.auto.step_set(&self.set, byte, kept);
+        subset(kept, &self.set) && all_fade(&self.auto, kept, &self.set)
     }
 
     // Whether the sequence stands in the file, if it ends here.

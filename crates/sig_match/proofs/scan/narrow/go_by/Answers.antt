@@ -1,19 +1,16 @@
 use Rattle.std.proofs.Common.{arith, refl}
 use Rattle.sig_auto.specs.Trees.{whole_tree}
-use Rattle.sig_match.specs.Narrow.{IsNarrow}
-use Rattle.sig_match.proofs.NarrowLemmas.{GoesByWords-all, GoesByWords-more, GoesByWords-none, held_of}
+use Rattle.sig_match.proofs.NarrowLemmas.{GoesByWords-all, GoesByWords-more, GoesByWords-none}
 use Rattle.sig_match.proofs.scan.narrow.go_by.Goals as goal
 
-pub none-narrow-requires : goal.none-narrow-requires
-none-narrow-requires g c = c.requires.memory
+pub none-columns-requires : goal.none-columns-requires
+none-columns-requires g c = c.requires.columns
 
 pub ask-requires : goal.ask-requires
-ask-requires g c = (c.requires.memory, (omega arith, c.none-narrow.ensures))
+ask-requires g c = (c.requires.columns, (omega arith, c.none-columns.ensures))
 
 pub step-states-requires : goal.step-states-requires
-step-states-requires g c =
-    let narrow : IsNarrow g.S.StateSet.has (whole_tree c.args.auto.now) c.ask.new.self = held_of c.ask.result (IsNarrow g.S.StateSet.has (whole_tree c.args.auto.now) c.ask.new.self) c.if-is_none.ensures c.ask.ensures in
-    (c.requires.memory, narrow.few)
+step-states-requires g c = (c.requires.columns, (c.requires.memory, c.in-Some.ensures.few))
 
 pub loop-at-init : goal.loop-at-init
 loop-at-init g c = record {
@@ -22,12 +19,10 @@ loop-at-init g c = record {
 }
 
 pub loop-at-preserved : goal.loop-at-preserved
-loop-at-preserved g c =
-    let narrow : IsNarrow g.S.StateSet.has (whole_tree c.args.auto.now) c.ask.new.self = held_of c.ask.result (IsNarrow g.S.StateSet.has (whole_tree c.args.auto.now) c.ask.new.self) c.if-is_none.ensures c.ask.ensures in
-    record {
-      order = omega arith;
-      goes = GoesByWords-more g.S.StateSet.has g.S.StateSet.room (whole_tree c.args.auto.now) c.args.set.now c.args.bytes.now c.ask.new.self c.loop-at.at c.loop-at.states c.step-states.result _ (omega arith) narrow (omega arith) refl (c.type_inv.bytes c.loop-at.at).fits (λ r. (c.step-states.ensures.sound r, c.step-states.ensures.complete r)) c.loop-at.invariant.goes;
-    }
+loop-at-preserved g c = record {
+  order = omega arith;
+  goes = GoesByWords-more g.S.StateSet.has g.S.StateSet.room (whole_tree c.args.auto.now) c.args.set.now c.args.bytes.now c.in-Some.moves c.ask.new.self.sets c.loop-at.at c.loop-at.states c.step-states.result _ (omega arith) c.in-Some.ensures c.ask.ensures (omega arith) refl (c.type_inv.bytes c.loop-at.at).fits (λ r. (c.step-states.ensures.sound r, c.step-states.ensures.complete r)) c.loop-at.invariant.goes;
+}
 
 pub returns-clause-same : goal.returns-clause-same
 returns-clause-same g c q = GoesByWords-all g.S.StateSet.has (whole_tree c.args.auto.now) c.args.set.now c.write_states.new.set c.args.bytes.now c.loop-at.at c.loop-at.states q c.requires.set_len (omega arith) c.write_states.ensures c.loop-at.invariant.goes

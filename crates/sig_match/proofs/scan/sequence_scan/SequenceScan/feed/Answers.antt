@@ -33,7 +33,8 @@ loop-from-preserved c =
     let old : SequenceScanView = c.loop-from.self in
     let step : SequenceScanView = c.step.new.self in
     let settled : SequenceScanView = c.settle.new.self in
-    let new : SequenceScanView = c.retreat.new.self in
+    let back : SequenceScanView = c.retreat.new.self in
+    let new : SequenceScanView = c.shed.new.self in
     let within = ap length same_bytes in
     let byte : get_or bytes from 0 ≡ get_or piece from 0 = ap (λ l. get_or l from 0) same_bytes in
     let sequence : settled.sequence ≡ old.sequence = ap (λ (v : SequenceScanView). v.sequence) c.settle.ensures ∙ c.step.ensures.sequence in
@@ -44,8 +45,9 @@ loop-from-preserved c =
       within = c.go_narrow-from.ensures.within;
       due = λ file s is.
           let stepped = scan_steps_on _ piece from (from + 1) (get_or bytes from 0) s old settled (omega arith) byte sequence set (λ q. (λ r. r, λ r. r)) (c.loop-from.invariant.due file s is) in
-          let back = scan_changes _ _ _ s settled new c.retreat.ensures.sequence c.retreat.ensures.same stepped in
-          let moved = scan_moves _ _ (drop next piece) s new c.next_place-from-in-loop-from.ensures.same back in
+          let retreats = scan_changes _ _ _ s settled back c.retreat.ensures.sequence c.retreat.ensures.same stepped in
+          let sheds = scan_changes _ _ _ s back new c.shed.ensures.sequence c.shed.ensures.same retreats in
+          let moved = scan_moves _ _ (drop next piece) s new c.next_place-from-in-loop-from.ensures.same sheds in
           scan_changes _ (drop next piece) _ s new c.go_narrow-from.new.self c.go_narrow-from.ensures.sequence c.go_narrow-from.ensures.same moved;
     }
 

@@ -1,10 +1,11 @@
-use Rattle.std.proofs.Common.{◌≡◌, ◌∙◌, ap, length, subst, sym}
+use Rattle.std.proofs.Common.{◌≡◌, ◌∙◌, ap, [], length, subst, sym}
 use Rattle.std.proofs.lemmas.Bool.{false≢true}
 use Rattle.sig_auto.specs.Trees.{whole_tree}
 use Rattle.sig_match.specs.Fixed.{IsFixed}
+use Rattle.sig_match.specs.Scans.{IsSequenceScanOf}
 use Rattle.sig_match.specs.Spans.{Climbs}
 use Rattle.sig_match.proofs.RestLemmas.{IsRest-none}
-use Rattle.sig_match.proofs.ScanLemmas.{written}
+use Rattle.sig_match.proofs.ScanLemmas.{set_begins, written}
 use Rattle.sig_match.proofs.scan.sequence_scan.SequenceScan.of.Goals as goal
 
 pub invariant_of-scan : goal.invariant_of-scan
@@ -18,3 +19,9 @@ invariant_of-scan c =
       λ yes'. subst (λ t. Climbs (whole_tree t)) (sym c.in_ok-auto.ensures) (c.climbs.ensures yes'),
       λ some. subst (λ t. IsFixed t c.in_ok-run.run'.items) (sym c.in_ok-auto.ensures) (c.in_ok-run.ensures some),
     )
+
+pub returns : goal.returns
+returns c =
+    let long : length c.start_set.new.set ≡ c.in_ok-set.set.len = c.start_set.auto.set ∙ c.deref_mut.ensures.len in
+    subst (IsSequenceScanOf [] c.args.sequence.now) (sym c.look_ahead.ensures)
+    (subst (λ l. IsSequenceScanOf [] c.args.sequence.now (record { sequence = c.in_ok-auto.auto; set = l })) (sym (written _ _ _ long)) (record { sequence_is = c.in_ok-auto.ensures; set_is = set_begins (whole_tree c.args.sequence.now) c.start_set.new.set c.start_set.ensures }))
