@@ -31,7 +31,8 @@ pub fn run<R: Env + Files + AllocGlobal, W: Output, E: Output>(
     err: &mut E,
 ) -> u8
     ensures known { result < 4 }
-    ensures output { KeepsOutput (CutsSomeWords ⟦<FromRead<R::File> as Input>⟧.failed (W.written out.old) (W.written out.new)) result (W.failed out.new) out.old out.new }
+    ensures output { KeepsOutput (CutsSomeWords ⟦<FromRead<R::File> as Input>⟧.failed (W.written out.old) (W.written out.new))
+        result (W.failed out.new) out.old out.new }
     ensures errors { KeepsErrors (ShowsSomeWords ⟦<FromRead<R::File> as Input>⟧.failed)
         result (E.failed err.new) err.old err.new (E.written err.old) (E.written err.new) }
 
