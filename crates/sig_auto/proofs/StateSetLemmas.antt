@@ -364,9 +364,9 @@ HasBytesBelow-more bytes n word byte few small is before q =
     let either = bits_of_or word (byte * 2 ^ (8 * n) % 18446744073709551616) q in
     let shifted = bits_shifted byte (8 * n) q in
     let inside : 8 * n ≤ q → q < 8 * n + 8 → (bit_at byte (q - 8 * n) ≡ 1) ↔ (bit_at (get_or bytes (q / 8) 0) (q % 8) ≡ 1) = λ low high.
-        let at : q / 8 ≡ n = omega arith in
-        let place : q % 8 ≡ q - 8 * n = omega arith in
-        (λ h. subst (λ k. bit_at (get_or bytes k 0) (q % 8) ≡ 1) (sym at) (subst (λ r. bit_at (get_or bytes n 0) r ≡ 1) (sym place) (subst (λ b. bit_at b (q - 8 * n) ≡ 1) is h)), λ h. subst (λ b. bit_at b (q - 8 * n) ≡ 1) (sym is) (subst (λ r. bit_at (get_or bytes n 0) r ≡ 1) place (subst (λ k. bit_at (get_or bytes k 0) (q % 8) ≡ 1) at h))) in (
+    let at : q / 8 ≡ n = omega arith in
+    let place : q % 8 ≡ q - 8 * n = omega arith in
+    (λ h. subst (λ k. bit_at (get_or bytes k 0) (q % 8) ≡ 1) (sym at) (subst (λ r. bit_at (get_or bytes n 0) r ≡ 1) (sym place) (subst (λ b. bit_at b (q - 8 * n) ≡ 1) is h)), λ h. subst (λ b. bit_at b (q - 8 * n) ≡ 1) (sym is) (subst (λ r. bit_at (get_or bytes n 0) r ≡ 1) place (subst (λ k. bit_at (get_or bytes k 0) (q % 8) ≡ 1) at h))) in (
       λ h.
           ⊎_elim
           (λ x. (let b = (before q).0 x in (omega (arith, b.0), b.1)))

@@ -274,7 +274,12 @@ impl Node {
             Node::Never | Node::Empty => Some(Ends::none()),
             Node::Slot(_) => Some(moves.add_run(before, 1)),
             Node::Run(classes) => Some(moves.add_run(before, classes.len())),
-            Node::Gap { min, max } => Some(moves.add_gap(before, self.slots(), *min, max.is_none())),
+            Node::Gap { min, max } => Some(moves.add_gap(
+                before,
+                self.slots(),
+                *min,
+                max.is_none(),
+            )),
             Node::Then(a, b, _) => {
                 let x = a.add_moves(before, moves)?;
                 let y = b.add_moves(before + a.slots(), moves)?;

@@ -1,10 +1,11 @@
--- Fronts of sequences that may begin anywhere.
+-- Fronts of sequences.
 use Rattle.std.proofs.Common.{◌≡◌, ⊎_elim, ℕ, ◌+◌, ◌<◌, List, [], ◌∷◌, ◌++◌, length, take, drop, subst, sym, ap, ap₂, refl, ◌∙◌, arith, append_assoc, length-append}
 use Rattle.std.specs.Prelude.{get_or}
 use Rattle.std.proofs.lemmas.List.{drop_at}
 use Rattle.sig_expr.specs.declared.item.Item.{Item}
 use Rattle.sig_expr.specs.Words.{Lang, Word}
 use Rattle.sig_table.specs.declared.position.Position.{Position}
+use Rattle.sig_table.specs.declared.position.Position.TheVariants as position
 use Rattle.sig_table.specs.Standing.{Cut, Stands, StandsAt}
 use Rattle.sig_table.specs.Views.{SequenceView}
 use Rattle.sig_match.specs.declared.whole.fronts.Front.{Front}
@@ -27,11 +28,17 @@ fits_itself : (run t : List ℕ) → Misses run (run ++ t) → ⊥
 fits_itself [] t misses = misses
 fits_itself (b ∷ run) t misses = ⊎_elim (λ differs. differs refl) (λ later. fits_itself run t later) misses
 
+-- wherever a sequence stands, there is a cut
+cut_of : (p : Position) (items : List Item) (file : List ℕ) → StandsAt p items file → Cut items file
+cut_of (position.Bof min max) items file stands = stands.0
+cut_of (position.Eof min max) items file stands = stands.0
+cut_of position.Variable items file stands = stands
+
 -- a sequence whose front is nowhere does not stand
 pub front_missing : (s : SequenceView) (front : Front) (file : List ℕ) → IsFrontOf s front → IsNowhere (take front.len front.bytes) file → Stands s file → ⊥
 front_missing s front file is nowhere stands =
     let run : List ℕ = take front.len front.bytes in
-    let cut : Cut s.items file = subst (λ (p : Position). StandsAt p s.items file) is.anywhere stands in
+    let cut : Cut s.items file = cut_of s.position s.items file stands in
     let word = run_front run s.items cut.word is.begins cut.is_word in
     let whole = cut_end-length s.items file cut in
     let long : length cut.word ≡ length run + length word.0 = ap length word.1 ∙ length-append run word.0 in

@@ -1,14 +1,12 @@
--- Fronts of sequences that may begin anywhere.
+-- Fronts of sequences.
 use Rattle.std.specs.Prelude.{◌≡◌, ◌≤◌, ◌+◌, ℕ, List, drop, length, take}
-use Rattle.sig_table.specs.declared.position.Position.TheVariants as position
 use Rattle.sig_table.specs.Views.{SequenceView}
 use Rattle.sig_match.specs.declared.whole.fronts.Front.{Front}
 use Rattle.sig_match.specs.Rests.{Misses}
 use Rattle.sig_match.specs.Runs.{BeginsWith}
 
--- the sequence may begin anywhere, and each word of it begins with the front, which has four to eight bytes
+-- each word of the sequence begins with the front, which has four to eight bytes
 pub record IsFrontOf (sequence : SequenceView) (front : Front) : Type 0 where
-  pub anywhere : sequence.position ≡ position.Variable
   pub begins : BeginsWith sequence.items (take front.len front.bytes)
   pub some : 4 ≤ front.len
   pub few : front.len ≤ 8

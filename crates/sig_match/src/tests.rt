@@ -9,6 +9,19 @@ const HEADER: &[u8] = b"puid,signature,position,offset,max_offset,expression\n";
 const SIGNATURES: &[u8] =
     b"puid,signature,position,offset,max_offset,expression\nfmt/1,1,BOF,0,,41\nfmt/2,2,BOF,0,,4142\nfmt/1,3,EOF,0,,43\nfmt/2,4,EOF,0,,44\n";
 
+// Sequences that may begin at several offsets, enough of them for a sieve of their fronts.
+const RANGES: &[u8] =
+    b"puid,signature,position,offset,max_offset,expression\nfmt/1,1,BOF,0,2,41424344\nfmt/2,2,BOF,1,3,41424344\nfmt/3,3,EOF,0,1,41424344\nfmt/4,4,EOF,2,,41424344\nfmt/5,5,BOF,0,2,4142434445\nfmt/6,6,EOF,0,9,4142434446\nfmt/7,7,Variable,,,41424344\nfmt/8,8,Variable,,,42434445\nfmt/9,9,BOF,2,9,41424344*4546\n";
+
+// Files, and the signatures of `RANGES` that hit them.
+const RANGED: &[(&[u8], &[u16])] = &[
+    (b"ABC", &[]),
+    (b"ABCD", &[0, 2, 6]),
+    (b"\0\0ABCDEF", &[0, 1, 3, 4, 6, 7, 8]),
+    (b"\0\0\0\0ABCDF", &[2, 5, 6]),
+    (b"\0\0\0ABCD\0EF", &[1, 6, 8]),
+];
+
 fn loaded(alloc: Global, signatures: &[u8], priorities: &[u8]) -> Result<Table, TableError> {
     Table::load(
         alloc,
@@ -61,5 +74,19 @@ fn a_file_of_several_mib_is_searched(rt: HostRuntime) -> Result<(), Fail> {
     file.push(1)?;
     let left = left_in(rt.alloc(), &table, &file)?;
     assert_eq!(rt; left.hits(), [hit(0, 0), hit(1, 1)].as_slice());
+    Ok(())
+}
+
+#[test]
+fn a_front_that_is_there_is_asked_for_its_offset(rt: HostRuntime) -> Result<(), Fail> {
+    let table = loaded(rt.alloc(), RANGES, b"higher,lower\n".as_slice())?;
+    for (file, indexes) in RANGED {
+        let mut wants = Vec::new(rt.alloc());
+        for index in *indexes {
+            wants.push(hit(*index, *index))?;
+        }
+        let left = left_in(rt.alloc(), &table, file)?;
+        assert_eq!(rt; left.hits(), wants.as_slice());
+    }
     Ok(())
 }

@@ -119,9 +119,7 @@ impl<S: StateSet> Columns<S> {
         ensures sound { (q : ℕ) → S.has result q → IsStepBy S.has moves.now self.now.sets set byte q }
         ensures complete { (q : ℕ) → q < S.room → IsStepBy S.has moves.now self.now.sets set byte q → S.has result q }
     {
-        moves
-            .behind(set)
-            .intersection(self.sets[byte as usize])
+        moves.behind(set).intersection(self.sets[byte as usize])
     }
 }
 

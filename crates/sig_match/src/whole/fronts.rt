@@ -1,5 +1,5 @@
-//! Fronts of sequences that may begin anywhere: one look at the file finds for all of them which ones are
-//! nowhere in it.
+//! Fronts of sequences that may begin at several offsets: one look at the file finds for all of them which
+//! ones are nowhere in it.
 //!
 //! Each front has a number in the sieve. The numbers rise in the order of the table, so they are counted and
 //! not kept.
@@ -17,7 +17,7 @@ use std::alloc::AllocError;
 // A front that is shorter is in no sieve.
 const LEAST: usize = 4;
 
-/// The first bytes of each word of a sequence that may begin anywhere, as many as `len` says.
+/// The first bytes of each word of a sequence, as many as `len` says.
 #[derive(Debug, Drop)]
 pub(crate) struct Front {
     bytes: [u8; FRONT],
@@ -85,19 +85,28 @@ fn is_missing(file: &Piece<'_>, front: &Front, number: usize) -> bool
     file.known_of(number, &front.bytes[..front.len]) > len - front.len
 }
 
-// The front of the sequence, if it may begin anywhere and has enough such bytes.
+// The front of the sequence, if it has enough such bytes. None of one that begins at one offset of a file:
+// mostly one byte tells that it does not stand.
 fn front_of(sequence: &Sequence) -> Option<Front>
     ensures { IfSome result (IsFrontOf sequence.now) }
 {
-    let Position::Variable = sequence.position() else {
+    if begins_at_one_offset(sequence.position()) {
         return None;
-    };
+    }
     let mut bytes = [0; FRONT];
     let len = copy_run(sequence.expr().items(), &mut bytes);
     if len < LEAST {
         return None;
     }
     Some(Front { bytes, len })
+}
+
+// Whether each file has one offset alone at which a sequence of this position may begin, counted from its start.
+fn begins_at_one_offset(position: Position) -> bool {
+    match position {
+        Position::Bof { min, max } => min == max,
+        Position::Eof { .. } | Position::Variable => false,
+    }
 }
 
 // Writes the bytes with which the items begin, as far as there is room, and answers how many they are.
