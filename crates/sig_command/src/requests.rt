@@ -228,7 +228,7 @@ fn match_many<'m, 'a, S: Store, W: Output, E: Output>(
         (Request.MatchMany all table.entry files.entry) W.failed W.written out.old out.new) }
 {
     let table = load(store, alloc, table)?;
-    let core = StreamCore::new(alloc, table);
+    let core = StreamCore::prepared(alloc, table);
     match run_match_many(alloc, store, &core, all, files, out, err) {
         Ok(true) => Ok(true),
         Ok(false) => Err(Fault::SomeFiles),

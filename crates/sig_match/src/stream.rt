@@ -8,8 +8,8 @@ ghost use Rattle.sig_table.specs.Views.{TableView};
 use crate::droid_core::DroidCore;
 use crate::error::CoreError;
 use crate::results::Results;
-use crate::scan::TableScan;
-use crate::whole::hits_in;
+use crate::scan::{Sieve, TableScan};
+use crate::whole::{fronts_of, hits_by};
 use sig_bits::{DeviceFault, Input};
 use sig_table::{Puid, Table};
 use std::alloc::Global;
@@ -28,6 +28,8 @@ const PIECE: usize = 1 << 18;
 pub struct StreamCore {
     table: Table,
     alloc: Global,
+    // The fronts of the table, where they are made for many files.
+    fronts: Option<Sieve>,
 }
 
 impl Model for StreamCore {
@@ -41,7 +43,26 @@ impl StreamCore {
     pub fn new(alloc: Global, table: Table) -> StreamCore
         ensures { result ≡ table }
     {
-        StreamCore { table, alloc }
+        StreamCore::with_fronts(alloc, table, None)
+    }
+
+    /// The same, ready for many files: what finds the fixed bytes of the table in a file shorter than a
+    /// piece is made once, and not for each of them. Where there is no memory for it, it is made for each.
+    pub fn prepared(alloc: Global, table: Table) -> StreamCore
+        ensures { result ≡ table }
+    {
+        let fronts = fronts_of(alloc, &table).unwrap_or(None);
+        StreamCore::with_fronts(alloc, table, fronts)
+    }
+
+    fn with_fronts(alloc: Global, table: Table, fronts: Option<Sieve>) -> StreamCore
+        ensures { result ≡ table }
+    {
+        StreamCore {
+            table,
+            alloc,
+            fronts,
+        }
     }
 
     /// Answers which formats the bytes of a file hit, each with its first signature that hits.
@@ -63,7 +84,7 @@ impl DroidCore for StreamCore {
     }
 
     fn match_binary_signatures<R: Input>(&self, input: &mut R) -> Result<Results, CoreError> {
-        scan_input(self.alloc, &self.table, input)
+        scan_input(self.alloc, &self.table, self.fronts.as_ref(), input)
     }
 
     fn remove_lower_priority_hits(&self, results: &mut Results) {
@@ -76,7 +97,12 @@ impl DroidCore for StreamCore {
 }
 
 // The formats that the input hits, which is read to its end.
-fn scan_input<R: Input>(alloc: Global, table: &Table, input: &mut R) -> Result<Results, CoreError>
+fn scan_input<R: Input>(
+    alloc: Global,
+    table: &Table,
+    fronts: Option<&Sieve>,
+    input: &mut R,
+) -> Result<Results, CoreError>
     ensures hits { IfOk result (HitFormatsOfSome table.now (R.to_come input.old)) }
     ensures at_end { OnOk result (IsAtEnd (R.to_come input.new)) }
     ensures sound { OnOk result (R.failed input.new ≡ false) }
@@ -86,7 +112,7 @@ fn scan_input<R: Input>(alloc: Global, table: &Table, input: &mut R) -> Result<R
     let mut piece = vec![in alloc; 0; PIECE]?;
     let first = fill(input, &mut piece)?;
     if first < PIECE {
-        return Ok(hits_in(alloc, table, &piece[..first])?);
+        return Ok(hits_by(alloc, table, fronts, &piece[..first])?);
     }
     let mut scan = TableScan::behind(alloc, table, &piece)?;
     'pieces: loop {

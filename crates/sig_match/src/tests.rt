@@ -1,4 +1,4 @@
-use crate::{Hit, left_in, signature_hits};
+use crate::{DroidCore, Hit, StreamCore, left_in, signature_hits};
 use sig_bits::FromRead;
 use sig_table::{FormatId, SigId, Table, TableError};
 use std::alloc::Global;
@@ -80,6 +80,8 @@ fn a_file_of_several_mib_is_searched(rt: HostRuntime) -> Result<(), Fail> {
 #[test]
 fn a_front_that_is_there_is_asked_for_its_offset(rt: HostRuntime) -> Result<(), Fail> {
     let table = loaded(rt.alloc(), RANGES, b"higher,lower\n".as_slice())?;
+    let same = loaded(rt.alloc(), RANGES, b"higher,lower\n".as_slice())?;
+    let core = StreamCore::prepared(rt.alloc(), same);
     for (file, indexes) in RANGED {
         let mut wants = Vec::new(rt.alloc());
         for index in *indexes {
@@ -87,6 +89,8 @@ fn a_front_that_is_there_is_asked_for_its_offset(rt: HostRuntime) -> Result<(), 
         }
         let left = left_in(rt.alloc(), &table, file)?;
         assert_eq!(rt; left.hits(), wants.as_slice());
+        let hits = core.match_binary_signatures(&mut FromRead::new(*file))?;
+        assert_eq!(rt; hits.hits(), wants.as_slice());
     }
     Ok(())
 }

@@ -17,6 +17,7 @@ use crate::droid_core::DroidCore;
 use crate::error::CoreError;
 use crate::hits::list_hits;
 use crate::results::Results;
+use crate::scan::Sieve;
 use sig_bits::{Input, ReadWholeError, read_whole};
 use sig_table::{Puid, SigId, Table};
 use std::alloc::{AllocError, Global};
@@ -34,6 +35,7 @@ mod search;
 mod tests;
 
 pub(crate) use anchored::stands;
+pub(crate) use fronts::fronts_of;
 pub(crate) use longest::longest_of;
 use search::{is_hit, which_hit};
 
@@ -120,7 +122,19 @@ pub fn signature_hits(
 pub(crate) fn hits_in(alloc: Global, table: &Table, file: &[u8]) -> Result<Results, AllocError>
     ensures { IfOk result (λ hits. HitFormats table.now file.now hits) }
 {
-    let marks = which_hit(alloc, table, file)?;
+    hits_by(alloc, table, None, file)
+}
+
+/// The same, where the fronts of the table may be at hand.
+pub(crate) fn hits_by(
+    alloc: Global,
+    table: &Table,
+    ready: Option<&Sieve>,
+    file: &[u8],
+) -> Result<Results, AllocError>
+    ensures { IfOk result (λ hits. HitFormats table.now file.now hits) }
+{
+    let marks = which_hit(alloc, table, ready, file)?;
     let mut hits = Vec::new(alloc);
     list_hits(table, &marks, &mut hits)?;
     Ok(Results::new(hits))

@@ -12,10 +12,13 @@ ghost use Rattle.sig_match.specs.Runs.{BeginsWith};
 use crate::scan::{FRONT, Piece, STRIDE, Sieve};
 use sig_expr::Item;
 use sig_table::{Position, Sequence, SigId, Table};
-use std::alloc::AllocError;
+use std::alloc::{AllocError, Global};
 
 // A front that is shorter is in no sieve.
 const LEAST: usize = 4;
+
+// For fewer fronts a sieve is not worth its making.
+const MANY: usize = 8;
 
 /// The first bytes of each word of a sequence, as many as `len` says.
 #[derive(Debug, Drop)]
@@ -24,8 +27,18 @@ pub(crate) struct Front {
     len: usize,
 }
 
-/// Whether so many sequences of the table have a front.
-pub(crate) fn has_fronts(table: &Table, least: usize) -> bool {
+/// The fronts of the table, in table order, unless they are too few for a sieve.
+pub(crate) fn fronts_of(alloc: Global, table: &Table) -> Result<Option<Sieve>, AllocError> {
+    if !has_fronts(table, MANY) {
+        return Ok(None);
+    }
+    let mut sieve = Sieve::new(alloc)?;
+    add_fronts(table, &mut sieve)?;
+    Ok(Some(sieve))
+}
+
+// Whether so many sequences of the table have a front.
+fn has_fronts(table: &Table, least: usize) -> bool {
     let mut left = least;
     for index in 0..table.signature_count() {
         for sequence in table.sequences_of(SigId(index as u16)) {
@@ -40,8 +53,8 @@ pub(crate) fn has_fronts(table: &Table, least: usize) -> bool {
     false
 }
 
-/// Puts the fronts of the table into the sieve, in table order.
-pub(crate) fn add_fronts(table: &Table, sieve: &mut Sieve) -> Result<(), AllocError> {
+// Puts the fronts of the table into the sieve, in table order.
+fn add_fronts(table: &Table, sieve: &mut Sieve) -> Result<(), AllocError> {
     for index in 0..table.signature_count() {
         for sequence in table.sequences_of(SigId(index as u16)) {
             if let Some(front) = front_of(sequence) {

@@ -7,26 +7,43 @@ ghost use Rattle.sig_table.specs.Standing.{Stands};
 
 use crate::scan::{Piece, Sieve};
 use crate::whole::anchored::stands;
-use crate::whole::fronts::{add_fronts, has_fronts, some_front_is_missing};
+use crate::whole::fronts::{fronts_of, some_front_is_missing};
 use sig_table::{Sequence, SigId, Table};
 use std::alloc::{AllocError, Global};
 
-// For fewer fronts a sieve is not worth its making.
-const MANY_FRONTS: usize = 8;
-
-/// Of each signature whether it hits the file.
-pub(crate) fn which_hit(alloc: Global, table: &Table, file: &[u8]) -> Result<Vec<bool>, AllocError>
+/// Of each signature whether it hits the file. Where the fronts of the table are not at hand, they are put
+/// together for this file.
+pub(crate) fn which_hit(
+    alloc: Global,
+    table: &Table,
+    ready: Option<&Sieve>,
+    file: &[u8],
+) -> Result<Vec<bool>, AllocError>
     ensures len { IfOk result (λ marks. vec_len marks ≡ length table.now.signatures) }
     ensures marks { IfOk result (λ marks. MarksHits table.now file.now marks.items) }
 {
-    if !has_fronts(table, MANY_FRONTS) {
-        return searched(alloc, table, file);
+    if let Some(fronts) = ready {
+        return looked_through(alloc, table, fronts, file);
     }
-    let mut sieve = Sieve::new(alloc)?;
-    add_fronts(table, &mut sieve)?;
-    let mut known = vec![in alloc; 0; sieve.len()]?;
-    sieve.look(file, &mut known);
-    sieved(alloc, table, &Piece::new(file, &sieve, &known))
+    match fronts_of(alloc, table)? {
+        Some(fronts) => looked_through(alloc, table, &fronts, file),
+        None => searched(alloc, table, file),
+    }
+}
+
+// The same, by one look at the file for all fronts, and a search for each sequence whose front may be there.
+fn looked_through(
+    alloc: Global,
+    table: &Table,
+    fronts: &Sieve,
+    file: &[u8],
+) -> Result<Vec<bool>, AllocError>
+    ensures len { IfOk result (λ marks. vec_len marks ≡ length table.now.signatures) }
+    ensures marks { IfOk result (λ marks. MarksHits table.now file.now marks.items) }
+{
+    let mut known = vec![in alloc; 0; fronts.len()]?;
+    fronts.look(file, &mut known);
+    sieved(alloc, table, &Piece::new(file, fronts, &known))
 }
 
 // The same, by a search for each sequence.
