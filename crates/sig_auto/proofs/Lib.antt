@@ -11,6 +11,7 @@ mod LaterLemmas
 mod LocalLemmas
 mod MoveTreeLemmas
 mod MovesLemmas
+mod NextLemmas
 mod PruneLemmas
 mod RowLemmas
 mod RowPushLemmas

@@ -3,6 +3,7 @@ use Rattle.std.proofs.Common.{◌≡◌, ◌↔◌, ◌+◌, ◌/◌, ◌<◌, �
 use Rattle.sig_auto.proofs.SameLemmas.{same_accepting, same_follows, same_takes}
 use Rattle.sig_auto.proofs.WholeLemmas.{whole_is_trim, whole_slots}
 use Rattle.sig_auto.specs.declared.node.Node.{Node}
+use Rattle.sig_auto.specs.Runs.{StepsAlone}
 use Rattle.sig_auto.specs.Same.{IsSame}
 use Rattle.sig_auto.specs.Seen.{seen}
 use Rattle.sig_auto.specs.Spelled.{Spells}
@@ -99,3 +100,9 @@ not_apart_back a b x y same h q low high =
 
 pub told_apart : {P : Type 0} (a b : Tree) (x y : ℕ) → IsSame a b → (P ↔ NotApart a x y) → P ↔ NotApart b x y
 told_apart a b x y same h = (λ p. not_apart a b x y same (h.0 p), λ n. h.1 (not_apart_back a b x y same n))
+
+pub stepped_alone : (a b : Tree) (p byte : ℕ) → IsSame a b → StepsAlone a p byte → StepsAlone b p byte
+stepped_alone a b p byte same alone = record {
+  step = λ q c small follows takes. alone.step q c small ((same_follows a b p q same).1 follows) ((same_takes a b q c same).1 takes);
+  small = alone.small;
+}

@@ -2,19 +2,23 @@
 //! successors are others than on the byte below. So from a cut up to the next one, all bytes lead to
 //! the same states.
 
-ghost use Rattle.std.specs.Prelude.{◌≡◌, ◌↔◌, ℕ, ◌+◌, ◌≤◌, ◌<◌};
+ghost use Rattle.std.specs.Prelude.{◌≡◌, ◌↔◌, ℕ, ◌+◌, ◌≤◌, ◌<◌, IfSome};
 ghost use Rattle.sig_auto.specs.Counted.{IsCounted};
 ghost use Rattle.sig_auto.specs.Cuts.{AddsAllCuts, AddsAlone, AddsCuts, AddsLive};
 ghost use Rattle.sig_auto.specs.Local.{is_last};
 ghost use Rattle.sig_auto.specs.Seen.{seen};
-ghost use Rattle.sig_auto.specs.Successions.{BeginsOn, GoesOn};
+ghost use Rattle.sig_auto.specs.Runs.{StepsAlone};
+ghost use Rattle.sig_auto.specs.Successions.{BeginsOn, GoesOn, GoesToNext};
 ghost use Rattle.sig_auto.specs.Tracks.{Follows};
 ghost use Rattle.sig_auto.specs.TreeSlots.{Takes, slots_of};
 ghost use Rattle.sig_auto.specs.Trim.{IsTrim};
 ghost use Rattle.sig_bits.specs.ByteClasses.{Holds};
 
+use crate::class::Class;
 use crate::node::{Node, ends_gap};
-use crate::run::{add_all_alone, add_all_cuts, add_begin_run, add_behind_run, ends_run};
+use crate::run::{
+    add_all_alone, add_all_cuts, add_begin_run, add_behind_run, class_behind, ends_run,
+};
 use sig_bits::ByteClass;
 
 impl Node {
@@ -63,6 +67,48 @@ impl Node {
             self.add_behind(0, state, &mut live, cuts);
         }
         live
+    }
+
+    // The byte on which alone a slot follows the state, which is then the next one, where the state stands in a run
+    // and does not end it.
+    pub(crate) fn byte_behind(&self, state: usize) -> Option<u8>
+        requires counted { IsCounted self.now }
+        requires trim { IsTrim (seen self.now) }
+        requires few { slots_of (seen self.now) ≤ 65535 }
+        ensures { IfSome result (StepsAlone (seen self.now) state) }
+    {
+        if state == 0 {
+            return None;
+        }
+        self.class_behind(0, state)?.lone_byte()
+    }
+
+    // The class of the slot behind p, where p stands in a run and does not end it: that slot alone goes behind p.
+    fn class_behind(&self, before: usize, p: usize) -> Option<Class>
+        requires counted { IsCounted self.now }
+        requires few { before + slots_of (seen self.now) ≤ 65535 }
+        ensures { IfSome result (GoesToNext (seen self.now) before p) }
+    {
+        match self {
+            Node::Never | Node::Empty | Node::Slot(_) | Node::Gap { .. } => None,
+            Node::Run(classes) => class_behind(classes.as_slice(), before, p),
+            Node::Then(a, b, _) => {
+                let between = before + a.slots();
+                if between < p {
+                    b.class_behind(between, p)
+                } else {
+                    a.class_behind(before, p)
+                }
+            }
+            Node::Or(a, b, _) => {
+                let between = before + a.slots();
+                if between < p {
+                    b.class_behind(between, p)
+                } else {
+                    a.class_behind(before, p)
+                }
+            }
+        }
     }
 
     // Adds the bytes on which a slot begins the tree, and the cuts between them.

@@ -1,6 +1,6 @@
 //! The bytes that a slot takes.
 
-ghost use Rattle.std.specs.Prelude.{◌↔◌, ◌≢◌, ℕ, ◌+◌, ◌<◌, IsTrue};
+ghost use Rattle.std.specs.Prelude.{◌≡◌, ◌↔◌, ◌≢◌, ℕ, ◌+◌, ◌<◌, IfSome, IsTrue};
 ghost use Rattle.sig_auto.specs.Classes.{InClass, IsSpelled};
 ghost use Rattle.sig_auto.specs.Sides.{SameSide};
 ghost use Rattle.sig_bits.specs.ByteClasses.{Holds};
@@ -36,6 +36,21 @@ impl Class {
             Class::Within(0, 255) => ByteClass::all(),
             Class::Within(first, last) => ByteClass::range(first, last),
             Class::Outside(first, last) => ByteClass::range(first, last).without(),
+        }
+    }
+
+    /// The byte of a class that is spelled with one, and has it alone.
+    pub fn lone_byte(self) -> Option<u8>
+        ensures { IfSome result (λ byte. (b : ℕ) → InClass self b → b ≡ byte) }
+    {
+        match self {
+            Class::Within(first, last) => {
+                if first < last {
+                    return None;
+                }
+                Some(first)
+            }
+            Class::Outside(_, _) => None,
         }
     }
 

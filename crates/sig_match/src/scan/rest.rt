@@ -354,6 +354,9 @@ fn spell_on(auto: &Auto, state: u32, room: &mut [u8]) -> usize
 fn only_way(auto: &Auto, state: u32) -> Option<(u8, u32)>
     ensures { IfSome result (λ way. IsOnlyWay (whole_tree auto.now) state way.0 way.1) }
 {
+    if let Some(byte) = auto.byte_behind(state) {
+        return Some((byte, state + 1));
+    }
     let live = auto.live_bytes(state, &mut ByteClass::none());
     let byte = lone_byte(&live)?;
     let mut ways = auto.successors(state, byte);
