@@ -16,6 +16,7 @@ mod OneListLemmas
 mod OutlookLemmas
 mod PartLemmas
 mod ReachLemmas
+mod ReadyLemmas
 mod RestLemmas
 mod RetreatLemmas
 mod RunLemmas

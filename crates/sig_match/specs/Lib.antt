@@ -21,6 +21,7 @@ pub mod Hitting
 pub mod Lates
 pub mod Narrow
 pub mod Parts
+pub mod Readies
 pub mod Rests
 pub mod Ways
 pub mod Runs

@@ -1,18 +1,19 @@
 //! The matcher that reads a file once, piece by piece, and keeps no more of it than one piece.
 
-ghost use Rattle.std.specs.Prelude.{◌≡◌, ◌+◌, ◌<◌, ◌≤◌, false, true, IfErr, IfOk, IsErrOf, OnOk, is_err, length, take};
+ghost use Rattle.std.specs.Prelude.{◌≡◌, ◌+◌, ◌<◌, ◌≤◌, false, true, IfErr, IfOk, IfSome, IsErrOf, OnOk, is_err, length, take};
 ghost use Rattle.sig_bits.specs.Device.{Gives, IsAtEnd};
 ghost use Rattle.sig_match.specs.Hits.{HitFormats, HitFormatsOfSome};
+ghost use Rattle.sig_match.specs.Readies.{AreBegins};
 ghost use Rattle.sig_table.specs.Views.{TableView};
 
 use crate::droid_core::DroidCore;
 use crate::error::CoreError;
 use crate::results::Results;
-use crate::scan::{Sieve, TableScan};
-use crate::whole::{fronts_of, hits_by};
+use crate::scan::TableScan;
+use crate::whole::{Ready, hits_by, hits_in};
 use sig_bits::{DeviceFault, Input};
 use sig_table::{Puid, Table};
-use std::alloc::Global;
+use std::alloc::{AllocError, Global};
 use std::marker::Model;
 
 // How many bytes a read has room for.
@@ -28,14 +29,16 @@ const PIECE: usize = 1 << 18;
 pub struct StreamCore {
     table: Table,
     alloc: Global,
-    // The fronts of the table, where they are made for many files.
-    fronts: Option<Sieve>,
+    // What is made of the table for many files.
+    ready: Option<Ready>,
 }
 
 impl Model for StreamCore {
     ghost Value = { TableView };
 
     ghost view = { λ c. c.table };
+
+    ghost invariant = { λ c. IfSome c.ready (λ ready. AreBegins c.table ready.begins.items) };
 }
 
 impl StreamCore {
@@ -43,25 +46,26 @@ impl StreamCore {
     pub fn new(alloc: Global, table: Table) -> StreamCore
         ensures { result ≡ table }
     {
-        StreamCore::with_fronts(alloc, table, None)
+        StreamCore::with(alloc, table, None)
     }
 
-    /// The same, ready for many files: what finds the fixed bytes of the table in a file shorter than a
-    /// piece is made once, and not for each of them. Where there is no memory for it, it is made for each.
+    /// The same, ready for many files: what is asked of the table for each file shorter than a piece is made
+    /// once. Where there is no memory for it, it is made for each of them.
     pub fn prepared(alloc: Global, table: Table) -> StreamCore
         ensures { result ≡ table }
     {
-        let fronts = fronts_of(alloc, &table).unwrap_or(None);
-        StreamCore::with_fronts(alloc, table, fronts)
+        let ready = Ready::of(alloc, &table).ok();
+        StreamCore::with(alloc, table, ready)
     }
 
-    fn with_fronts(alloc: Global, table: Table, fronts: Option<Sieve>) -> StreamCore
+    fn with(alloc: Global, table: Table, ready: Option<Ready>) -> StreamCore
+        requires { IfSome ready (λ r. AreBegins table r.begins.items) }
         ensures { result ≡ table }
     {
         StreamCore {
             table,
             alloc,
-            fronts,
+            ready,
         }
     }
 
@@ -84,7 +88,7 @@ impl DroidCore for StreamCore {
     }
 
     fn match_binary_signatures<R: Input>(&self, input: &mut R) -> Result<Results, CoreError> {
-        scan_input(self.alloc, &self.table, self.fronts.as_ref(), input)
+        scan_input(self.alloc, &self.table, self.ready.as_ref(), input)
     }
 
     fn remove_lower_priority_hits(&self, results: &mut Results) {
@@ -92,6 +96,7 @@ impl DroidCore for StreamCore {
     }
 
     fn remove_signature_for_puid(&mut self, puid: &Puid) -> bool {
+        self.ready = None;
         self.table.remove_signature_for_puid(puid)
     }
 }
@@ -100,9 +105,10 @@ impl DroidCore for StreamCore {
 fn scan_input<R: Input>(
     alloc: Global,
     table: &Table,
-    fronts: Option<&Sieve>,
+    ready: Option<&Ready>,
     input: &mut R,
 ) -> Result<Results, CoreError>
+    requires { IfSome ready (λ r. AreBegins table.now r.now.begins.items) }
     ensures hits { IfOk result (HitFormatsOfSome table.now (R.to_come input.old)) }
     ensures at_end { OnOk result (IsAtEnd (R.to_come input.new)) }
     ensures sound { OnOk result (R.failed input.new ≡ false) }
@@ -112,7 +118,7 @@ fn scan_input<R: Input>(
     let mut piece = vec![in alloc; 0; PIECE]?;
     let first = fill(input, &mut piece)?;
     if first < PIECE {
-        return Ok(hits_by(alloc, table, fronts, &piece[..first])?);
+        return Ok(hits_of(alloc, table, ready, &piece[..first])?);
     }
     let mut scan = TableScan::behind(alloc, table, &piece)?;
     'pieces: loop {
@@ -121,6 +127,22 @@ fn scan_input<R: Input>(
         if n < PIECE {
             return Ok(scan.finish());
         }
+    }
+}
+
+// The formats that a file hits which lies in memory.
+fn hits_of(
+    alloc: Global,
+    table: &Table,
+    ready: Option<&Ready>,
+    file: &[u8],
+) -> Result<Results, AllocError>
+    requires { IfSome ready (λ r. AreBegins table.now r.now.begins.items) }
+    ensures { IfOk result (λ hits. HitFormats table.now file.now hits) }
+{
+    match ready {
+        Some(ready) => hits_by(alloc, table, ready, file),
+        None => hits_in(alloc, table, file),
     }
 }
 

@@ -11,13 +11,13 @@
 
 ghost use Rattle.std.specs.Prelude.{◌≡◌, ◌<◌, ◌↔◌, IfOk, IfErr, IsTrue, length};
 ghost use Rattle.sig_match.specs.Hits.{HitFormats, HitsOf, Left};
+ghost use Rattle.sig_match.specs.Readies.{AreBegins};
 ghost use Rattle.sig_table.specs.Views.{TableView};
 
 use crate::droid_core::DroidCore;
 use crate::error::CoreError;
 use crate::hits::list_hits;
 use crate::results::Results;
-use crate::scan::Sieve;
 use sig_bits::{Input, ReadWholeError, read_whole};
 use sig_table::{Puid, SigId, Table};
 use std::alloc::{AllocError, Global};
@@ -29,14 +29,15 @@ mod frontier;
 mod fronts;
 mod longest;
 mod part;
+mod ready;
 mod run;
 mod search;
 #[cfg(test)]
 mod tests;
 
 pub(crate) use anchored::stands;
-pub(crate) use fronts::fronts_of;
 pub(crate) use longest::longest_of;
+pub(crate) use ready::Ready;
 use search::{is_hit, which_hit};
 
 /// A matcher that reads a file whole before it searches it.
@@ -122,16 +123,18 @@ pub fn signature_hits(
 pub(crate) fn hits_in(alloc: Global, table: &Table, file: &[u8]) -> Result<Results, AllocError>
     ensures { IfOk result (λ hits. HitFormats table.now file.now hits) }
 {
-    hits_by(alloc, table, None, file)
+    let ready = Ready::of(alloc, table)?;
+    hits_by(alloc, table, &ready, file)
 }
 
-/// The same, where the fronts of the table may be at hand.
+/// The same, with what was made of the table before.
 pub(crate) fn hits_by(
     alloc: Global,
     table: &Table,
-    ready: Option<&Sieve>,
+    ready: &Ready,
     file: &[u8],
 ) -> Result<Results, AllocError>
+    requires { AreBegins table.now ready.now.begins.items }
     ensures { IfOk result (λ hits. HitFormats table.now file.now hits) }
 {
     let marks = which_hit(alloc, table, ready, file)?;

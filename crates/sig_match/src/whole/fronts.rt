@@ -1,8 +1,8 @@
 //! Fronts of sequences that may begin at several offsets: one look at the file finds for all of them which
 //! ones are nowhere in it.
 //!
-//! Each front has a number in the sieve. The numbers rise in the order of the table, so they are counted and
-//! not kept.
+//! Each front has a number in the sieve. The numbers rise in the order of the table, so that of the first front of
+//! a signature tells those of its others.
 
 ghost use Rattle.std.specs.Prelude.{◌≤◌, IfSome, IsTrue, length, take};
 ghost use Rattle.sig_match.specs.Fronts.{IsFrontOf, IsNowhere};
@@ -17,9 +17,6 @@ use std::alloc::{AllocError, Global};
 // A front that is shorter is in no sieve.
 const LEAST: usize = 4;
 
-// For fewer fronts a sieve is not worth its making.
-const MANY: usize = 8;
-
 /// The first bytes of each word of a sequence, as many as `len` says.
 #[derive(Debug, Drop)]
 pub(crate) struct Front {
@@ -27,34 +24,20 @@ pub(crate) struct Front {
     len: usize,
 }
 
-/// The fronts of the table, in table order, unless they are too few for a sieve.
-pub(crate) fn fronts_of(alloc: Global, table: &Table) -> Result<Option<Sieve>, AllocError> {
-    if !has_fronts(table, MANY) {
-        return Ok(None);
+/// How many of the sequences have a front.
+pub(crate) fn count_fronts(sequences: &[Sequence]) -> usize {
+    let mut count: usize = 0;
+    for sequence in sequences {
+        if front_of(sequence).is_some() {
+            count = count.saturating_add(1);
+        }
     }
+    count
+}
+
+/// The fronts of the table, in table order.
+pub(crate) fn sieve_of(alloc: Global, table: &Table) -> Result<Sieve, AllocError> {
     let mut sieve = Sieve::new(alloc)?;
-    add_fronts(table, &mut sieve)?;
-    Ok(Some(sieve))
-}
-
-// Whether so many sequences of the table have a front.
-fn has_fronts(table: &Table, least: usize) -> bool {
-    let mut left = least;
-    for index in 0..table.signature_count() {
-        for sequence in table.sequences_of(SigId(index as u16)) {
-            if left > 0 && front_of(sequence).is_some() {
-                left -= 1;
-            }
-        }
-        if left == 0 {
-            return true;
-        }
-    }
-    false
-}
-
-// Puts the fronts of the table into the sieve, in table order.
-fn add_fronts(table: &Table, sieve: &mut Sieve) -> Result<(), AllocError> {
     for index in 0..table.signature_count() {
         for sequence in table.sequences_of(SigId(index as u16)) {
             if let Some(front) = front_of(sequence) {
@@ -62,28 +45,24 @@ fn add_fronts(table: &Table, sieve: &mut Sieve) -> Result<(), AllocError> {
             }
         }
     }
-    Ok(())
+    Ok(sieve)
 }
 
 /// Whether one of the sequences has a front that is nowhere in the file. `number` is that of the first
-/// front of these sequences, and then that of the first behind them.
-pub(crate) fn some_front_is_missing(
-    file: &Piece<'_>,
-    sequences: &[Sequence],
-    number: &mut usize,
-) -> bool
+/// front of these sequences.
+pub(crate) fn some_front_is_missing(file: &Piece<'_>, sequences: &[Sequence], number: usize) -> bool
     ensures { IsTrue result → ¬ AllStand file.now sequences.now }
 {
-    let mut missing = false;
+    let mut number = number;
     for sequence in sequences {
         if let Some(front) = front_of(sequence) {
-            if is_missing(file, &front, *number) {
-                missing = true;
+            if is_missing(file, &front, number) {
+                return true;
             }
-            *number = number.saturating_add(STRIDE);
+            number = number.saturating_add(STRIDE);
         }
     }
-    missing
+    false
 }
 
 // Whether the front is nowhere in the file, as far as the sieve knows it by this number.
