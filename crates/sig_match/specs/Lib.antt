@@ -17,7 +17,6 @@ pub mod Fixed
 pub mod Frontiers
 pub mod Fronts
 pub mod Gaps
-pub mod Hitting
 pub mod Lates
 pub mod Narrow
 pub mod Parts

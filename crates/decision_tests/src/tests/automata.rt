@@ -8,7 +8,7 @@ use std::test::Fail;
 
 const HEADER: &[u8] = b"puid,signature,position,offset,max_offset,expression\nfmt/1,1,";
 
-// The automaton of the one sequence with this place and this expression.
+// The automaton of the one sequence with this position and this expression.
 fn automaton(alloc: Global, placed: &str) -> Option<Auto> {
     let mut signatures = HEADER.to_vec(alloc).ok()?;
     signatures.extend_from_slice(placed.as_bytes()).ok()?;
@@ -405,7 +405,7 @@ fn a_gap_of_many_slots_steps_as_one(rt: HostRuntime) -> Result<(), Fail> {
     Ok(())
 }
 
-// The bytes with which the one sequence with this place and this expression begins, and whether it
+// The bytes with which the one sequence with this position and this expression begins, and whether it
 // stands in the empty file.
 fn begin_of(alloc: Global, placed: &str) -> Option<(ByteClass, bool)> {
     let mut signatures = HEADER.to_vec(alloc).ok()?;
