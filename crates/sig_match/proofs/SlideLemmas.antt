@@ -1,14 +1,13 @@
 -- Slots of the gap at the end of the file: each leads to the next one alone.
 use Rattle.std.proofs.Common.{◌≡◌, ◌⊎◌, ◌↔◌, ⊎_elim, ℕ, zero, suc, ◌+◌, ◌-◌, ◌<◌, ◌≤◌, List, [], ◌∷◌, ◌++◌, length, get_or, drop, replicate, Some, None, append_assoc, subst, sym, ap, refl, ◌∙◌, arith, inl, inr, length-drop}
 use Rattle.std.proofs.lemmas.Bool.{cases_eq}
-use Rattle.std.proofs.lemmas.List.{get_or-append_right, length-replicate}
+use Rattle.std.proofs.lemmas.List.{get_or-append_right}
 use Rattle.std.proofs.lemmas.List.Elements.{All-head, All-tail}
 use Rattle.sig_auto.proofs.Exports.{followed_is_state, follows_to_a_slot, length_classes}
 use Rattle.sig_auto.specs.Classes.{InClass, any}
 use Rattle.sig_auto.specs.Tracks.{Follows, Track, slots_from}
 use Rattle.sig_auto.specs.Trees.{Tree, Never, Empty, Slot, Gap, Then, Or, back_tree, front_tree, item_tree, items_tree, whole_tree}
 use Rattle.sig_auto.specs.TreeSlots.{Takes, class_of, classes_of, slots_of}
-use Rattle.sig_auto.specs.declared.class.Class.{Class}
 use Rattle.sig_bits.specs.BitSets.{HasBit, HasBitBetween}
 use Rattle.sig_bits.specs.Bytes.{IsBytes}
 use Rattle.sig_bits.specs.declared.byte_class.ByteClass.{ByteClass}
@@ -343,3 +342,19 @@ slid_joined first middle limit set count last q low high = (
 -- where no bit is set, no slot moves
 pub none_slid : (first limit : ℕ) (set : List ℕ) (count last q : ℕ) → (HasBitBetween set first limit → ⊥) → IsSlid first limit set count last q → ⊥
 none_slid first limit set count last q none slid = none (slid.slot, (slid.low, slid.few, slid.bit))
+
+-- what comes of one stretch more is added
+pub slid_further : (first middle limit : ℕ) (rest set to new : List ℕ) (count last : ℕ) → first ≤ middle → middle ≤ limit → ((q : ℕ) → HasBit to q ↔ (HasBit rest q ⊎ IsSlid first middle set count last q)) → ((q : ℕ) → HasBit new q ↔ (HasBit to q ⊎ IsSlid middle limit set count last q)) → (q : ℕ) → HasBit new q ↔ (HasBit rest q ⊎ IsSlid first limit set count last q)
+slid_further first middle limit rest set to new count last low high before more q =
+    let joined = slid_joined first middle limit set count last q low high in (
+      λ bit.
+          ⊎_elim
+          (λ old. ⊎_elim (λ kept. inl kept) (λ slid. inr (joined.1 (inl slid))) ((before q).0 old))
+          (λ slid. inr (joined.1 (inr slid)))
+          ((more q).0 bit),
+      λ either.
+          ⊎_elim
+          (λ kept. (more q).1 (inl ((before q).1 (inl kept))))
+          (λ slid. ⊎_elim (λ early. (more q).1 (inl ((before q).1 (inr early)))) (λ late. (more q).1 (inr late)) (joined.0 slid))
+          either,
+    )

@@ -265,6 +265,7 @@ impl SequenceScan {
         if self.resting || !self.climbs || self.awake % AGAIN != FRONT || self.set.len() <= SMALL {
             return from;
         }
+        let last = self.auto.slots() as usize;
         if !get_bit(&self.rest, 1) || !is_beside(&self.set, &self.rest, self.inner) {
             return from;
         }
@@ -272,7 +273,6 @@ impl SequenceScan {
         if to == from {
             return from;
         }
-        let last = self.auto.slots() as usize;
         write_slid(
             &self.set,
             &self.rest,

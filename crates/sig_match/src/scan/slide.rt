@@ -84,6 +84,7 @@ pub(crate) fn write_slid(
 // Adds those of some slots.
 fn add_slid(set: &[u8], from: usize, end: usize, count: usize, last: usize, to: &mut [u8])
     requires slots { last ≤ 65535 }
+    requires start { from ≤ end }
     requires within { end ≤ last + 1 }
     requires set_len { last < 8 * length set.now }
     requires to_len { last < 8 * length to.old }

@@ -1,4 +1,4 @@
-use Rattle.std.proofs.Common.{◌⊎◌, ◌↔◌, ℕ, ◌+◌, ◌-◌, ◌≤◌, length}
+use Rattle.std.proofs.Common.{◌⊎◌, ◌↔◌, ℕ, ◌+◌, ◌-◌, ◌≤◌}
 use Rattle.sig_bits.specs.BitSets.{HasBit}
 use Rattle.sig_match.specs.Slides.{IsSlid}
 use Rattle.sig_match.proofs.scan.slide.write_slid.Given as goal
