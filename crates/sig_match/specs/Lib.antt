@@ -25,5 +25,6 @@ pub mod Rests
 pub mod Ways
 pub mod Runs
 pub mod Sieves
+pub mod Slides
 pub mod Spans
 pub use Rattle.memchr.specs.Find

@@ -24,6 +24,7 @@ mod rest;
 mod sequence_scan;
 mod sieve;
 mod signature_scan;
+mod slide;
 mod span;
 mod table_scan;
 #[cfg(test)]

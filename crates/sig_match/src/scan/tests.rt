@@ -547,6 +547,66 @@ fn the_plain_scan_agrees_where_a_word_may_always_have_begun(rt: HostRuntime) -> 
     Ok(())
 }
 
+// Whether the sequence stands where so many zeros are before `ABCD`, and so many behind, in one piece.
+fn stands_between_zeros(
+    alloc: Global,
+    sequence: &str,
+    before: usize,
+    behind: usize,
+) -> Result<bool, Fail> {
+    let table = table_of(alloc, sequence)?;
+    let mut file = repeated(alloc, b"\x00", before)?;
+    file.extend_from_slice(b"ABCD")?;
+    file.extend_from_slice(repeated(alloc, b"\x00", behind)?.as_slice())?;
+    hits(alloc, &table, &[&file])
+}
+
+// How many bytes are behind the word, and whether it then stands from 3 to 400 bytes before the end.
+const BEHIND: &[(usize, bool)] = &[
+    (2, false),
+    (3, true),
+    (20, true),
+    (399, true),
+    (400, true),
+    (401, false),
+    (500, false),
+];
+
+#[test]
+fn a_word_moves_away_from_the_end_by_each_byte(rt: HostRuntime) -> Result<(), Fail> {
+    for &(behind, stands) in BEHIND {
+        for before in [0, 9, 700] {
+            assert_eq!(rt;
+                stands_between_zeros(rt.alloc(), "EOF,3,400,41424344", before, behind)?,
+                stands,
+                "{before} {behind}"
+            );
+        }
+    }
+    Ok(())
+}
+
+// Sequences with more slots behind their words than go by words.
+const FAR_FROM_END: &[&str] = &[
+    "EOF,0,300,4142",
+    "EOF,5,290,41??4200",
+    "EOF,0,280,(41|4200)4100",
+];
+
+#[test]
+fn the_plain_scan_agrees_where_words_move_away_from_the_end(rt: HostRuntime) -> Result<(), Fail> {
+    for seed in 0..3 {
+        let mut file = letters(rt.alloc(), seed, 90)?;
+        file.extend_from_slice(repeated(rt.alloc(), b"\x00", 230)?.as_slice())?;
+        file.extend_from_slice(letters(rt.alloc(), seed, 40)?.as_slice())?;
+        file.extend_from_slice(repeated(rt.alloc(), b"A", 190)?.as_slice())?;
+        for sequence in FAR_FROM_END {
+            assert!(rt; agree(rt.alloc(), sequence, &file)?, "{seed} {sequence}");
+        }
+    }
+    Ok(())
+}
+
 // What the scan answers of a file that is fed in pieces of this length.
 fn scanned_by(
     alloc: Global,
