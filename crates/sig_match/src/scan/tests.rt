@@ -819,7 +819,7 @@ fn answers(alloc: Global, table: &Table, file: &[u8], hits: &[Hit]) -> Result<bo
             && scanned_by(alloc, table, file, 2)?.hits() == hits
             && scanned_by(alloc, table, file, 3)?.hits() == hits
             && scanned_by(alloc, table, file, 7)?.hits() == hits
-            && scanned_by(alloc, table, file, usize::MAX)?.hits() == hits
+            && scanned_by(alloc, table, file, 1024)?.hits() == hits
             && each_front_agrees(alloc, table, file)?,
     )
 }
