@@ -1,7 +1,6 @@
 mod failing;
 mod judging;
 mod many_files;
-mod refused;
 mod worked_rows;
 
 use fixtures::{PRIORITIES, SIGNATURES};
