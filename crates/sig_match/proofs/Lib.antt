@@ -22,6 +22,5 @@ mod RetreatLemmas
 mod RunLemmas
 mod ScanLemmas
 mod SieveLemmas
-mod SlideLemmas
 mod SpanLemmas
 mod StandLemmas

@@ -17,6 +17,7 @@ pub mod Fixed
 pub mod Frontiers
 pub mod Fronts
 pub mod Gaps
+pub mod Hitting
 pub mod Lates
 pub mod Narrow
 pub mod Parts
@@ -25,6 +26,5 @@ pub mod Rests
 pub mod Ways
 pub mod Runs
 pub mod Sieves
-pub mod Slides
 pub mod Spans
 pub use Rattle.memchr.specs.Find
