@@ -102,6 +102,11 @@ def match_lines(program, folder):
     run = median([program, "show", "signatures.csv", "priorities.csv"], folder, stack=100 << 10)
     line("show with a stack of 100 KiB", run, "works")
     wanted(run, 0, HEADER)
+    table("fmt/1,1,Variable,,," + "*" * 8192 + "\n")
+    written(folder, "file", [b"A" * 300_000])
+    run = median(words, folder, stack=100 << 10)
+    line("match 8,192 items, Variable, with a stack of 100 KiB", run, "works")
+    wanted(run, 0, "fmt/1 1\n")
 
     size = written(folder, "signatures.csv", [HEADER.encode()] + [b"a\n" * 500_000] * 100)
     run = median(words, folder)

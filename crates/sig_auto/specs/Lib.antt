@@ -7,18 +7,18 @@ pub mod Tracks
 pub mod Runs
 pub mod ByteCuts
 pub mod Remaining
+pub mod Moves
+pub mod StateSets
 -- These are words of the proofs.
 pub mod Begins
 pub mod Counted
 pub mod Cuts
 pub mod Local
-pub mod Moves
 pub mod Same
 pub mod Seen
 pub mod Shorts
 pub mod Sides
 pub mod Spelled
-pub mod StateSets
 pub mod Stepping
 pub mod Successions
 pub mod Trim

@@ -3,7 +3,7 @@
 ghost use Rattle.std.specs.Prelude.{◌≡◌, ◌++◌, ◌+◌, ◌≤◌, ◌<◌, [], ◌∷◌, OnOk, drop, length, map, slice_index, take, IfOk};
 ghost use Rattle.sig_auto.specs.Rows.{above, behind_these, below, between, inner_at, only_these, rest};
 
-use super::Class;
+use crate::class::Class;
 use std::alloc::{AllocError, Global};
 
 // The classes of as many bytes.

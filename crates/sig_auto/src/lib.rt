@@ -20,7 +20,6 @@ mod successors;
 mod unroll;
 
 pub use auto::Auto;
-use class::Class;
 pub use laws::{
     accepts_by_an_end, runs_accept_what_stands, runs_are_decided, runs_begin, runs_go_on,
     slots_are_counted, states_are_slots,

@@ -1,7 +1,7 @@
 -- Files that leave two formats, and tables of which no file does.
 use Rattle.std.specs.Prelude.{◌≡◌, ℕ, ◌<◌, ◌≤◌, List, ◌∷◌, length}
 use Rattle.sig_bits.specs.Bytes.{IsBytes}
-use Rattle.sig_match.specs.Hitting.{Left}
+use Rattle.sig_match.specs.Hits.{Left}
 use Rattle.sig_match.specs.declared.results.Hit.{Hit}
 use Rattle.sig_table.specs.Views.{TableView}
 use Rattle.sig_table.specs.declared.ids.FormatId.{FormatId}

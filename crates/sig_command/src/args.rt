@@ -13,8 +13,9 @@ use sig_engines::TablePaths;
 use std::alloc::Global;
 
 const SHOW_HELP: &str = "\
-The signatures come first, then an empty line, then the priorities. What is printed loads as the
-same table.
+The signatures come first, then an empty line, then the priorities. Each line of the two files is a
+record of comma-separated fields: first the header, then the rows in canonical form. What is printed
+loads as the same table.
 
 Statuses:
   0  the table was printed
@@ -26,9 +27,9 @@ Each line is a PUID, a space, and the number of the signature that hits, the fir
 the table. No line means that no format of the table is hit. Several lines mean that no priority
 decides between these formats: the file is ambiguous.
 
-With more than one FILE each line begins with the file's name and a tab, and of a file that no format
-is hit by the line is its name, a tab and a hyphen. A file with a fault has a line on standard error,
-and the others go on.
+With more than one FILE each line begins with the file's name and a tab, and a file for which no
+format is left has one line, its name, a tab and a hyphen. A file with a fault has a line on standard
+error, and the others go on.
 
 Statuses:
   0  each file was read to its end and the answer was printed, also where it has no line
@@ -41,14 +42,14 @@ The first line is one of three answers:
   decided      no file whatever leaves two formats of the table. OUT is a certificate of it, which
                `check` accepts
   witness A B  OUT is a file that leaves the formats A and B, as `witness` and `match` show. No
-               shorter one does that the same two signatures hit
+               shorter file that the same two signatures hit leaves both
   gave up S T  the signatures numbered S and T need more rows than the budget, or more than 64
                signatures outrank them. OUT is not touched
 
-The budget is the greatest number of rows that are kept at a time, each of which stands for all files
-that the signatures do not tell apart. 100000 is a sensible one. Where the search gave up, try ten
-times as many; where that does not do, look at the signatures S and T: fewer gaps, an anchor at the
-beginning or the end, or a priority between their formats settles them.
+The budget is the greatest number of different rows that one search may reach; each row stands for
+all files that the signatures do not tell apart. 100000 is a sensible one. Where the search gave up,
+try ten times as many; where that does not do, look at the signatures S and T: fewer gaps, an anchor
+at the beginning or the end, or a priority between their formats settles them.
 
 Statuses:
   0  the table is decided, or a witness was found
@@ -60,15 +61,16 @@ const CONFLICTS_HELP: &str = "\
 A line for each pair of formats that is not known to be decided, as soon as it is known, in table
 order. Pairs of which one format outranks the other are left out.
   ambiguous A B S T N  the signatures numbered S of A and T of B hit a file of N bytes that leaves
-                       both formats. No shorter one does that the two hit. With --hex its bytes
-                       stand behind N
+                       both formats. No shorter file that the two hit leaves both. With --hex its
+                       bytes stand behind N
   unknown A B S T      the search gave up on these two signatures, and no other two of A and B
                        gave such a file
 Of a pair without a line no file whatever leaves both formats. The last line counts the pairs:
   pairs P decided D ambiguous M unknown U
 
-The budget is the greatest number of rows that are kept at a time, each of which stands for all files
-that the signatures do not tell apart. 100000 is a sensible one. It holds for each two signatures.
+The budget is the greatest number of different rows that one search may reach; each row stands for
+all files that the signatures do not tell apart. 100000 is a sensible one. It holds for each two
+signatures.
 
 Statuses:
   0  no pair is ambiguous or unknown: no file leaves two formats of the table

@@ -26,7 +26,7 @@ pub record AreLinesOf (all : Bool) (table : TableView) (held : Holding) (name li
   pub are_asked : AreAsked all table file hits
   pub are_lines : lines ≡ file_lines (Some name) table hits
 
--- this is printed of the file of this name: its lines; or there is no such file, a reader of it failed, or memory ran out
+-- this is printed of the file of this name: its lines; or there is no such file, some reader of the store failed, or memory ran out
 abbrev pub IsPrinted : {R : Type 0} → (R → Bool) → Bool → TableView → Holding → List ℕ → Printed → Type 0
 IsPrinted failed all table held name (Ok lines) = AreLinesOf all table held name lines
 IsPrinted failed all table held name (Err CannotOpen) = Lacks held name

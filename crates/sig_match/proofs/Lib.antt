@@ -22,5 +22,6 @@ mod RetreatLemmas
 mod RunLemmas
 mod ScanLemmas
 mod SieveLemmas
+mod SlideLemmas
 mod SpanLemmas
 mod StandLemmas

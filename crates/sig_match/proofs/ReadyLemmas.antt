@@ -1,5 +1,5 @@
 -- The bytes with which files begin, of one signature after the other.
-use Rattle.std.proofs.Common.{◌≡◌, ◌↔◌, ℕ, false, IsTrue, ◌+◌, ◌<◌, IfSome, List, [], ◌∷◌, ◌++◌, length, get_or, Option, None, Some, subst, sym, inl, inr, arith, option_map, length-append}
+use Rattle.std.proofs.Common.{◌≡◌, ◌↔◌, ℕ, false, IsTrue, IfSome, List, [], ◌∷◌, ◌++◌, length, Option, None, Some, subst, sym, inl, inr, arith, option_map, length-append}
 use Rattle.std.specs.Prelude.{slice_get}
 use Rattle.std.proofs.lemmas.Bool.{cases_lt, false≢true}
 use Rattle.std.proofs.lemmas.List.{get_or_append_left, get_or_push}

@@ -48,11 +48,11 @@ rises_lower : (v : List ℕ) (b m : ℕ) → b ≤ m → RisesFrom m v → Rises
 rises_lower [] b m less rises = tt
 rises_lower (q ∷ v) b m less rises = (omega (arith, rises.0), rises.1)
 
-at_most_higher : (v : List ℕ) (m n : ℕ) → m ≤ n → AtMost m v → AtMost n v
+pub at_most_higher : (v : List ℕ) (m n : ℕ) → m ≤ n → AtMost m v → AtMost n v
 at_most_higher [] m n less all = tt
 at_most_higher (q ∷ v) m n less all = (omega (arith, all.0), at_most_higher v m n less all.1)
 
-at_most_append : (u v : List ℕ) (m : ℕ) → AtMost m u → AtMost m v → AtMost m (u ++ v)
+pub at_most_append : (u v : List ℕ) (m : ℕ) → AtMost m u → AtMost m v → AtMost m (u ++ v)
 at_most_append [] v m first second = second
 at_most_append (q ∷ u) v m first second = (first.0, at_most_append u v m first.1 second)
 
@@ -64,7 +64,7 @@ slots_rise : (k b first : ℕ) → b < first → RisesFrom b (slots_from first k
 slots_rise zero b first above = tt
 slots_rise (suc k) b first above = (above, slots_rise k first (first + 1) (omega arith))
 
-slots_end : (k first m : ℕ) → first + k ≤ m + 1 → AtMost m (slots_from first k)
+pub slots_end : (k first m : ℕ) → first + k ≤ m + 1 → AtMost m (slots_from first k)
 slots_end zero first m within = tt
 slots_end (suc k) first m within = (omega arith, slots_end k (first + 1) m (omega arith))
 

@@ -17,7 +17,6 @@ pub mod Fixed
 pub mod Frontiers
 pub mod Fronts
 pub mod Gaps
-pub mod Hitting
 pub mod Lates
 pub mod Narrow
 pub mod Parts
@@ -26,5 +25,6 @@ pub mod Rests
 pub mod Ways
 pub mod Runs
 pub mod Sieves
+pub mod Slides
 pub mod Spans
 pub use Rattle.memchr.specs.Find

@@ -24,6 +24,7 @@ mod rest;
 mod sequence_scan;
 mod sieve;
 mod signature_scan;
+mod slide;
 mod span;
 mod table_scan;
 #[cfg(test)]
@@ -40,10 +41,10 @@ const ROOM: usize = 1 << 12;
 
 /// A file on its way past a table.
 ///
-/// All memory is taken at the start: for each sequence that is looked for its automaton, three sets of a
-/// bit for each state, and its bytes if it is a long run of them; the sieve of fronts; the room of the
-/// answer; and 4 KiB for bytes that wait. The bytes of short pieces wait
-/// until a piece has no room beside them, and are then gone through as one.
+/// All memory is taken at the start: for each sequence that is looked for its automaton with what it
+/// notes, three sets of a bit for each state, and its bytes if it is a long run of them; the sieve of
+/// fronts; the room of the answer; and 4 KiB for bytes that wait. The bytes of short pieces wait until a
+/// piece has no room beside them, and are then gone through as one.
 #[derive(Debug, Drop)]
 pub struct Scan<'t> {
     scan: TableScan<'t>,

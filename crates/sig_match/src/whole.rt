@@ -1,13 +1,13 @@
 //! The matcher that keeps the file in memory.
 //!
-//! Of most sequences one byte tells that they do not stand (`crate::outlook`), and of those that may
-//! begin anywhere one look at the file tells which fronts it does not have (`fronts`). Each other
-//! sequence is searched by itself, from a frontier of offsets to the next (`frontier`). A run
-//! of fixed bytes is looked for whole, and any other item, or part of an alternative, costs at most
-//! the file's length, whatever the table and the file. An EOF sequence whose words are bounded is
-//! looked for near the end of the file alone. A frontier has at most about half as many intervals as
-//! the file has bytes, of sixteen bytes each; two stand at a time, and three more within a list of
-//! alternatives.
+//! Of most signatures one byte tells that they do not hit (`ready`, `crate::outlook`), and of sequences
+//! that may begin at several offsets one look at the file tells which fronts it does not have
+//! (`fronts`). Each other sequence is searched by itself, from a frontier of offsets to the next
+//! (`frontier`). A run of fixed bytes is looked for whole, and any other item, or part of an
+//! alternative, costs at most the file's length, whatever the table and the file. An EOF sequence whose
+//! words are bounded is looked for near the end of the file alone. A frontier has at most about half as
+//! many intervals as the file has bytes, of sixteen bytes each; two stand at a time, and three more
+//! within a list of alternatives.
 
 ghost use Rattle.std.specs.Prelude.{◌≡◌, ◌<◌, ◌↔◌, IfOk, IfErr, IsTrue, length};
 ghost use Rattle.sig_match.specs.Hits.{HitFormats, HitsOf, Left};

@@ -10,6 +10,7 @@ pub mod Puids
 pub mod PuidViews
 pub mod Ranking
 pub mod Removal
+pub mod Remaining
 pub mod Rows
 pub mod RowTexts
 pub mod Slots
@@ -23,7 +24,6 @@ pub mod Drafts
 pub mod FormatSets
 pub mod RankingViews
 pub mod Records
-pub mod Remaining
 pub mod Spans
 -- The definitions of the crates below that clauses cite.
 pub use Rattle.sig_bits.specs.BitSets

@@ -1,4 +1,4 @@
-//! An expression at its place.
+//! An expression at its position.
 
 ghost use Rattle.std.specs.Prelude.{◌≡◌, ◌≤◌};
 ghost use Rattle.sig_table.specs.Slots.{slot_count};
@@ -9,7 +9,7 @@ use crate::slots::count_slots;
 use sig_expr::Expr;
 use std::marker::Model;
 
-// An expression at its place, as a row spells it: its slots are not judged yet.
+// An expression at its position, as a row spells it: its slots are not judged yet.
 #[derive(Debug, Drop)]
 pub(crate) struct Placed {
     pub(crate) position: Position,
@@ -24,7 +24,7 @@ impl Model for Placed {
     ghost view = { λ s. record { position = s.position; items = s.expr } };
 }
 
-/// An expression with the place where it stands in a file, within the limits of both.
+/// An expression with its position in a file, within the limits of both.
 #[derive(Debug, Drop)]
 pub struct Sequence {
     position: Position,

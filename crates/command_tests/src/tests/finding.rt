@@ -148,6 +148,10 @@ fn a_witness_is_as_short_as_can_be(rt: HostRuntime) -> Result<(), Fail> {
         signatures.as_str(),
         priorities.as_str(),
     )?;
+    assert!(rt;
+        found.out.as_str().starts_with("witness fmt/1 fmt/2\n"),
+        "{found:?}"
+    );
     assert_eq!(rt; found.status, 0);
     assert_eq!(rt; fs::read(&rt, out.as_str())?.len(), 2);
     fs::remove_dir_all(&rt, folder)?;

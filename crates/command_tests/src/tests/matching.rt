@@ -15,6 +15,18 @@ const LEFT: &[(&str, &str, &[u8], &str)] = &[
         b"A",
         "fmt/2 2\n",
     ),
+    (
+        "fmt/1,9,BOF,0,,41\nfmt/1,2,BOF,0,,41\n",
+        "",
+        b"A",
+        "fmt/1 9\n",
+    ),
+    (
+        "fmt/1,1,BOF,0,,41\nfmt/2,2,BOF,0,,41\nfmt/3,3,BOF,0,,41\n",
+        "fmt/1,fmt/2\nfmt/2,fmt/3\n",
+        b"A",
+        "fmt/1 1\n",
+    ),
 ];
 
 #[test]

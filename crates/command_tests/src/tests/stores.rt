@@ -174,6 +174,31 @@ fn says_nothing_of_a_table_whose_reads_fail(rt: HostRuntime) -> Result<(), Fail>
     Ok(())
 }
 
+// Two formats that give their signatures the same number.
+const OF_TWO: Named = Named {
+    name: "s",
+    bytes: b"puid,signature,position,offset,max_offset,expression\nfmt/1,1,BOF,0,,4142\nfmt/2,1,BOF,0,,4143\n",
+};
+
+#[test]
+fn a_fault_of_the_signatures_comes_before_a_failed_read_of_the_priorities(
+    rt: HostRuntime,
+) -> Result<(), Fail> {
+    let store = Failing {
+        first: OF_TWO,
+        second: FILE,
+        third: PRIORITIES,
+    };
+    for &words in OF_A_TABLE {
+        let shown = run_over(&rt, &store, words)?;
+        assert!(rt;
+            shown.is_fault(2, "signatures row 2: L9 signature of two formats\n"),
+            "{words:?}{shown:?}"
+        );
+    }
+    Ok(())
+}
+
 #[test]
 fn says_of_which_of_several_files_the_reads_fail(rt: HostRuntime) -> Result<(), Fail> {
     let store = Failing {

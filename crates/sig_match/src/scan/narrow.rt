@@ -1,4 +1,4 @@
-//! Sequences of few states, stepped by words: a set is the bits of four numbers.
+//! Sequences of few states, stepped by words: a set is the bits of one number, or of four.
 //!
 //! A step of a set goes through the automaton's tree. A file in which a sequence never rests is all
 //! steps, so there the tree is asked once what follows each state and which slots take each byte, and from
@@ -13,7 +13,7 @@
 //! both have is `001010`, the set of 1 and 3.
 //!
 //! In the field this is a bit-parallel run of the position automaton, by shifts for its runs and by
-//! masks of its labels. Sequences with 256 states or more are not run so.
+//! masks of its labels. Sequences with 256 slots or more are not run so.
 
 ghost use Rattle.std.specs.Prelude.{◌≡◌, ◌⊎◌, ◌↔◌, ℕ, ◌*◌, ◌<◌, ◌≤◌, IsTrue, drop, length};
 ghost use Rattle.sig_auto.specs.Moves.{HasAt, MovesFitInMemory};

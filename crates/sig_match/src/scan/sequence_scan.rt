@@ -17,6 +17,7 @@ use crate::scan::narrow::go_by_words;
 use crate::scan::piece::Piece;
 use crate::scan::rest::{DEPTH, FEW, all_fade, way_of};
 use crate::scan::sieve::Sieve;
+use crate::scan::slide::{is_beside, slots_before_end, write_slid};
 use crate::scan::span::climbs;
 use crate::scan::way::{FRONT, Way, same_bytes};
 use sig_auto::Auto;
@@ -49,9 +50,9 @@ const AWAKE: usize = 128;
 // The set, the room of the next one, and a set in which the sequence can rest, with the way out of it:
 // at first the one in which most files leave it, then the one in which it rested last. `number` is the
 // place of the first front in the sieve. `run` has the bytes of a long sequence of fixed bytes alone that may
-// begin anywhere, and none of any other. `resting` tells that it is in that set now, and `pause` how
-// many bytes are stepped before that is asked again. `awake` is how many bytes were stepped since it
-// last rested or went by words.
+// begin anywhere, and none of any other. `inner` is how many slots stand before those of the gap at the end of the
+// file. `resting` tells that it is in that set now, and `pause` how many bytes are stepped before that is asked again.
+// `awake` is how many bytes were stepped since it last rested, went by words or slid.
 #[derive(Debug, Drop)]
 pub(crate) struct SequenceScan {
     auto: Auto,
@@ -62,6 +63,7 @@ pub(crate) struct SequenceScan {
     way: Way,
     number: usize,
     climbs: bool,
+    inner: usize,
     resting: bool,
     pause: usize,
     awake: usize,
@@ -75,6 +77,7 @@ impl Model for SequenceScan {
     ghost use Rattle.sig_match.specs.Ways.{front_of};
     ghost use Rattle.sig_match.specs.Rests.{IsRest};
     ghost use Rattle.sig_match.specs.Scans.{SequenceScanView};
+    ghost use Rattle.sig_match.specs.Slides.{Slides};
     ghost use Rattle.sig_match.specs.Spans.{Climbs};
 
     ghost Value = { SequenceScanView };
@@ -87,7 +90,8 @@ impl Model for SequenceScan {
         × IsRest (whole_tree s.auto) s.rest.items s.way.exits (front_of s.way)
         × (s.resting ≡ true → s.set.items ≡ s.rest.items)
         × (s.climbs ≡ true → Climbs (whole_tree s.auto))
-        × (0 < length s.run.items → IsFixed s.auto s.run.items) };
+        × (0 < length s.run.items → IsFixed s.auto s.run.items)
+        × Slides (whole_tree s.auto) s.inner };
 }
 
 impl SequenceScan {
@@ -101,6 +105,7 @@ impl SequenceScan {
     {
         let auto = Auto::of(alloc, sequence)?;
         let run = run_of(alloc, sequence)?;
+        let inner = slots_before_end(&auto, sequence);
         let mut set = empty_set(alloc, &auto)?;
         let next = empty_set(alloc, &auto)?;
         let rest = empty_set(alloc, &auto)?;
@@ -114,6 +119,7 @@ impl SequenceScan {
             way: Way::none(),
             number: usize::MAX,
             climbs: climbs(sequence),
+            inner,
             resting: false,
             pause: 0,
             awake: 0,
@@ -174,6 +180,7 @@ impl SequenceScan {
             return;
         }
         from = self.late_begin(piece, from);
+        from = self.next_place(piece, from);
         while from < bytes.len() {
             self.step(bytes[from]);
             self.settle();
@@ -181,6 +188,7 @@ impl SequenceScan {
             self.shed(piece, from + 1);
             from = self.next_place(piece, from + 1);
             from = self.go_narrow(piece, from);
+            from = self.slide(piece, from);
         }
     }
 
@@ -242,6 +250,41 @@ impl SequenceScan {
         let count = go_by_words(&self.auto, &mut self.set, &self.rest, behind);
         self.resting = same_bytes(&self.set, &self.rest);
         from + count
+    }
+
+    // Goes on to the next place at which a way out may begin, where the set has only slots of the gap at the end of the
+    // file beside those in which the sequence rests: these move by as many places, whatever the bytes are. Answers that
+    // place.
+    fn slide(&mut self, piece: &Piece<'_>, from: usize) -> usize
+        requires { from ≤ length piece.now }
+        ensures sequence { self.new.sequence ≡ self.old.sequence }
+        ensures after { from ≤ result }
+        ensures within { result ≤ length piece.now }
+        ensures same { LeadsAlike (whole_tree self.old.sequence) self.old.set (drop from piece.now) self.new.set (drop result piece.now) }
+    {
+        if self.resting || !self.climbs || self.awake % AGAIN != FRONT || self.set.len() <= SMALL {
+            return from;
+        }
+        let last = self.auto.slots() as usize;
+        if !get_bit(&self.rest, 1) || !is_beside(&self.set, &self.rest, self.inner) {
+            return from;
+        }
+        let to = self.way.next_in(self.number, piece, from);
+        if to == from {
+            return from;
+        }
+        write_slid(
+            &self.set,
+            &self.rest,
+            self.inner,
+            to - from,
+            last,
+            &mut self.next,
+        );
+        mem::swap(&mut self.set, &mut self.next);
+        self.resting = same_bytes(&self.set, &self.rest);
+        self.awake = 0;
+        to
     }
 
     // Whether the start or slot 1 is in the set. Of a sequence that may begin anywhere, or that stands at the

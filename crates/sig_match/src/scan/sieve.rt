@@ -20,7 +20,7 @@ const PAIRS: usize = 65_536;
 // How many entries a sieve has at most.
 const ENTRIES: usize = 65_535;
 
-/// Each so manyth place is looked at, and each front has so many entries.
+/// One place in so many is looked at, and each front has so many entries.
 pub(crate) const STRIDE: usize = 3;
 
 /// Fronts of four bytes and more, each with three entries.

@@ -5,23 +5,34 @@ use crate::scan::plain::PlainScan;
 use crate::scan::sequence_scan::SequenceScan;
 use crate::scan::sieve::Sieve;
 use crate::scan::table_scan::TableScan;
-use crate::{Hit, Scan, left_in};
+use crate::{Hit, Results, Scan, left_in};
 use sig_bits::FromRead;
 use sig_table::{FormatId, Sequence, SigId, Table};
 use std::alloc::{AllocError, Global};
 use std::test::Fail;
 
-// The table of the one signature `fmt/1`, 1 with this position and expression.
-fn table_of(alloc: Global, sequence: &str) -> Result<Table, Fail> {
-    let rows = format!(in alloc;
-        "puid,signature,position,offset,max_offset,expression\nfmt/1,1,{sequence}\n"
-    )?;
+// The table of these signature rows, with no priority.
+fn loaded(alloc: Global, rows: &str) -> Result<Table, Fail> {
+    let rows = format!(in alloc; "puid,signature,position,offset,max_offset,expression\n{rows}")?;
     let table = Table::load(
         alloc,
         &mut FromRead::new(rows.as_bytes()),
         &mut FromRead::new(b"higher,lower\n".as_slice()),
     )?;
     Ok(table)
+}
+
+// The table of the one signature `fmt/1`, 1 with this position and expression.
+fn table_of(alloc: Global, sequence: &str) -> Result<Table, Fail> {
+    let rows = format!(in alloc; "fmt/1,1,{sequence}\n")?;
+    loaded(alloc, &rows)
+}
+
+fn hit(format: u16, signature: u16) -> Hit {
+    Hit {
+        format: FormatId(format),
+        signature: SigId(signature),
+    }
 }
 
 // Whether the signature hits what is fed in these pieces.
@@ -31,11 +42,7 @@ fn hits(alloc: Global, table: &Table, pieces: &[&[u8]]) -> Result<bool, Fail> {
         scan.feed(piece);
     }
     let results = scan.finish();
-    let hit = Hit {
-        format: FormatId(0),
-        signature: SigId(0),
-    };
-    Ok(results.hits() == [hit].as_slice())
+    Ok(results.hits() == [hit(0, 0)].as_slice())
 }
 
 // A sequence, the pieces that are fed, and whether it then stands.
@@ -45,6 +52,7 @@ const CUTS: &[(&str, &[&[u8]], bool)] = &[
     ("Variable,,,4142", &[b"", b"A", b"", b"B"], true),
     ("Variable,,,4142", &[b"A\x00", b"B\x00"], false),
     ("Variable,,,4142", &[], false),
+    ("BOF,0,,(41|4142)43", &[b"A", b"", b"BC"], true),
     // A front is cut anywhere.
     (
         "Variable,,,414243444546",
@@ -149,6 +157,28 @@ fn a_cut_makes_no_difference(rt: HostRuntime) -> Result<(), Fail> {
     for (sequence, pieces, stands) in CUTS {
         assert!(rt;
             one_hits(rt.alloc(), sequence, pieces)? == *stands,
+            "{sequence} {pieces:?}"
+        );
+    }
+    Ok(())
+}
+
+// Whether it does where short pieces wait for the ones behind them.
+fn one_hits_late(alloc: Global, sequence: &str, pieces: &[&[u8]]) -> Result<bool, Fail> {
+    let table = table_of(alloc, sequence)?;
+    let mut scan = Scan::new(alloc, &table)?;
+    for piece in pieces {
+        scan.feed(piece);
+    }
+    let results = scan.finish();
+    Ok(results.hits() == [hit(0, 0)].as_slice())
+}
+
+#[test]
+fn a_cut_makes_no_difference_to_bytes_that_wait(rt: HostRuntime) -> Result<(), Fail> {
+    for (sequence, pieces, stands) in CUTS {
+        assert!(rt;
+            one_hits_late(rt.alloc(), sequence, pieces)? == *stands,
             "{sequence} {pieces:?}"
         );
     }
@@ -517,16 +547,88 @@ fn the_plain_scan_agrees_where_a_word_may_always_have_begun(rt: HostRuntime) -> 
     Ok(())
 }
 
-// Whether the scan of these sequences, each of a signature of its own, and the search of the whole file
-// hit the signatures that the plain scans say, the scan in pieces of this length.
-fn all_agree_by(alloc: Global, table: &Table, file: &[u8], piece: usize) -> Result<bool, Fail>
+// Whether the sequence stands where so many zeros are before `ABCD`, and so many behind, in one piece.
+fn stands_between_zeros(
+    alloc: Global,
+    sequence: &str,
+    before: usize,
+    behind: usize,
+) -> Result<bool, Fail> {
+    let table = table_of(alloc, sequence)?;
+    let mut file = repeated(alloc, b"\x00", before)?;
+    file.extend_from_slice(b"ABCD")?;
+    file.extend_from_slice(repeated(alloc, b"\x00", behind)?.as_slice())?;
+    hits(alloc, &table, &[&file])
+}
+
+// How many bytes are behind the word, and whether it then stands from 3 to 400 bytes before the end.
+const BEHIND: &[(usize, bool)] = &[
+    (2, false),
+    (3, true),
+    (20, true),
+    (399, true),
+    (400, true),
+    (401, false),
+    (500, false),
+];
+
+#[test]
+fn a_word_moves_away_from_the_end_by_each_byte(rt: HostRuntime) -> Result<(), Fail> {
+    for &(behind, stands) in BEHIND {
+        for before in [0, 9, 700] {
+            assert_eq!(rt;
+                stands_between_zeros(rt.alloc(), "EOF,3,400,41424344", before, behind)?,
+                stands,
+                "{before} {behind}"
+            );
+        }
+    }
+    Ok(())
+}
+
+// Sequences with more slots behind their words than go by words.
+const FAR_FROM_END: &[&str] = &[
+    "EOF,0,300,4142",
+    "EOF,5,290,41??4200",
+    "EOF,0,280,(41|4200)4100",
+];
+
+#[test]
+fn the_plain_scan_agrees_where_words_move_away_from_the_end(rt: HostRuntime) -> Result<(), Fail> {
+    for seed in 0..3 {
+        let mut file = letters(rt.alloc(), seed, 90)?;
+        file.extend_from_slice(repeated(rt.alloc(), b"\x00", 230)?.as_slice())?;
+        file.extend_from_slice(letters(rt.alloc(), seed, 40)?.as_slice())?;
+        file.extend_from_slice(repeated(rt.alloc(), b"A", 190)?.as_slice())?;
+        for sequence in FAR_FROM_END {
+            assert!(rt; agree(rt.alloc(), sequence, &file)?, "{seed} {sequence}");
+        }
+    }
+    Ok(())
+}
+
+// What the scan answers of a file that is fed in pieces of this length.
+fn scanned_by(
+    alloc: Global,
+    table: &Table,
+    file: &[u8],
+    piece: usize,
+) -> Result<Results, AllocError>
     requires { 0 < piece }
 {
     let mut scan = TableScan::new(alloc, table)?;
     for bytes in file.chunks(piece) {
         scan.feed(bytes);
     }
-    let results = scan.finish();
+    Ok(scan.finish())
+}
+
+// Whether the scan of these sequences, each of a signature of its own, and the search of the whole file
+// hit the signatures that the plain scans say, the scan in pieces of this length.
+fn all_agree_by(alloc: Global, table: &Table, file: &[u8], piece: usize) -> Result<bool, Fail>
+    requires { 0 < piece }
+{
+    let results = scanned_by(alloc, table, file, piece)?;
     if left_in(alloc, table, file)?.hits() != results.hits() {
         return Ok(false);
     }
@@ -620,6 +722,131 @@ fn a_front_of_any_length_settles_no_more_than_it_can(rt: HostRuntime) -> Result<
     for seed in 0..12 {
         let file = letters(rt.alloc(), seed, 24)?;
         assert!(rt; each_front_agrees(rt.alloc(), &table, &file)?, "{seed}");
+    }
+    Ok(())
+}
+
+// Sequences of signature 1 of `fmt/1`, a file, and whether it hits, worked out by hand.
+const WORKED: &[(&str, &[u8], bool)] = &[
+    ("BOF,0,,4142", b"AB", true),
+    ("BOF,1,,41??", b"\x00A\xff\x00", true),
+    ("BOF,1,,41??", b"\x00A", false),
+    ("Variable,,,41*42", b"BA", false),
+    ("Variable,,,41*42", b"\x00AB", true),
+    ("BOF,0,,41{1-2}42", b"ABB", true),
+    ("BOF,0,,41{1-2}42", b"AB", false),
+    ("BOF,0,,41{0-1}42{1}43", b"ABB\x00C", true),
+    ("EOF,0,2,4142", b"AB\x00\x00", true),
+    ("EOF,0,2,4142", b"AB\x00\x00\x00", false),
+    ("EOF,2,,41", b"A\x00\x00", true),
+    ("EOF,2,,41", b"A\x00", false),
+    ("Variable,,,*", b"", true),
+    ("BOF,0,,(41|4142)43", b"ABC", true),
+    ("BOF,0,,[!41]", b"", false),
+    ("BOF,0,,[!41]", b"A", false),
+    ("BOF,0,,[!41]", b"B", true),
+    ("BOF,0,,41\nfmt/1,1,EOF,0,,41", b"A", true),
+    ("BOF,0,,41\nfmt/1,1,EOF,0,,41", b"AB", false),
+    ("BOF,1,3,41", b"\x00A", true),
+    ("BOF,1,3,41", b"\x00\x00\x00A", true),
+    ("BOF,1,3,41", b"A", false),
+    ("BOF,1,3,41", b"\x00\x00\x00\x00A", false),
+    ("EOF,0,,41*", b"\x00A\x00", true),
+    ("EOF,0,,41*", b"\x00", false),
+    ("BOF,0,,*41", b"\x00\x00A\x00", true),
+    ("BOF,0,,*41", b"", false),
+    ("BOF,0,,[4142:4241]", b"AB", true),
+    ("BOF,0,,[4142:4241]", b"B\x00", true),
+    ("BOF,0,,[4142:4241]", b"BA", true),
+    ("BOF,0,,[4142:4241]", b"B\x00\xff", true),
+    ("BOF,0,,[4142:4241]", b"AA", false),
+    ("BOF,0,,[4142:4241]", b"BB", false),
+    ("BOF,0,,[4142:4241]", b"A", false),
+    ("BOF,0,,[!4142]", b"AC", true),
+    ("BOF,0,,[!4142]", b"\x00\x00", true),
+    ("BOF,0,,[!4142]", b"AB", false),
+    ("BOF,0,,[!4142]", b"\x00", false),
+    ("BOF,0,,[!0000:FFFE]", b"\xff\xff", true),
+    ("BOF,0,,[!0000:FFFE]", b"\xff\xfe", false),
+    ("BOF,0,,{65534}", b"", false),
+    ("Variable,,,{65533}", b"", false),
+    ("BOF,0,,4a{3-3}{0-*}(0d0a|[!0a])", b"Jxyz\r\n", true),
+    ("BOF,0,,4a{3-3}{0-*}(0d0a|[!0a])", b"Jxyz\n\n", false),
+    ("BOF,0,,4a{3-3}{0-*}(0d0a|[!0a])", b"Jxyz\n", false),
+];
+
+// Signature rows, a file, and each format that it hits with its first signature, worked out by hand.
+const WORKED_TABLES: &[(&str, &[u8], &[(u16, u16)])] = &[
+    ("fmt/1,9,BOF,0,,41\nfmt/1,2,BOF,0,,41\n", b"A", &[(0, 0)]),
+    (
+        "fmt/1,1,BOF,0,,41\nx-fmt/20,2,BOF,0,,41\n",
+        b"A",
+        &[(0, 0), (1, 1)],
+    ),
+    ("", b"A", &[]),
+    (
+        "fmt/1,1,BOF,0,,41??\nfmt/2,2,BOF,0,,??42\nfmt/3,3,BOF,0,,4142\n",
+        b"AB",
+        &[(0, 0), (1, 1), (2, 2)],
+    ),
+    (
+        "fmt/1,1,BOF,0,,41??\nfmt/2,2,BOF,0,,??42\nfmt/3,3,BOF,0,,4142\n",
+        b"A\0",
+        &[(0, 0)],
+    ),
+    (
+        "fmt/1,1,BOF,0,,41??\nfmt/2,2,BOF,0,,??42\nfmt/3,3,BOF,0,,4142\n",
+        b"",
+        &[],
+    ),
+    (
+        "fmt/1,1,BOF,0,,41\nfmt/2,2,BOF,0,,41\nfmt/3,3,BOF,0,,41\n",
+        b"A",
+        &[(0, 0), (1, 1), (2, 2)],
+    ),
+    (
+        "fmt/1,1,BOF,0,,4142\nfmt/2,2,EOF,0,,42\n",
+        b"AB",
+        &[(0, 0), (1, 1)],
+    ),
+];
+
+// Whether the scan answers these hits of the file, whole and in pieces of several lengths, and behind
+// each front of it.
+fn answers(alloc: Global, table: &Table, file: &[u8], hits: &[Hit]) -> Result<bool, Fail> {
+    Ok(
+        scanned_by(alloc, table, file, 1)?.hits() == hits
+            && scanned_by(alloc, table, file, 2)?.hits() == hits
+            && scanned_by(alloc, table, file, 3)?.hits() == hits
+            && scanned_by(alloc, table, file, 7)?.hits() == hits
+            && scanned_by(alloc, table, file, 1024)?.hits() == hits
+            && each_front_agrees(alloc, table, file)?,
+    )
+}
+
+#[test]
+fn the_worked_rows_are_answered_in_pieces_of_any_length(rt: HostRuntime) -> Result<(), Fail> {
+    for (sequences, file, is_hit) in WORKED {
+        let table = table_of(rt.alloc(), sequences)?;
+        let mut hits = Vec::new(rt.alloc());
+        if *is_hit {
+            hits.push(hit(0, 0))?;
+        }
+        assert!(rt;
+            answers(rt.alloc(), &table, file, &hits)?,
+            "{sequences} {file:?}"
+        );
+    }
+    for (rows, file, wanted) in WORKED_TABLES {
+        let table = loaded(rt.alloc(), rows)?;
+        let mut hits = Vec::new(rt.alloc());
+        for (format, signature) in *wanted {
+            hits.push(hit(*format, *signature))?;
+        }
+        assert!(rt;
+            answers(rt.alloc(), &table, file, &hits)?,
+            "{rows} {file:?}"
+        );
     }
     Ok(())
 }

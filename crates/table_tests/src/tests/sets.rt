@@ -153,6 +153,42 @@ fn one_bit_is_found_in_long_sets(rt: HostRuntime) {
     }
 }
 
+// Whether the kernels see the bit that `one` alone has and `rest` alone lacks, and join the two to `all`.
+fn bit_is_seen(one: &[u8], rest: &mut [u8], all: &[u8]) -> Option<bool> {
+    if rest.len() != one.len() || all.len() != one.len() {
+        return None;
+    }
+    let is_seen = and_any(one, all) && !and_any(one, rest) && !subset(one, rest);
+    or_into(rest, one);
+    Some(is_seen && subset(all, rest))
+}
+
+// Whether they do where that bit is in each byte in turn.
+fn each_bit_is_seen(alloc: Global, len: usize) -> Option<bool> {
+    let all = vec![in alloc; 0xff; len].ok()?;
+    let mut one = vec![in alloc; 0x00; len].ok()?;
+    let mut rest = vec![in alloc; 0xff; len].ok()?;
+    for place in 0..len {
+        *one.as_mut_slice().get_mut(place)? = 0x10;
+        *rest.as_mut_slice().get_mut(place)? = 0xef;
+        if !bit_is_seen(&one, &mut rest, &all)? {
+            return Some(false);
+        }
+        *one.as_mut_slice().get_mut(place)? = 0x00;
+    }
+    Some(true)
+}
+
+#[test]
+fn one_bit_is_seen_in_each_of_8192_bytes(rt: HostRuntime) {
+    assert_eq!(rt; each_bit_is_seen(rt.alloc(), 8_192), Some(true));
+}
+
+#[test]
+fn one_bit_is_seen_in_each_of_8191_bytes(rt: HostRuntime) {
+    assert_eq!(rt; each_bit_is_seen(rt.alloc(), 8_191), Some(true));
+}
+
 #[test]
 fn sets_longer_than_the_lanes_are_compared_to_their_end(rt: HostRuntime) {
     let mut last = [0x00; 200];

@@ -423,6 +423,91 @@ fn a_read_that_fails_later_is_named_before_a_fault(rt: HostRuntime) {
     assert_eq!(rt; refused, Some(TableError::Read { file }));
 }
 
+// Gives bytes one a read, and then fails or is at its end. It counts its reads.
+#[derive(Drop)]
+struct OneByOne<'a> {
+    bytes: &'a [u8],
+    fails: bool,
+    reads: &'a mut usize,
+}
+
+impl Read for OneByOne<'_> {
+    fn read(&mut self, buf: &mut [u8]) -> IoResult<usize> {
+        *self.reads = (*self.reads).saturating_add(1);
+        if buf.is_empty() {
+            return Ok(0);
+        }
+        match self.bytes.split_first() {
+            Some((byte, rest)) => {
+                buf[0] = *byte;
+                self.bytes = rest;
+                Ok(1)
+            }
+            None if self.fails => Err(Error::from(ErrorKind::Other)),
+            None => Ok(0),
+        }
+    }
+}
+
+// What a load refuses of two files that come byte by byte, each with whether a read fails behind it, and
+// how often the priority file is read.
+fn refused_of(
+    alloc: Global,
+    signatures: (&[u8], bool),
+    priorities: (&[u8], bool),
+) -> (Option<TableError>, usize) {
+    let (mut first, mut second) = (0, 0);
+    let refused = {
+        let mut signatures = FromRead::new(OneByOne {
+            bytes: signatures.0,
+            fails: signatures.1,
+            reads: &mut first,
+        });
+        let mut priorities = FromRead::new(OneByOne {
+            bytes: priorities.0,
+            fails: priorities.1,
+            reads: &mut second,
+        });
+        Table::load(alloc, &mut signatures, &mut priorities).err()
+    };
+    (refused, second)
+}
+
+const TWO: &[u8] = b"puid,signature,position,offset,max_offset,expression\n\
+    fmt/1,1,BOF,0,,4142\nfmt/2,2,BOF,0,,4143\n";
+
+const FIRST_OVER: &[u8] = b"higher,lower\nfmt/1,fmt/2\n";
+
+// The formats have one signature number.
+const ONE_NUMBER: &[u8] = b"puid,signature,position,offset,max_offset,expression\n\
+    fmt/1,1,BOF,0,,4142\nfmt/2,1,BOF,0,,4143\n";
+
+#[test]
+fn a_failed_read_at_any_place_is_named_with_its_file(rt: HostRuntime) {
+    let (signatures, priorities) = (TWO, FIRST_OVER);
+    let whole = refused_of(rt.alloc(), (signatures, false), (priorities, false));
+    assert_eq!(rt; whole.0, None);
+    assert!(rt; whole.1 > priorities.len());
+    let file = TableFile::Signatures;
+    for len in 0..=signatures.len() {
+        let refused = refused_of(rt.alloc(), (&signatures[..len], true), (priorities, true));
+        assert_eq!(rt; refused, (Some(TableError::Read { file }), 0), "{len}");
+    }
+    let file = TableFile::Priorities;
+    for len in 0..=priorities.len() {
+        let (refused, _) = refused_of(rt.alloc(), (signatures, false), (&priorities[..len], true));
+        assert_eq!(rt; refused, Some(TableError::Read { file }), "{len}");
+    }
+}
+
+#[test]
+fn a_fault_of_the_signature_file_is_named_before_a_read_of_the_other(rt: HostRuntime) {
+    for front in [b"".as_slice(), FIRST_OVER] {
+        let refused = refused_of(rt.alloc(), (ONE_NUMBER, false), (front, true));
+        assert_eq!(rt; refused, (Some(TableError::SignatureOfTwo { row: 2 }), 0));
+    }
+}
+
 // The canonical signature file of the table of these rows.
 fn written(alloc: Global, rows: &[u8]) -> Result<Vec<u8>, Fail> {
     let table = loaded_rows(alloc, rows)?;

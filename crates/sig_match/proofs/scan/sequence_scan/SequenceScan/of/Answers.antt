@@ -3,6 +3,7 @@ use Rattle.std.proofs.lemmas.Bool.{false≢true}
 use Rattle.sig_auto.specs.Trees.{whole_tree}
 use Rattle.sig_match.specs.Fixed.{IsFixed}
 use Rattle.sig_match.specs.Scans.{IsSequenceScanOf}
+use Rattle.sig_match.specs.Slides.{Slides}
 use Rattle.sig_match.specs.Spans.{Climbs}
 use Rattle.sig_match.proofs.RestLemmas.{IsRest-none}
 use Rattle.sig_match.proofs.ScanLemmas.{set_begins, written}
@@ -18,6 +19,7 @@ invariant_of-scan c =
       λ yes'. absurd (false≢true yes'),
       λ yes'. subst (λ t. Climbs (whole_tree t)) (sym c.in_ok-auto.ensures) (c.climbs.ensures yes'),
       λ some. subst (λ t. IsFixed t c.in_ok-run.run'.items) (sym c.in_ok-auto.ensures) (c.in_ok-run.ensures some),
+      subst (λ t. Slides (whole_tree t) c.slots_before_end-inner.result) (sym c.in_ok-auto.ensures) c.slots_before_end-inner.ensures,
     )
 
 pub returns : goal.returns
