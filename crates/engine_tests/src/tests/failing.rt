@@ -1,7 +1,7 @@
 //! The engines and the cores with readers and writers that fail midway.
 
 use crate::tests::table_of;
-use fixtures::{Broken, Pieces};
+use fixtures::{Broken, Pieces, Room};
 use sig_bits::{FromRead, FromWrite};
 use sig_engines::{RunError, run_match, run_show};
 use sig_match::{CoreError, DroidCore, Hit, StreamCore, WholeCore};
@@ -22,37 +22,61 @@ fn stream_core_of_one(rt: &HostRuntime) -> Result<StreamCore, Fail> {
     Ok(StreamCore::new(rt.alloc(), table_of_one(rt)?))
 }
 
-// What `match` answers where the last read fails, and how many bytes it writes.
+// What is read of a file of two bytes, one a read, before a read fails.
+const FRONTS: &[&[u8]] = &[b"", b"A", b"AB"];
+
+// What `match` answers where the read behind this front fails, and how many bytes it writes.
 fn unread_answer<K: DroidCore>(
     rt: &HostRuntime,
     core: &K,
+    front: &[u8],
 ) -> Result<(Result<(), RunError>, usize), Fail> {
     let mut out = FromWrite::new(Vec::new(rt.alloc()));
-    let mut file = Pieces::failing(b"AB");
+    let mut file = Pieces::failing(front);
     let answer = run_match(rt.alloc(), core, false, &mut file, &mut out);
     Ok((answer, out.into_inner().len()))
 }
 
 #[test]
 fn writes_nothing_before_the_last_read(rt: HostRuntime) -> Result<(), Fail> {
-    let answers = [
-        unread_answer(&rt, &core_of_one(&rt)?)?,
-        unread_answer(&rt, &stream_core_of_one(&rt)?)?,
-    ];
-    for (answer, written) in answers {
-        assert_eq!(rt; answer, Err(RunError::Read));
-        assert_eq!(rt; written, 0);
+    let whole = core_of_one(&rt)?;
+    let stream = stream_core_of_one(&rt)?;
+    for front in FRONTS {
+        let answers = [
+            unread_answer(&rt, &whole, front)?,
+            unread_answer(&rt, &stream, front)?,
+        ];
+        for (answer, written) in answers {
+            assert_eq!(rt; answer, Err(RunError::Read), "{front:?}");
+            assert_eq!(rt; written, 0, "{front:?}");
+        }
     }
     Ok(())
 }
 
+// What `match` answers where the output has room for so many bytes.
+fn crowded_answer<K: DroidCore>(rt: &HostRuntime, core: &K, room: usize) -> Result<(), RunError> {
+    let mut file = FromRead::new(b"AB".as_slice());
+    let mut out = Room::of(room);
+    run_match(rt.alloc(), core, false, &mut file, &mut out)
+}
+
+// The line `fmt/1 1` has eight bytes, so one of its writes fails where there is room for less.
 #[test]
 fn reports_a_failed_write(rt: HostRuntime) -> Result<(), Fail> {
-    let core = core_of_one(&rt)?;
-    let mut file = FromRead::new(b"AB".as_slice());
-    let mut out = Broken::new();
-    let answer = run_match(rt.alloc(), &core, false, &mut file, &mut out);
-    assert_eq!(rt; answer, Err(RunError::Write));
+    let whole = core_of_one(&rt)?;
+    let stream = stream_core_of_one(&rt)?;
+    for room in 0..8 {
+        let answers = [
+            crowded_answer(&rt, &whole, room),
+            crowded_answer(&rt, &stream, room),
+        ];
+        for answer in answers {
+            assert_eq!(rt; answer, Err(RunError::Write), "{room}");
+        }
+    }
+    assert_eq!(rt; crowded_answer(&rt, &whole, 8), Ok(()));
+    assert_eq!(rt; crowded_answer(&rt, &stream, 8), Ok(()));
     let table = table_of_one(&rt)?;
     let mut out = Broken::new();
     let answer = run_show(rt.alloc(), &table, &mut out);
@@ -60,9 +84,10 @@ fn reports_a_failed_write(rt: HostRuntime) -> Result<(), Fail> {
     Ok(())
 }
 
-// Whether the core calls a failed read one, and then finds its hit in a file that can be read.
-fn matches_on<K: DroidCore>(core: &K) -> Result<bool, Fail> {
-    let mut broken = Pieces::failing(b"AB");
+// Whether the core calls a failed read behind this front one, and then finds its hit in a file that can
+// be read.
+fn matches_on<K: DroidCore>(core: &K, front: &[u8]) -> Result<bool, Fail> {
+    let mut broken = Pieces::failing(front);
     let unread = core.match_binary_signatures(&mut broken);
     let mut whole = Pieces::of(b"AB");
     let results = core.match_binary_signatures(&mut whole)?;
@@ -75,8 +100,12 @@ fn matches_on<K: DroidCore>(core: &K) -> Result<bool, Fail> {
 
 #[test]
 fn a_core_matches_on_after_a_failed_read(rt: HostRuntime) -> Result<(), Fail> {
-    assert!(rt; matches_on(&core_of_one(&rt)?)?);
-    assert!(rt; matches_on(&stream_core_of_one(&rt)?)?);
+    let whole = core_of_one(&rt)?;
+    let stream = stream_core_of_one(&rt)?;
+    for front in FRONTS {
+        assert!(rt; matches_on(&whole, front)?, "{front:?}");
+        assert!(rt; matches_on(&stream, front)?, "{front:?}");
+    }
     Ok(())
 }
 

@@ -3,7 +3,7 @@
 use crate::tests::table_of;
 use fixtures::{BOTH_ENDS, Broken, OVER_BOTH, Pieces, TWO};
 use sig_bits::{FromRead, FromWrite};
-use sig_cert::check;
+use sig_cert::{CheckError, check};
 use sig_engines::{RunError, run_check, run_witness};
 use sig_table::{Puid, Table};
 use std::test::Fail;
@@ -62,9 +62,11 @@ fn accepts_one_change_of_a_byte_alone(rt: HostRuntime) -> Result<(), Fail> {
         for change in 1..=255_u8 {
             let mut changed = OF_TWO;
             changed[place] ^= change;
-            let is_accepted = check(rt.alloc(), &table, &changed).is_ok();
+            let answer = check(rt.alloc(), &table, &changed);
             let is_version_two = place == 4 && changed[place] == 2;
-            assert_eq!(rt; is_accepted, is_version_two, "{changed:?}");
+            assert_eq!(rt; answer.is_ok(), is_version_two, "{changed:?}");
+            let is_judged = !matches!(&answer, Err(CheckError::OutOfMemory));
+            assert!(rt; is_judged, "{changed:?}");
         }
     }
     Ok(())
@@ -73,6 +75,10 @@ fn accepts_one_change_of_a_byte_alone(rt: HostRuntime) -> Result<(), Fail> {
 #[test]
 fn a_removed_signature_blocks_no_more(rt: HostRuntime) -> Result<(), Fail> {
     let mut table = table_of(&rt, OVER_BOTH.0, OVER_BOTH.1)?;
+    let none = Puid::parse(b"fmt/9").ok_or("the text is a PUID")?;
+    assert!(rt; !table.remove_signature_for_puid(&none));
+    let (is_accepted, line) = verdict_on(&rt, &table, &OF_OVER_BOTH)?;
+    assert!(rt; is_accepted, "{line}");
     let third = Puid::parse(b"fmt/3").ok_or("the text is a PUID")?;
     assert!(rt; table.remove_signature_for_puid(&third));
     let (is_accepted, line) = verdict_on(&rt, &table, &OF_OVER_BOTH)?;

@@ -21,6 +21,9 @@ struct WorkedRow(
 
 // The rows of the one signature 1 of `fmt/1`, a file, and whether it hits.
 const ONE_SIGNATURE: &[(&str, &[u8], bool)] = &[
+    ("BOF,0,,4142\n", b"AB", true),
+    ("BOF,1,,41??\n", b"\x00A\xff\x00", true),
+    ("BOF,1,,41??\n", b"\x00A", false),
     ("Variable,,,41*42\n", b"BA", false),
     ("Variable,,,41*42\n", b"\x00AB", true),
     ("BOF,0,,41{1-2}42\n", b"ABB", true),
