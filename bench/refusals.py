@@ -22,9 +22,8 @@ on, until a run meets no refusal. What each command must answer with ample memor
   status 3; with all later growths refused as well, each file from the first fault on has its line. What
   is made for many files lacks memory without a fault. Each of these ends has to come, and a failed write ends the run.
 
-TESTS is the program of tests of `engine_tests` that the gate built. Its tests of the module `refused` make one
-library call each, and open a file of a special name before and behind it: only growths between the two are
-counted and refused. So what a test sets up has its memory, and every run has to pass: the call answers its want
+TESTS is the program of tests of `refused_tests` that the gate built. Each of its tests makes one library call,
+and opens a file of a special name before and behind it: only growths between the two are counted and refused. So what a test sets up has its memory, and every run has to pass: the call answers its want
 of memory or what it answers with ample memory, and the next such call is right. By its name a test
 `.._lacks_memory_or_is_right` must have growths to refuse, and a test `.._takes_no_memory..` none.
 
@@ -425,8 +424,7 @@ def run_line(program, words, status):
 def tests_of(path):
     """The names of the tests that mark what may be refused."""
     listed = subprocess.run([path, "--list"], capture_output=True, text=True, check=True).stdout.splitlines()
-    names = [line.removesuffix(": test") for line in listed if line.endswith(": test")]
-    return [name for name in names if "::refused::" in name]
+    return [line.removesuffix(": test") for line in listed if line.endswith(": test")]
 
 
 def run_test(tests, name):

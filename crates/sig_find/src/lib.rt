@@ -14,8 +14,6 @@ mod laws;
 mod observer;
 mod pair;
 mod search;
-#[cfg(test)]
-mod search_tests;
 mod tally;
 mod writer;
 

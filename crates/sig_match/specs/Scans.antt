@@ -21,10 +21,11 @@ pub record TableScanView : Type 0 where
   pub table : TableView
   pub signatures : List SignatureScanView
 
--- a scan of the bytes that were passed, and the bytes behind them that wait
+-- a scan of the bytes that were passed, the bytes behind them that wait, and how many there is room for
 pub record ScanView : Type 0 where
   pub passed : TableScanView
   pub waiting : List ℕ
+  pub room : ℕ
 
 -- the current set of the sequence is that of the states in which runs of the file end
 pub record IsSequenceScanOf (file : List ℕ) (sequence : SequenceView) (scan : SequenceScanView) : Type 0 where

@@ -16,8 +16,6 @@ mod removal;
 mod results;
 mod scan;
 mod stream;
-#[cfg(test)]
-mod tests;
 mod whole;
 
 pub use droid_core::DroidCore;

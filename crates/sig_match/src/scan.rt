@@ -5,7 +5,7 @@
 //! through a piece takes a look at each sequence, however short it is, so short ones wait until there is
 //! some length of them.
 
-ghost use Rattle.std.specs.Prelude.{◌≡◌, ◌++◌, ℕ, [], List, IfOk};
+ghost use Rattle.std.specs.Prelude.{◌≡◌, ◌++◌, ℕ, ◌≤◌, [], List, IfOk, length};
 ghost use Rattle.sig_match.specs.Hits.{HitFormats};
 ghost use Rattle.sig_match.specs.Scans.{IsScanOf};
 
@@ -18,8 +18,6 @@ mod entry;
 mod fixed;
 mod narrow;
 mod piece;
-#[cfg(test)]
-mod plain;
 mod rest;
 mod sequence_scan;
 mod sieve;
@@ -27,8 +25,6 @@ mod signature_scan;
 mod slide;
 mod span;
 mod table_scan;
-#[cfg(test)]
-mod tests;
 mod way;
 
 pub(crate) use piece::Piece;
@@ -36,19 +32,21 @@ pub(crate) use sieve::{STRIDE, Sieve};
 pub(crate) use table_scan::TableScan;
 pub(crate) use way::FRONT;
 
-// How many bytes can wait.
+// How many bytes wait at most, if the caller says nothing of it.
 const ROOM: usize = 1 << 12;
 
 /// A file on its way past a table.
 ///
 /// All memory is taken at the start: for each sequence that is looked for its automaton with what it
 /// notes, three sets of a bit for each state, and its bytes if it is a long run of them; the sieve of
-/// fronts; the room of the answer; and 4 KiB for bytes that wait. The bytes of short pieces wait until a
+/// fronts; the room of the answer; and that of the bytes that wait. The bytes of short pieces wait until a
 /// piece has no room beside them, and are then gone through as one.
 #[derive(Debug, Drop)]
 pub struct Scan<'t> {
     scan: TableScan<'t>,
     waiting: Vec<u8>,
+    // How many bytes wait at most.
+    room: usize,
 }
 
 impl<'t> Model for Scan<'t> {
@@ -58,29 +56,43 @@ impl<'t> Model for Scan<'t> {
 
     ghost Value = { ScanView };
 
-    ghost view = { λ s. record { passed = s.scan; waiting = s.waiting.items } };
+    ghost view = { λ s. record { passed = s.scan; waiting = s.waiting.items; room = s.room } };
 
-    ghost invariant = { λ s. (vec_len s.waiting ≤ 4096) × (4096 ≤ vec_capacity s.waiting) };
+    ghost invariant = { λ s. (vec_len s.waiting ≤ s.room) × (s.room ≤ vec_capacity s.waiting) };
 }
 
 impl<'t> Scan<'t> {
-    /// At the start of a file.
+    /// At the start of a file, with room for 4 KiB that wait.
     pub fn new(alloc: Global, table: &'t Table) -> Result<Scan<'t>, AllocError>
         ensures table { IfOk result (λ scan. scan.passed.table ≡ table.now) }
+        ensures room { IfOk result (λ scan. scan.room ≡ 4096) }
+        ensures empty { IfOk result (λ scan. IsScanOf scan []) }
+    {
+        Scan::with_room(alloc, table, ROOM)
+    }
+
+    /// The same, with room for so many bytes that wait. With none each piece is gone through when it is fed,
+    /// however short it is, and the current sets are always those of the whole file so far.
+    pub fn with_room(alloc: Global, table: &'t Table, room: usize) -> Result<Scan<'t>, AllocError>
+        ensures table { IfOk result (λ scan. scan.passed.table ≡ table.now) }
+        ensures room { IfOk result (λ scan. scan.room ≡ room) }
         ensures empty { IfOk result (λ scan. IsScanOf scan []) }
     {
         Ok(Scan {
             scan: TableScan::new(alloc, table)?,
-            waiting: Vec::with_capacity(alloc, ROOM)?,
+            waiting: Vec::with_capacity(alloc, room)?,
+            room,
         })
     }
 
     /// Goes on by the next bytes of the file. It takes no memory.
     pub fn feed(&mut self, piece: &[u8])
         ensures table { self.new.passed.table ≡ self.old.passed.table }
+        ensures room { self.new.room ≡ self.old.room }
+        ensures waits { length self.new.waiting ≤ self.new.room }
         ensures goes_on { (file : List ℕ) → IsScanOf self.old file → IsScanOf self.new (file ++ piece.now) }
     {
-        if piece.len() <= ROOM - self.waiting.len() {
+        if piece.len() <= self.room - self.waiting.len() {
             self.waiting.extend_from_slice(piece).unwrap();
             return;
         }
@@ -94,7 +106,11 @@ impl<'t> Scan<'t> {
     pub fn finish(self) -> Results
         ensures exact { (file : List ℕ) → IsScanOf self.entry file → HitFormats self.entry.passed.table file result }
     {
-        let Scan { mut scan, waiting } = self;
+        let Scan {
+            mut scan,
+            waiting,
+            room: _,
+        } = self;
         scan.feed(&waiting);
         scan.finish()
     }

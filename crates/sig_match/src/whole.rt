@@ -32,8 +32,6 @@ mod part;
 mod ready;
 mod run;
 mod search;
-#[cfg(test)]
-mod tests;
 
 pub(crate) use anchored::stands;
 pub(crate) use longest::longest_of;

@@ -22,6 +22,18 @@ const LEFT: &[(&str, &str, &[u8], &str)] = &[
         "fmt/1 9\n",
     ),
     (
+        "fmt/1,1,BOF,0,,41??\nfmt/2,2,BOF,0,,??42\nfmt/3,3,BOF,0,,4142\n",
+        "fmt/3,fmt/1\nfmt/3,fmt/2\n",
+        b"AB",
+        "fmt/3 3\n",
+    ),
+    (
+        "fmt/1,1,BOF,0,,41??\nfmt/2,2,BOF,0,,??42\nfmt/3,3,BOF,0,,4142\n",
+        "fmt/3,fmt/1\nfmt/3,fmt/2\n",
+        b"A\x00",
+        "fmt/1 1\n",
+    ),
+    (
         "fmt/1,1,BOF,0,,41\nfmt/2,2,BOF,0,,41\nfmt/3,3,BOF,0,,41\n",
         "fmt/1,fmt/2\nfmt/2,fmt/3\n",
         b"A",
@@ -40,17 +52,21 @@ fn prints_a_line_for_each_format_left(rt: HostRuntime) -> Result<(), Fail> {
     Ok(())
 }
 
+// The lines of three formats that are hit.
+const ALL_THREE: &str = "fmt/1 1\nfmt/2 2\nfmt/3 3\n";
+
 #[test]
 fn prints_a_line_for_each_hit_with_all(rt: HostRuntime) -> Result<(), Fail> {
     let folder = folder(&rt, "all")?;
-    let rows = "fmt/1,1,BOF,0,,41\nfmt/2,2,BOF,0,,41\n";
-    let (signatures, priorities) = put_table(&rt, folder.as_str(), rows, "fmt/2,fmt/1\n")?;
-    let file = put(&rt, folder.as_str(), "file.bin", b"A")?;
+    let rows = "fmt/1,1,BOF,0,,41??\nfmt/2,2,BOF,0,,??42\nfmt/3,3,BOF,0,,4142\n";
+    let pairs = "fmt/3,fmt/1\nfmt/3,fmt/2\n";
+    let (signatures, priorities) = put_table(&rt, folder.as_str(), rows, pairs)?;
+    let file = put(&rt, folder.as_str(), "file.bin", b"AB")?;
     let (signatures, priorities, file) = (signatures.as_str(), priorities.as_str(), file.as_str());
     let first = run_program(&rt, &["match", "--all", signatures, priorities, file])?;
-    assert!(rt; first.is_answer("fmt/1 1\nfmt/2 2\n"), "{first:?}");
+    assert!(rt; first.is_answer(ALL_THREE), "{first:?}");
     let last = run_program(&rt, &["match", signatures, priorities, file, "--all"])?;
-    assert!(rt; last.is_answer("fmt/1 1\nfmt/2 2\n"), "{last:?}");
+    assert!(rt; last.is_answer(ALL_THREE), "{last:?}");
     fs::remove_dir_all(&rt, folder.as_str())?;
     Ok(())
 }

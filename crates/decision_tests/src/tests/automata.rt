@@ -395,6 +395,22 @@ fn the_successors_before_a_row_of_gaps_are_all_of_them(rt: HostRuntime) -> Resul
     Ok(())
 }
 
+// A sequence, its slots, and the bytes of a set of its states.
+const SLOTS: &[(&str, u32, usize)] = &[
+    ("BOF,0,,{11}", 12, 2),
+    ("BOF,0,,41{65530}42", 65_533, 8_192),
+    ("Variable,,,{65533}", 65_535, 8_192),
+];
+
+#[test]
+fn slots_and_the_bytes_of_a_set_are_counted(rt: HostRuntime) {
+    for &(placed, slots, len) in SLOTS {
+        let auto = automaton(rt.alloc(), placed).expect(&rt, "loads");
+        assert_eq!(rt; auto.slots(), slots, "{placed}");
+        assert_eq!(rt; auto.set_len(), len, "{placed}");
+    }
+}
+
 #[test]
 fn a_gap_of_many_slots_steps_as_one(rt: HostRuntime) -> Result<(), Fail> {
     let auto = automaton(rt.alloc(), "BOF,0,,41{0-60000}42").expect(&rt, "loads");

@@ -1,7 +1,7 @@
 //! The engines and the cores with readers and writers that fail midway.
 
 use crate::tests::table_of;
-use fixtures::{Broken, Pieces, Room};
+use fixtures::{Broken, OVER_BOTH, Pieces, Room};
 use sig_bits::{FromRead, FromWrite};
 use sig_engines::{RunError, run_match, run_show};
 use sig_match::{CoreError, DroidCore, Hit, StreamCore, WholeCore};
@@ -128,6 +128,24 @@ fn removes<K: DroidCore>(core: &mut K) -> Result<bool, Fail> {
 fn a_removed_format_is_hit_no_more(rt: HostRuntime) -> Result<(), Fail> {
     assert!(rt; removes(&mut core_of_one(&rt)?)?);
     assert!(rt; removes(&mut stream_core_of_one(&rt)?)?);
+    Ok(())
+}
+
+// Whether the core of three formats hits the third no more once it is removed, and still both others.
+fn removes_the_third<K: DroidCore>(core: &mut K) -> Result<bool, Fail> {
+    let other = Puid::parse(b"fmt/9").ok_or("the text is a PUID")?;
+    let third = Puid::parse(b"fmt/3").ok_or("the text is a PUID")?;
+    let kept = !core.remove_signature_for_puid(&other) && hit_count(core)? == 3;
+    let removed = core.remove_signature_for_puid(&third) && hit_count(core)? == 2;
+    Ok(kept && removed && core.table().format_count() == 3)
+}
+
+#[test]
+fn the_others_are_hit_when_one_is_removed(rt: HostRuntime) -> Result<(), Fail> {
+    let table = table_of(&rt, OVER_BOTH.0, OVER_BOTH.1)?;
+    assert!(rt; removes_the_third(&mut WholeCore::new(rt.alloc(), table))?);
+    let table = table_of(&rt, OVER_BOTH.0, OVER_BOTH.1)?;
+    assert!(rt; removes_the_third(&mut StreamCore::new(rt.alloc(), table))?);
     Ok(())
 }
 

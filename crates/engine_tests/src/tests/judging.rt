@@ -140,6 +140,15 @@ fn says_nothing_of_a_file_that_is_not_read_whole(rt: HostRuntime) -> Result<(), 
 }
 
 #[test]
+fn reports_a_verdict_that_is_not_written(rt: HostRuntime) -> Result<(), Fail> {
+    let table = table_of(&rt, TWO.0, TWO.1)?;
+    let mut certificate = FromRead::new(OF_TWO.as_slice());
+    let answer = run_check(rt.alloc(), &table, &mut certificate, &mut Broken::new());
+    assert_eq!(rt; answer, Err(RunError::Write));
+    Ok(())
+}
+
+#[test]
 fn reports_a_line_that_is_not_written(rt: HostRuntime) -> Result<(), Fail> {
     let table = table_of(&rt, BOTH_ENDS.0, BOTH_ENDS.1)?;
     for file in [b"ABA".as_slice(), b"AB".as_slice()] {

@@ -26,6 +26,7 @@ const ONE_SIGNATURE: &[(&str, &[u8], bool)] = &[
     ("BOF,1,,41??\n", b"\x00A", false),
     ("Variable,,,41*42\n", b"BA", false),
     ("Variable,,,41*42\n", b"\x00AB", true),
+    ("Variable,,,4142\n", b"\x00AB\x00", true),
     ("BOF,0,,41{1-2}42\n", b"ABB", true),
     ("BOF,0,,41{1-2}42\n", b"AB", false),
     ("BOF,0,,41{0-1}42{1}43\n", b"ABB\x00C", true),
@@ -127,6 +128,13 @@ const TABLES: &[WorkedRow] = &[
         "fmt/1 1\nfmt/2 2\n",
         "fmt/1 1\nfmt/2 2\n",
     ),
+    WorkedRow(
+        "fmt/1,1,BOF,0,,41\nfmt/2,2,BOF,0,,41\nfmt/3,3,BOF,0,,41\nfmt/3,3,BOF,1,,42\n",
+        "fmt/3,fmt/1\nfmt/3,fmt/2\n",
+        b"A",
+        "fmt/1 1\nfmt/2 2\n",
+        "fmt/1 1\nfmt/2 2\n",
+    ),
 ];
 
 // How many bytes a read gives at most.
@@ -223,5 +231,28 @@ fn a_scan_answers_the_worked_rows(rt: HostRuntime) -> Result<(), Fail> {
             assert!(rt; found.hits() == whole.hits(), "{rows}{file:?}");
         }
     }
+    Ok(())
+}
+
+// A byte 41, so many zeros and a byte 42.
+fn between_zeros(rt: &HostRuntime, zeros: usize) -> Result<Vec<u8>, Fail> {
+    let mut file = b"A".to_vec(rt.alloc())?;
+    file.extend_from_slice(&vec![in rt.alloc(); 0u8; zeros]?)?;
+    file.push(b'B')?;
+    Ok(file)
+}
+
+// Whether both cores answer `41{65530}42` with these lines.
+fn both_answer(rt: &HostRuntime, file: &[u8], lines: &str) -> Result<bool, Fail> {
+    let rows = "fmt/1,1,BOF,0,,41{65530}42\n";
+    let whole = WholeCore::new(rt.alloc(), table_of(rt, rows, "")?);
+    let stream = StreamCore::new(rt.alloc(), table_of(rt, rows, "")?);
+    Ok(answers(rt, &whole, file, lines, lines)? && answers(rt, &stream, file, lines, lines)?)
+}
+
+#[test]
+fn a_long_gap_is_passed_and_not_left_early(rt: HostRuntime) -> Result<(), Fail> {
+    assert!(rt; both_answer(&rt, &between_zeros(&rt, 65_530)?, "fmt/1 1\n")?);
+    assert!(rt; both_answer(&rt, &between_zeros(&rt, 65_529)?, "")?);
     Ok(())
 }

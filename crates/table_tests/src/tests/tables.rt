@@ -2,7 +2,9 @@
 
 use sig_bits::{FromRead, FromWrite};
 use sig_expr::ExprError;
-use sig_table::{FormatId, OutError, Position, Puid, SigId, Table, TableError, TableFile};
+use sig_table::{
+    FormatId, OutError, Position, Puid, Sequence, SigId, Table, TableError, TableFile,
+};
 use std::alloc::Global;
 use std::io::{Error, ErrorKind, Read, Result as IoResult, Write};
 use std::test::Fail;
@@ -53,31 +55,45 @@ fn a_puid_prints_as_it_was_read(rt: HostRuntime) -> Result<(), Fail> {
     Ok(())
 }
 
+// Rows of two formats, of which those of the first signature do not stand together.
+const TWO_FORMATS: &[u8] =
+    b"fmt/2,7,BOF,0,,41\nx-fmt/1,3,EOF,1,2,4243\nfmt/2,7,Variable,,,43\nfmt/2,7,BOF,0,,41\n";
+
 #[test]
-fn formats_and_signatures_stand_in_the_order_of_their_first_rows(
-    rt: HostRuntime,
-) -> Result<(), Fail> {
-    let rows =
-        b"fmt/2,7,BOF,0,,41\nx-fmt/1,3,EOF,1,2,4243\nfmt/2,7,Variable,,,43\nfmt/2,7,BOF,0,,41\n";
-    let table = loaded_rows(rt.alloc(), rows.as_slice())?;
+fn formats_stand_in_the_order_of_their_first_rows(rt: HostRuntime) -> Result<(), Fail> {
+    let table = loaded_rows(rt.alloc(), TWO_FORMATS)?;
     assert_eq!(rt; table.format_count(), 2);
     assert_eq!(rt; Some(table.puid(FormatId(0))), Puid::parse(b"fmt/2"));
     assert_eq!(rt; Some(table.puid(FormatId(1))), Puid::parse(b"x-fmt/1"));
+    Ok(())
+}
+
+#[test]
+fn signatures_stand_in_the_order_of_their_first_rows(rt: HostRuntime) -> Result<(), Fail> {
+    let table = loaded_rows(rt.alloc(), TWO_FORMATS)?;
     assert_eq!(rt; table.signature_count(), 2);
     assert_eq!(rt; table.number_of(SigId(0)), 7);
     assert_eq!(rt; table.number_of(SigId(1)), 3);
     assert_eq!(rt; table.format_of(SigId(1)), FormatId(1));
-    let sequences = table.sequences_of(SigId(0));
-    assert_eq!(rt; sequences.len(), 3);
-    assert_eq!(rt; sequences[0].position(), Position::Bof { min: 0, max: 0 });
-    assert_eq!(rt; sequences[1].position(), Position::Variable);
-    assert_eq!(rt; sequences[2].position(), Position::Bof { min: 0, max: 0 });
-    assert_eq!(rt; sequences[0].slots(), 2);
-    assert_eq!(rt; sequences[1].slots(), 3);
-    let sequences = table.sequences_of(SigId(1));
-    assert_eq!(rt; sequences.len(), 1);
-    assert_eq!(rt; sequences[0].position(), Position::Eof { min: 1, max: 2 });
-    assert_eq!(rt; sequences[0].slots(), 5);
+    Ok(())
+}
+
+// Whether these are sequences of these positions and so many slots.
+fn are_sequences(sequences: &[Sequence], wants: &[(Position, u32)]) -> bool {
+    sequences.len() == wants.len()
+        && sequences.iter().zip(wants).all(|(it, (position, slots))| it.position() == *position
+            && it.slots() == *slots)
+}
+
+#[test]
+fn sequences_stand_in_the_order_of_their_rows(rt: HostRuntime) -> Result<(), Fail> {
+    let table = loaded_rows(rt.alloc(), TWO_FORMATS)?;
+    assert_eq!(rt; table.signature_count(), 2);
+    let start = Position::Bof { min: 0, max: 0 };
+    let first = [(start, 2), (Position::Variable, 3), (start, 2)];
+    let second = [(Position::Eof { min: 1, max: 2 }, 5)];
+    assert!(rt; are_sequences(table.sequences_of(SigId(0)), &first));
+    assert!(rt; are_sequences(table.sequences_of(SigId(1)), &second));
     Ok(())
 }
 
@@ -320,9 +336,9 @@ fn as_many_slots_as_the_limit_are_taken(rt: HostRuntime) {
     }
 }
 
-// The table of so many rows, each of a signature of its own. The first ones are each of a format of
-// its own, and where there are as many formats as asked for, the others are of the last one.
-fn loaded_many(alloc: Global, count: u32, formats: u32) -> Result<Result<Table, TableError>, Fail> {
+// So many rows, each of a signature of its own. The first ones are each of a format of its own, and where
+// there are as many formats as asked for, the others are of the last one.
+fn many_rows(alloc: Global, count: u32, formats: u32) -> Result<Vec<u8>, Fail> {
     let mut rows = Vec::new(alloc);
     for i in 0..count {
         let number = i + 1;
@@ -330,6 +346,12 @@ fn loaded_many(alloc: Global, count: u32, formats: u32) -> Result<Result<Table, 
         let row = format!(in alloc; "fmt/{format},{number},BOF,0,,41\n")?;
         rows.extend_from_slice(row.as_bytes())?;
     }
+    Ok(rows)
+}
+
+// What loading them answers.
+fn loaded_many(alloc: Global, count: u32, formats: u32) -> Result<Result<Table, TableError>, Fail> {
+    let rows = many_rows(alloc, count, formats)?;
     Ok(loaded_rows(alloc, &rows))
 }
 
@@ -345,19 +367,23 @@ fn formats_and_signatures_are_taken_to_their_limits(rt: HostRuntime) -> Result<(
     Ok(())
 }
 
-#[test]
-fn all_pairs_of_the_formats_of_a_table_are_taken(rt: HostRuntime) -> Result<(), Fail> {
-    let mut signatures = HEADER.to_vec(rt.alloc())?;
-    let mut pairs = b"higher,lower\n".to_vec(rt.alloc())?;
+// All pairs of a thousand formats, each over all later ones.
+fn all_pairs(alloc: Global) -> Result<Vec<u8>, Fail> {
+    let mut pairs = b"higher,lower\n".to_vec(alloc)?;
     for higher in 1..1001u32 {
-        let row = format!(in rt.alloc(); "fmt/{higher},{higher},BOF,0,,41\n")?;
-        signatures.extend_from_slice(row.as_bytes())?;
         for lower in higher + 1..1001u32 {
-            let pair = format!(in rt.alloc(); "fmt/{higher},fmt/{lower}\n")?;
+            let pair = format!(in alloc; "fmt/{higher},fmt/{lower}\n")?;
             pairs.extend_from_slice(pair.as_bytes())?;
         }
     }
-    let table = loaded(rt.alloc(), &signatures, &pairs)?;
+    Ok(pairs)
+}
+
+#[test]
+fn all_pairs_of_the_formats_of_a_table_are_taken(rt: HostRuntime) -> Result<(), Fail> {
+    let mut signatures = HEADER.to_vec(rt.alloc())?;
+    signatures.extend_from_slice(&many_rows(rt.alloc(), 1000, 1000)?)?;
+    let table = loaded(rt.alloc(), &signatures, &all_pairs(rt.alloc())?)?;
     assert!(rt; table.outranks(FormatId(0), FormatId(999)));
     assert!(rt; table.outranks(FormatId(998), FormatId(999)));
     assert!(rt; !table.outranks(FormatId(999), FormatId(998)));

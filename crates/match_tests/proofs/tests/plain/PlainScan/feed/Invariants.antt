@@ -3,7 +3,7 @@ use Rattle.sig_auto.specs.Trees.{whole_tree}
 use Rattle.sig_auto.specs.TreeSlots.{set_len}
 use Rattle.sig_match.specs.Scans.{IsSequenceScanOf}
 use Rattle.sig_table.specs.Views.{SequenceView}
-use Rattle.sig_match.proofs.scan.plain.PlainScan.feed.Given as goal
+use Rattle.match_tests.proofs.tests.plain.PlainScan.feed.Given as goal
 
 -- the set is that behind the bytes so far
 abbrev pub invariant-loop-byte : goal.invariant-loop-byte

@@ -1,8 +1,8 @@
 use Rattle.std.proofs.Common.{◌≡◌, ◌+◌, ◌++◌, ◌∙◌, List, ℕ, ap, arith, length, refl, subst, sym, take}
 use Rattle.std.proofs.lemmas.List.{take_all}
 use Rattle.sig_match.specs.Scans.{IsSequenceScanOf}
-use Rattle.sig_match.proofs.ScanLemmas.{feed_begins, feed_goes_on, written}
-use Rattle.sig_match.proofs.scan.plain.PlainScan.feed.Goals as goal
+use Rattle.sig_match.proofs.Exports.{feed_begins, feed_goes_on, written}
+use Rattle.match_tests.proofs.tests.plain.PlainScan.feed.Goals as goal
 
 pub loop-byte-init : goal.loop-byte-init
 loop-byte-init c = record {

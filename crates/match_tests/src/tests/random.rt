@@ -1,0 +1,96 @@
+//! Random tables over random files, cut anywhere: the scan, the search of a whole file and the plain scan agree.
+
+ghost use Rattle.std.specs.Prelude.{◌<◌};
+
+use crate::tests::{are_plain, letters, loaded, next_state, scanned_by};
+use sig_match::left_in;
+use sig_table::Table;
+use std::alloc::Global;
+use std::test::Fail;
+
+// Where a sequence may stand.
+fn position_of(state: u32) -> &'static str {
+    match (state >> 24) % 5 {
+        0 => "BOF,0,",
+        1 => "BOF,1,4",
+        2 => "EOF,0,",
+        3 => "EOF,0,3",
+        _ => "Variable,,",
+    }
+}
+
+// One of its items, among them brackets of two bytes inside alternatives, and gaps.
+fn item_of(state: u32) -> &'static str {
+    match (state >> 24) % 11 {
+        0 => "41",
+        1 => "4142",
+        2 => "00",
+        3 => "??",
+        4 => "*",
+        5 => "{1-2}",
+        6 => "{0-3}",
+        7 => "[!41]",
+        8 => "[!4142]",
+        9 => "(41|4200)",
+        _ => "(4142|[4100:4142]00)",
+    }
+}
+
+// Three items, the same for the same number.
+fn push_items(rows: &mut String, seed: u32) -> Result<(), Fail> {
+    let mut state = seed;
+    for _ in 0..3u32 {
+        state = next_state(state);
+        rows.push_str(item_of(state))?;
+    }
+    Ok(())
+}
+
+// Eight rows of three items, each of a signature and a format of its own.
+fn random_rows(alloc: Global, seed: u32) -> Result<String, Fail> {
+    let mut state = seed;
+    let mut rows = String::new(alloc);
+    for number in 1..9u32 {
+        state = next_state(state);
+        let position = position_of(state);
+        rows.push_str(&format!(in alloc; "fmt/{number},{number},{position},")?)?;
+        push_items(&mut rows, state)?;
+        rows.push_str("\n")?;
+    }
+    Ok(rows)
+}
+
+// Whether all three agree on the file, which the scan gets in pieces of this length.
+fn three_agree(alloc: Global, table: &Table, file: &[u8], piece: usize) -> Result<bool, Fail>
+    requires { 0 < piece }
+{
+    let results = scanned_by(alloc, table, file, piece)?;
+    let searched = left_in(alloc, table, file)?;
+    Ok(searched.hits() == results.hits() && are_plain(alloc, table, file, &results)?)
+}
+
+// Whether they do on each front of the file, with a new scan for each.
+fn agree_on_fronts(alloc: Global, table: &Table, file: &[u8]) -> Result<bool, Fail> {
+    for len in 0..file.len() + 1 {
+        for piece in [1, 2, 3, 7, 64] {
+            if !three_agree(alloc, table, &file[..len], piece)? {
+                return Ok(false);
+            }
+        }
+    }
+    Ok(true)
+}
+
+#[test]
+fn fronts_of_random_files_are_told_alike(rt: HostRuntime) -> Result<(), Fail> {
+    for seed in 0..40 {
+        let rows = random_rows(rt.alloc(), seed)?;
+        let table = loaded(rt.alloc(), &rows)?;
+        let file = letters(rt.alloc(), seed, 32)?;
+        assert!(rt;
+            agree_on_fronts(rt.alloc(), &table, &file)?,
+            "{seed} {rows}"
+        );
+    }
+    Ok(())
+}

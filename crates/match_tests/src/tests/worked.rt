@@ -1,0 +1,148 @@
+//! The worked rows, fed to a scan in pieces of any length.
+
+use crate::tests::{fronts_agree, hit, loaded, scanned_by, table_of};
+use sig_match::Hit;
+use sig_table::Table;
+use std::alloc::Global;
+use std::test::Fail;
+
+// Sequences of signature 1 of `fmt/1`, a file, and whether it hits, worked out by hand.
+const WORKED: &[(&str, &[u8], bool)] = &[
+    ("BOF,0,,4142", b"AB", true),
+    ("BOF,1,,41??", b"\x00A\xff\x00", true),
+    ("BOF,1,,41??", b"\x00A", false),
+    ("Variable,,,41*42", b"BA", false),
+    ("Variable,,,41*42", b"\x00AB", true),
+    ("Variable,,,4142", b"\x00AB\x00", true),
+    ("BOF,0,,41{1-2}42", b"ABB", true),
+    ("BOF,0,,41{1-2}42", b"AB", false),
+    ("BOF,0,,41{0-1}42{1}43", b"ABB\x00C", true),
+    ("EOF,0,2,4142", b"AB\x00\x00", true),
+    ("EOF,0,2,4142", b"AB\x00\x00\x00", false),
+    ("EOF,2,,41", b"A\x00\x00", true),
+    ("EOF,2,,41", b"A\x00", false),
+    ("Variable,,,*", b"", true),
+    ("BOF,0,,(41|4142)43", b"ABC", true),
+    ("BOF,0,,[!41]", b"", false),
+    ("BOF,0,,[!41]", b"A", false),
+    ("BOF,0,,[!41]", b"B", true),
+    ("BOF,0,,41\nfmt/1,1,EOF,0,,41", b"A", true),
+    ("BOF,0,,41\nfmt/1,1,EOF,0,,41", b"AB", false),
+    ("BOF,1,3,41", b"\x00A", true),
+    ("BOF,1,3,41", b"\x00\x00\x00A", true),
+    ("BOF,1,3,41", b"A", false),
+    ("BOF,1,3,41", b"\x00\x00\x00\x00A", false),
+    ("EOF,0,,41*", b"\x00A\x00", true),
+    ("EOF,0,,41*", b"\x00", false),
+    ("BOF,0,,*41", b"\x00\x00A\x00", true),
+    ("BOF,0,,*41", b"", false),
+    ("BOF,0,,[4142:4241]", b"AB", true),
+    ("BOF,0,,[4142:4241]", b"B\x00", true),
+    ("BOF,0,,[4142:4241]", b"BA", true),
+    ("BOF,0,,[4142:4241]", b"B\x00\xff", true),
+    ("BOF,0,,[4142:4241]", b"AA", false),
+    ("BOF,0,,[4142:4241]", b"BB", false),
+    ("BOF,0,,[4142:4241]", b"A", false),
+    ("BOF,0,,[!4142]", b"AC", true),
+    ("BOF,0,,[!4142]", b"\x00\x00", true),
+    ("BOF,0,,[!4142]", b"AB", false),
+    ("BOF,0,,[!4142]", b"\x00", false),
+    ("BOF,0,,[!0000:FFFE]", b"\xff\xff", true),
+    ("BOF,0,,[!0000:FFFE]", b"\xff\xfe", false),
+    ("BOF,0,,{65534}", b"", false),
+    ("Variable,,,{65533}", b"", false),
+    ("BOF,0,,4a{3-3}{0-*}(0d0a|[!0a])", b"Jxyz\r\n", true),
+    ("BOF,0,,4a{3-3}{0-*}(0d0a|[!0a])", b"Jxyz\n\n", false),
+    ("BOF,0,,4a{3-3}{0-*}(0d0a|[!0a])", b"Jxyz\n", false),
+];
+
+// Signature rows, a file, and each format that it hits with its first signature, worked out by hand.
+const WORKED_TABLES: &[(&str, &[u8], &[(u16, u16)])] = &[
+    ("fmt/1,9,BOF,0,,41\nfmt/1,2,BOF,0,,41\n", b"A", &[(0, 0)]),
+    (
+        "fmt/1,1,BOF,0,,41\nx-fmt/20,2,BOF,0,,41\n",
+        b"A",
+        &[(0, 0), (1, 1)],
+    ),
+    ("", b"A", &[]),
+    (
+        "fmt/1,1,BOF,0,,41??\nfmt/2,2,BOF,0,,??42\nfmt/3,3,BOF,0,,4142\n",
+        b"AB",
+        &[(0, 0), (1, 1), (2, 2)],
+    ),
+    (
+        "fmt/1,1,BOF,0,,41??\nfmt/2,2,BOF,0,,??42\nfmt/3,3,BOF,0,,4142\n",
+        b"A\0",
+        &[(0, 0)],
+    ),
+    (
+        "fmt/1,1,BOF,0,,41??\nfmt/2,2,BOF,0,,??42\nfmt/3,3,BOF,0,,4142\n",
+        b"",
+        &[],
+    ),
+    (
+        "fmt/1,1,BOF,0,,41\nfmt/2,2,BOF,0,,41\nfmt/3,3,BOF,0,,41\n",
+        b"A",
+        &[(0, 0), (1, 1), (2, 2)],
+    ),
+    (
+        "fmt/1,1,BOF,0,,4142\nfmt/2,2,EOF,0,,42\n",
+        b"AB",
+        &[(0, 0), (1, 1)],
+    ),
+    (
+        "fmt/1,1,BOF,0,,41\nfmt/2,2,BOF,0,,41\nfmt/3,3,BOF,0,,41\nfmt/3,3,BOF,1,,42\n",
+        b"A",
+        &[(0, 0), (1, 1)],
+    ),
+];
+
+// Whether the scan answers these hits of the file, whole and in pieces of several lengths.
+fn answers(alloc: Global, table: &Table, file: &[u8], hits: &[Hit]) -> Result<bool, Fail> {
+    for piece in [1, 2, 3, 7, 1024] {
+        if scanned_by(alloc, table, file, piece)?.hits() != hits {
+            return Ok(false);
+        }
+    }
+    Ok(true)
+}
+
+#[test]
+fn the_rows_of_one_signature_are_answered(rt: HostRuntime) -> Result<(), Fail> {
+    let hits = [hit(0, 0)];
+    for (sequences, file, is_hit) in WORKED {
+        let table = table_of(rt.alloc(), sequences)?;
+        let wants: &[Hit] = if *is_hit { &hits } else { &[] };
+        assert!(rt;
+            answers(rt.alloc(), &table, file, wants)?,
+            "{sequences} {file:?}"
+        );
+        assert!(rt;
+            fronts_agree(rt.alloc(), &table, file)?,
+            "{sequences} {file:?}"
+        );
+    }
+    Ok(())
+}
+
+// These hits.
+fn hits_of(alloc: Global, wanted: &[(u16, u16)]) -> Result<Vec<Hit>, Fail> {
+    let mut hits = Vec::new(alloc);
+    for (format, signature) in wanted {
+        hits.push(hit(*format, *signature))?;
+    }
+    Ok(hits)
+}
+
+#[test]
+fn the_rows_of_several_formats_are_answered(rt: HostRuntime) -> Result<(), Fail> {
+    for (rows, file, wanted) in WORKED_TABLES {
+        let table = loaded(rt.alloc(), rows)?;
+        let hits = hits_of(rt.alloc(), wanted)?;
+        assert!(rt;
+            answers(rt.alloc(), &table, file, &hits)?,
+            "{rows} {file:?}"
+        );
+    }
+    Ok(())
+}
