@@ -1,25 +1,32 @@
 -- How a run ends, whatever is asked for.
-use Rattle.std.proofs.Common.{◌≡◌, ◌⊎◌, ℕ, Bool, List, Option, ap, arith, false, inl, inr, refl, subst}
-use Rattle.clap.specs.Words.{Row, Text}
+use Rattle.std.proofs.Common.{◌≡◌, ◌≢◌, ◌⊎◌, ℕ, ◌<◌, ◌≤◌, Bool, List, [], None, Option, Some, ap, arith, false, inl, inr, refl, subst, sym, true, ◌∙◌}
+use Rattle.std.proofs.lemmas.List.{append-nil}
+use Rattle.clap.specs.Words.{HasKind, IsAmong, Row, Text, fault_of, kind_of, subcommand_of}
+use Rattle.clap.specs.declared.error.Error.{Error}
+use Rattle.clap.specs.declared.error.kind.ErrorKind.{ErrorKind}
+use Rattle.clap.specs.declared.error.kind.ErrorKind.TheVariants as kind
+use Rattle.clap.specs.declared.error.kind.ErrorKind.TheVariants.{DisplayHelp, DisplayVersion}
+use Rattle.sig_bits.specs.Device.{Adds}
+use Rattle.sig_engines.specs.ManyFiles.{err_texts}
 use Rattle.sig_engines.specs.Stores.{Holding}
+use Rattle.sig_engines.specs.declared.error.CutShort.TheVariants as cut
 use Rattle.sig_engines.specs.declared.error.RunError.TheVariants as run
-use Rattle.sig_command.specs.CommandLine.{Asks}
-use Rattle.sig_command.specs.Faults.{Reports}
-use Rattle.sig_command.specs.Requests.{HasFiles, IsFaultOf, Joins, ReportsFaultOf, Shows, ShowsBefore, TellsOf}
+use Rattle.sig_table.specs.declared.error.TableError.{TableError}
+use Rattle.sig_table.specs.declared.error.TableError.TheVariants as table
+use Rattle.sig_command.specs.CommandLine.{AreTaken, Asks, HasFaultKind, IsHelpAsked, program}
+use Rattle.sig_command.specs.Endings.{AnswersBy, EndsByFault, KeepsErrors, ReportsMemory, TellsBy}
+use Rattle.sig_command.specs.Faults.{Reports, ReportsLine, TellsWrite}
+use Rattle.sig_command.specs.Requests.{Behind, HasFiles, IsFaultOf, IsLaterFault, Joins, ReportsFaultOf, ReportsLineOf, Shows, ShowsBefore, ShowsSomeWords, ShowsWords, TellsOf}
+use Rattle.sig_command.specs.Several.{ReportsFiles}
+use Rattle.sig_command.specs.Statuses.{kind_status, status_of, table_status}
 use Rattle.sig_command.specs.declared.args.Request.{Request}
 use Rattle.sig_command.specs.declared.args.Request.TheVariants.{Check, Conflicts, Find, Match, MatchMany, Show, Witness}
 use Rattle.sig_command.specs.declared.fault.Fault.{Fault}
-use Rattle.sig_command.specs.declared.fault.Fault.TheVariants.{Run}
+use Rattle.sig_command.specs.declared.fault.Fault.TheVariants.{CannotOpen, CutShort, NotText, Run, SomeFiles, Table}
 
 -- memory can run out for whatever is asked
 pub memory_of : {R : Type 0} (failed : R → Bool) (held : Holding) (request : Request) → IsFaultOf failed held request (Run run.OutOfMemory)
-memory_of failed held (Show table) = inr (inr refl)
-memory_of failed held (Match all table file) = inr tt
-memory_of failed held (MatchMany all table files) = inr (inr (inr refl))
-memory_of failed held (Find table budget out hex progress) = inr (inr (inr refl))
-memory_of failed held (Conflicts table budget hex progress) = inr (inl refl)
-memory_of failed held (Check table certificate) = inr tt
-memory_of failed held (Witness table file) = inr tt
+memory_of failed held request = inr (inl refl)
 
 -- and then nothing is shown before that is told
 pub memory_first : {R : Type 0} (failed : R → Bool) (held : Holding) (request : Request) (before after err : Option (List ℕ)) → ShowsBefore failed held request (Run run.OutOfMemory) before after err err
@@ -44,11 +51,179 @@ has_files found (Conflicts table budget hex progress) asks = tt
 has_files found (Check table certificate) asks = tt
 has_files found (Witness table file) asks = tt
 
--- a fault of the request is reported behind what the request shows
-pub fault_is_reported : {R E : Type 0} (failed : R → Bool) (held : Holding) (request : Request) (reason : Fault) (status : ℕ) (is_failed : E → Bool) (written : E → Option (List ℕ)) (err mid : E) (before after err_after : Option (List ℕ)) → IsFaultOf failed held request reason → TellsOf failed held request false is_failed written err mid → Joins failed held request reason before after (is_failed mid) (written err) (written mid) → is_failed mid ≡ false → Reports reason status (written mid) err_after → ReportsFaultOf failed held request status before after (written err) err_after
-fault_is_reported failed held request reason status is_failed written err mid before after err_after is told joins sound reports =
-    (reason, is, written mid, (shown told, subst (λ b. Joins failed held request reason before after b (written err) (written mid)) sound joins), reports)
+-- ---- a fault is reported
+
+-- behind what the request shows
+pub line_is_reported : {R E : Type 0} (failed : R → Bool) (held : Holding) (request : Request) (reason : Fault) (status : ℕ) (is_failed : E → Bool) (written : E → Option (List ℕ)) (err mid : E) (before after err_after : Option (List ℕ)) → TellsOf failed held request false is_failed written err mid → Joins failed held request reason before after (is_failed mid) (written err) (written mid) → is_failed mid ≡ false → Reports reason status (written mid) err_after → ReportsLineOf failed held request reason status before after (written err) err_after
+line_is_reported failed held request reason status is_failed written err mid before after err_after told joins sound reports =
+    (written mid, (shown told, subst (λ b. Joins failed held request reason before after b (written err) (written mid)) sound joins), reports)
   where
     shown : (mid ≡ err) ⊎ Shows failed held request false (is_failed mid) (written err) (written mid) → (written mid ≡ written err) ⊎ Shows failed held request false false (written err) (written mid)
     shown (inl same) = inl (ap written same)
     shown (inr shows) = inr (subst (λ b. Shows failed held request false b (written err) (written mid)) sound shows)
+
+pub fault_is_reported : {R E : Type 0} (failed : R → Bool) (WriteFailed : Type 0) (held : Holding) (request : Request) (reason : Fault) (status : ℕ) (is_failed : E → Bool) (written : E → Option (List ℕ)) (err mid last : E) (before after : Option (List ℕ)) → IsFaultOf failed held request reason → (TellsWrite reason → WriteFailed) → TellsOf failed held request false is_failed written err mid → Joins failed held request reason before after (is_failed mid) (written err) (written mid) → status ≡ status_of reason → (is_failed last ≡ false → is_failed mid ≡ false) → (is_failed last ≡ false → Reports reason status (written mid) (written last)) → ReportsFaultOf failed WriteFailed held request status before after (is_failed last) (written err) (written last)
+fault_is_reported failed WriteFailed held request reason status is_failed written err mid last before after is write told joins ends sound reports = record {
+  reason = reason;
+  is = is;
+  write = write;
+  ends = ends;
+  line = λ whole. line_is_reported failed held request reason status is_failed written err mid before after (written last) told joins (sound whole) (reports whole);
+}
+
+-- before there is a request to look at, memory ran out
+pub memory_is_reported : {R E : Type 0} (failed : R → Bool) (WriteFailed : Type 0) (held : Holding) (request : Request) (status : ℕ) (is_failed : E → Bool) (written : E → Option (List ℕ)) (err last : E) (before after : Option (List ℕ)) → status ≡ 3 → (is_failed last ≡ false → ReportsMemory (written err) (written last)) → ReportsFaultOf failed WriteFailed held request status before after (is_failed last) (written err) (written last)
+memory_is_reported failed WriteFailed held request status is_failed written err last before after ends reports = record {
+  reason = Run run.OutOfMemory;
+  is = memory_of failed held request;
+  write = λ tells. absurd (no_write tells);
+  ends = ends;
+  line = λ whole. (written err, memory_first failed held request before after (written err), subst (λ (s : ℕ). Reports (Run run.OutOfMemory) s (written err) (written last)) (sym ends) (reports whole));
+}
+  where
+    no_write : TellsWrite (Run run.OutOfMemory) → ⊥
+    no_write (inl same) = let bad : Run run.OutOfMemory ≡ Run run.Write = same in cc
+    no_write (inr same) = let bad : Run run.OutOfMemory ≡ CutShort cut.Write = same in cc
+
+-- ---- one line, or those of several files
+
+-- nothing is added behind a text
+nothing_behind : (before mid after : Option (List ℕ)) (text : List ℕ) → Adds before text mid → Adds mid [] after → Adds before text after
+nothing_behind None mid after text first second = tt
+nothing_behind (Some before) None after text first second = absurd first
+nothing_behind (Some before) (Some mid) None text first second = absurd second
+nothing_behind (Some before) (Some mid) (Some after) text first second = second ∙ append-nil mid ∙ first
+
+-- only of several files some have a fault
+no_files : {R : Type 0} (failed : R → Bool) (held : Holding) (request : Request) → (IsLaterFault failed held request SomeFiles → ⊥) → IsFaultOf failed held request SomeFiles → ⊥
+no_files failed held request never (inl is) = is
+no_files failed held request never (inr (inl is)) = let bad : SomeFiles ≡ Run run.OutOfMemory = is in cc
+no_files failed held request never (inr (inr is)) = never is.1
+
+-- and then each fault is told
+files_are_reported : {R : Type 0} (failed : R → Bool) (held : Holding) (request : Request) (status : ℕ) (before after : Option (List ℕ)) (is_failed : Bool) (err_before mid err_after : Option (List ℕ)) → IsFaultOf failed held request SomeFiles → Joins failed held request SomeFiles before after is_failed err_before mid → is_failed ≡ false → Reports SomeFiles status mid err_after → ReportsFiles err_before err_after
+files_are_reported failed held (Show table) status before after is_failed err_before mid err_after is joins sound reports = absurd (no_files failed held (Show table) (λ same. let bad : SomeFiles ≡ Run run.Write = same in cc) is)
+files_are_reported failed held (Match all table file) status before after is_failed err_before mid err_after is joins sound reports = absurd (no_files failed held (Match all table file) (λ never. never) is)
+files_are_reported failed held (MatchMany all table files) status before after is_failed err_before mid err_after is joins sound reports =
+    let added = joins.2 in
+    record { files = added.files; is = sym added.is; adds = nothing_behind err_before mid err_after (err_texts added.files) (added.reports sound) reports.adds }
+files_are_reported failed held (Find table budget out hex progress) status before after is_failed err_before mid err_after is joins sound reports = absurd (no_files failed held (Find table budget out hex progress) never is)
+  where
+    never : (SomeFiles ≡ CannotOpen out) ⊎ (SomeFiles ≡ Run run.Write) → ⊥
+    never (inl same) = let bad : SomeFiles ≡ CannotOpen out = same in cc
+    never (inr same) = let bad : SomeFiles ≡ Run run.Write = same in cc
+files_are_reported failed held (Conflicts table budget hex progress) status before after is_failed err_before mid err_after is joins sound reports = absurd (no_files failed held (Conflicts table budget hex progress) (λ never. never) is)
+files_are_reported failed held (Check table certificate) status before after is_failed err_before mid err_after is joins sound reports = absurd (no_files failed held (Check table certificate) (λ never. never) is)
+files_are_reported failed held (Witness table file) status before after is_failed err_before mid err_after is joins sound reports = absurd (no_files failed held (Witness table file) (λ never. never) is)
+
+-- some line stands behind what the words show
+some_line : {R E : Type 0} (failed : R → Bool) (held : Holding) (words : List Text) (request : Request) (reason : Fault) (status : ℕ) (is_failed : E → Bool) (written : E → Option (List ℕ)) (err mid : E) (before after err_after : Option (List ℕ)) → Asks (subcommand_of program words) request → IsFaultOf failed held request reason → TellsOf failed held request false is_failed written err mid → Joins failed held request reason before after (is_failed mid) (written err) (written mid) → is_failed mid ≡ false → Reports reason status (written mid) err_after → Behind (ShowsWords failed held words false false) (ReportsLine status) (written err) err_after ⊎ ReportsFiles (written err) err_after
+some_line failed held words request reason status is_failed written err mid before after err_after asks is told joins sound reports = go reason is joins reports
+  where
+    shown : (mid : Option (List ℕ)) → (mid ≡ written err) ⊎ Shows failed held request false false (written err) mid → (mid ≡ written err) ⊎ ShowsWords failed held words false false (written err) mid
+    shown mid (inl same) = inl same
+    shown mid (inr shows) = inr (request, asks, shows)
+
+    one : (reason : Fault) → reason ≢ SomeFiles → Joins failed held request reason before after (is_failed mid) (written err) (written mid) → Reports reason status (written mid) err_after → Behind (ShowsWords failed held words false false) (ReportsLine status) (written err) err_after ⊎ ReportsFiles (written err) err_after
+    one reason other joins reports =
+        let line : ReportsLineOf failed held request reason status before after (written err) err_after = line_is_reported failed held request reason status is_failed written err mid before after err_after told joins sound reports in
+        inl (record { mid = line.0; shown = shown line.0 line.1.0; rest = (reason, other, line.2) })
+
+    go : (reason : Fault) → IsFaultOf failed held request reason → Joins failed held request reason before after (is_failed mid) (written err) (written mid) → Reports reason status (written mid) err_after → Behind (ShowsWords failed held words false false) (ReportsLine status) (written err) err_after ⊎ ReportsFiles (written err) err_after
+    go SomeFiles is joins reports = inr (files_are_reported failed held request status before after (is_failed mid) (written err) (written mid) err_after is joins sound reports)
+    go NotText is joins reports = one NotText (λ same. let bad : NotText ≡ SomeFiles = same in cc) joins reports
+    go (CannotOpen name) is joins reports = one (CannotOpen name) (λ same. let bad : CannotOpen name ≡ SomeFiles = same in cc) joins reports
+    go (Table error) is joins reports = one (Table error) (λ same. let bad : Table error ≡ SomeFiles = same in cc) joins reports
+    go (Run error) is joins reports = one (Run error) (λ same. let bad : Run error ≡ SomeFiles = same in cc) joins reports
+    go (CutShort error) is joins reports = one (CutShort error) (λ same. let bad : CutShort error ≡ SomeFiles = same in cc) joins reports
+
+-- a fault is no answer
+high_table : (error : TableError) → 2 ≤ table_status error
+high_table (table.Read file) = omega arith
+high_table table.OutOfMemory = omega arith
+high_table _ = omega arith
+
+high_status : (reason : Fault) → 2 ≤ status_of reason
+high_status NotText = omega arith
+high_status (CannotOpen name) = omega arith
+high_status (Table error) = high_table error
+high_status (Run error) = omega arith
+high_status (CutShort error) = omega arith
+high_status SomeFiles = omega arith
+
+never_low : (status : ℕ) (reason : Fault) → status ≡ status_of reason → status < 2 → ⊥
+never_low status reason ends low = let high = high_status reason in omega (arith, low, high, ends)
+
+pub fault_keeps_errors : {R E : Type 0} (failed : R → Bool) (held : Holding) (words : List Text) (request : Request) (reason : Fault) (status : ℕ) (is_failed : E → Bool) (written : E → Option (List ℕ)) (err mid last : E) (before after : Option (List ℕ)) → Asks (subcommand_of program words) request → IsFaultOf failed held request reason → TellsOf failed held request false is_failed written err mid → Joins failed held request reason before after (is_failed mid) (written err) (written mid) → status ≡ status_of reason → (is_failed last ≡ false → is_failed mid ≡ false) → (is_failed last ≡ false → Reports reason status (written mid) (written last)) → KeepsErrors (ShowsWords failed held words) status (is_failed last) err last (written err) (written last)
+fault_keeps_errors failed held words request reason status is_failed written err mid last before after asks is told joins ends sound reports = record {
+  quiet = λ low. absurd (never_low status reason ends low);
+  reported = λ three whole.
+      subst (λ (s : ℕ). Behind (ShowsWords failed held words false false) (ReportsLine s) (written err) (written last) ⊎ ReportsFiles (written err) (written last)) three
+      (some_line failed held words request reason status is_failed written err mid before after (written last) asks is told joins (sound whole) (reports whole));
+}
+
+-- nor is want of memory
+pub memory_tells : {E : Type 0} (words : List Text) (status : ℕ) (is_failed : Bool) (err last : E) (written written_after : Option (List ℕ)) → (AreTaken words → status ≡ 3) → TellsBy words status is_failed err last written written_after
+memory_tells words status is_failed err last written written_after refused = λ taken low.
+    let three = refused taken in
+    absurd (omega (arith, low, three))
+
+-- ---- a fault of the words
+
+usage_status : (k : ErrorKind) → k ≢ DisplayHelp → k ≢ DisplayVersion → kind_status k ≡ 2
+usage_status DisplayHelp no_help no_version = absurd (no_help refl)
+usage_status DisplayVersion no_help no_version = absurd (no_version refl)
+usage_status _ no_help no_version = refl
+
+help_status : (k : ErrorKind) → (k ≡ DisplayHelp) ⊎ (k ≡ DisplayVersion) → kind_status k ≡ 0
+help_status k (inl is) = ap kind_status is
+help_status k (inr is) = ap kind_status is
+
+-- the status is that of the kind of the error, or 3
+by_kind : (status : ℕ) (k : ErrorKind) → (status ≡ 0) ⊎ ((status ≡ 2) ⊎ (status ≡ 3)) → (status ≡ 0 → (k ≡ DisplayHelp) ⊎ (k ≡ DisplayVersion)) → (status ≡ 2 → (k ≢ DisplayHelp) × (k ≢ DisplayVersion)) → (status ≡ 3) ⊎ (status ≡ kind_status k)
+by_kind status k (inl is) help usage = inr (is ∙ sym (help_status k (help is)))
+by_kind status k (inr (inl is)) help usage = let no = usage is in inr (is ∙ sym (usage_status k no.0 no.1))
+by_kind status k (inr (inr is)) help usage = inl is
+
+pub ends_by_fault : (words : List Text) (e : Error) (status : ℕ) → HasFaultKind words e → (status ≡ 0) ⊎ ((status ≡ 2) ⊎ (status ≡ 3)) → (kind_of e ≡ kind.OutOfMemory → status ≡ 3) → (status ≡ 0 → (kind_of e ≡ DisplayHelp) ⊎ (kind_of e ≡ DisplayVersion)) → (status ≡ 2 → (kind_of e ≢ DisplayHelp) × (kind_of e ≢ DisplayVersion)) → EndsByFault words status
+ends_by_fault words e status kinds known memory help usage = λ some. go (kinds some)
+  where
+    go : HasKind (fault_of program words) e → (status ≡ 3) ⊎ ((k : ErrorKind) × IsAmong k (fault_of program words) × (status ≡ kind_status k))
+    go (inl is) = inl (memory is)
+    go (inr among) = of_kind among (by_kind status (kind_of e) known help usage)
+      where
+        of_kind : IsAmong (kind_of e) (fault_of program words) → (status ≡ 3) ⊎ (status ≡ kind_status (kind_of e)) → (status ≡ 3) ⊎ ((k : ErrorKind) × IsAmong k (fault_of program words) × (status ≡ kind_status k))
+        of_kind among (inl is) = inl is
+        of_kind among (inr is) = inr (kind_of e, among, is)
+
+-- an answer of clap is no answer to what the words ask for
+never_one : (status : ℕ) → (status ≡ 0) ⊎ ((status ≡ 2) ⊎ (status ≡ 3)) → status ≡ 1 → ⊥
+never_one status (inl is) one = omega (arith, is, one)
+never_one status (inr (inl is)) one = omega (arith, is, one)
+never_one status (inr (inr is)) one = omega (arith, is, one)
+
+pub help_answers : (held : Holding) (words : List Text) (status : ℕ) (before after : Option (List ℕ)) (e : Error) → (status ≡ 0) ⊎ ((status ≡ 2) ⊎ (status ≡ 3)) → (AreTaken words → kind_of e ≡ kind.OutOfMemory) → (kind_of e ≡ kind.OutOfMemory → status ≡ 3) → (status ≡ 0 → (kind_of e ≡ DisplayHelp) ⊎ (kind_of e ≡ DisplayVersion)) → ((kind_of e ≡ DisplayHelp) ⊎ (kind_of e ≡ DisplayVersion) → IsHelpAsked words) → AnswersBy held words status before after
+help_answers held words status before after e known refused memory help asked = record {
+  answered = λ zero. inl (asked (help zero));
+  denied = λ one. absurd (never_one status known one);
+  taken = λ taken zero.
+      let three = memory (refused taken) in
+      absurd (omega (arith, zero, three));
+}
+
+-- ---- of words that are not known
+
+pub errors_of_some : {R E : Type 0} (failed : R → Bool) (words : List Text) (status : ℕ) (is_failed : Bool) (before after : E) (written written_after : Option (List ℕ)) → KeepsErrors (ShowsWords failed None words) status is_failed before after written written_after → KeepsErrors (ShowsSomeWords failed) status is_failed before after written written_after
+errors_of_some failed words status is_failed before after written written_after keeps = record { quiet = λ low. quiet (keeps.quiet low); reported = λ three whole. reported (keeps.reported three whole) }
+  where
+    quiet : (after ≡ before) ⊎ ShowsWords failed None words true is_failed written written_after → (after ≡ before) ⊎ ShowsSomeWords failed true is_failed written written_after
+    quiet (inl same) = inl same
+    quiet (inr shows) = inr (words, shows)
+
+    shown : (mid : Option (List ℕ)) → (mid ≡ written) ⊎ ShowsWords failed None words false false written mid → (mid ≡ written) ⊎ ShowsSomeWords failed false false written mid
+    shown mid (inl same) = inl same
+    shown mid (inr shows) = inr (words, shows)
+
+    reported : Behind (ShowsWords failed None words false false) (ReportsLine 3) written written_after ⊎ ReportsFiles written written_after → Behind (ShowsSomeWords failed false false) (ReportsLine 3) written written_after ⊎ ReportsFiles written written_after
+    reported (inl line) = inl (record { mid = line.mid; shown = shown line.mid line.shown; rest = line.rest })
+    reported (inr files) = inr files

@@ -1,5 +1,5 @@
 -- What a store that tells what it holds says of what is read from it.
-use Rattle.std.proofs.Common.{◌≡◌, ◌||◌, not, ℕ, Bool, true, false, List, None, Option, Some, Result, Ok, Err, IfSome, ap, refl, subst, sym, ◌∙◌}
+use Rattle.std.proofs.Common.{◌≡◌, ◌||◌, not, ℕ, Bool, true, false, List, None, Option, Some, Result, Ok, Err, IfSome, ◌⊎◌, ap, inl, inr, refl, subst, sym, ◌∙◌}
 use Rattle.std.specs.Bool.{OnFalse}
 use Rattle.std.specs.Prelude.{option_map}
 use Rattle.std.specs.Borrow.{Bor}
@@ -13,15 +13,21 @@ use Rattle.sig_table.specs.declared.error.TableError.TheVariants as table
 use Rattle.sig_table.specs.declared.error.TableFile.TheVariants.{Priorities, Signatures}
 use Rattle.sig_engines.specs.Judged.{AddsVerdictOfSome}
 use Rattle.sig_engines.specs.Lines.{AddsLinesOfSome}
+use Rattle.sig_command.specs.Faults.{TellsWrite}
 use Rattle.sig_command.specs.Requests.{Answers, IsFileFault}
+use Rattle.sig_command.specs.Requests.{file_fault as fault_of_file}
 use Rattle.sig_engines.specs.Stores.{Has, Holding, Holds, IsTableFault, IsTableOf, Lacks, Opens, ReadsAs, SomeFailed}
 use Rattle.sig_engines.specs.Witnessed.{AddsWitnessOfSome}
 use Rattle.sig_command.specs.declared.args.Request.{Request}
 use Rattle.sig_command.specs.declared.args.Request.TheVariants.{Check, Match, Witness}
 use Rattle.sig_engines.specs.declared.store.TablePaths.{TablePaths}
+use Rattle.sig_engines.specs.declared.error.CutShort.TheVariants as cut
+use Rattle.sig_engines.specs.declared.error.FileFault.{FileFault}
+use Rattle.sig_engines.specs.declared.error.FileFault.TheVariants as file
 use Rattle.sig_engines.specs.declared.error.RunError.{RunError}
 use Rattle.sig_engines.specs.declared.error.RunError.TheVariants.{OutOfMemory, Read, Write}
-use Rattle.sig_command.specs.declared.fault.Fault.TheVariants.{Run}
+use Rattle.sig_command.specs.declared.fault.Fault.{Fault}
+use Rattle.sig_command.specs.declared.fault.Fault.TheVariants.{CannotOpen, CutShort, Run}
 
 -- ---- one file
 
@@ -66,6 +72,19 @@ pub file_fault : {R : Type 0} (failed : R → Bool) (held : Holding) (name : Bor
 file_fault failed held name to_come Read opens unread = (has_opened held name.now to_come opens, unread refl)
 file_fault failed held name to_come Write opens unread = has_opened held name.now to_come opens
 file_fault failed held name to_come OutOfMemory opens unread = tt
+
+-- what is told of the file that a search makes
+pub file_write : (name : Bor (List ℕ)) (fault : FileFault) (reason : Fault) (P : Type 0) → reason ≡ fault_of_file name fault → (fault ≡ file.Run Write → P) → TellsWrite reason → P
+file_write name fault reason P same write tells = go fault (subst TellsWrite same tells) write
+  where
+    go : (fault : FileFault) → TellsWrite (fault_of_file name fault) → (fault ≡ file.Run Write → P) → P
+    go file.CannotOpen (inl is) write = let bad : CannotOpen name ≡ Run Write = is in cc
+    go file.CannotOpen (inr is) write = let bad : CannotOpen name ≡ CutShort cut.Write = is in cc
+    go (file.Run Read) (inl is) write = let bad : Run Read ≡ Run Write = is in cc
+    go (file.Run Read) (inr is) write = let bad : Run Read ≡ CutShort cut.Write = is in cc
+    go (file.Run Write) tells write = write refl
+    go (file.Run OutOfMemory) (inl is) write = let bad : Run OutOfMemory ≡ Run Write = is in cc
+    go (file.Run OutOfMemory) (inr is) write = let bad : Run OutOfMemory ≡ CutShort cut.Write = is in cc
 
 -- ---- the two files of a table
 

@@ -1,15 +1,16 @@
 -- The command line in clap's words, and what its words ask for.
-use Rattle.std.specs.Prelude.{◌≡◌, ◌⊎◌, ◌<◌, ◌^◌, ℕ, pos, Bool, true, false, List, [], ◌∷◌, Option, None, Some, String, codes, length, map, string_bytes}
+use Rattle.std.specs.Prelude.{◌≡◌, ◌≢◌, ◌⊎◌, ◌<◌, ◌^◌, ℕ, pos, Bool, true, false, List, [], ◌∷◌, Option, None, Some, String, codes, length, map, option_and_then, string_bytes}
 use Rattle.std.specs.Borrow.{Bor}
 use Rattle.std.specs.Str.Parse.{IsNumeral, digits_value, without_leading_plus}
 use Rattle.clap.specs.Lexer.{usize_max}
 use Rattle.clap.specs.Simple.{on_top}
-use Rattle.clap.specs.Words.{App, IsAmong, Row, Rule, Text, all_of, app_of, fault_of, first_of, found_of, one_of, new_app, new_rule, rows_of, subcommand_of, takes, with_rule, with_subcommand}
+use Rattle.clap.specs.Words.{App, HasKind, IsAmong, Row, Rule, Text, all_of, app_of, fault_of, first_of, found_of, one_of, new_app, new_rule, rows_of, subcommand_of, takes, with_rule, with_subcommand}
 use Rattle.clap.specs.declared.Command.{Command}
 use Rattle.clap.specs.declared.Command.TheViews.{out-Command as fields_of}
 use Rattle.clap.specs.declared.parser.matches.ArgMatches.{ArgMatches}
 use Rattle.clap.specs.declared.builder.action.ArgAction.TheVariants.{SetTrue}
 use Rattle.clap.specs.declared.builder.value_parser.ValueParser.TheVariants.{Signed}
+use Rattle.clap.specs.declared.error.Error.{Error}
 use Rattle.clap.specs.declared.error.kind.ErrorKind.TheVariants.{DisplayHelp, DisplayVersion}
 use Rattle.sig_command.specs.declared.args.Request.{Request}
 use Rattle.sig_command.specs.declared.args.Request.TheVariants.{Check, Conflicts, Find, Match, MatchMany, Show, Witness}
@@ -123,3 +124,21 @@ AreTaken words = (takes program words ≡ true) × ((request : Request) × Asks 
 -- the words ask for help, or for the version
 abbrev pub IsHelpAsked : List Text → Type 0
 IsHelpAsked words = IsAmong DisplayHelp (fault_of program words) ⊎ IsAmong DisplayVersion (fault_of program words)
+
+-- where clap finds a fault in the words, the error has its kind, unless memory ran out
+abbrev pub HasFaultKind : List Text → Error → Type 0
+HasFaultKind words e = fault_of program words ≢ [] → HasKind (fault_of program words) e
+
+-- the first value of an argument among the words, what is read of it, and all its values
+abbrev pub first_named : Text → List Text → Option Text
+first_named name words = option_and_then (λ s. first_of name s.1) (subcommand_of program words)
+
+abbrev pub one_named : Text → List Text → Option Text
+one_named name words = option_and_then (λ s. one_of name s.1) (subcommand_of program words)
+
+abbrev pub all_named : Text → List Text → Option (List Text)
+all_named name words = option_and_then (λ s. all_of name s.1) (subcommand_of program words)
+
+-- the words name these two files of a table
+abbrev pub AreTableWords : (signatures priorities : Text) → List Text → Type 0
+AreTableWords signatures priorities words = (first_named (codes "SIGS") words ≡ Some signatures) × (first_named (codes "PRIOS") words ≡ Some priorities)

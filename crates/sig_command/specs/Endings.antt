@@ -1,9 +1,13 @@
 -- What the status of a run says: of the output, of the error output and of the words.
-use Rattle.std.specs.Prelude.{◌≡◌, ℕ, ◌<◌, ◌≤◌, ◌⊎◌, Bool, true, false, List, Option, None}
-use Rattle.clap.specs.Words.{Text}
-use Rattle.sig_command.specs.CommandLine.{AreTaken, IsHelpAsked}
-use Rattle.sig_command.specs.Faults.{Reports, ReportsFault}
-use Rattle.sig_command.specs.Requests.{AnswersWords, Behind, ReportsFaultOfWords}
+use Rattle.std.specs.Prelude.{◌≡◌, ◌≢◌, ℕ, ◌<◌, ◌≤◌, ◌⊎◌, Bool, true, false, List, [], Option}
+use Rattle.clap.specs.Words.{IsAmong, Text, fault_of, subcommand_of}
+use Rattle.clap.specs.declared.error.kind.ErrorKind.{ErrorKind}
+use Rattle.sig_command.specs.CommandLine.{AreTaken, Asks, IsHelpAsked, program}
+use Rattle.sig_command.specs.Faults.{Reports, ReportsLine}
+use Rattle.sig_command.specs.Requests.{AnswersWords, Behind, ReportsFaultOfWords, ShowsAsked}
+use Rattle.sig_command.specs.Several.{ReportsFiles}
+use Rattle.sig_command.specs.Statuses.{kind_status}
+use Rattle.sig_command.specs.declared.args.Request.{Request}
 use Rattle.sig_engines.specs.Stores.{Holding}
 use Rattle.sig_engines.specs.declared.error.RunError.TheVariants.{OutOfMemory}
 use Rattle.sig_command.specs.declared.fault.Fault.TheVariants.{Run}
@@ -14,10 +18,10 @@ pub record KeepsOutput {W : Type 0} (Cut : Type 0) (status : ℕ) (is_failed : B
   pub refused : status ≡ 2 → after ≡ before
   pub whole : status ≡ 3 → is_failed ≡ false → (after ≡ before) ⊎ Cut
 
--- with 0 and 1 the error output is as it was, or has what an answer shows; with 3 it has grown by the line of a fault, behind what is shown, unless a write failed
+-- with 0 and 1 the error output is as it was, or has what an answer shows; with 3 it has grown by the line of a fault, behind what is shown, or by those of several files, unless a write failed
 pub record KeepsErrors {E : Type 0} (Shown : Bool → Bool → Option (List ℕ) → Option (List ℕ) → Type 0) (status : ℕ) (is_failed : Bool) (before after : E) (written written_after : Option (List ℕ)) : Type 0 where
   pub quiet : status < 2 → (after ≡ before) ⊎ Shown true is_failed written written_after
-  pub reported : status ≡ 3 → is_failed ≡ false → Behind (Shown false false) (ReportsFault 3) written written_after
+  pub reported : status ≡ 3 → is_failed ≡ false → Behind (Shown false false) (ReportsLine 3) written written_after ⊎ ReportsFiles written written_after
 
 -- with 0 the words ask for help, or are answered with a yes; with 1 they are answered with a no; and words that ask for something are not answered with help
 pub record AnswersBy (held : Holding) (words : List Text) (status : ℕ) (before after : Option (List ℕ)) : Type 0 where
@@ -25,14 +29,20 @@ pub record AnswersBy (held : Holding) (words : List Text) (status : ℕ) (before
   pub denied : status ≡ 1 → AnswersWords held words false before after
   pub taken : AreTaken words → status ≡ 0 → AnswersWords held words true before after
 
--- some words ask for help, or are answered with a yes
-abbrev pub AnswersSomeWords : Option (List ℕ) → Option (List ℕ) → Type 0
-AnswersSomeWords before after = (words : List Text) × (IsHelpAsked words ⊎ AnswersWords None words true before after)
+-- with 2 and 3 words that ask for something get the status and the line of a fault of just that; `written` and `err_written` tell what an output has written, and `err_failed` whether it has failed
+abbrev pub ReportsBy : {R W E : Type 0} → (R → Bool) → Type 0 → Holding → List Text → ℕ → (W → Option (List ℕ)) → (before after : W) → (E → Bool) → (E → Option (List ℕ)) → (err_before err_after : E) → Type 0
+ReportsBy failed WriteFailed held words status written before after err_failed err_written err_before err_after =
+    AreTaken words → 2 ≤ status → ReportsFaultOfWords failed WriteFailed held words status (written before) (written after) (err_failed err_after) (err_written err_before) (err_written err_after)
 
--- with 2 and 3 words that ask for something get the line of a fault of just that, unless a write to the error output failed; `written` and `err_written` tell what an output has written
-abbrev pub ReportsBy : {R W E : Type 0} → (R → Bool) → Holding → List Text → ℕ → (W → Option (List ℕ)) → (before after : W) → (E → Bool) → (E → Option (List ℕ)) → (err_before err_after : E) → Type 0
-ReportsBy failed held words status written before after err_failed err_written err_before err_after =
-    AreTaken words → 2 ≤ status → err_failed err_after ≡ false → ReportsFaultOfWords failed held words status (written before) (written after) (err_written err_before) (err_written err_after)
+-- with 0 and 1 words that ask for something have progress shown just where they ask for it
+abbrev pub TellsBy : {E : Type 0} → List Text → ℕ → Bool → (before after : E) → Option (List ℕ) → Option (List ℕ) → Type 0
+TellsBy words status is_failed before after written written_after =
+    AreTaken words → status < 2 → (request : Request) × Asks (subcommand_of program words) request × ShowsAsked request is_failed before after written written_after
+
+-- words in which clap finds a fault end as it says of their kind, unless memory ran out or a write failed
+abbrev pub EndsByFault : List Text → ℕ → Type 0
+EndsByFault words status =
+    fault_of program words ≢ [] → (status ≡ 3) ⊎ ((kind : ErrorKind) × IsAmong kind (fault_of program words) × (status ≡ kind_status kind))
 
 -- the line of want of memory is reported
 abbrev pub ReportsMemory : Option (List ℕ) → Option (List ℕ) → Type 0

@@ -1,5 +1,5 @@
 -- The lines of the faults, as the program writes them to standard error.
-use Rattle.std.specs.Prelude.{◌≡◌, ℕ, List, [], ◌∷◌, ◌++◌, codes, Option}
+use Rattle.std.specs.Prelude.{◌≡◌, ◌≢◌, ◌⊎◌, ℕ, List, [], ◌∷◌, ◌++◌, codes, Option}
 use Rattle.std.specs.Fmt.{decimal}
 use Rattle.sig_command.specs.Statuses.{status_of}
 use Rattle.sig_command.specs.declared.fault.Fault.{Fault}
@@ -8,6 +8,8 @@ use Rattle.sig_command.specs.declared.fault.Site.{Site}
 use Rattle.sig_command.specs.declared.fault.Site.TheVariants.{Nowhere, File, Row}
 use Rattle.sig_bits.specs.Device.{Adds}
 use Rattle.sig_engines.specs.Writing.{cut_text, run_text}
+use Rattle.sig_engines.specs.declared.error.CutShort.TheVariants as cut
+use Rattle.sig_engines.specs.declared.error.RunError.TheVariants as run
 use Rattle.sig_expr.specs.declared.error.ExprError.{ExprError}
 use Rattle.sig_expr.specs.declared.error.ExprError.TheVariants as expr
 use Rattle.sig_table.specs.declared.error.TableError.{TableError}
@@ -106,6 +108,10 @@ pub record Reports (reason : Fault) (status : ℕ) (before after : Option (List 
   pub ends : status ≡ status_of reason
   pub adds : Adds before (fault_line reason) after
 
--- the line of some fault of this status is written
-abbrev pub ReportsFault : ℕ → Option (List ℕ) → Option (List ℕ) → Type 0
-ReportsFault status before after = (reason : Fault) × Reports reason status before after
+-- the line of some fault of this status is written, of one that has a line
+abbrev pub ReportsLine : ℕ → Option (List ℕ) → Option (List ℕ) → Type 0
+ReportsLine status before after = (reason : Fault) × (reason ≢ fault.SomeFiles) × Reports reason status before after
+
+-- the fault tells of a failed write
+abbrev pub TellsWrite : Fault → Type 0
+TellsWrite reason = (reason ≡ fault.Run run.Write) ⊎ (reason ≡ fault.CutShort cut.Write)

@@ -6,13 +6,14 @@ use Rattle.sig_bits.specs.Device.{Adds}
 use Rattle.sig_table.specs.Views.{TableView}
 use Rattle.sig_command.specs.CommandLine.{Asks, program}
 use Rattle.sig_engines.specs.Conflicts.{AddsConflicts, AddsFirstPairs}
-use Rattle.sig_command.specs.Faults.{Reports}
+use Rattle.sig_command.specs.Faults.{Reports, TellsWrite}
+use Rattle.sig_command.specs.Statuses.{status_of}
 use Rattle.sig_command.specs.Several.{AddsFaults, AddsLinesOfEach, AddsLinesOfSome}
 use Rattle.sig_engines.specs.Finding.{AddsFound, KeepsFound}
 use Rattle.sig_engines.specs.Judged.{AddsVerdict}
 use Rattle.sig_engines.specs.Lines.{AddsLines}
 use Rattle.sig_engines.specs.ManyFiles.{AddsFiles, CutsFiles, IsPrinted}
-use Rattle.sig_engines.specs.Progress.{AddsProgress}
+use Rattle.sig_engines.specs.Progress.{AddsProgress, ShowsIf}
 use Rattle.sig_engines.specs.Shown.{show_text}
 use Rattle.sig_engines.specs.Stores.{Has, Holding, Holds, IsMade, IsTableFault, IsTableOf, Lacks, SomeFailed}
 use Rattle.sig_engines.specs.Witnessed.{AddsWitness}
@@ -64,19 +65,33 @@ IsCutFault (Run error) = ⊥
 IsCutFault (CutShort error) = ⊤
 IsCutFault SomeFiles = ⊥
 
--- the table is not shown: nothing is read for that
-abbrev pub IsShowFault : Fault → Type 0
-IsShowFault fault = (fault ≡ Run Write) ⊎ (fault ≡ Run OutOfMemory)
+-- the two files of the table that is asked of
+abbrev pub paths_of : Request → TablePaths
+paths_of (Show table) = table
+paths_of (Match all table file) = table
+paths_of (MatchMany all table files) = table
+paths_of (Find table budget out hex progress) = table
+paths_of (Conflicts table budget hex progress) = table
+paths_of (Check table certificate) = table
+paths_of (Witness table file) = table
 
--- the faults of the table, of the file that is matched or judged, of some of several files, and of the engine
+-- these two files are read as a table
+abbrev pub HasTable : Holding → TablePaths → Type 0
+HasTable held paths = (t : TableView) × IsTableOf held paths t
+
+-- the faults that come behind the load of the table: of the file that is matched or judged, of some of several files, of the file that is made, and of the engine
+abbrev pub IsLaterFault : {R : Type 0} → (R → Bool) → Holding → Request → Fault → Type 0
+IsLaterFault failed held (Show table) fault = fault ≡ Run Write
+IsLaterFault failed held (Match all table file) fault = IsFileFault failed held file fault
+IsLaterFault failed held (MatchMany all table files) fault = (fault ≡ SomeFiles) ⊎ (fault ≡ Run Write)
+IsLaterFault failed held (Find table budget out hex progress) fault = (fault ≡ CannotOpen out) ⊎ (fault ≡ Run Write)
+IsLaterFault failed held (Conflicts table budget hex progress) fault = IsCutFault fault
+IsLaterFault failed held (Check table certificate) fault = IsFileFault failed held certificate fault
+IsLaterFault failed held (Witness table file) fault = IsFileFault failed held file fault
+
+-- there is no table; or memory ran out; or there is one, and the fault comes behind its load
 abbrev pub IsFaultOf : {R : Type 0} → (R → Bool) → Holding → Request → Fault → Type 0
-IsFaultOf failed held (Show table) fault = IsLoadFault failed held table fault ⊎ IsShowFault fault
-IsFaultOf failed held (Match all table file) fault = IsLoadFault failed held table fault ⊎ IsFileFault failed held file fault
-IsFaultOf failed held (MatchMany all table files) fault = IsLoadFault failed held table fault ⊎ ((fault ≡ SomeFiles) ⊎ IsShowFault fault)
-IsFaultOf failed held (Find table budget out hex progress) fault = IsLoadFault failed held table fault ⊎ ((fault ≡ CannotOpen out) ⊎ IsShowFault fault)
-IsFaultOf failed held (Conflicts table budget hex progress) fault = IsLoadFault failed held table fault ⊎ ((fault ≡ Run OutOfMemory) ⊎ IsCutFault fault)
-IsFaultOf failed held (Check table certificate) fault = IsLoadFault failed held table fault ⊎ IsFileFault failed held certificate fault
-IsFaultOf failed held (Witness table file) fault = IsLoadFault failed held table fault ⊎ IsFileFault failed held file fault
+IsFaultOf failed held request fault = IsLoadFault failed held (paths_of request) fault ⊎ ((fault ≡ Run OutOfMemory) ⊎ (HasTable held (paths_of request) × IsLaterFault failed held request fault))
 
 -- what is written grows by the canonical files of a table, by the lines that are asked for of what a file hits in a table, by those of each of several files, by the lines of what was found, by those of the pairs of formats of a table, by the line of the verdict on a certificate, or by that of a file that is ambiguous or not; the first three can't be a no
 abbrev pub Answers : Holding → Request → Bool → Option (List ℕ) → Option (List ℕ) → Type 0
@@ -188,13 +203,31 @@ pub record Behind (Shown Rest : Option (List ℕ) → Option (List ℕ) → Type
 abbrev pub ShowsBefore : {R : Type 0} → (R → Bool) → Holding → Request → Fault → (before after err_before err_after : Option (List ℕ)) → Type 0
 ShowsBefore failed held request fault before after err_before err_after = ((err_after ≡ err_before) ⊎ Shows failed held request false false err_before err_after) × Joins failed held request fault before after false err_before err_after
 
--- the line of a fault of the request is reported, behind what it shows
-abbrev pub ReportsFaultOf : {R : Type 0} → (R → Bool) → Holding → Request → ℕ → (before after err_before err_after : Option (List ℕ)) → Type 0
-ReportsFaultOf failed held request status before after err_before err_after = (reason : Fault) × IsFaultOf failed held request reason × (mid : Option (List ℕ)) × ShowsBefore failed held request reason before after err_before mid × Reports reason status mid err_after
+-- the line of this fault of the request is reported, behind what it shows
+abbrev pub ReportsLineOf : {R : Type 0} → (R → Bool) → Holding → Request → Fault → ℕ → (before after err_before err_after : Option (List ℕ)) → Type 0
+ReportsLineOf failed held request reason status before after err_before err_after = (mid : Option (List ℕ)) × ShowsBefore failed held request reason before after err_before mid × Reports reason status mid err_after
 
--- the line of a fault of what the words ask for is reported
-abbrev pub ReportsFaultOfWords : {R : Type 0} → (R → Bool) → Holding → List Text → ℕ → (before after err_before err_after : Option (List ℕ)) → Type 0
-ReportsFaultOfWords failed held words status before after err_before err_after = (request : Request) × Asks (subcommand_of program words) request × ReportsFaultOf failed held request status before after err_before err_after
+-- the status is that of a fault of the request, a failed write is told only where one failed, and the line of the fault is reported, unless a write to the error output failed
+pub record ReportsFaultOf {R : Type 0} (failed : R → Bool) (WriteFailed : Type 0) (held : Holding) (request : Request) (status : ℕ) (before after : Option (List ℕ)) (err_failed : Bool) (err_before err_after : Option (List ℕ)) : Type 0 where
+  pub reason : Fault
+  pub is : IsFaultOf failed held request reason
+  pub write : TellsWrite reason → WriteFailed
+  pub ends : status ≡ status_of reason
+  pub line : err_failed ≡ false → ReportsLineOf failed held request reason status before after err_before err_after
+
+-- so for what the words ask for
+abbrev pub ReportsFaultOfWords : {R : Type 0} → (R → Bool) → Type 0 → Holding → List Text → ℕ → (before after : Option (List ℕ)) (err_failed : Bool) (err_before err_after : Option (List ℕ)) → Type 0
+ReportsFaultOfWords failed WriteFailed held words status before after err_failed err_before err_after = (request : Request) × Asks (subcommand_of program words) request × ReportsFaultOf failed WriteFailed held request status before after err_failed err_before err_after
+
+-- with an answer the error output shows progress just where that is asked for
+abbrev pub ShowsAsked : {E : Type 0} → Request → Bool → (before after : E) → Option (List ℕ) → Option (List ℕ) → Type 0
+ShowsAsked (Show table) is_failed before after written written_after = after ≡ before
+ShowsAsked (Match all table path) is_failed before after written written_after = after ≡ before
+ShowsAsked (MatchMany all table files) is_failed before after written written_after = after ≡ before
+ShowsAsked (Find table budget out hex progress) is_failed before after written written_after = ShowsIf progress Products is_failed before after written written_after
+ShowsAsked (Conflicts table budget hex progress) is_failed before after written written_after = ShowsIf progress Pairs is_failed before after written written_after
+ShowsAsked (Check table path) is_failed before after written written_after = after ≡ before
+ShowsAsked (Witness table path) is_failed before after written written_after = after ≡ before
 
 -- several files are there to be matched
 abbrev pub HasFiles : Request → Type 0

@@ -31,3 +31,9 @@ pub record AddsFaults (IsOf : List ℕ → Printed → Type 0) (names : List (Li
   pub are_first : names ≡ names_of files ++ others
   pub each : All (λ f. IsOf f.name f.printed) files
   pub adds : Adds before (err_texts files) after
+
+-- some file has a fault, and what is written grows by the lines of the faults
+pub record ReportsFiles (before after : Option (List ℕ)) : Type 0 where
+  pub files : List PrintedFile
+  pub is : is_whole files ≡ false
+  pub adds : Adds before (err_texts files) after

@@ -1,5 +1,7 @@
 -- The statuses that the program ends with.
 use Rattle.std.specs.Prelude.{ℕ}
+use Rattle.clap.specs.declared.error.kind.ErrorKind.{ErrorKind}
+use Rattle.clap.specs.declared.error.kind.ErrorKind.TheVariants.{DisplayHelp, DisplayVersion}
 use Rattle.sig_command.specs.declared.fault.Fault.{Fault}
 use Rattle.sig_command.specs.declared.fault.Fault.TheVariants.{CannotOpen, CutShort, NotText, Run, SomeFiles, Table}
 use Rattle.sig_table.specs.declared.error.TableError.{TableError}
@@ -19,3 +21,9 @@ status_of (Table error) = table_status error
 status_of (Run error) = 3
 status_of (CutShort error) = 3
 status_of SomeFiles = 3
+
+-- help and the version are answered, and all else that clap says is a fault of the words
+abbrev pub kind_status : ErrorKind → ℕ
+kind_status DisplayHelp = 0
+kind_status DisplayVersion = 0
+kind_status _ = 2

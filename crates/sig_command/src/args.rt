@@ -1,11 +1,11 @@
 //! What the words of the command line ask for, as `clap` reads them.
 
-ghost use Rattle.std.specs.Prelude.{◌≡◌, ◌⊎◌, codes, false, IfErr, IfOk, IfSome};
+ghost use Rattle.std.specs.Prelude.{◌≡◌, ◌⊎◌, [], codes, false, IfErr, IfOk, IfSome};
 ghost use Rattle.clap.specs.Values.{kind_of};
 ghost use Rattle.clap.specs.Matches.{found_of};
 ghost use Rattle.clap.specs.declared.Command.TheViews.{out-Command as fields_of};
-ghost use Rattle.clap.specs.Words.{app_of, rows_of, rule_of, subcommand_of, subcommand_rows_of};
-ghost use Rattle.sig_command.specs.CommandLine.{AreTaken, Asks, IsHelpAsked, IsLine, NamesTable, asking, budget_rule, check_command, conflicts_command, find_command, given, match_command, named, of_table, program, show_command, texts_of, wanted, witness_command};
+ghost use Rattle.clap.specs.Words.{app_of, fault_of, rows_of, rule_of, subcommand_of, subcommand_rows_of};
+ghost use Rattle.sig_command.specs.CommandLine.{AreTaken, Asks, HasFaultKind, IsHelpAsked, IsLine, NamesTable, asking, budget_rule, check_command, conflicts_command, find_command, given, match_command, named, of_table, program, show_command, texts_of, wanted, witness_command};
 
 use clap::error::ErrorKind;
 use clap::{Arg, ArgAction, ArgMatches, Command, Error, value_parser};
@@ -153,6 +153,8 @@ pub(crate) fn read_args<'a>(alloc: Global, words: &'a [String]) -> Result<ArgMat
     ensures found { IfOk result (λ matches. subcommand_rows_of matches ≡ subcommand_of program (texts_of words.now)) }
     ensures asked { IfOk result (λ matches. (request : Request) × Asks (subcommand_of program (texts_of words.now)) request) }
     ensures taken { IfErr result (λ e. AreTaken (texts_of words.now) → kind_of e ≡ ErrorKind.OutOfMemory) }
+    ensures sound { IfOk result (λ matches. fault_of program (texts_of words.now) ≡ []) }
+    ensures kinds { IfErr result (HasFaultKind (texts_of words.now)) }
     ensures help { IfErr result (λ e. (kind_of e ≡ ErrorKind.DisplayHelp) ⊎ (kind_of e ≡ ErrorKind.DisplayVersion) → IsHelpAsked (texts_of words.now)) }
 {
     let mut command = command_line(alloc)?;

@@ -4,7 +4,7 @@
 //! A line is written in pieces and takes no memory, so no fault is reported as another.
 
 ghost use Rattle.std.specs.Prelude.{◌≡◌, [], ◌∷◌, ◌++◌, decimal, false};
-ghost use Rattle.sig_command.specs.Faults.{ReportsFault, Reports, code_text, expression_code_text, fault_line, file_name, fault_text, line_end, site_of, site_text};
+ghost use Rattle.sig_command.specs.Faults.{Reports, code_text, expression_code_text, fault_line, file_name, fault_text, line_end, site_of, site_text};
 ghost use Rattle.sig_command.specs.Statuses.{status_of};
 ghost use Rattle.sig_engines.specs.Writing.{Prints};
 

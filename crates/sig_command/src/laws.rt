@@ -1,8 +1,8 @@
 //! Laws of the command line.
 
-ghost use Rattle.std.specs.Prelude.{◌≡◌, false, true, [], ◌∷◌, codes};
+ghost use Rattle.std.specs.Prelude.{◌≡◌, Some, false, true, [], ◌∷◌, codes};
 ghost use Rattle.clap.specs.Words.{fault_of, takes};
-ghost use Rattle.sig_command.specs.CommandLine.{program};
+ghost use Rattle.sig_command.specs.CommandLine.{AreTableWords, all_named, first_named, one_named, program};
 
 use clap::error::ErrorKind;
 
@@ -28,4 +28,33 @@ pub fn words_are_taken()
     ensures witnessed_no_help { fault_of program (codes "witness" ∷ codes "a" ∷ codes "b" ∷ codes "c" ∷ []) ≡ [] }
     ensures help { fault_of program (codes "--help" ∷ []) ≡ ErrorKind.DisplayHelp ∷ [] }
     ensures version { fault_of program (codes "--version" ∷ []) ≡ ErrorKind.DisplayVersion ∷ [] }
+{}
+
+/// The words behind a subcommand are the signatures, the priorities and then what else it takes, and
+/// the word behind an option is its value. A flag is read as `true` where it is among the words.
+pub fn words_name_files()
+    ensures shown_table { AreTableWords (codes "a") (codes "b") (codes "show" ∷ codes "a" ∷ codes "b" ∷ []) }
+    ensures matched_table { AreTableWords (codes "a") (codes "b") (codes "match" ∷ codes "a" ∷ codes "b" ∷ codes "c" ∷ []) }
+    ensures matched_file { all_named (codes "FILE") (codes "match" ∷ codes "a" ∷ codes "b" ∷ codes "c" ∷ []) ≡ Some (codes "c" ∷ []) }
+    ensures matched_files { all_named (codes "FILE")
+        (codes "match" ∷ codes "--all" ∷ codes "a" ∷ codes "b" ∷ codes "c" ∷ codes "d" ∷ []) ≡ Some (codes "c" ∷ codes "d" ∷ []) }
+    ensures matched_all { one_named (codes "all")
+        (codes "match" ∷ codes "--all" ∷ codes "a" ∷ codes "b" ∷ codes "c" ∷ codes "d" ∷ []) ≡ Some (codes "true") }
+    ensures matched_not_all { one_named (codes "all") (codes "match" ∷ codes "a" ∷ codes "b" ∷ codes "c" ∷ []) ≡ Some (codes "false") }
+    ensures found_table { AreTableWords (codes "b") (codes "c") (codes "find" ∷ codes "--budget" ∷ codes "100000" ∷ codes "--out" ∷ codes "a" ∷ codes "b" ∷ codes "c" ∷ []) }
+    ensures found_out { first_named (codes "OUT")
+        (codes "find" ∷ codes "--budget" ∷ codes "100000" ∷ codes "--out" ∷ codes "a" ∷ codes "b" ∷ codes "c" ∷ []) ≡ Some (codes "a") }
+    ensures found_budget { one_named (codes "N")
+        (codes "find" ∷ codes "--budget" ∷ codes "100000" ∷ codes "--out" ∷ codes "a" ∷ codes "b" ∷ codes "c" ∷ []) ≡ Some (codes "100000") }
+    ensures found_progress { one_named (codes "progress")
+        (codes "find" ∷ codes "--progress" ∷ codes "--budget" ∷ codes "100000" ∷ codes "--out" ∷ codes "a" ∷ codes "b" ∷ codes "c" ∷ []) ≡ Some (codes "true") }
+    ensures settled_table { AreTableWords (codes "a") (codes "b") (codes "conflicts" ∷ codes "--budget" ∷ codes "100000" ∷ codes "--hex" ∷ codes "a" ∷ codes "b" ∷ []) }
+    ensures settled_budget { one_named (codes "N")
+        (codes "conflicts" ∷ codes "--budget" ∷ codes "100000" ∷ codes "--hex" ∷ codes "a" ∷ codes "b" ∷ []) ≡ Some (codes "100000") }
+    ensures settled_hex { one_named (codes "hex")
+        (codes "conflicts" ∷ codes "--budget" ∷ codes "100000" ∷ codes "--hex" ∷ codes "a" ∷ codes "b" ∷ []) ≡ Some (codes "true") }
+    ensures checked_table { AreTableWords (codes "a") (codes "b") (codes "check" ∷ codes "a" ∷ codes "b" ∷ codes "c" ∷ []) }
+    ensures checked_certificate { first_named (codes "CERT") (codes "check" ∷ codes "a" ∷ codes "b" ∷ codes "c" ∷ []) ≡ Some (codes "c") }
+    ensures judged_table { AreTableWords (codes "a") (codes "b") (codes "witness" ∷ codes "a" ∷ codes "b" ∷ codes "c" ∷ []) }
+    ensures judged_file { first_named (codes "FILE") (codes "witness" ∷ codes "a" ∷ codes "b" ∷ codes "c" ∷ []) ≡ Some (codes "c") }
 {}

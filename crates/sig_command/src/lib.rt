@@ -22,7 +22,7 @@
 //!   are of just that.
 //! - `command` is `command_over` over the files of the system, of which nothing is known.
 //! - What the words ask for is what the definition of `clap` finds in them by the command line
-//!   `program`; `words_are_taken` has it at words.
+//!   `program`; `words_are_taken` and `words_name_files` have it at words.
 #![tactic(auto)]
 
 mod args;
@@ -30,5 +30,5 @@ mod fault;
 mod laws;
 mod requests;
 
-pub use laws::words_are_taken;
+pub use laws::{words_are_taken, words_name_files};
 pub use requests::{command, command_over, run};

@@ -3,17 +3,18 @@
 ghost use Rattle.std.specs.Prelude.{None, Some, ◌≡◌, ◌≢◌, ◌<◌, ◌⊎◌, false, is_ok, length, List, true, IfErr, IfOk, OnOk};
 ghost use Rattle.clap.specs.Values.{kind_of};
 ghost use Rattle.clap.specs.Words.{Text};
-ghost use Rattle.sig_command.specs.Requests.{Answers, AnswersWords, CutsSomeWords, CutsWords, HasFiles, IsFaultOf, IsLoadFault, JoinsBoth, KeepsOrCuts, MakesOut, MakesWords, ShowsSomeWords, ShowsWords, TellsOf, file_fault};
-ghost use Rattle.sig_engines.specs.Stores.{IsTableOf, Opens};
+ghost use Rattle.sig_command.specs.Requests.{Answers, AnswersWords, CutsSomeWords, CutsWords, HasFiles, IsFaultOf, IsLoadFault, JoinsBoth, KeepsOrCuts, MakesOut, MakesWords, ShowsAsked, ShowsSomeWords, ShowsWords, TellsOf, file_fault};
+ghost use Rattle.sig_command.specs.Faults.{TellsWrite};
+ghost use Rattle.sig_engines.specs.Stores.{IsTableOf, Opens, SomeWriteFailed};
 ghost use Rattle.sig_command.specs.CommandLine.{AreTaken, texts_of};
-ghost use Rattle.sig_command.specs.Endings.{AnswersBy, AnswersSomeWords, KeepsErrors, KeepsOutput, ReportsBy, ReportsMemory};
+ghost use Rattle.sig_command.specs.Endings.{AnswersBy, EndsByFault, KeepsErrors, KeepsOutput, ReportsBy, ReportsMemory, TellsBy};
 ghost use Rattle.sig_table.specs.Tables.{IsTable};
 
 use crate::args::{Request, read_args, request_of};
 use crate::fault::Fault;
 use clap::Error;
 use clap::error::ErrorKind;
-use sig_bits::{FromRead, Input, Output};
+use sig_bits::{FromRead, FromWrite, Input, Output};
 use sig_engines::{
     CutShort, FileFault, RunError, Store, SystemFiles, TablePaths, run_check, run_find, run_match,
     run_match_many, run_show, run_witness, settle,
@@ -36,8 +37,7 @@ pub fn run<R: Env + Files + AllocGlobal, W: Output, E: Output>(
     ensures errors { KeepsErrors (ShowsSomeWords ⟦<FromRead<R::File> as Input>⟧.failed)
         result (E.failed err.new) err.old err.new (E.written err.old) (E.written err.new) }
 
-    // What is shown answers some words, or they ask for help.
-    ensures answered { result ≡ 0 → AnswersSomeWords (W.written out.old) (W.written out.new) }
+    // A no answers some words.
     ensures denied { result ≡ 1 → (words : List Text) × AnswersWords None words false (W.written out.old) (W.written out.new) }
 {
     match words_of(rt) {
@@ -80,7 +80,10 @@ pub fn command<R: Files + AllocGlobal, W: Output, E: Output>(
     ensures errors { KeepsErrors (ShowsWords ⟦<FromRead<R::File> as Input>⟧.failed None (texts_of words.now))
         result (E.failed err.new) err.old err.new (E.written err.old) (E.written err.new) }
     ensures answers { AnswersBy None (texts_of words.now) result (W.written out.old) (W.written out.new) }
-    ensures faults { ReportsBy ⟦<FromRead<R::File> as Input>⟧.failed None (texts_of words.now) result W.written out.old out.new E.failed E.written err.old err.new }
+    ensures told { TellsBy (texts_of words.now) result (E.failed err.new) err.old err.new (E.written err.old) (E.written err.new) }
+    ensures faults { ReportsBy ⟦<FromRead<R::File> as Input>⟧.failed (SomeWriteFailed ⟦<FromWrite<R::File> as Output>⟧.failed (W.failed out.new))
+        None (texts_of words.now) result W.written out.old out.new E.failed E.written err.old err.new }
+    ensures words { EndsByFault (texts_of words.now) result }
 {
     command_over(&SystemFiles::new(rt), rt.alloc(), words, out, err)
 }
@@ -106,7 +109,10 @@ pub fn command_over<S: Store, W: Output, E: Output>(
     ensures answers { AnswersBy (S.held store.now) (texts_of words.now) result (W.written out.old) (W.written out.new) }
     ensures made { AreTaken (texts_of words.now) → result ≡ 0 → MakesWords S.name_of S.Writer.written S.Writer.failed (S.held store.now) (texts_of words.now)
         true (W.written out.old) (W.written out.new) }
-    ensures faults { ReportsBy S.Reader.failed (S.held store.now) (texts_of words.now) result W.written out.old out.new E.failed E.written err.old err.new }
+    ensures told { TellsBy (texts_of words.now) result (E.failed err.new) err.old err.new (E.written err.old) (E.written err.new) }
+    ensures faults { ReportsBy S.Reader.failed (SomeWriteFailed S.Writer.failed (W.failed out.new)) (S.held store.now) (texts_of words.now)
+        result W.written out.old out.new E.failed E.written err.old err.new }
+    ensures words { EndsByFault (texts_of words.now) result }
 {
     let matches = match read_args(alloc, words) {
         Ok(matches) => matches,
@@ -136,7 +142,9 @@ fn answer<'m, 'a, S: Store, W: Output, E: Output>(
     ensures answers { IfOk result (λ is_yes. Answers (S.held store.now) request.entry is_yes (W.written out.old) (W.written out.new)) }
     ensures made { IfOk result (λ is_yes. MakesOut S.name_of S.Writer.written S.Writer.failed (S.held store.now)
         request.entry is_yes (W.written out.old) (W.written out.new)) }
+    ensures progress { OnOk result (ShowsAsked request.entry (E.failed err.new) err.old err.new (E.written err.old) (E.written err.new)) }
     ensures faults { IfErr result (λ fault. IsFaultOf S.Reader.failed (S.held store.now) request.entry fault) }
+    ensures write { IfErr result (λ fault. TellsWrite fault → SomeWriteFailed S.Writer.failed (W.failed out.new)) }
     ensures untouched { IfErr result (λ fault. fault ≢ Fault.Run RunError.Write → ((e : CutShort) → fault ≢ Fault.CutShort e)
         → fault ≢ Fault.SomeFiles → out.new ≡ out.old) }
     ensures whole { IfErr result (λ fault. KeepsOrCuts S.Reader.failed (S.held store.now) request.entry W.failed W.written out.old out.new) }
@@ -176,6 +184,7 @@ fn show_table<'a, S: Store, W: Output>(
     ensures answers { IfOk result (λ is_yes. Answers (S.held store.now) (Request.Show table.entry) is_yes (W.written out.old) (W.written out.new)) }
     ensures shown { OnOk result (W.failed out.new ≡ false) }
     ensures faults { IfErr result (IsFaultOf S.Reader.failed (S.held store.now) (Request.Show table.entry)) }
+    ensures write { IfErr result (λ fault. TellsWrite fault → W.failed out.new ≡ true) }
     ensures untouched { IfErr result (λ fault. fault ≢ Fault.Run RunError.Write → out.new ≡ out.old) }
     ensures whole { IfErr result (λ fault. W.failed out.new ≡ false → out.new ≡ out.old) }
 {
@@ -196,6 +205,7 @@ fn match_file<'a, S: Store, W: Output>(
     ensures answers { IfOk result (λ is_yes. Answers (S.held store.now) (Request.Match all table.entry name.entry) is_yes (W.written out.old) (W.written out.new)) }
     ensures shown { OnOk result (W.failed out.new ≡ false) }
     ensures faults { IfErr result (IsFaultOf S.Reader.failed (S.held store.now) (Request.Match all table.entry name.entry)) }
+    ensures write { IfErr result (λ fault. TellsWrite fault → W.failed out.new ≡ true) }
     ensures untouched { IfErr result (λ fault. fault ≢ Fault.Run RunError.Write → out.new ≡ out.old) }
     ensures whole { IfErr result (λ fault. W.failed out.new ≡ false → out.new ≡ out.old) }
 {
@@ -222,7 +232,9 @@ fn match_many<'m, 'a, S: Store, W: Output, E: Output>(
         (Request.MatchMany all table.entry files.entry) W.written out.old out.new E.failed E.written err.old err.new) }
     ensures shown { OnOk result (0 < length files.now → W.failed out.new ≡ false) }
     ensures answers { IfOk result (λ is_yes. Answers (S.held store.now) (Request.MatchMany all table.entry files.entry) is_yes (W.written out.old) (W.written out.new)) }
+    ensures quiet { OnOk result (err.new ≡ err.old) }
     ensures faults { IfErr result (λ fault. IsFaultOf S.Reader.failed (S.held store.now) (Request.MatchMany all table.entry files.entry) fault) }
+    ensures write { IfErr result (λ fault. TellsWrite fault → W.failed out.new ≡ true) }
     ensures untouched { IfErr result (λ fault. fault ≢ Fault.Run RunError.Write → fault ≢ Fault.SomeFiles → out.new ≡ out.old) }
     ensures whole { IfErr result (λ fault. KeepsOrCuts S.Reader.failed (S.held store.now)
         (Request.MatchMany all table.entry files.entry) W.failed W.written out.old out.new) }
@@ -254,7 +266,10 @@ fn find_in_table<'a, S: Store, W: Output, E: Output>(
     ensures made { IfOk result (λ is_yes. MakesOut S.name_of S.Writer.written S.Writer.failed (S.held store.now)
         (Request.Find table.entry budget name.entry hex progress) is_yes (W.written out.old) (W.written out.new)) }
     ensures shown { OnOk result (W.failed out.new ≡ false) }
+    ensures progress { OnOk result (ShowsAsked (Request.Find table.entry budget name.entry hex progress)
+        (E.failed err.new) err.old err.new (E.written err.old) (E.written err.new)) }
     ensures faults { IfErr result (IsFaultOf S.Reader.failed (S.held store.now) (Request.Find table.entry budget name.entry hex progress)) }
+    ensures write { IfErr result (λ fault. TellsWrite fault → SomeWriteFailed S.Writer.failed (W.failed out.new)) }
     ensures untouched { IfErr result (λ fault. fault ≢ Fault.Run RunError.Write → out.new ≡ out.old) }
     ensures whole { IfErr result (λ fault. W.failed out.new ≡ false → out.new ≡ out.old) }
 {
@@ -279,7 +294,10 @@ fn settle_pairs<'a, S: Store, W: Output, E: Output>(
     ensures answers { IfOk result (λ is_yes. Answers (S.held store.now) (Request.Conflicts table.entry budget hex progress)
         is_yes (W.written out.old) (W.written out.new)) }
     ensures shown { OnOk result (W.failed out.new ≡ false) }
+    ensures progress { OnOk result (ShowsAsked (Request.Conflicts table.entry budget hex progress)
+        (E.failed err.new) err.old err.new (E.written err.old) (E.written err.new)) }
     ensures faults { IfErr result (IsFaultOf S.Reader.failed (S.held store.now) (Request.Conflicts table.entry budget hex progress)) }
+    ensures write { IfErr result (λ fault. TellsWrite fault → W.failed out.new ≡ true) }
     ensures untouched { IfErr result (λ fault. ((e : CutShort) → fault ≢ Fault.CutShort e) → out.new ≡ out.old) }
     ensures whole { IfErr result (λ fault. KeepsOrCuts S.Reader.failed (S.held store.now)
         (Request.Conflicts table.entry budget hex progress) W.failed W.written out.old out.new) }
@@ -301,6 +319,7 @@ fn check_certificate<'a, S: Store, W: Output>(
     ensures answers { IfOk result (λ is_yes. Answers (S.held store.now) (Request.Check table.entry name.entry) is_yes (W.written out.old) (W.written out.new)) }
     ensures shown { OnOk result (W.failed out.new ≡ false) }
     ensures faults { IfErr result (IsFaultOf S.Reader.failed (S.held store.now) (Request.Check table.entry name.entry)) }
+    ensures write { IfErr result (λ fault. TellsWrite fault → W.failed out.new ≡ true) }
     ensures untouched { IfErr result (λ fault. fault ≢ Fault.Run RunError.Write → out.new ≡ out.old) }
     ensures whole { IfErr result (λ fault. W.failed out.new ≡ false → out.new ≡ out.old) }
 {
@@ -322,6 +341,7 @@ fn judge_file<'a, S: Store, W: Output>(
     ensures answers { IfOk result (λ is_yes. Answers (S.held store.now) (Request.Witness table.entry name.entry) is_yes (W.written out.old) (W.written out.new)) }
     ensures shown { OnOk result (W.failed out.new ≡ false) }
     ensures faults { IfErr result (IsFaultOf S.Reader.failed (S.held store.now) (Request.Witness table.entry name.entry)) }
+    ensures write { IfErr result (λ fault. TellsWrite fault → W.failed out.new ≡ true) }
     ensures untouched { IfErr result (λ fault. fault ≢ Fault.Run RunError.Write → out.new ≡ out.old) }
     ensures whole { IfErr result (λ fault. W.failed out.new ≡ false → out.new ≡ out.old) }
 {

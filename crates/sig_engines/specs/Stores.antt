@@ -1,5 +1,5 @@
 -- What a store holds, and what it gives.
-use Rattle.std.specs.Prelude.{◌≡◌, ℕ, ⊤, Bool, true, false, List, [], Option, None, Some, IsSome, option_map, Result, Ok, Err}
+use Rattle.std.specs.Prelude.{◌≡◌, ◌⊎◌, ℕ, ⊤, Bool, true, false, List, [], Option, None, Some, IsSome, option_map, Result, Ok, Err}
 use Rattle.sig_bits.specs.Device.{Adds}
 use Rattle.sig_table.specs.Judging.{is_judged, is_read}
 use Rattle.sig_table.specs.Loading.{records_of, table_of}
@@ -54,6 +54,15 @@ pub record IsMade {F : Type 0} (name_of written : F → Option (List ℕ)) (is_f
 pub record SomeFailed {R : Type 0} (failed : R → Bool) : Type 0 where
   pub reader : R
   pub has_failed : failed reader ≡ true
+
+-- a file that was made has failed
+pub record SomeMadeFailed {F : Type 0} (failed : F → Bool) : Type 0 where
+  pub file : F
+  pub has_failed : failed file ≡ true
+
+-- a write failed, to the output or to a file that was made; `is_failed` says whether the output has failed
+abbrev pub SomeWriteFailed : {F : Type 0} → (F → Bool) → Bool → Type 0
+SomeWriteFailed failed is_failed = (is_failed ≡ true) ⊎ SomeMadeFailed failed
 
 -- the two files of these names are read as this table, or as this fault of one, where it is known what they hold
 abbrev pub ReadsAs : Holding → TablePaths → Result TableView TableError → Type 0

@@ -5,7 +5,7 @@
 ghost use Rattle.std.specs.Prelude.{◌≡◌, ◌≢◌, ◌⊎◌, false, option_map, true, IfErr, IfOk, IfSome, OnOk};
 ghost use Rattle.sig_engines.specs.Finding.{AddsFound, IsFindFault, IsKnown, KeepsFound, found_bytes, found_text, is_answered};
 ghost use Rattle.sig_engines.specs.Progress.{AddsProgress, ShowsIf};
-ghost use Rattle.sig_engines.specs.Stores.{IsMade};
+ghost use Rattle.sig_engines.specs.Stores.{IsMade, SomeWriteFailed};
 ghost use Rattle.sig_bits.specs.Device.{Adds};
 ghost use Rattle.sig_find.specs.Answers.{IsFound};
 ghost use Rattle.sig_table.specs.Tables.{IsTable};
@@ -45,6 +45,7 @@ pub fn run_find<S: Store, W: Output, E: Output>(
 
     // Each refusal; a failed read is none.
     ensures faults { IfErr result IsFindFault }
+    ensures write { IfErr result (λ fault. fault ≡ FileFault.Run RunError.Write → SomeWriteFailed S.Writer.failed (W.failed out.new)) }
     ensures untouched { IfErr result (λ fault. fault ≢ FileFault.Run RunError.Write → out.new ≡ out.old) }
     ensures whole { IfErr result (λ fault. W.failed out.new ≡ false → out.new ≡ out.old) }
 {
@@ -71,6 +72,7 @@ fn write_answer<S: Store, W: Output>(
     ensures lines { OnOk result (Adds (W.written out.old) (found_text with_hex table.now found.now) (W.written out.new)) }
     ensures writes { OnOk result (W.failed out.new ≡ false) }
     ensures faults { IfErr result IsFindFault }
+    ensures write { IfErr result (λ fault. fault ≡ FileFault.Run RunError.Write → SomeWriteFailed S.Writer.failed (W.failed out.new)) }
     ensures untouched { IfErr result (λ fault. fault ≢ FileFault.Run RunError.Write → out.new ≡ out.old) }
     ensures whole { IfErr result (λ fault. W.failed out.new ≡ false → out.new ≡ out.old) }
 {

@@ -1,4 +1,4 @@
-use Rattle.std.proofs.Common.{◌≡◌, true, ap, refl, subst, sym, ◌∙◌}
+use Rattle.std.proofs.Common.{◌≡◌, true, ap, inl, refl, subst, sym, ◌∙◌}
 use Rattle.clap.specs.Words.{App, HasKind, Row, Text, fault_of, is_simple, is_simple_and_free, subcommand_of, takes}
 use Rattle.std.proofs.lemmas.Result.{err_from_is_err_and}
 use Rattle.clap.proofs.OnLiterals.{clap_on_literals}
@@ -28,6 +28,13 @@ returns-in_err-matches-clause-help c =
     let kinds = subst (λ (a : App). HasKind (fault_of a (map string_bytes c.args.words.now)) c.in_err-matches.field-0.0) app (c.in_err-matches.ensures.kinds (ap is_simple_and_free app ∙ is_program_free)) in
     rw (r.1, r.2) (help_among (fault_of program (map string_bytes c.args.words.now)) c.in_err-matches.field-0.0 kinds)
 
+pub returns-in_err-matches-clause-kinds : goal.returns-in_err-matches-clause-kinds
+returns-in_err-matches-clause-kinds c =
+    let r = err_from_is_err_and c.from_residual-in_err-matches.result c.from_residual-in_err-matches.ensures.1 in
+    let app = c.in_ok-command.ensures.app in
+    let kinds = subst (λ (a : App). HasKind (fault_of a (map string_bytes c.args.words.now)) c.in_err-matches.field-0.0) app (c.in_err-matches.ensures.kinds (ap is_simple_and_free app ∙ is_program_free)) in
+    rw (r.1, r.2) (λ some. kinds)
+
 pub returns-then-is_none-clause-taken : goal.returns-then-is_none-clause-taken
 returns-then-is_none-clause-taken c = λ taken.
     let found = (c.in_ok-matches.ensures.ok.2 (ap is_simple c.in_ok-command.ensures.app ∙ is_program_simple)).1 in
@@ -50,3 +57,19 @@ pub returns-in_err-error-clause-help : goal.returns-in_err-error-clause-help
 returns-in_err-error-clause-help c =
     let r = err_from_is_err_and c.from_residual-in_err-error.result c.from_residual-in_err-error.ensures.1 in
     rw r.1 (λ is. absurd (no_help r.0 r.2 is))
+
+pub returns-clause-sound : goal.returns-clause-sound
+returns-clause-sound c =
+    let app = c.in_ok-command.ensures.app in
+    sym (ap (λ (a : App). fault_of a (map string_bytes c.args.words.now)) app) ∙ c.in_ok-matches.ensures.kinds (ap is_simple_and_free app ∙ is_program_free)
+
+pub returns-then-is_none-clause-kinds : goal.returns-then-is_none-clause-kinds
+returns-then-is_none-clause-kinds c = λ some.
+    let app = c.in_ok-command.ensures.app in
+    let none = sym (ap (λ (a : App). fault_of a (map string_bytes c.args.words.now)) app) ∙ c.in_ok-matches.ensures.kinds (ap is_simple_and_free app ∙ is_program_free) in
+    absurd (some none)
+
+pub returns-in_err-error-clause-kinds : goal.returns-in_err-error-clause-kinds
+returns-in_err-error-clause-kinds c =
+    let r = err_from_is_err_and c.from_residual-in_err-error.result c.from_residual-in_err-error.ensures.1 in
+    rw r.1 (λ some. inl r.2)
