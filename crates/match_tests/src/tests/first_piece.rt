@@ -19,7 +19,7 @@ const SETTLED: &str = "fmt/1,1,BOF,0,,41\n\
     fmt/8,8,Variable,,,414241424142\n\
     fmt/8,8,BOF,0,30,0041\n\
     fmt/9,9,BOF,3,3,*4241424242\n\
-    fmt/10,10,BOF,65535,,*{65535}4142\n";
+    fmt/10,10,BOF,30000,,{30000}*4142\n";
 
 // Some letters, so many zeros, and as many other letters.
 fn long_file(alloc: Global, seed: u32, zeros: usize) -> Result<Vec<u8>, Fail> {
