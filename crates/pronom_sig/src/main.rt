@@ -1,5 +1,5 @@
 //! The program: matches files against a table of signatures, shows tables, finds and judges
-//! certificates, and tells which formats of a table one file can leave.
+//! certificates, and tells which pairs of formats of a table one file can leave.
 //!
 //! All that it does is `run` of `sig_command`, over the words that it was started with.
 #![tactic(auto)]

@@ -24,8 +24,8 @@ Statuses:
 
 const MATCH_HELP: &str = "\
 Each line is a PUID, a space, and the number of the signature that hits, the first of its format in
-the table. No line means that no format of the table is hit. Several lines mean that no priority
-decides between these formats: the file is ambiguous.
+the table. No line means that no format of the table is hit. Several lines, without --all, mean that
+no priority decides between these formats: the file is ambiguous.
 
 With more than one FILE each line begins with the file's name and a tab, and a file for which no
 format is left has one line, its name, a tab and a hyphen. A file with a fault has a line on standard

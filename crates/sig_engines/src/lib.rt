@@ -7,8 +7,8 @@
 //! - `run_match_many` does so for each of many files of a store, each line behind the file's name. The
 //!   fault of a file is a line of the error output.
 //! - `run_show` adds both canonical files with an empty line between them.
-//! - `run_find` adds the lines of what the finder finds of a table, once its bytes, and no others, are
-//!   written to a file of the store that was made by the name that is given.
+//! - `run_find` adds the lines of what the finder finds of a table, once just its bytes are written to a
+//!   file of the store that was made by the name that is given.
 //! - `run_check` adds the line of the verdict on a certificate, and answers a yes exactly for an
 //!   accepted one: then no file whatever leaves two formats of the table (`decided`).
 //! - `run_witness` adds the first two formats left for a file, or says that it is not ambiguous, and
@@ -16,10 +16,10 @@
 //! - `run_conflicts` adds a line for each pair of formats that is not known to be decided, and a last
 //!   line. Of a pair without a line no file leaves both formats, and the file of an `ambiguous` line
 //!   leaves both; it answers a yes only where the table is decided. Where it stops before the last
-//!   line, the lines of the first pairs stand. `settle` is the same with progress.
+//!   line, the lines of the first pairs stand. `settle` writes the same lines, and may show progress.
 //! - But for `run_conflicts` and `run_match_many`, none writes before its answer is known: after a failed
-//!   read, and where memory runs out, the output is as it was. A failed read, and a failed write of an
-//!   answer, is reported as one, and nothing else is.
+//!   read, and where memory runs out, the output is as it was. A fault says that a read or a write failed
+//!   only where one did.
 #![tactic(auto)]
 
 mod check_engine;

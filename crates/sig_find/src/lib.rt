@@ -1,7 +1,7 @@
 //! The finder: a certificate that a table never leaves two formats for one file, or a shortest file
 //! for which it does.
 //!
-//! What it answers is `specs/Finding.antt`; what it answers of two formats,
+//! What it answers is `specs/Answers.antt`; what it answers of two formats,
 //! `specs/FormatPairs.antt`; what a search over the rows of one product finds, `specs/Searches.antt`.
 #![tactic(auto)]
 
