@@ -1,5 +1,5 @@
 -- What a store that tells what it holds says of what is read from it.
-use Rattle.std.proofs.Common.{◌≡◌, ◌||◌, not, ℕ, Bool, true, false, List, None, Option, Some, Result, Ok, Err, IfSome, ◌⊎◌, ap, inl, inr, refl, subst, sym, ◌∙◌}
+use Rattle.std.proofs.Common.{◌≡◌, ◌||◌, not, ℕ, Bool, true, false, List, None, Option, Some, Result, Ok, Err, IfSome, ap, inl, inr, refl, subst, sym, ◌∙◌}
 use Rattle.std.specs.Bool.{OnFalse}
 use Rattle.std.specs.Prelude.{option_map}
 use Rattle.std.specs.Borrow.{Bor}
