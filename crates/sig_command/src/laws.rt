@@ -41,14 +41,17 @@ pub fn words_name_files()
     ensures matched_all { one_named (codes "all")
         (codes "match" ∷ codes "--all" ∷ codes "a" ∷ codes "b" ∷ codes "c" ∷ codes "d" ∷ []) ≡ Some (codes "true") }
     ensures matched_not_all { one_named (codes "all") (codes "match" ∷ codes "a" ∷ codes "b" ∷ codes "c" ∷ []) ≡ Some (codes "false") }
-    ensures found_table { AreTableWords (codes "b") (codes "c") (codes "find" ∷ codes "--budget" ∷ codes "100000" ∷ codes "--out" ∷ codes "a" ∷ codes "b" ∷ codes "c" ∷ []) }
+    ensures found_table { AreTableWords (codes "b") (codes "c")
+        (codes "find" ∷ codes "--budget" ∷ codes "100000" ∷ codes "--out" ∷ codes "a" ∷ codes "b" ∷ codes "c" ∷ []) }
     ensures found_out { first_named (codes "OUT")
         (codes "find" ∷ codes "--budget" ∷ codes "100000" ∷ codes "--out" ∷ codes "a" ∷ codes "b" ∷ codes "c" ∷ []) ≡ Some (codes "a") }
     ensures found_budget { one_named (codes "N")
         (codes "find" ∷ codes "--budget" ∷ codes "100000" ∷ codes "--out" ∷ codes "a" ∷ codes "b" ∷ codes "c" ∷ []) ≡ Some (codes "100000") }
     ensures found_progress { one_named (codes "progress")
-        (codes "find" ∷ codes "--progress" ∷ codes "--budget" ∷ codes "100000" ∷ codes "--out" ∷ codes "a" ∷ codes "b" ∷ codes "c" ∷ []) ≡ Some (codes "true") }
-    ensures settled_table { AreTableWords (codes "a") (codes "b") (codes "conflicts" ∷ codes "--budget" ∷ codes "100000" ∷ codes "--hex" ∷ codes "a" ∷ codes "b" ∷ []) }
+        (codes "find" ∷ codes "--progress" ∷ codes "--budget" ∷ codes "100000" ∷ codes "--out" ∷ codes "a" ∷ codes "b" ∷ codes "c" ∷ [])
+        ≡ Some (codes "true") }
+    ensures settled_table { AreTableWords (codes "a") (codes "b")
+        (codes "conflicts" ∷ codes "--budget" ∷ codes "100000" ∷ codes "--hex" ∷ codes "a" ∷ codes "b" ∷ []) }
     ensures settled_budget { one_named (codes "N")
         (codes "conflicts" ∷ codes "--budget" ∷ codes "100000" ∷ codes "--hex" ∷ codes "a" ∷ codes "b" ∷ []) ≡ Some (codes "100000") }
     ensures settled_hex { one_named (codes "hex")
