@@ -98,7 +98,9 @@ fn is_written(alloc: Global, text: &[u8], canonical: &[u8]) -> bool {
         return false;
     };
     let mut out = FromWrite::new(Vec::new(alloc));
-    print(&expr, &mut out).is_ok() && out.into_inner().as_slice() == canonical
+    let answer = print(&expr, &mut out);
+    let written = out.into_inner();
+    answer.is_ok() && written.as_slice() == canonical
 }
 
 #[test]

@@ -34,14 +34,18 @@ const COMPARED: &[([u8; 2], [u8; 2], bool, bool)] = &[
     ([0x01, 0x80], [0x00, 0x80], true, false),
 ];
 
+// Whether the two are compared so.
+fn are_compared_so(a: &[u8; 2], b: &[u8; 2], meet: bool, within: bool) -> bool {
+    and_any(a, b) == meet && subset(a, b) == within
+}
+
 #[test]
 fn sets_are_joined_and_compared(rt: HostRuntime) {
     let mut joined = [0x01, 0x80];
     or_into(&mut joined, &[0x03, 0x00]);
     assert!(rt; joined == [0x03, 0x80]);
     for (a, b, meet, within) in COMPARED {
-        assert!(rt; and_any(a, b) == *meet, "{a:?} and {b:?}");
-        assert!(rt; subset(a, b) == *within, "{a:?} in {b:?}");
+        assert!(rt; are_compared_so(a, b, *meet, *within), "{a:?} and {b:?}");
     }
 }
 
@@ -111,18 +115,22 @@ fn a_range_has_a_bit_where_one_of_its_bits_is_set(rt: HostRuntime) {
 }
 
 // What the kernels answer, byte by byte.
-fn have_common(a: &[u8], b: &[u8]) -> bool {
-    for (x, y) in a.iter().zip(b) {
-        if *x & *y != 0 {
+fn have_common(a: &[u8], b: &[u8]) -> bool
+    requires { length a.now ≡ length b.now }
+{
+    for i in 0..a.len() {
+        if a[i] & b[i] != 0 {
             return true;
         }
     }
     false
 }
 
-fn is_within(a: &[u8], b: &[u8]) -> bool {
-    for (x, y) in a.iter().zip(b) {
-        if *x & !*y != 0 {
+fn is_within(a: &[u8], b: &[u8]) -> bool
+    requires { length a.now ≡ length b.now }
+{
+    for i in 0..a.len() {
+        if a[i] & !b[i] != 0 {
             return false;
         }
     }
@@ -156,9 +164,11 @@ fn kernels_agree(alloc: Global, a: &[u8], b: &[u8]) -> Option<bool> {
 }
 
 // A set of so many equal bytes, but for the one in this place.
-fn set_with(alloc: Global, len: usize, bytes: u8, place: usize, byte: u8) -> Option<Vec<u8>> {
+fn set_with(alloc: Global, len: usize, bytes: u8, place: usize, byte: u8) -> Option<Vec<u8>>
+    requires { place < len }
+{
     let mut set = vec![in alloc; bytes; len].ok()?;
-    *set.as_mut_slice().get_mut(place)? = byte;
+    set[place] = byte;
     Some(set)
 }
 
@@ -168,6 +178,9 @@ const OTHERS: &[(u8, u8)] = &[(0x00, 0x00), (0x00, 0x10), (0x00, 0x80), (0xff, 0
 
 // Whether they do where one set has one bit, in this byte, and the other is any of those.
 fn one_bit_agrees(alloc: Global, len: usize, place: usize) -> Option<bool> {
+    if len <= place {
+        return None;
+    }
     let one = set_with(alloc, len, 0x00, place, 0x10)?;
     for (bytes, byte) in OTHERS {
         let set = set_with(alloc, len, *bytes, place, *byte)?;
@@ -188,23 +201,40 @@ fn each_bit_agrees(alloc: Global, len: usize) -> Option<bool> {
     Some(true)
 }
 
+// The lengths of short sets.
+const SHORT: &[usize] = &[1, 15, 16, 17, 31, 32, 33];
+
 #[test]
 fn one_bit_is_found_in_each_byte_of_short_sets(rt: HostRuntime) {
-    for len in [1, 15, 16, 17, 31, 32, 33] {
-        assert!(rt; each_bit_agrees(rt.alloc(), len) == Some(true), "{len}");
+    for len in SHORT {
+        assert!(rt; each_bit_agrees(rt.alloc(), *len) == Some(true), "{len}");
     }
     assert!(rt; kernels_agree(rt.alloc(), &[], &[]) == Some(true));
     assert!(rt; !and_any(&[], &[]));
     assert!(rt; subset(&[], &[]));
 }
 
+// The lengths of long sets, and places at both ends, in the middle, and where whole lanes end.
+const LONG: &[(usize, usize)] = &[
+    (8_191, 0),
+    (8_191, 4_094),
+    (8_191, 4_095),
+    (8_191, 8_158),
+    (8_191, 8_159),
+    (8_191, 8_190),
+    (8_192, 0),
+    (8_192, 4_095),
+    (8_192, 4_096),
+    (8_192, 8_159),
+    (8_192, 8_160),
+    (8_192, 8_191),
+];
+
 #[test]
 fn one_bit_is_found_in_long_sets(rt: HostRuntime) {
-    for len in [8_191, 8_192] {
-        for place in [0, len / 2 - 1, len / 2, len - 33, len - 32, len - 1] {
-            let agrees = one_bit_agrees(rt.alloc(), len, place);
-            assert!(rt; agrees == Some(true), "{len} at {place}");
-        }
+    for (len, place) in LONG {
+        let agrees = one_bit_agrees(rt.alloc(), *len, *place);
+        assert!(rt; agrees == Some(true), "{len} at {place}");
     }
 }
 
@@ -218,20 +248,25 @@ fn bit_is_seen(one: &[u8], rest: &mut [u8], all: &[u8]) -> Option<bool> {
     Some(is_seen && subset(all, rest))
 }
 
-// Whether they do where that bit is in each byte in turn.
+// Whether they do where that bit is in each byte of them in turn.
+fn each_is_seen(one: &mut [u8], rest: &mut [u8], all: &[u8]) -> Option<bool> {
+    for place in 0..one.len() {
+        one[place] = 0x10;
+        *rest.get_mut(place)? = 0xef;
+        if !bit_is_seen(one, rest, all)? {
+            return Some(false);
+        }
+        *one.get_mut(place)? = 0x00;
+    }
+    Some(true)
+}
+
+// Whether they do in sets of so many bytes.
 fn each_bit_is_seen(alloc: Global, len: usize) -> Option<bool> {
     let all = vec![in alloc; 0xff; len].ok()?;
     let mut one = vec![in alloc; 0x00; len].ok()?;
     let mut rest = vec![in alloc; 0xff; len].ok()?;
-    for place in 0..len {
-        *one.as_mut_slice().get_mut(place)? = 0x10;
-        *rest.as_mut_slice().get_mut(place)? = 0xef;
-        if !bit_is_seen(&one, &mut rest, &all)? {
-            return Some(false);
-        }
-        *one.as_mut_slice().get_mut(place)? = 0x00;
-    }
-    Some(true)
+    each_is_seen(&mut one, &mut rest, &all)
 }
 
 #[test]

@@ -306,7 +306,9 @@ const THREE_FORMATS: &[u8] = b"puid,signature,position,offset,max_offset,express
 // Whether these are the priorities that are written of the table.
 fn has_priorities(alloc: Global, table: &Table, lines: &[u8]) -> bool {
     let mut out = FromWrite::new(Vec::new(alloc));
-    table.write_priorities(alloc, &mut out).is_ok() && out.into_inner().as_slice() == lines
+    let answer = table.write_priorities(alloc, &mut out);
+    let written = out.into_inner();
+    answer.is_ok() && written.as_slice() == lines
 }
 
 #[test]
@@ -416,15 +418,20 @@ fn as_many_slots_as_the_limit_are_taken(rt: HostRuntime) {
     }
 }
 
+// Puts the row of this signature behind the others.
+fn push_row(alloc: Global, rows: &mut Vec<u8>, format: u32, number: u32) -> Result<(), Fail> {
+    let row = format!(in alloc; "fmt/{format},{number},BOF,0,,41\n")?;
+    rows.extend_from_slice(row.as_bytes())?;
+    Ok(())
+}
+
 // So many rows, each of a signature of its own. The first ones are each of a format of its own, and where
 // there are as many formats as asked for, the others are of the last one.
 fn many_rows(alloc: Global, count: u32, formats: u32) -> Result<Vec<u8>, Fail> {
     let mut rows = Vec::new(alloc);
     for i in 0..count {
         let number = i + 1;
-        let format = number.min(formats);
-        let row = format!(in alloc; "fmt/{format},{number},BOF,0,,41\n")?;
-        rows.extend_from_slice(row.as_bytes())?;
+        push_row(alloc, &mut rows, number.min(formats), number)?;
     }
     Ok(rows)
 }
@@ -452,13 +459,19 @@ fn formats_and_signatures_are_taken_to_their_limits(rt: HostRuntime) -> Result<(
     Ok(())
 }
 
+// Puts the pair of these formats behind the others.
+fn push_pair(alloc: Global, pairs: &mut Vec<u8>, higher: u32, lower: u32) -> Result<(), Fail> {
+    let pair = format!(in alloc; "fmt/{higher},fmt/{lower}\n")?;
+    pairs.extend_from_slice(pair.as_bytes())?;
+    Ok(())
+}
+
 // All pairs of a thousand formats, each over all later ones.
 fn all_pairs(alloc: Global) -> Result<Vec<u8>, Fail> {
     let mut pairs = b"higher,lower\n".to_vec(alloc)?;
     for higher in 1..1001u32 {
         for lower in higher + 1..1001u32 {
-            let pair = format!(in alloc; "fmt/{higher},fmt/{lower}\n")?;
-            pairs.extend_from_slice(pair.as_bytes())?;
+            push_pair(alloc, &mut pairs, higher, lower)?;
         }
     }
     Ok(pairs)
@@ -631,7 +644,9 @@ fn a_fault_of_the_signature_file_is_named_before_a_read_of_the_other(rt: HostRun
 // Whether this is the signature file that is written of the table.
 fn has_signature_file(alloc: Global, table: &Table, lines: &[u8]) -> bool {
     let mut out = FromWrite::new(Vec::new(alloc));
-    table.write_signatures(alloc, &mut out).is_ok() && out.into_inner().as_slice() == lines
+    let answer = table.write_signatures(alloc, &mut out);
+    let written = out.into_inner();
+    answer.is_ok() && written.as_slice() == lines
 }
 
 // Whether it is that of the table of these rows.
