@@ -21,16 +21,23 @@ use std::test::Fail;
 
 const HEADER: &str = "puid,signature,position,offset,max_offset,expression\n";
 
+// The rows below their header.
+fn text_of(alloc: Global, header: &str, rows: &str) -> Result<String, Fail> {
+    Ok(format!(in alloc; "{header}{rows}")?)
+}
+
+// The table of these two texts.
+fn loaded_texts(alloc: Global, signatures: &[u8], priorities: &[u8]) -> Result<Table, Fail> {
+    let mut signatures = FromRead::new(signatures);
+    let mut priorities = FromRead::new(priorities);
+    Ok(Table::load(alloc, &mut signatures, &mut priorities)?)
+}
+
 // The table of these signature rows and priority rows.
 fn loaded_with(alloc: Global, rows: &str, pairs: &str) -> Result<Table, Fail> {
-    let rows = format!(in alloc; "{HEADER}{rows}")?;
-    let pairs = format!(in alloc; "higher,lower\n{pairs}")?;
-    let table = Table::load(
-        alloc,
-        &mut FromRead::new(rows.as_bytes()),
-        &mut FromRead::new(pairs.as_bytes()),
-    )?;
-    Ok(table)
+    let signatures = text_of(alloc, HEADER, rows)?;
+    let priorities = text_of(alloc, "higher,lower\n", pairs)?;
+    loaded_texts(alloc, signatures.as_bytes(), priorities.as_bytes())
 }
 
 // The table of these signature rows, with no priority.

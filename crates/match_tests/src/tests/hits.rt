@@ -109,22 +109,31 @@ fn are_hits_of(hits: &[Hit], indexes: &[u16]) -> bool {
     hits.len() == indexes.len()
 }
 
+// Whether just those are left of the file.
+fn are_left_of(alloc: Global, table: &Table, file: &[u8], indexes: &[u16]) -> Result<bool, Fail> {
+    Ok(are_hits_of(left_in(alloc, table, file)?.hits(), indexes))
+}
+
 #[test]
 fn a_front_that_is_there_is_asked_for_its_offset(rt: HostRuntime) -> Result<(), Fail> {
     let table = loaded(rt.alloc(), RANGES)?;
     for (file, indexes) in RANGED {
-        let left = left_in(rt.alloc(), &table, file)?;
-        assert!(rt; are_hits_of(left.hits(), indexes), "{file:?}");
+        assert!(rt; are_left_of(rt.alloc(), &table, file, indexes)?, "{file:?}");
     }
     Ok(())
+}
+
+// Whether the core finds just those in the file.
+fn core_finds(core: &StreamCore, file: &[u8], indexes: &[u16]) -> Result<bool, Fail> {
+    let results = core.match_binary_signatures(&mut FromRead::new(file))?;
+    Ok(are_hits_of(results.hits(), indexes))
 }
 
 #[test]
 fn a_core_for_many_files_asks_for_it_too(rt: HostRuntime) -> Result<(), Fail> {
     let core = StreamCore::prepared(rt.alloc(), loaded(rt.alloc(), RANGES)?);
     for (file, indexes) in RANGED {
-        let results = core.match_binary_signatures(&mut FromRead::new(*file))?;
-        assert!(rt; are_hits_of(results.hits(), indexes), "{file:?}");
+        assert!(rt; core_finds(&core, file, indexes)?, "{file:?}");
     }
     Ok(())
 }

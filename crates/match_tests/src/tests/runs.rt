@@ -1,5 +1,7 @@
 //! Long sequences of fixed bytes that may begin anywhere, held against the plain scan.
 
+ghost use Rattle.std.specs.Prelude.{◌<◌, length};
+
 use crate::tests::{fronts_agree_by, pieces_agree, repeated, table_of};
 use sig_table::Table;
 use std::alloc::{AllocError, Global};
@@ -132,26 +134,38 @@ fn agree_around(alloc: Global, word: &[u8], around: &[u8]) -> Result<bool, Fail>
     agree_on_word(alloc, &table, word, around)
 }
 
+// Whether they do with so many bytes around it, the pattern over and over.
+fn agree_in_pattern(alloc: Global, word: &[u8], pattern: &[u8], len: usize) -> Result<bool, Fail>
+    requires { 0 < length pattern.now }
+{
+    let around = repeated(alloc, pattern, len)?;
+    agree_around(alloc, word, &around)
+}
+
 #[test]
 fn the_plain_scan_agrees_on_a_run_of_one_letter(rt: HostRuntime) -> Result<(), Fail> {
     let word = repeated(rt.alloc(), b"A", 65)?;
-    let zeros = repeated(rt.alloc(), b"\x00", 150)?;
-    assert!(rt; agree_around(rt.alloc(), &word, &zeros)?);
+    assert!(rt; agree_in_pattern(rt.alloc(), &word, b"\x00", 150)?);
     Ok(())
 }
 
 #[test]
 fn the_plain_scan_agrees_on_a_run_that_overlaps_itself(rt: HostRuntime) -> Result<(), Fail> {
     let word = repeated(rt.alloc(), b"ABAAB", 64)?;
-    let around = repeated(rt.alloc(), b"ABAAB", 142)?;
-    assert!(rt; agree_around(rt.alloc(), &word, &around)?);
+    assert!(rt; agree_in_pattern(rt.alloc(), &word, b"ABAAB", 142)?);
     Ok(())
+}
+
+// Bytes 41, and a 42 behind them.
+fn nearly_met(alloc: Global) -> Result<Vec<u8>, AllocError> {
+    let mut word = repeated(alloc, b"A", 63)?;
+    word.push(b'B')?;
+    Ok(word)
 }
 
 #[test]
 fn the_plain_scan_agrees_on_a_run_that_is_nearly_met(rt: HostRuntime) -> Result<(), Fail> {
-    let around = repeated(rt.alloc(), b"A", 150)?;
-    let word = joined(rt.alloc(), &[&around[..around.len().min(63)], b"B"])?;
-    assert!(rt; agree_around(rt.alloc(), &word, &around)?);
+    let word = nearly_met(rt.alloc())?;
+    assert!(rt; agree_in_pattern(rt.alloc(), &word, b"A", 150)?);
     Ok(())
 }
