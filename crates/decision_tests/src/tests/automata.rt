@@ -110,7 +110,7 @@ fn is_made_so(alloc: Global, made: &Made) -> Option<bool> {
     )
 }
 
-const LIST: Made = Made {
+const LIST: &Made = &Made {
     placed: "BOF,0,,(41|4142)43",
     slots: 5,
     classes: &[
@@ -133,10 +133,10 @@ const LIST: Made = Made {
 
 #[test]
 fn the_slots_of_a_list(rt: HostRuntime) {
-    assert!(rt; is_made_so(rt.alloc(), &LIST) == Some(true));
+    assert!(rt; is_made_so(rt.alloc(), LIST) == Some(true));
 }
 
-const GAP: Made = Made {
+const GAP: &Made = &Made {
     placed: "BOF,0,,41{1-2}42",
     slots: 5,
     classes: &[
@@ -159,10 +159,10 @@ const GAP: Made = Made {
 
 #[test]
 fn the_slots_of_a_gap_with_a_greatest_length(rt: HostRuntime) {
-    assert!(rt; is_made_so(rt.alloc(), &GAP) == Some(true));
+    assert!(rt; is_made_so(rt.alloc(), GAP) == Some(true));
 }
 
-const FROM_END: Made = Made {
+const FROM_END: &Made = &Made {
     placed: "EOF,0,2,4142",
     slots: 5,
     classes: &[
@@ -185,11 +185,11 @@ const FROM_END: Made = Made {
 
 #[test]
 fn the_slots_of_an_offset_from_the_end(rt: HostRuntime) {
-    assert!(rt; is_made_so(rt.alloc(), &FROM_END) == Some(true));
+    assert!(rt; is_made_so(rt.alloc(), FROM_END) == Some(true));
 }
 
 // Its rows are `41 42`, `41 43-FF`, `42 00-40`, `42 41`.
-const ONE_RANGE: Made = Made {
+const ONE_RANGE: &Made = &Made {
     placed: "BOF,0,,[4142:4241]",
     slots: 9,
     classes: &[
@@ -217,7 +217,7 @@ const ONE_RANGE: Made = Made {
 };
 
 // Its rows are `00-40 all`, `41 00-41`, `41 43-FF`, `42-FF all`.
-const ALL_BUT_ONE: Made = Made {
+const ALL_BUT_ONE: &Made = &Made {
     placed: "BOF,0,,[!4142]",
     slots: 9,
     classes: &[
@@ -235,7 +235,7 @@ const ALL_BUT_ONE: Made = Made {
 };
 
 // Its row is `FF FF`.
-const LAST_ALONE: Made = Made {
+const LAST_ALONE: &Made = &Made {
     placed: "BOF,0,,[!0000:FFFE]",
     slots: 3,
     classes: &[(1, 0xFF, 0xFF), (2, 0xFF, 0xFF)],
@@ -245,9 +245,9 @@ const LAST_ALONE: Made = Made {
 
 #[test]
 fn the_rows_of_brackets_of_two_bytes(rt: HostRuntime) {
-    assert!(rt; is_made_so(rt.alloc(), &ONE_RANGE) == Some(true));
-    assert!(rt; is_made_so(rt.alloc(), &ALL_BUT_ONE) == Some(true));
-    assert!(rt; is_made_so(rt.alloc(), &LAST_ALONE) == Some(true));
+    assert!(rt; is_made_so(rt.alloc(), ONE_RANGE) == Some(true));
+    assert!(rt; is_made_so(rt.alloc(), ALL_BUT_ONE) == Some(true));
+    assert!(rt; is_made_so(rt.alloc(), LAST_ALONE) == Some(true));
 }
 
 // The set that one byte makes of a set of the states of `(41|4142)43`.
