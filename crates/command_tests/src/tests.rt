@@ -79,16 +79,28 @@ impl Shown {
     }
 }
 
-// The words, with the folder in the place of each `@`.
+// Puts the words behind the others, with this path in the place of each `@`.
+fn push_words(
+    rt: &HostRuntime,
+    owned: &mut Vec<String>,
+    path: &str,
+    words: &[&str],
+) -> Result<(), Fail> {
+    for word in words {
+        owned.push(word.replace(rt.alloc(), "@", path)?)?;
+    }
+    Ok(())
+}
+
+// The words for the folder of this name.
 pub(crate) fn words_in(
     rt: &HostRuntime,
     folder: &str,
     words: &[&str],
 ) -> Result<Vec<String>, Fail> {
+    let path = path_of(rt, folder)?;
     let mut owned = Vec::new(rt.alloc());
-    for word in words {
-        owned.push(word.replace(rt.alloc(), "@", folder)?)?;
-    }
+    push_words(rt, &mut owned, path.as_str(), words)?;
     Ok(owned)
 }
 
@@ -99,7 +111,7 @@ fn run_words(rt: &HostRuntime, words: &[String]) -> Result<Shown, Fail> {
     Shown::of(status, out.into_inner(), err.into_inner())
 }
 
-// Runs the program on words for this folder.
+// Runs the program on words for the folder of this name.
 pub(crate) fn run_in(rt: &HostRuntime, folder: &str, words: &[&str]) -> Result<Shown, Fail> {
     let words = words_in(rt, folder, words)?;
     run_words(rt, &words)
@@ -147,28 +159,42 @@ pub(crate) fn first_untold(
     Ok(None)
 }
 
-// A new folder of this test's own.
-pub(crate) fn folder(rt: &HostRuntime, name: &str) -> Result<String, Fail> {
-    let path = path_of(rt, name)?;
-    fs::create_dir_all(rt, path.as_str())?;
-    Ok(path)
-}
-
-fn path_of(rt: &HostRuntime, name: &str) -> Result<String, Fail> {
+// Where the folder of this name is, one for each run of the tests.
+pub(crate) fn path_of(rt: &HostRuntime, folder: &str) -> Result<String, Fail> {
     let temp = env::temp_dir(rt)?;
     let temp = temp.as_path();
     let process = process::id(rt.process());
-    Ok(format!(in rt.alloc(); "{}/pronom_sig_{name}_{process}", temp.display())?)
+    Ok(format!(in rt.alloc(); "{}/pronom_sig_{folder}_{process}", temp.display())?)
 }
 
-// Puts a file into the folder.
+// Makes that folder.
+pub(crate) fn make(rt: &HostRuntime, folder: &str) -> Result<(), Fail> {
+    let path = path_of(rt, folder)?;
+    fs::create_dir_all(rt, path.as_str())?;
+    Ok(())
+}
+
+// Removes it with what is in it.
+pub(crate) fn remove(rt: &HostRuntime, folder: &str) -> Result<(), Fail> {
+    let path = path_of(rt, folder)?;
+    fs::remove_dir_all(rt, path.as_str())?;
+    Ok(())
+}
+
+// Where a file of this name is in it.
+pub(crate) fn path_in(rt: &HostRuntime, folder: &str, name: &str) -> Result<String, Fail> {
+    let path = path_of(rt, folder)?;
+    Ok(format!(in rt.alloc(); "{path}/{name}")?)
+}
+
+// Puts a file into it.
 pub(crate) fn put(rt: &HostRuntime, folder: &str, name: &str, bytes: &[u8]) -> Result<(), Fail> {
-    let path = format!(in rt.alloc(); "{folder}/{name}")?;
+    let path = path_in(rt, folder, name)?;
     fs::write(rt, path.as_str(), bytes)?;
     Ok(())
 }
 
-// Puts a file of these rows into the folder, below its header.
+// Puts a file of these rows into it, below its header.
 fn put_rows(
     rt: &HostRuntime,
     folder: &str,
@@ -180,7 +206,7 @@ fn put_rows(
     put(rt, folder, name, text.as_bytes())
 }
 
-// Puts the two files of a table into the folder.
+// Puts the two files of a table into it.
 pub(crate) fn put_table(
     rt: &HostRuntime,
     folder: &str,
@@ -191,14 +217,8 @@ pub(crate) fn put_table(
     put_rows(rt, folder, "priorities.csv", PRIORITIES, pairs)
 }
 
-// A new folder with the two files of a table.
-pub(crate) fn folder_of(rt: &HostRuntime, name: &str, table: Rows) -> Result<String, Fail> {
-    let folder = folder(rt, name)?;
-    put_table(rt, folder.as_str(), table.0, table.1)?;
-    Ok(folder)
-}
-
-pub(crate) fn remove(rt: &HostRuntime, folder: &str) -> Result<(), Fail> {
-    fs::remove_dir_all(rt, folder)?;
-    Ok(())
+// Makes the folder of this name with the two files of a table.
+pub(crate) fn make_with(rt: &HostRuntime, folder: &str, table: Rows) -> Result<(), Fail> {
+    make(rt, folder)?;
+    put_table(rt, folder, table.0, table.1)
 }

@@ -1,9 +1,7 @@
 //! `check` through the program: certificates of tables worked out by hand, and the words and files
 //! that it takes.
 
-use crate::tests::{
-    F, Fault, P, S, first_untold, folder, folder_of, put, put_table, remove, run_in,
-};
+use crate::tests::{F, Fault, P, S, first_untold, make, make_with, put, put_table, remove, run_in};
 use fixtures::{
     ALL_BUT_ONE, COVERED, EVERY_FILE, NONE, ONE, OVER_BOTH, Rows, TWICE_HIT, TWO, TWO_SEQUENCES,
 };
@@ -256,11 +254,12 @@ fn is_judged_of(rt: &HostRuntime, folder: &str, row: &Judged) -> Result<bool, Fa
 
 #[test]
 fn judges_the_worked_certificates(rt: HostRuntime) -> Result<(), Fail> {
-    let folder = folder(&rt, "judged")?;
+    let folder = "judged";
+    make(&rt, folder)?;
     for row in JUDGED {
-        assert!(rt; is_judged_of(&rt, &folder, row)?, "{:?}", row.1);
+        assert!(rt; is_judged_of(&rt, folder, row)?, "{:?}", row.1);
     }
-    remove(&rt, &folder)
+    remove(&rt, folder)
 }
 
 // Both are in the same state after each byte, up to the last one of the gaps.
@@ -292,11 +291,12 @@ fn are_judged(rt: &HostRuntime, folder: &str, count: u16, line: &str) -> Result<
 
 #[test]
 fn judges_so_many_rows_that_states_are_noted(rt: HostRuntime) -> Result<(), Fail> {
-    let folder = folder_of(&rt, "noted", LONG_GAPS)?;
-    assert!(rt; are_judged(&rt, &folder, 302, "accepted\n")?);
+    let folder = "noted";
+    make_with(&rt, folder, LONG_GAPS)?;
+    assert!(rt; are_judged(&rt, folder, 302, "accepted\n")?);
     let missing = "refused C10 not closed pair 0 table 0 row 300 byte 00\n";
-    assert!(rt; are_judged(&rt, &folder, 301, missing)?);
-    remove(&rt, &folder)
+    assert!(rt; are_judged(&rt, folder, 301, missing)?);
+    remove(&rt, folder)
 }
 
 // A certificate that is not there, a text that is no table, and a folder.
@@ -308,8 +308,9 @@ const OPENED: &[Fault] = &[
 
 #[test]
 fn opens_the_certificate_after_the_load(rt: HostRuntime) -> Result<(), Fail> {
-    let folder = folder_of(&rt, "certificate", TWO)?;
-    let untold = first_untold(&rt, &folder, OPENED)?;
+    let folder = "certificate";
+    make_with(&rt, folder, TWO)?;
+    let untold = first_untold(&rt, folder, OPENED)?;
     assert!(rt; untold.is_none(), "{untold:?}");
-    remove(&rt, &folder)
+    remove(&rt, folder)
 }

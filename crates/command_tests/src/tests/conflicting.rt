@@ -1,7 +1,7 @@
 //! `conflicts` through the program: tables worked out by hand, and what stands where it stops.
 
 use crate::tests::finding::put_outranked;
-use crate::tests::{P, S, folder, folder_of, is_fault, put_table, remove, run_in, words_in};
+use crate::tests::{P, S, is_fault, make, make_with, put_table, remove, run_in, words_in};
 use fixtures::{
     BOTH_ENDS, COVERED, EVERY_FILE, NONE, ONE, OVER_BOTH, OVER_FIRST, Room, Rows, THREE_RELATED,
     TWO,
@@ -132,21 +132,23 @@ fn is_settled_of(rt: &HostRuntime, folder: &str, row: &Settled) -> Result<bool, 
 
 #[test]
 fn settles_what_the_rows_say(rt: HostRuntime) -> Result<(), Fail> {
-    let folder = folder(&rt, "settled")?;
+    let folder = "settled";
+    make(&rt, folder)?;
     for row in SETTLED {
-        assert!(rt; is_settled_of(&rt, &folder, row)?, "{:?} {}", row.0, row.1);
+        assert!(rt; is_settled_of(&rt, folder, row)?, "{:?} {}", row.0, row.1);
     }
-    remove(&rt, &folder)
+    remove(&rt, folder)
 }
 
 #[test]
 fn prints_no_bytes_unless_asked(rt: HostRuntime) -> Result<(), Fail> {
-    let folder = folder_of(&rt, "bare", THREE_RELATED)?;
-    let shown = run_in(&rt, &folder, &["conflicts", "--budget", "100", S, P])?;
+    let folder = "bare";
+    make_with(&rt, folder, THREE_RELATED)?;
+    let shown = run_in(&rt, folder, &["conflicts", "--budget", "100", S, P])?;
     let lines = "ambiguous fmt/1 fmt/3 10 30 1\nambiguous fmt/1 fmt/4 10 40 5\n\
         pairs 3 decided 1 ambiguous 2 unknown 0\n";
     assert!(rt; shown.says(1, lines));
-    remove(&rt, &folder)
+    remove(&rt, folder)
 }
 
 // Whether a witness of the table in the folder is told.
@@ -157,22 +159,24 @@ fn is_ambiguous(rt: &HostRuntime, folder: &str) -> Result<bool, Fail> {
 
 #[test]
 fn a_witness_is_told_where_many_signatures_outrank(rt: HostRuntime) -> Result<(), Fail> {
-    let folder = folder(&rt, "outranked")?;
-    put_outranked(&rt, &folder)?;
-    assert!(rt; is_ambiguous(&rt, &folder)?);
-    remove(&rt, &folder)
+    let folder = "outranked";
+    make(&rt, folder)?;
+    put_outranked(&rt, folder)?;
+    assert!(rt; is_ambiguous(&rt, folder)?);
+    remove(&rt, folder)
 }
 
 const NO_TABLE: Rows = Rows("fmt/1,1,BOF,0,,4\n", "");
 
 #[test]
 fn settles_nothing_of_a_table_that_is_not_loaded(rt: HostRuntime) -> Result<(), Fail> {
-    let folder = folder_of(&rt, "unsettled", NO_TABLE)?;
+    let folder = "unsettled";
+    make_with(&rt, folder, NO_TABLE)?;
     let line = "signatures row 1: L8 expression E2 at 1\n";
-    assert!(rt; is_fault(&rt, &folder, &words_for("100"), 2, line)?);
+    assert!(rt; is_fault(&rt, folder, &words_for("100"), 2, line)?);
     let words = &["conflicts", "--budget", "100", "none", "none"];
-    assert!(rt; is_fault(&rt, &folder, words, 3, "cannot open none\n")?);
-    remove(&rt, &folder)
+    assert!(rt; is_fault(&rt, folder, words, 3, "cannot open none\n")?);
+    remove(&rt, folder)
 }
 
 // Words that are refused, and how the text that says so begins.
@@ -229,11 +233,12 @@ const ROOMS: &[(usize, usize)] = &[(29, 29), (30, 0), (55, 25), (56, 0), (95, 39
 
 #[test]
 fn lines_before_a_failed_write_stand(rt: HostRuntime) -> Result<(), Fail> {
-    let folder = folder_of(&rt, "room", THREE_RELATED)?;
-    let words = words_in(&rt, &folder, &["conflicts", "--budget", "3", S, P])?;
+    let folder = "room";
+    make_with(&rt, folder, THREE_RELATED)?;
+    let words = words_in(&rt, folder, &["conflicts", "--budget", "3", S, P])?;
     for (room, left) in ROOMS {
         assert!(rt; is_left(&rt, &words, *room, *left), "{room}");
     }
     assert!(rt; fills(&rt, &words, 96));
-    remove(&rt, &folder)
+    remove(&rt, folder)
 }

@@ -1,6 +1,6 @@
 //! The program where its outputs fail.
 
-use crate::tests::{F, P, S, folder_of, put, remove, words_in};
+use crate::tests::{F, P, S, make_with, put, remove, words_in};
 use fixtures::{Broken, NONE, Rows};
 use sig_bits::FromWrite;
 use sig_command::command;
@@ -31,12 +31,13 @@ const WRITTEN: &[&[&str]] = &[&["match", S, P, F], &["show", S, P], &["--help"]]
 
 #[test]
 fn reports_an_answer_that_is_not_written(rt: HostRuntime) -> Result<(), Fail> {
-    let folder = folder_of(&rt, "unwritten", ONE_WORD)?;
-    put(&rt, &folder, "file.bin", b"AB")?;
+    let folder = "unwritten";
+    make_with(&rt, folder, ONE_WORD)?;
+    put(&rt, folder, "file.bin", b"AB")?;
     for words in WRITTEN {
-        assert!(rt; is_unwritten(&rt, &folder, words)?, "{words:?}");
+        assert!(rt; is_unwritten(&rt, folder, words)?, "{words:?}");
     }
-    remove(&rt, &folder)
+    remove(&rt, folder)
 }
 
 // Words with a fault, and the status of that fault.
@@ -48,13 +49,11 @@ const UNREPORTED: &[(&[&str], u8)] = &[
 
 #[test]
 fn keeps_the_status_of_a_fault_that_is_not_reported(rt: HostRuntime) -> Result<(), Fail> {
-    let folder = folder_of(&rt, "unreported", NONE)?;
-    put(&rt, &folder, "refused.csv", b"puid\n")?;
+    let folder = "unreported";
+    make_with(&rt, folder, NONE)?;
+    put(&rt, folder, "refused.csv", b"puid\n")?;
     for (words, status) in UNREPORTED {
-        assert!(rt;
-            run_unreported(&rt, &folder, words)? == *status,
-            "{words:?}"
-        );
+        assert!(rt; run_unreported(&rt, folder, words)? == *status, "{words:?}");
     }
-    remove(&rt, &folder)
+    remove(&rt, folder)
 }

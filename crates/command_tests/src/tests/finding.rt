@@ -1,7 +1,7 @@
 //! `find` through the program: tables worked out by hand, and what the other subcommands say of OUT.
 
 use crate::tests::{
-    Fault, O, P, S, Shown, first_untold, folder, folder_of, put_table, remove, run_in,
+    Fault, O, P, S, Shown, first_untold, make, make_with, path_in, put_table, remove, run_in,
 };
 use fixtures::{BOTH_ENDS, COVERED, EVERY_FILE, ONE, OVER_BOTH, OVER_FIRST, Rows, TWO};
 use std::fs;
@@ -91,9 +91,10 @@ fn is_judged(rt: &HostRuntime, folder: &str, line: &str) -> Result<bool, Fail> {
 
 // Whether both are so, in a folder of the row's own.
 fn is_sought(rt: &HostRuntime, row: &Sought) -> Result<bool, Fail> {
-    let folder = folder_of(rt, "sought", row.0)?;
-    let is_so = is_found(rt, &folder, row)? && is_judged(rt, &folder, row.3)?;
-    remove(rt, &folder)?;
+    let folder = "sought";
+    make_with(rt, folder, row.0)?;
+    let is_so = is_found(rt, folder, row)? && is_judged(rt, folder, row.3)?;
+    remove(rt, folder)?;
     Ok(is_so)
 }
 
@@ -129,11 +130,12 @@ pub(crate) fn put_outranked(rt: &HostRuntime, folder: &str) -> Result<(), Fail> 
 
 #[test]
 fn gives_up_on_a_sixty_fifth_blocker(rt: HostRuntime) -> Result<(), Fail> {
-    let folder = folder(&rt, "blockers")?;
-    put_outranked(&rt, &folder)?;
-    let found = find(&rt, &folder, "100", "none/none")?;
+    let folder = "blockers";
+    make(&rt, folder)?;
+    put_outranked(&rt, folder)?;
+    let found = find(&rt, folder, "100", "none/none")?;
     assert!(rt; found.says(1, "gave up 1 2\n"));
-    remove(&rt, &folder)
+    remove(&rt, folder)
 }
 
 const TWO_ANYWHERE: Rows = Rows("fmt/1,1,Variable,,,41\nfmt/2,2,Variable,,,42\n", "");
@@ -145,16 +147,17 @@ fn has_witness(rt: &HostRuntime, folder: &str) -> Result<bool, Fail> {
 
 // How many bytes OUT has.
 fn out_len(rt: &HostRuntime, folder: &str) -> Result<usize, Fail> {
-    let out = format!(in rt.alloc(); "{folder}/out.bin")?;
+    let out = path_in(rt, folder, "out.bin")?;
     Ok(fs::read(rt, out.as_str())?.len())
 }
 
 #[test]
 fn a_witness_is_as_short_as_can_be(rt: HostRuntime) -> Result<(), Fail> {
-    let folder = folder_of(&rt, "shortest", TWO_ANYWHERE)?;
-    assert!(rt; has_witness(&rt, &folder)?);
-    assert!(rt; out_len(&rt, &folder)? == 2);
-    remove(&rt, &folder)
+    let folder = "shortest";
+    make_with(&rt, folder, TWO_ANYWHERE)?;
+    assert!(rt; has_witness(&rt, folder)?);
+    assert!(rt; out_len(&rt, folder)? == 2);
+    remove(&rt, folder)
 }
 
 // An OUT that cannot be made, a text that is no table, and one that is not there.
@@ -187,8 +190,9 @@ const OPENED: &[Fault] = &[
 
 #[test]
 fn opens_out_after_the_search(rt: HostRuntime) -> Result<(), Fail> {
-    let folder = folder_of(&rt, "out", TWO)?;
-    let untold = first_untold(&rt, &folder, OPENED)?;
+    let folder = "out";
+    make_with(&rt, folder, TWO)?;
+    let untold = first_untold(&rt, folder, OPENED)?;
     assert!(rt; untold.is_none(), "{untold:?}");
-    remove(&rt, &folder)
+    remove(&rt, folder)
 }

@@ -1,7 +1,7 @@
 //! `match` through the program: its words, its files and the order in which they are opened.
 
 use crate::tests::{
-    F, Fault, P, S, first_untold, folder, folder_of, is_answer, put, put_table, remove,
+    F, Fault, P, S, first_untold, is_answer, make, make_with, put, put_table, remove,
 };
 use fixtures::{OVER_BOTH, Rows};
 use std::test::Fail;
@@ -59,14 +59,15 @@ fn is_left(
 
 #[test]
 fn prints_a_line_for_each_format_left(rt: HostRuntime) -> Result<(), Fail> {
-    let folder = folder(&rt, "left")?;
+    let folder = "left";
+    make(&rt, folder)?;
     for (rows, pairs, file, out) in LEFT {
         assert!(rt;
-            is_left(&rt, &folder, rows, pairs, file, out)?,
+            is_left(&rt, folder, rows, pairs, file, out)?,
             "{rows}{out}"
         );
     }
-    remove(&rt, &folder)
+    remove(&rt, folder)
 }
 
 // The lines of three formats that are hit.
@@ -74,11 +75,12 @@ const ALL_THREE: &str = "fmt/1 1\nfmt/2 2\nfmt/3 3\n";
 
 #[test]
 fn prints_a_line_for_each_hit_with_all(rt: HostRuntime) -> Result<(), Fail> {
-    let folder = folder_of(&rt, "all", OVER_BOTH)?;
-    put(&rt, &folder, "file.bin", b"AB")?;
-    assert!(rt; is_answer(&rt, &folder, &["match", "--all", S, P, F], ALL_THREE)?);
-    assert!(rt; is_answer(&rt, &folder, &["match", S, P, F, "--all"], ALL_THREE)?);
-    remove(&rt, &folder)
+    let folder = "all";
+    make_with(&rt, folder, OVER_BOTH)?;
+    put(&rt, folder, "file.bin", b"AB")?;
+    assert!(rt; is_answer(&rt, folder, &["match", "--all", S, P, F], ALL_THREE)?);
+    assert!(rt; is_answer(&rt, folder, &["match", S, P, F, "--all"], ALL_THREE)?);
+    remove(&rt, folder)
 }
 
 const ONE_WORD: Rows = Rows("fmt/1,1,BOF,0,,4142\n", "");
@@ -104,9 +106,10 @@ const OPENED: &[Fault] = &[
 
 #[test]
 fn opens_the_table_first_and_the_file_after_the_load(rt: HostRuntime) -> Result<(), Fail> {
-    let folder = folder_of(&rt, "opens", ONE_WORD)?;
-    put(&rt, &folder, "file.bin", b"AB")?;
-    let untold = first_untold(&rt, &folder, OPENED)?;
+    let folder = "opens";
+    make_with(&rt, folder, ONE_WORD)?;
+    put(&rt, folder, "file.bin", b"AB")?;
+    let untold = first_untold(&rt, folder, OPENED)?;
     assert!(rt; untold.is_none(), "{untold:?}");
-    remove(&rt, &folder)
+    remove(&rt, folder)
 }

@@ -1,7 +1,7 @@
 //! `match` of several files through the program: each line behind its file's name, files with faults
 //! among others, a refused table and a failed write.
 
-use crate::tests::{Fault, P, S, first_untold, folder_of, put, remove, run_in, words_in};
+use crate::tests::{Fault, P, S, first_untold, make_with, path_of, put, remove, run_in, words_in};
 use fixtures::{Broken, Rows};
 use sig_bits::FromWrite;
 use sig_command::command;
@@ -13,11 +13,17 @@ const BELOW: Rows = Rows("fmt/1,1,BOF,0,,41\nfmt/2,2,BOF,0,,4142\n", "fmt/2,fmt/
 // Words, the status, and what is written to both outputs.
 struct Answered(&'static [&'static str], u8, &'static str, &'static str);
 
-// Whether the program answers so, with the folder in the place of each `@`.
+// The text, with the path of the folder in the place of each `@`.
+fn text_in(rt: &HostRuntime, folder: &str, text: &str) -> Result<String, Fail> {
+    let path = path_of(rt, folder)?;
+    Ok(text.replace(rt.alloc(), "@", path.as_str())?)
+}
+
+// Whether the program answers so.
 fn is_answered(rt: &HostRuntime, folder: &str, row: &Answered) -> Result<bool, Fail> {
     let Answered(words, status, out, err) = *row;
-    let out = out.replace(rt.alloc(), "@", folder)?;
-    let err = err.replace(rt.alloc(), "@", folder)?;
+    let out = text_in(rt, folder, out)?;
+    let err = text_in(rt, folder, err)?;
     is_shown(rt, folder, words, status, &out, &err)
 }
 
@@ -65,12 +71,13 @@ const MANY: &[Answered] = &[
 
 #[test]
 fn prints_the_lines_of_each_file_behind_its_name(rt: HostRuntime) -> Result<(), Fail> {
-    let folder = folder_of(&rt, "many", BELOW)?;
-    put_many(&rt, &folder)?;
+    let folder = "many";
+    make_with(&rt, folder, BELOW)?;
+    put_many(&rt, folder)?;
     for row in MANY {
-        assert!(rt; is_answered(&rt, &folder, row)?, "{:?}", row.0);
+        assert!(rt; is_answered(&rt, folder, row)?, "{:?}", row.0);
     }
-    remove(&rt, &folder)
+    remove(&rt, folder)
 }
 
 const GOING_ON: &Answered = &Answered(
@@ -90,10 +97,11 @@ const GOING_ON: &Answered = &Answered(
 
 #[test]
 fn goes_on_behind_a_file_with_a_fault(rt: HostRuntime) -> Result<(), Fail> {
-    let folder = folder_of(&rt, "go_on", BELOW)?;
-    put(&rt, &folder, "one.bin", b"A")?;
-    assert!(rt; is_answered(&rt, &folder, GOING_ON)?);
-    remove(&rt, &folder)
+    let folder = "go_on";
+    make_with(&rt, folder, BELOW)?;
+    put(&rt, folder, "one.bin", b"A")?;
+    assert!(rt; is_answered(&rt, folder, GOING_ON)?);
+    remove(&rt, folder)
 }
 
 const REFUSED: &[Fault] = &[
@@ -111,11 +119,12 @@ const REFUSED: &[Fault] = &[
 
 #[test]
 fn a_refused_table_comes_before_any_line(rt: HostRuntime) -> Result<(), Fail> {
-    let folder = folder_of(&rt, "no_table", BELOW)?;
-    put(&rt, &folder, "one.bin", b"A")?;
-    let untold = first_untold(&rt, &folder, REFUSED)?;
+    let folder = "no_table";
+    make_with(&rt, folder, BELOW)?;
+    put(&rt, folder, "one.bin", b"A")?;
+    let untold = first_untold(&rt, folder, REFUSED)?;
     assert!(rt; untold.is_none(), "{untold:?}");
-    remove(&rt, &folder)
+    remove(&rt, folder)
 }
 
 // Whether the program, run with a broken output, ends with this status and reports this.
@@ -135,10 +144,11 @@ fn is_unwritten(
 
 #[test]
 fn a_failed_write_is_told_last(rt: HostRuntime) -> Result<(), Fail> {
-    let folder = folder_of(&rt, "no_room", BELOW)?;
-    put(&rt, &folder, "one.bin", b"A")?;
+    let folder = "no_room";
+    make_with(&rt, folder, BELOW)?;
+    put(&rt, folder, "one.bin", b"A")?;
     let words = &["match", S, P, "none.bin", "@/one.bin", "other.bin"];
     let faults = "cannot open none.bin\nwrite failed\n";
-    assert!(rt; is_unwritten(&rt, &folder, words, faults)?);
-    remove(&rt, &folder)
+    assert!(rt; is_unwritten(&rt, folder, words, faults)?);
+    remove(&rt, folder)
 }

@@ -1,6 +1,6 @@
 //! How much of a search is done, as `--progress` shows it on standard error.
 
-use crate::tests::{P, S, folder, folder_of, put_table, remove, run_in, words_in};
+use crate::tests::{P, S, make, make_with, put_table, remove, run_in, words_in};
 use fixtures::{ONE, Room, Rows, THREE_RELATED, TWO};
 use sig_bits::FromWrite;
 use sig_command::command;
@@ -83,11 +83,12 @@ fn is_watched(rt: &HostRuntime, folder: &str, row: &Watched) -> Result<bool, Fai
 
 #[test]
 fn shows_how_much_is_done(rt: HostRuntime) -> Result<(), Fail> {
-    let folder = folder(&rt, "watched")?;
+    let folder = "watched";
+    make(&rt, folder)?;
     for row in WATCHED {
-        assert!(rt; is_watched(&rt, &folder, row)?, "{:?} {:?}", row.0, row.1);
+        assert!(rt; is_watched(&rt, folder, row)?, "{:?} {:?}", row.0, row.1);
     }
-    remove(&rt, &folder)
+    remove(&rt, folder)
 }
 
 // Puts the row of this number behind the others: those of the first format begin with 41, the others with 42.
@@ -136,9 +137,10 @@ fn decides_by_thirds(rt: &HostRuntime, folder: &str) -> Result<bool, Fail> {
 // Two formats with 15 signatures each have 225 products, and every third one is more than a percent.
 #[test]
 fn shows_at_most_a_report_for_a_percent(rt: HostRuntime) -> Result<(), Fail> {
-    let folder = folder(&rt, "percents")?;
-    assert!(rt; decides_by_thirds(&rt, &folder)?);
-    remove(&rt, &folder)
+    let folder = "percents";
+    make(&rt, folder)?;
+    assert!(rt; decides_by_thirds(&rt, folder)?);
+    remove(&rt, folder)
 }
 
 // Whether the program decides where there is room for so much of its reports.
@@ -152,10 +154,11 @@ fn is_decided(rt: &HostRuntime, words: &[String], room: usize) -> bool {
 
 #[test]
 fn a_failed_report_changes_nothing(rt: HostRuntime) -> Result<(), Fail> {
-    let folder = folder_of(&rt, "unheard", TWO)?;
-    let words = words_in(&rt, &folder, FIND_TWO)?;
+    let folder = "unheard";
+    make_with(&rt, folder, TWO)?;
+    let words = words_in(&rt, folder, FIND_TWO)?;
     for room in 0..37 {
         assert!(rt; is_decided(&rt, &words, room), "{room}");
     }
-    remove(&rt, &folder)
+    remove(&rt, folder)
 }

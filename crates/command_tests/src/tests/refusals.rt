@@ -1,6 +1,6 @@
 //! Tables that are refused: the line of the first fault, for `show` and `match` alike.
 
-use crate::tests::{F, P, S, folder, folder_of, is_answer, is_fault, put, put_table, remove};
+use crate::tests::{F, P, S, is_answer, is_fault, make, make_with, put, put_table, remove};
 use fixtures::{NONE, PRIORITIES, SIGNATURES};
 use std::test::Fail;
 
@@ -95,11 +95,12 @@ const SIGNATURE_FAULTS: &[(&str, &str)] = &[
 
 #[test]
 fn names_the_first_fault_of_the_signatures(rt: HostRuntime) -> Result<(), Fail> {
-    let folder = folder(&rt, "signatures")?;
+    let folder = "signatures";
+    make(&rt, folder)?;
     for (rows, line) in SIGNATURE_FAULTS {
-        assert!(rt; rows_are_refused(&rt, &folder, rows, "", line)?, "{line}");
+        assert!(rt; rows_are_refused(&rt, folder, rows, "", line)?, "{line}");
     }
-    remove(&rt, &folder)
+    remove(&rt, folder)
 }
 
 // Priority rows, and the line of their first fault.
@@ -123,15 +124,13 @@ const PRIORITY_FAULTS: &[(&str, &str)] = &[
 
 #[test]
 fn names_the_first_fault_of_the_priorities(rt: HostRuntime) -> Result<(), Fail> {
-    let folder = folder(&rt, "priorities")?;
+    let folder = "priorities";
+    make(&rt, folder)?;
     let rows = "fmt/1,1,BOF,0,,41\nfmt/2,2,BOF,0,,41\n";
     for (pairs, line) in PRIORITY_FAULTS {
-        assert!(rt;
-            rows_are_refused(&rt, &folder, rows, pairs, line)?,
-            "{line}"
-        );
+        assert!(rt; rows_are_refused(&rt, folder, rows, pairs, line)?, "{line}");
     }
-    remove(&rt, &folder)
+    remove(&rt, folder)
 }
 
 // Puts the row of this number behind the others: the text, with the number in the place of each `#`.
@@ -193,22 +192,23 @@ const TOO_MANY: &[(&str, u32, &str)] = &[
 
 #[test]
 fn names_a_header_and_a_limit(rt: HostRuntime) -> Result<(), Fail> {
-    let folder = folder(&rt, "limits")?;
+    let folder = "limits";
+    make(&rt, folder)?;
     for (signatures, priorities, line) in HEADER_FAULTS {
         assert!(rt;
-            are_refused(&rt, &folder, signatures, priorities, line)?,
+            are_refused(&rt, folder, signatures, priorities, line)?,
             "{line}"
         );
     }
     let line = "signatures row 1: L8 expression E1\n";
-    assert!(rt; long_is_refused(&rt, &folder, 4097, line)?);
+    assert!(rt; long_is_refused(&rt, folder, 4097, line)?);
     for (text, count, line) in TOO_MANY {
         assert!(rt;
-            many_are_refused(&rt, &folder, *count, text, line)?,
+            many_are_refused(&rt, folder, *count, text, line)?,
             "{line}"
         );
     }
-    remove(&rt, &folder)
+    remove(&rt, folder)
 }
 
 // Rows of expressions with as many slots as the limit, and with one more.
@@ -242,11 +242,12 @@ fn has_too_many(rt: &HostRuntime, folder: &str, row: &str) -> Result<bool, Fail>
 
 #[test]
 fn takes_as_many_slots_as_the_limit(rt: HostRuntime) -> Result<(), Fail> {
-    let folder = folder_of(&rt, "slots", NONE)?;
-    put(&rt, &folder, "file.bin", b"A")?;
+    let folder = "slots";
+    make_with(&rt, folder, NONE)?;
+    put(&rt, folder, "file.bin", b"A")?;
     for (most, over) in SLOTS {
-        assert!(rt; is_taken(&rt, &folder, most)?, "{most}");
-        assert!(rt; has_too_many(&rt, &folder, over)?, "{over}");
+        assert!(rt; is_taken(&rt, folder, most)?, "{most}");
+        assert!(rt; has_too_many(&rt, folder, over)?, "{over}");
     }
-    remove(&rt, &folder)
+    remove(&rt, folder)
 }

@@ -1,6 +1,6 @@
 //! `show` through the program.
 
-use crate::tests::{Fault, P, S, first_untold, folder, folder_of, is_answer, put_table, remove};
+use crate::tests::{Fault, P, S, first_untold, is_answer, make, make_with, put_table, remove};
 use fixtures::{NONE, PRIORITIES, SIGNATURES};
 use std::test::Fail;
 
@@ -44,14 +44,15 @@ fn is_shown_of(
 
 #[test]
 fn shows_both_canonical_files(rt: HostRuntime) -> Result<(), Fail> {
-    let folder = folder(&rt, "show")?;
+    let folder = "show";
+    make(&rt, folder)?;
     for (rows, pairs, lines) in SHOWN {
         assert!(rt;
-            is_shown_of(&rt, &folder, rows, pairs, lines)?,
+            is_shown_of(&rt, folder, rows, pairs, lines)?,
             "{rows}{pairs}"
         );
     }
-    remove(&rt, &folder)
+    remove(&rt, folder)
 }
 
 // Files that are not there, and a folder.
@@ -67,8 +68,9 @@ const OPENED: &[Fault] = &[
 
 #[test]
 fn opens_no_third_file_to_show(rt: HostRuntime) -> Result<(), Fail> {
-    let folder = folder_of(&rt, "unshown", NONE)?;
-    let untold = first_untold(&rt, &folder, OPENED)?;
+    let folder = "unshown";
+    make_with(&rt, folder, NONE)?;
+    let untold = first_untold(&rt, folder, OPENED)?;
     assert!(rt; untold.is_none(), "{untold:?}");
-    remove(&rt, &folder)
+    remove(&rt, folder)
 }

@@ -1,9 +1,7 @@
 //! `witness` through the program: files of tables worked out by hand, and the words and files that
 //! it takes.
 
-use crate::tests::{
-    F, Fault, P, S, first_untold, folder, folder_of, put, put_table, remove, run_in,
-};
+use crate::tests::{F, Fault, P, S, first_untold, make, make_with, put, put_table, remove, run_in};
 use fixtures::{BOTH_ENDS, EVERY_FILE, ONE, OVER_BOTH, OVER_FIRST, Rows};
 use std::test::Fail;
 
@@ -34,11 +32,12 @@ fn is_told(rt: &HostRuntime, folder: &str, row: &Witnessed) -> Result<bool, Fail
 
 #[test]
 fn names_the_first_two_formats_left(rt: HostRuntime) -> Result<(), Fail> {
-    let folder = folder(&rt, "witnessed")?;
+    let folder = "witnessed";
+    make(&rt, folder)?;
     for row in WITNESSED {
-        assert!(rt; is_told(&rt, &folder, row)?, "{:?} {:?}", row.0, row.1);
+        assert!(rt; is_told(&rt, folder, row)?, "{:?} {:?}", row.0, row.1);
     }
-    remove(&rt, &folder)
+    remove(&rt, folder)
 }
 
 // A file that is not there, a text that is no table, and a folder.
@@ -50,8 +49,9 @@ const OPENED: &[Fault] = &[
 
 #[test]
 fn opens_the_file_after_the_load(rt: HostRuntime) -> Result<(), Fail> {
-    let folder = folder_of(&rt, "witness", BOTH_ENDS)?;
-    let untold = first_untold(&rt, &folder, OPENED)?;
+    let folder = "witness";
+    make_with(&rt, folder, BOTH_ENDS)?;
+    let untold = first_untold(&rt, folder, OPENED)?;
     assert!(rt; untold.is_none(), "{untold:?}");
-    remove(&rt, &folder)
+    remove(&rt, folder)
 }
