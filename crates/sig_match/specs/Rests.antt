@@ -88,10 +88,15 @@ Misses [] bytes = ⊥
 Misses (f ∷ front) [] = ⊥
 Misses (f ∷ front) (b ∷ bytes) = (b ≢ f) ⊎ Misses front bytes
 
+-- the first of these bytes is no exit, or they differ from the front
+abbrev pub IsNoWay : ByteClass → FrontAt → List ℕ → Type 0
+IsNoWay exits front [] = ⊤
+IsNoWay exits front (b ∷ bytes) = (¬ Holds exits b) ⊎ Misses front.bytes (drop front.skip (b ∷ bytes))
+
 -- no way out of a set of these exits and this front begins with these bytes
 abbrev pub IsPassed : ByteClass → FrontAt → List ℕ → Type 0
 IsPassed exits front [] = ⊤
-IsPassed exits front (b ∷ bytes) = (front.depth ≤ length bytes) × ((¬ Holds exits b) ⊎ Misses front.bytes (drop front.skip (b ∷ bytes)))
+IsPassed exits front (b ∷ bytes) = (front.depth ≤ length bytes) × IsNoWay exits front (b ∷ bytes)
 
 -- each state that follows one of the set takes both bytes or neither
 abbrev pub IsLeftAlike : Tree → List ℕ → ℕ → ℕ → Type 0
