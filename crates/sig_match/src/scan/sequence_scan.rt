@@ -18,7 +18,7 @@ use crate::scan::piece::Piece;
 use crate::scan::rest::{DEPTH, FEW, all_fade, way_of};
 use crate::scan::sieve::Sieve;
 use crate::scan::slide::{is_beside, slots_before_end, write_slid};
-use crate::scan::span::climbs;
+use crate::scan::span::{climbs, is_closed};
 use crate::scan::way::{FRONT, Way, same_bytes};
 use sig_auto::Auto;
 use sig_bits::{and_any, clear, get_bit, set_bit, subset};
@@ -49,7 +49,7 @@ const AWAKE: usize = 128;
 
 // The set, the room of the next one, and a set in which the sequence can rest, with the way out of it:
 // at first the one in which most files leave it, then the one in which it rested last. `number` is the
-// place of the first front in the sieve. `run` has the bytes of a long sequence of fixed bytes alone that may
+// place of its front in the sieve, and `later` that of the front of the next such set. `run` has the bytes of a long sequence of fixed bytes alone that may
 // begin anywhere, and none of any other. `inner` is how many slots stand before those of the gap at the end of the
 // file. `resting` tells that it is in that set now, and `pause` how many bytes are stepped before that is asked again.
 // `awake` is how many bytes were stepped since it last rested, went by words or slid.
@@ -62,6 +62,7 @@ pub(crate) struct SequenceScan {
     rest: Vec<u8>,
     way: Way,
     number: usize,
+    later: usize,
     climbs: bool,
     inner: usize,
     resting: bool,
@@ -118,19 +119,26 @@ impl SequenceScan {
             rest,
             way: Way::none(),
             number: usize::MAX,
+            later: usize::MAX,
             climbs: climbs(sequence),
             inner,
             resting: false,
             pause: 0,
             awake: 0,
         };
-        scan.look_ahead(alloc, sieve)?;
+        scan.look_ahead(alloc, is_closed(sequence), sieve)?;
         Ok(scan)
     }
 
     // Finds out where the sequence will rest behind bytes that mean nothing to it, and puts the front of
-    // the way out into the sieve, unless pieces are passed over without it.
-    fn look_ahead(&mut self, alloc: Global, sieve: &mut Sieve) -> Result<(), AllocError>
+    // the way out into the sieve, unless pieces are passed over without it. Where the expression has an open
+    // gap, so for the set in which it rests behind that front.
+    fn look_ahead(
+        &mut self,
+        alloc: Global,
+        is_closed: bool,
+        sieve: &mut Sieve,
+    ) -> Result<(), AllocError>
         ensures { self.new ≡ self.old }
     {
         let mut ahead = empty_set(alloc, &self.auto)?;
@@ -142,9 +150,39 @@ impl SequenceScan {
             return Ok(());
         }
         self.number = self.way.put_into(sieve)?;
+        self.later = self.number;
         let may_rest = and_any(&self.rest, &self.rest);
         if may_rest && self.number == usize::MAX {
             self.auto.note_steps(alloc)?;
+        }
+        if may_rest && !is_closed && self.set.len() <= FEW {
+            self.look_further(&mut ahead, sieve)?;
+        }
+        Ok(())
+    }
+
+    // Puts the front of the next way out into the sieve, where the sequence rests behind the first front and
+    // two bytes that mean nothing to it.
+    fn look_further(&mut self, ahead: &mut [u8], sieve: &mut Sieve) -> Result<(), AllocError>
+        requires few { length self.old.set ≤ 8 }
+        requires len { length ahead.old ≡ set_len (whole_tree self.old.sequence) }
+        ensures { self.new ≡ self.old }
+    {
+        let mut room = [0; FEW];
+        let begun = &mut room[..self.set.len()];
+        write_led(
+            &self.auto,
+            &self.rest,
+            &self.way.front[..self.way.len],
+            begun,
+        );
+        self.auto.step_set(begun, 0x00, &mut self.next);
+        self.auto.step_set(&self.next, 0x00, ahead);
+        if !same_bytes(&self.next, ahead) || same_bytes(ahead, &self.rest) {
+            return Ok(());
+        }
+        if let Some(way) = way_of(&self.auto, ahead, &mut self.next) {
+            self.later = way.put_into(sieve)?;
         }
         Ok(())
     }
@@ -362,6 +400,7 @@ impl SequenceScan {
         if let Some(way) = way_of(&self.auto, &self.set, &mut self.next) {
             self.rest.copy_from_slice(&self.set);
             self.way = way;
+            self.number = self.later;
             self.resting = true;
         }
     }
@@ -425,6 +464,7 @@ impl SequenceScan {
             self.rest.copy_from_slice(kept);
             self.set.copy_from_slice(kept);
             self.way = way;
+            self.number = self.later;
             self.resting = true;
         }
     }
@@ -466,6 +506,22 @@ fn leads_to(auto: &Auto, from: &[u8], bytes: &[u8], to: &[u8]) -> bool
     let next = &mut room[..from.len()];
     auto.step_set(from, *byte, next);
     leads_to(auto, next, later, to)
+}
+
+// Writes the set to which the bytes lead from the one.
+fn write_led(auto: &Auto, from: &[u8], bytes: &[u8], to: &mut [u8])
+    requires from_len { length from.now ≡ set_len (whole_tree auto.now) }
+    requires to_len { length to.old ≡ set_len (whole_tree auto.now) }
+    requires small { length from.now ≤ 8 }
+{
+    let Some((byte, later)) = bytes.split_first() else {
+        to.copy_from_slice(from);
+        return;
+    };
+    let mut room = [0; FEW];
+    let next = &mut room[..from.len()];
+    auto.step_set(from, *byte, next);
+    write_led(auto, next, later, to);
 }
 
 // A set of no state.
