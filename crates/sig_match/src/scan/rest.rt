@@ -272,7 +272,7 @@ pub(crate) fn all_fade(auto: &Auto, set: &[u8], next: &[u8]) -> bool
 }
 
 // Whether all ways on from the state are also those of the set within so many bytes: each state that
-// follows it follows the set too, or one does not, and fades.
+// follows it follows the set too, or one does not, and fades. One that follows itself never does.
 fn fades(auto: &Auto, set: &[u8], state: u32, depth: usize) -> bool
     requires { length set.now ≡ set_len (whole_tree auto.now) }
     ensures { IsTrue result → Fades (whole_tree auto.now) set.now depth state }
@@ -290,7 +290,7 @@ fn fades(auto: &Auto, set: &[u8], state: u32, depth: usize) -> bool
         }
     }
     match way {
-        Some(q) => fades(auto, set, q, depth - 1),
+        Some(q) => q != state && fades(auto, set, q, depth - 1),
         None => true,
     }
 }

@@ -18,10 +18,11 @@ use crate::scan::piece::Piece;
 use crate::scan::rest::{DEPTH, FEW, all_fade, way_of};
 use crate::scan::sieve::Sieve;
 use crate::scan::slide::{is_beside, slots_before_end, write_slid};
-use crate::scan::span::{climbs, is_closed};
+use crate::scan::span::climbs;
 use crate::scan::way::{FRONT, Way, same_bytes};
 use sig_auto::Auto;
 use sig_bits::{and_any, clear, get_bit, set_bit, subset};
+use sig_expr::Item;
 use sig_table::Sequence;
 use std::alloc::{AllocError, Global};
 use std::marker::Model;
@@ -49,7 +50,7 @@ const AWAKE: usize = 128;
 
 // The set, the room of the next one, and a set in which the sequence can rest, with the way out of it:
 // at first the one in which most files leave it, then the one in which it rested last. `number` is the
-// place of its front in the sieve, and `later` that of the front of the next such set. `run` has the bytes of a long sequence of fixed bytes alone that may
+// place of its front in the sieve, and `later` that of the front behind an open gap. `run` has the bytes of a long sequence of fixed bytes alone that may
 // begin anywhere, and none of any other. `inner` is how many slots stand before those of the gap at the end of the
 // file. `resting` tells that it is in that set now, and `pause` how many bytes are stepped before that is asked again.
 // `awake` is how many bytes were stepped since it last rested, went by words or slid.
@@ -126,19 +127,14 @@ impl SequenceScan {
             pause: 0,
             awake: 0,
         };
-        scan.look_ahead(alloc, is_closed(sequence), sieve)?;
+        scan.look_ahead(alloc, sieve)?;
+        scan.look_further(sequence, sieve)?;
         Ok(scan)
     }
 
     // Finds out where the sequence will rest behind bytes that mean nothing to it, and puts the front of
-    // the way out into the sieve, unless pieces are passed over without it. Where the expression has an open
-    // gap, so for the set in which it rests behind that front.
-    fn look_ahead(
-        &mut self,
-        alloc: Global,
-        is_closed: bool,
-        sieve: &mut Sieve,
-    ) -> Result<(), AllocError>
+    // the way out into the sieve, unless pieces are passed over without it.
+    fn look_ahead(&mut self, alloc: Global, sieve: &mut Sieve) -> Result<(), AllocError>
         ensures { self.new ≡ self.old }
     {
         let mut ahead = empty_set(alloc, &self.auto)?;
@@ -155,34 +151,16 @@ impl SequenceScan {
         if may_rest && self.number == usize::MAX {
             self.auto.note_steps(alloc)?;
         }
-        if may_rest && !is_closed && self.set.len() <= FEW {
-            self.look_further(&mut ahead, sieve)?;
-        }
         Ok(())
     }
 
-    // Puts the front of the next way out into the sieve, where the sequence rests behind the first front and
-    // two bytes that mean nothing to it.
-    fn look_further(&mut self, ahead: &mut [u8], sieve: &mut Sieve) -> Result<(), AllocError>
-        requires few { length self.old.set ≤ 8 }
-        requires len { length ahead.old ≡ set_len (whole_tree self.old.sequence) }
+    // Puts the bytes behind an inner gap into the sieve too: once that is reached, they are the front.
+    fn look_further(&mut self, sequence: &Sequence, sieve: &mut Sieve) -> Result<(), AllocError>
         ensures { self.new ≡ self.old }
     {
-        let mut room = [0; FEW];
-        let begun = &mut room[..self.set.len()];
-        write_led(
-            &self.auto,
-            &self.rest,
-            &self.way.front[..self.way.len],
-            begun,
-        );
-        self.auto.step_set(begun, 0x00, &mut self.next);
-        self.auto.step_set(&self.next, 0x00, ahead);
-        if !same_bytes(&self.next, ahead) || same_bytes(ahead, &self.rest) {
-            return Ok(());
-        }
-        if let Some(way) = way_of(&self.auto, ahead, &mut self.next) {
-            self.later = way.put_into(sieve)?;
+        let (front, len) = bytes_behind_gap(sequence.expr().items());
+        if len >= 4 {
+            self.later = sieve.add(front, len)?;
         }
         Ok(())
     }
@@ -508,20 +486,25 @@ fn leads_to(auto: &Auto, from: &[u8], bytes: &[u8], to: &[u8]) -> bool
     leads_to(auto, next, later, to)
 }
 
-// Writes the set to which the bytes lead from the one.
-fn write_led(auto: &Auto, from: &[u8], bytes: &[u8], to: &mut [u8])
-    requires from_len { length from.now ≡ set_len (whole_tree auto.now) }
-    requires to_len { length to.old ≡ set_len (whole_tree auto.now) }
-    requires small { length from.now ≤ 8 }
+// The fixed bytes right behind the first open gap inside of the expression, and how many they are.
+fn bytes_behind_gap(items: &[Item]) -> ([u8; FRONT], usize)
+    ensures { result.1 ≤ 8 }
 {
-    let Some((byte, later)) = bytes.split_first() else {
-        to.copy_from_slice(from);
-        return;
-    };
-    let mut room = [0; FEW];
-    let next = &mut room[..from.len()];
-    auto.step_set(from, *byte, next);
-    write_led(auto, next, later, to);
+    let mut front = [0; FRONT];
+    let mut len = 0;
+    let mut is_behind = false;
+    for item in items.iter().skip(1) {
+        match item {
+            Item::Byte(byte) if is_behind && len < FRONT => {
+                front[len] = *byte;
+                len += 1;
+            }
+            _ if is_behind => return (front, len),
+            Item::Gap { max: None, .. } => is_behind = true,
+            _ => {}
+        }
+    }
+    (front, len)
 }
 
 // A set of no state.

@@ -19,11 +19,6 @@ pub(crate) fn climbs(sequence: &Sequence) -> bool
     }
 }
 
-/// Whether the sequence has no open gap in its expression.
-pub(crate) fn is_closed(sequence: &Sequence) -> bool {
-    has_no_open_gap(sequence.expr().items())
-}
-
 fn has_no_open_gap(items: &[Item]) -> bool
     ensures { IsTrue result → (k : ℕ) (i : Item) → slice_get items.now k ≡ Some i → IsClosedItem i }
 {
