@@ -1,21 +1,13 @@
 -- Sets of states in which a scan rests, and the bytes by which they are left.
 use Rattle.std.specs.Prelude.{◌≡◌, ◌≢◌, ◌⊎◌, ◌↔◌, ℕ, zero, suc, ◌+◌, ◌<◌, ◌≤◌, Bool, false, List, [], ◌∷◌, Option, Some, drop, length, ⊤}
 use Rattle.sig_auto.specs.Runs.{IsStepOf}
+pub use Rattle.sig_auto.specs.Reaching.{IsReached, Reaches}
 use Rattle.sig_auto.specs.Tracks.{Follows}
 use Rattle.sig_auto.specs.Trees.{Tree}
 use Rattle.sig_auto.specs.TreeSlots.{Takes, slots_of}
 use Rattle.sig_bits.specs.BitSets.{HasBit}
 use Rattle.sig_bits.specs.ByteClasses.{Holds}
 use Rattle.sig_bits.specs.declared.byte_class.ByteClass.{ByteClass}
-
--- these bytes lead from state p to state q
-abbrev pub Reaches : Tree → ℕ → List ℕ → ℕ → Type 0
-Reaches tree p [] q = p ≡ q
-Reaches tree p (b ∷ bytes) q = (r : ℕ) × Follows tree p r × Takes tree r b × Reaches tree r bytes q
-
--- they lead from some state of the set to q
-abbrev pub IsReached : Tree → List ℕ → List ℕ → ℕ → Type 0
-IsReached tree set bytes q = (p : ℕ) × HasBit set p × Reaches tree p bytes q
 
 -- the two sets lead to the same states, each by what is left
 abbrev pub LeadsAlike : Tree → List ℕ → List ℕ → List ℕ → List ℕ → Type 0

@@ -203,6 +203,7 @@ impl SequenceScan {
             self.retreat(piece, from + 1);
             self.shed(piece, from + 1);
             from = self.next_place(piece, from + 1);
+            from = self.step_on(piece, from);
             from = self.go_narrow(piece, from);
             from = self.slide(piece, from);
         }
@@ -243,6 +244,26 @@ impl SequenceScan {
         set_bit(&mut self.set, 1);
         self.resting = same_bytes(&self.set, &self.rest);
         len - slots
+    }
+
+    // Goes on from this place, if the steps of the sequence are noted, to where it rests, or to where it looks back
+    // or asks for another set to rest in. Answers that place.
+    fn step_on(&mut self, piece: &Piece<'_>, from: usize) -> usize
+        requires { from ≤ length piece.now }
+        ensures sequence { self.new.sequence ≡ self.old.sequence }
+        ensures after { from ≤ result }
+        ensures within { result ≤ length piece.now }
+        ensures same { LeadsAlike (whole_tree self.old.sequence) self.old.set (drop from piece.now) self.new.set (drop result piece.now) }
+    {
+        if self.resting || self.set.len() > FEW {
+            return from;
+        }
+        let behind = &piece.bytes()[from..];
+        let most = FRONT - 1 - self.awake % FRONT;
+        let count = self.auto.step_to(&mut self.set, &self.rest, behind, most);
+        self.awake = self.awake.saturating_add(count);
+        self.resting = same_bytes(&self.set, &self.rest);
+        from + count
     }
 
     // Goes on from this place by words, if the sequence has few states and has not rested for long. Answers
