@@ -473,6 +473,13 @@ pub passed_by_miss : (exits : ByteClass) (front : FrontAt) (bytes : List ℕ) �
 passed_by_miss exits front [] deep misses = tt
 passed_by_miss exits front (b ∷ bytes) deep misses = (omega arith, inr misses)
 
+-- where the first byte of the front does not stand, they miss it
+pub missed_by_byte : (front bytes : List ℕ) (x : ℕ) → 0 < length front → x < length bytes → get_or bytes x 0 ≢ get_or front 0 0 → Misses front (drop x bytes)
+missed_by_byte front bytes x some within differs =
+    let long = length-drop x bytes in
+    let place : get_or (drop x bytes) 0 0 ≡ get_or bytes x 0 = get_or-drop x bytes 0 0 ∙ ap (λ k. get_or bytes k 0) (omega arith) in
+    missed_at front (drop x bytes) 0 some (omega arith) (λ same. differs (sym place ∙ same))
+
 -- where the front does not occur within the bytes, they miss it
 pub missed_by_none : (bytes front : List ℕ) (x : ℕ) → x + length front ≤ length bytes → (OccursAt bytes front x → ⊥) → Misses front (drop x bytes)
 missed_by_none bytes front x within none =

@@ -6,7 +6,7 @@
 //! begin anywhere the front is `42 43`, and it skips one byte; of `41??42` it is `42`, and skips two. So the
 //! file is searched for a front, with an exit before it, and not stepped through.
 
-ghost use Rattle.std.specs.Prelude.{◌≡◌, ℕ, ◌+◌, ◌<◌, ◌≤◌, false, IfSome, IsTrue, drop, length, slice_index, take};
+ghost use Rattle.std.specs.Prelude.{◌≡◌, ◌≢◌, ℕ, ◌+◌, ◌<◌, ◌≤◌, false, IfSome, IsTrue, drop, length, slice_index, take};
 ghost use Rattle.sig_bits.specs.ByteClasses.{Holds};
 ghost use Rattle.sig_bits.specs.Bytes.{IsBytes};
 ghost use Rattle.sig_match.specs.Rests.{IsNoWay, IsPassed, Misses};
@@ -139,10 +139,11 @@ impl Way {
         ensures within { result ≤ length bytes.now }
         ensures passed { (x : ℕ) → x < result → IsNoWay self.now.exits (front_of self.now) (drop x bytes.now) }
     {
+        let lone = lone_byte(&self.exits);
         let mut at = 0;
         'leaps: loop {
             let front = at + self.next_front(&bytes[at..]);
-            at = front + next_exit(&self.exits, &bytes[front..]);
+            at = front + next_exit_by(&self.exits, lone, &bytes[front..]);
             if at == front {
                 return at;
             }
@@ -184,7 +185,16 @@ fn next_exit(exits: &ByteClass, bytes: &[u8]) -> usize
     if exits.is_empty() {
         return bytes.len();
     }
-    if let Some(exit) = lone_byte(exits) {
+    next_exit_by(exits, lone_byte(exits), bytes)
+}
+
+// The same, where it is known which byte of the class is the only one.
+fn next_exit_by(exits: &ByteClass, lone: Option<u8>, bytes: &[u8]) -> usize
+    requires { IfSome lone (λ b. (a : ℕ) → Holds exits.now a → a ≡ b) }
+    ensures within { result ≤ length bytes.now }
+    ensures passed { (x : ℕ) → x < result → ¬ Holds exits.now (slice_index bytes.now x) }
+{
+    if let Some(exit) = lone {
         return memchr(exit, bytes).unwrap_or(bytes.len());
     }
     for (at, byte) in bytes.iter().enumerate() {
@@ -197,6 +207,26 @@ fn next_exit(exits: &ByteClass, bytes: &[u8]) -> usize
 
 // The first place at which the bytes begin with the front, as far as they go, or their end.
 fn next_front(front: &[u8], bytes: &[u8]) -> usize
+    requires { 0 < length front.now }
+    ensures within { result ≤ length bytes.now }
+    ensures passed { (x : ℕ) → x < result → Misses front.now (drop x bytes.now) }
+{
+    match front {
+        [byte] => next_byte(*byte, bytes),
+        _ => next_run(front, bytes),
+    }
+}
+
+// The same of one byte.
+fn next_byte(byte: u8, bytes: &[u8]) -> usize
+    ensures within { result ≤ length bytes.now }
+    ensures passed { (x : ℕ) → x < result → slice_index bytes.now x ≢ byte }
+{
+    memchr(byte, bytes).unwrap_or(bytes.len())
+}
+
+// The same of several.
+fn next_run(front: &[u8], bytes: &[u8]) -> usize
     requires { 0 < length front.now }
     ensures within { result ≤ length bytes.now }
     ensures passed { (x : ℕ) → x < result → Misses front.now (drop x bytes.now) }
