@@ -8,12 +8,21 @@ use sig_bits::FromRead;
 use sig_table::Table;
 use std::test::Fail;
 
+// The rows below their header.
+fn text_of(rt: &HostRuntime, header: &str, rows: &str) -> Result<String, Fail> {
+    Ok(format!(in rt.alloc(); "{header}{rows}")?)
+}
+
+// The table of these two texts.
+fn loaded(rt: &HostRuntime, signatures: &[u8], priorities: &[u8]) -> Result<Table, Fail> {
+    let mut signatures = FromRead::new(signatures);
+    let mut priorities = FromRead::new(priorities);
+    Ok(Table::load(rt.alloc(), &mut signatures, &mut priorities)?)
+}
+
 // The table of these signature rows and priority rows.
 pub(crate) fn table_of(rt: &HostRuntime, rows: &str, pairs: &str) -> Result<Table, Fail> {
-    let signatures = format!(in rt.alloc(); "{SIGNATURES}{rows}")?;
-    let priorities = format!(in rt.alloc(); "{PRIORITIES}{pairs}")?;
-    let mut signatures = FromRead::new(signatures.as_bytes());
-    let mut priorities = FromRead::new(priorities.as_bytes());
-    let table = Table::load(rt.alloc(), &mut signatures, &mut priorities)?;
-    Ok(table)
+    let signatures = text_of(rt, SIGNATURES, rows)?;
+    let priorities = text_of(rt, PRIORITIES, pairs)?;
+    loaded(rt, signatures.as_bytes(), priorities.as_bytes())
 }

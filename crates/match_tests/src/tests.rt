@@ -21,16 +21,23 @@ use std::test::Fail;
 
 const HEADER: &str = "puid,signature,position,offset,max_offset,expression\n";
 
+// The rows below their header.
+fn text_of(alloc: Global, header: &str, rows: &str) -> Result<String, Fail> {
+    Ok(format!(in alloc; "{header}{rows}")?)
+}
+
+// The table of these two texts.
+fn loaded_texts(alloc: Global, signatures: &[u8], priorities: &[u8]) -> Result<Table, Fail> {
+    let mut signatures = FromRead::new(signatures);
+    let mut priorities = FromRead::new(priorities);
+    Ok(Table::load(alloc, &mut signatures, &mut priorities)?)
+}
+
 // The table of these signature rows and priority rows.
 fn loaded_with(alloc: Global, rows: &str, pairs: &str) -> Result<Table, Fail> {
-    let rows = format!(in alloc; "{HEADER}{rows}")?;
-    let pairs = format!(in alloc; "higher,lower\n{pairs}")?;
-    let table = Table::load(
-        alloc,
-        &mut FromRead::new(rows.as_bytes()),
-        &mut FromRead::new(pairs.as_bytes()),
-    )?;
-    Ok(table)
+    let signatures = text_of(alloc, HEADER, rows)?;
+    let priorities = text_of(alloc, "higher,lower\n", pairs)?;
+    loaded_texts(alloc, signatures.as_bytes(), priorities.as_bytes())
 }
 
 // The table of these signature rows, with no priority.
@@ -51,18 +58,28 @@ fn hit(format: u16, signature: u16) -> Hit {
     }
 }
 
-// So many bytes, each 41, 42 or 00, the same for the same seed.
-fn letters(alloc: Global, seed: u32, len: usize) -> Result<Vec<u8>, AllocError> {
+// Puts so many bytes behind the file, each 41, 42 or 00, the same for the same seed.
+fn push_letters(file: &mut Vec<u8>, seed: u32, len: usize) -> Result<(), AllocError> {
     let mut state = seed;
-    let mut bytes = Vec::new(alloc);
     for _ in 0..len {
         state = next_state(state);
-        bytes.push(match (state >> 24) % 3 {
-            0 => b'A',
-            1 => b'B',
-            _ => 0,
-        })?;
+        file.push(letter_of(state))?;
     }
+    Ok(())
+}
+
+fn letter_of(state: u32) -> u8 {
+    match (state >> 24) % 3 {
+        0 => b'A',
+        1 => b'B',
+        _ => 0,
+    }
+}
+
+// So many such bytes.
+fn letters(alloc: Global, seed: u32, len: usize) -> Result<Vec<u8>, AllocError> {
+    let mut bytes = Vec::new(alloc);
+    push_letters(&mut bytes, seed, len)?;
     Ok(bytes)
 }
 
@@ -71,14 +88,22 @@ fn next_state(state: u32) -> u32 {
     state.wrapping_mul(1_664_525).wrapping_add(1_013_904_223)
 }
 
-// So many bytes, the pattern over and over.
+// Puts so many bytes behind the file, the pattern over and over.
+fn push_repeated(file: &mut Vec<u8>, pattern: &[u8], len: usize) -> Result<(), AllocError>
+    requires { 0 < length pattern.now }
+{
+    for at in 0..len {
+        file.push(pattern[at % pattern.len()])?;
+    }
+    Ok(())
+}
+
+// So many such bytes.
 fn repeated(alloc: Global, pattern: &[u8], len: usize) -> Result<Vec<u8>, AllocError>
     requires { 0 < length pattern.now }
 {
     let mut bytes = Vec::new(alloc);
-    for at in 0..len {
-        bytes.push(pattern[at % pattern.len()])?;
-    }
+    push_repeated(&mut bytes, pattern, len)?;
     Ok(bytes)
 }
 
@@ -91,28 +116,31 @@ fn scanned(alloc: Global, table: &Table, pieces: &[&[u8]]) -> Result<Results, Al
     Ok(scan.finish())
 }
 
-// The same of a file that is fed in pieces of this length.
+// The same of a file that is fed in pieces of this length, or byte by byte.
 fn scanned_by(
     alloc: Global,
     table: &Table,
     file: &[u8],
     piece: usize,
-) -> Result<Results, AllocError>
-    requires { 0 < piece }
-{
+) -> Result<Results, AllocError> {
     let mut scan = Scan::with_room(alloc, table, 0)?;
-    for bytes in file.chunks(piece) {
+    for bytes in file.chunks(piece.max(1)) {
         scan.feed(bytes);
     }
     Ok(scan.finish())
 }
 
-// Whether each of these sequences stands in the file, by the plain scan.
+// Whether the sequence stands in the file, by the plain scan.
+fn stands_plainly(alloc: Global, sequence: &Sequence, file: &[u8]) -> Result<bool, AllocError> {
+    let mut plain = PlainScan::of(alloc, sequence)?;
+    plain.feed(file);
+    Ok(plain.stands())
+}
+
+// Whether each of these sequences does.
 fn stand_plainly(alloc: Global, sequences: &[Sequence], file: &[u8]) -> Result<bool, AllocError> {
     for sequence in sequences {
-        let mut plain = PlainScan::of(alloc, sequence)?;
-        plain.feed(file);
-        if !plain.stands() {
+        if !stands_plainly(alloc, sequence, file)? {
             return Ok(false);
         }
     }
@@ -121,7 +149,12 @@ fn stand_plainly(alloc: Global, sequences: &[Sequence], file: &[u8]) -> Result<b
 
 // Whether the signature is named.
 fn has_hit(results: &Results, signature: SigId) -> bool {
-    results.hits().iter().any(|hit| hit.signature == signature)
+    for hit in results.hits() {
+        if hit.signature == signature {
+            return true;
+        }
+    }
+    false
 }
 
 // Whether the results name just the signatures that the plain scans say, where each is of a format of its own.
@@ -133,13 +166,23 @@ fn are_plain(
 ) -> Result<bool, AllocError> {
     for index in 0..table.signature_count() {
         let signature = SigId(index as u16);
-        if stand_plainly(alloc, table.sequences_of(signature), file)?
-            != has_hit(results, signature)
-        {
+        let stand = stand_plainly(alloc, table.sequences_of(signature), file)?;
+        if stand != has_hit(results, signature) {
             return Ok(false);
         }
     }
     Ok(true)
+}
+
+// Whether a scan of these pieces, which make up the file, agrees with the plain ones.
+fn is_plain(
+    alloc: Global,
+    table: &Table,
+    file: &[u8],
+    pieces: &[&[u8]],
+) -> Result<bool, AllocError> {
+    let results = scanned(alloc, table, pieces)?;
+    are_plain(alloc, table, file, &results)
 }
 
 // Whether a scan agrees with the plain ones behind each of these pieces: a new one for each front of them.
@@ -147,39 +190,48 @@ fn pieces_agree(alloc: Global, table: &Table, pieces: &[&[u8]]) -> Result<bool, 
     let mut file = Vec::new(alloc);
     for count in 0..pieces.len() {
         file.extend_from_slice(pieces[count])?;
-        let results = scanned(alloc, table, &pieces[..count + 1])?;
-        if !are_plain(alloc, table, &file, &results)? {
+        if !is_plain(alloc, table, &file, &pieces[..count + 1])? {
             return Ok(false);
         }
     }
     Ok(true)
 }
 
-// Whether it does behind each front of the file, which is fed in pieces of this length.
+// Whether it agrees with them on a file that is fed in pieces of this length.
+fn is_plain_by(
+    alloc: Global,
+    table: &Table,
+    file: &[u8],
+    piece: usize,
+) -> Result<bool, AllocError> {
+    let results = scanned_by(alloc, table, file, piece)?;
+    are_plain(alloc, table, file, &results)
+}
+
+// Whether it does behind each front of the file.
 fn fronts_agree_by(
     alloc: Global,
     table: &Table,
     file: &[u8],
     piece: usize,
-) -> Result<bool, AllocError>
-    requires { 0 < piece }
-{
+) -> Result<bool, AllocError> {
     for len in 0..file.len() + 1 {
-        let results = scanned_by(alloc, table, &file[..len], piece)?;
-        if !are_plain(alloc, table, &file[..len], &results)? {
+        if !is_plain_by(alloc, table, &file[..len], piece)? {
             return Ok(false);
         }
     }
     Ok(true)
 }
 
+// The lengths of pieces that whole files are fed in.
+const PIECES: &[usize] = &[1, 2, 3, 7, 1024];
+
 // Whether it does in pieces of several lengths.
 fn fronts_agree(alloc: Global, table: &Table, file: &[u8]) -> Result<bool, AllocError> {
-    Ok(
-        fronts_agree_by(alloc, table, file, 1)?
-            && fronts_agree_by(alloc, table, file, 2)?
-            && fronts_agree_by(alloc, table, file, 3)?
-            && fronts_agree_by(alloc, table, file, 7)?
-            && fronts_agree_by(alloc, table, file, 1024)?,
-    )
+    for piece in PIECES {
+        if !fronts_agree_by(alloc, table, file, *piece)? {
+            return Ok(false);
+        }
+    }
+    Ok(true)
 }

@@ -1,11 +1,10 @@
 //! `check` through the program: certificates of tables worked out by hand, and the words and files
 //! that it takes.
 
-use crate::tests::{Shown, folder, put, put_table, run_program};
+use crate::tests::{F, Fault, P, S, first_untold, make, make_with, put, put_table, remove, run_in};
 use fixtures::{
     ALL_BUT_ONE, COVERED, EVERY_FILE, NONE, ONE, OVER_BOTH, Rows, TWICE_HIT, TWO, TWO_SEQUENCES,
 };
-use std::fs;
 use std::test::Fail;
 
 // A table, a certificate, and the line that is printed.
@@ -239,91 +238,79 @@ const JUDGED: &[Judged] = &[
     ),
 ];
 
-// What the program shows of the certificate.
-fn shown_of(rt: &HostRuntime, folder: &str, row: Judged) -> Result<Shown, Fail> {
-    let Judged(Rows(rows, pairs), certificate, _) = row;
-    let (signatures, priorities) = put_table(rt, folder, rows, pairs)?;
-    let certificate = put(rt, folder, "certificate.bin", certificate)?;
-    check_files(
-        rt,
-        signatures.as_str(),
-        priorities.as_str(),
-        certificate.as_str(),
-    )
+// Whether the program judges the certificate in the folder so.
+fn is_judged(rt: &HostRuntime, folder: &str, line: &str) -> Result<bool, Fail> {
+    let status = if line == "accepted\n" { 0 } else { 1 };
+    Ok(run_in(rt, folder, &["check", S, P, F])?.is(status, line, ""))
 }
 
-// Runs `check` on three names of files.
-fn check_files(
-    rt: &HostRuntime,
-    signatures: &str,
-    priorities: &str,
-    certificate: &str,
-) -> Result<Shown, Fail> {
-    run_program(rt, &["check", signatures, priorities, certificate])
+// Whether it judges the certificate of the table so.
+fn is_judged_of(rt: &HostRuntime, folder: &str, row: &Judged) -> Result<bool, Fail> {
+    let Judged(Rows(rows, pairs), certificate, line) = *row;
+    put_table(rt, folder, rows, pairs)?;
+    put(rt, folder, "file.bin", certificate)?;
+    is_judged(rt, folder, line)
 }
 
 #[test]
 fn judges_the_worked_certificates(rt: HostRuntime) -> Result<(), Fail> {
-    let folder = folder(&rt, "judged")?;
-    for &row in JUDGED {
-        let Judged(_, certificate, line) = row;
-        let status = if line == "accepted\n" { 0 } else { 1 };
-        let shown = shown_of(&rt, folder.as_str(), row)?;
-        assert_eq!(rt; shown.out.as_str(), line, "{certificate:?}");
-        assert_eq!(rt; shown.status, status, "{certificate:?}");
-        assert!(rt; shown.err.is_empty(), "{certificate:?}");
+    let folder = "judged";
+    make(&rt, folder)?;
+    for row in JUDGED {
+        assert!(rt; is_judged_of(&rt, folder, row)?, "{:?}", row.1);
     }
-    fs::remove_dir_all(&rt, folder.as_str())?;
-    Ok(())
+    remove(&rt, folder)
 }
 
 // Both are in the same state after each byte, up to the last one of the gaps.
-const LONG_GAPS: &str = "fmt/1,1,BOF,0,,41{300}42\nfmt/2,2,BOF,0,,41{300}43\n";
+const LONG_GAPS: Rows = Rows("fmt/1,1,BOF,0,,41{300}42\nfmt/2,2,BOF,0,,41{300}43\n", "");
+
+// Puts so many rows behind the certificate, in each of which both are in the same state.
+fn push_rows(bytes: &mut Vec<u8>, count: u16) -> Result<(), Fail> {
+    for state in 0..count {
+        bytes.extend_from_slice(&state.to_be_bytes())?;
+        bytes.extend_from_slice(&state.to_be_bytes())?;
+    }
+    Ok(())
+}
 
 // A certificate of two such sequences, with a row for each of so many states.
 fn rows_in_step(rt: &HostRuntime, count: u16) -> Result<Vec<u8>, Fail> {
     let mut bytes = b"PSAC\x01\x00\x00\x00\x01\x01\x00\x00\x00\x00".to_vec(rt.alloc())?;
     bytes.extend_from_slice(&count.to_be_bytes())?;
-    for state in 0..count {
-        bytes.extend_from_slice(&state.to_be_bytes())?;
-        bytes.extend_from_slice(&state.to_be_bytes())?;
-    }
+    push_rows(&mut bytes, count)?;
     Ok(bytes)
+}
+
+// Whether it judges so many rows so.
+fn are_judged(rt: &HostRuntime, folder: &str, count: u16, line: &str) -> Result<bool, Fail> {
+    let certificate = rows_in_step(rt, count)?;
+    put(rt, folder, "file.bin", &certificate)?;
+    is_judged(rt, folder, line)
 }
 
 #[test]
 fn judges_so_many_rows_that_states_are_noted(rt: HostRuntime) -> Result<(), Fail> {
-    let folder = folder(&rt, "noted")?;
-    let folder = folder.as_str();
-    let (signatures, priorities) = put_table(&rt, folder, LONG_GAPS, "")?;
-    let (signatures, priorities) = (signatures.as_str(), priorities.as_str());
+    let folder = "noted";
+    make_with(&rt, folder, LONG_GAPS)?;
+    assert!(rt; are_judged(&rt, folder, 302, "accepted\n")?);
     let missing = "refused C10 not closed pair 0 table 0 row 300 byte 00\n";
-    for (count, line, status) in [(302, "accepted\n", 0), (301, missing, 1)] {
-        let bytes = rows_in_step(&rt, count)?;
-        let certificate = put(&rt, folder, "certificate.bin", bytes.as_slice())?;
-        let shown = check_files(&rt, signatures, priorities, certificate.as_str())?;
-        assert_eq!(rt; shown.out.as_str(), line);
-        assert_eq!(rt; shown.status, status);
-    }
-    fs::remove_dir_all(&rt, folder)?;
-    Ok(())
+    assert!(rt; are_judged(&rt, folder, 301, missing)?);
+    remove(&rt, folder)
 }
+
+// A certificate that is not there, a text that is no table, and a folder.
+const OPENED: &[Fault] = &[
+    Fault(&["check", S, P, "none"], 3, "cannot open none\n"),
+    Fault(&["check", P, P, "none"], 2, "signatures: L2 header\n"),
+    Fault(&["check", S, P, "@"], 3, "read failed\n"),
+];
 
 #[test]
 fn opens_the_certificate_after_the_load(rt: HostRuntime) -> Result<(), Fail> {
-    let folder = folder(&rt, "certificate")?;
-    let folder = folder.as_str();
-    let (signatures, priorities) = put_table(&rt, folder, TWO.0, TWO.1)?;
-    let (signatures, priorities) = (signatures.as_str(), priorities.as_str());
-    let missing = check_files(&rt, signatures, priorities, "none")?;
-    assert!(rt; missing.is_fault(3, "cannot open none\n"), "{missing:?}");
-    let refused = check_files(&rt, priorities, priorities, "none")?;
-    assert!(rt;
-        refused.is_fault(2, "signatures: L2 header\n"),
-        "{refused:?}"
-    );
-    let unread = check_files(&rt, signatures, priorities, folder)?;
-    assert!(rt; unread.is_fault(3, "read failed\n"), "{unread:?}");
-    fs::remove_dir_all(&rt, folder)?;
-    Ok(())
+    let folder = "certificate";
+    make_with(&rt, folder, TWO)?;
+    let untold = first_untold(&rt, folder, OPENED)?;
+    assert!(rt; untold.is_none(), "{untold:?}");
+    remove(&rt, folder)
 }

@@ -1,13 +1,13 @@
 //! `conflicts` through the program: tables worked out by hand, and what stands where it stops.
 
-use crate::tests::{Shown, folder, owned_words, put_table, run_program};
+use crate::tests::finding::put_outranked;
+use crate::tests::{P, S, is_fault, make, make_with, put_table, remove, run_in, words_in};
 use fixtures::{
     BOTH_ENDS, COVERED, EVERY_FILE, NONE, ONE, OVER_BOTH, OVER_FIRST, Room, Rows, THREE_RELATED,
     TWO,
 };
 use sig_bits::FromWrite;
 use sig_command::command;
-use std::fs;
 use std::test::Fail;
 
 // The first two signatures never meet.
@@ -102,178 +102,143 @@ const SETTLED: &[Settled] = &[
     ),
 ];
 
-// Runs `conflicts` with `--hex` on a table.
-fn settle(
+// The words for `conflicts` with `--hex` and this budget on the table in the folder.
+fn words_for(budget: &str) -> [&str; 6] {
+    ["conflicts", "--budget", budget, "--hex", S, P]
+}
+
+// Whether `conflicts` settles the table in the folder so.
+fn is_settled(
     rt: &HostRuntime,
     folder: &str,
     budget: &str,
-    rows: &str,
-    pairs: &str,
-) -> Result<Shown, Fail> {
-    let (signatures, priorities) = put_table(rt, folder, rows, pairs)?;
-    run_program(
-        rt,
-        &[
-            "conflicts",
-            "--budget",
-            budget,
-            "--hex",
-            signatures.as_str(),
-            priorities.as_str(),
-        ],
-    )
+    status: u8,
+    lines: &str,
+) -> Result<bool, Fail> {
+    Ok(run_in(rt, folder, &words_for(budget))?.is(status, lines, ""))
+}
+
+// Whether it settles the table of the row so.
+fn is_settled_of(rt: &HostRuntime, folder: &str, row: &Settled) -> Result<bool, Fail> {
+    let Settled(Rows(rows, pairs), budget, lines) = *row;
+    let status = if lines.ends_with("ambiguous 0 unknown 0\n") {
+        0
+    } else {
+        1
+    };
+    put_table(rt, folder, rows, pairs)?;
+    is_settled(rt, folder, budget, status, lines)
 }
 
 #[test]
 fn settles_what_the_rows_say(rt: HostRuntime) -> Result<(), Fail> {
-    let folder = folder(&rt, "settled")?;
-    let folder = folder.as_str();
-    for &Settled(rows, budget, lines) in SETTLED {
-        let shown = settle(&rt, folder, budget, rows.0, rows.1)?;
-        assert_eq!(rt; shown.out.as_str(), lines, "{rows:?}");
-        assert_eq!(rt;
-            shown.status,
-            if lines.ends_with("ambiguous 0 unknown 0\n") {
-                0
-            } else {
-                1
-            },
-            "{rows:?}"
-        );
-        assert!(rt; shown.err.is_empty(), "{rows:?}");
+    let folder = "settled";
+    make(&rt, folder)?;
+    for row in SETTLED {
+        assert!(rt; is_settled_of(&rt, folder, row)?, "{:?} {}", row.0, row.1);
     }
-    fs::remove_dir_all(&rt, folder)?;
-    Ok(())
+    remove(&rt, folder)
 }
 
 #[test]
 fn prints_no_bytes_unless_asked(rt: HostRuntime) -> Result<(), Fail> {
-    let folder = folder(&rt, "bare")?;
-    let folder = folder.as_str();
-    let (signatures, priorities) = put_table(&rt, folder, THREE_RELATED.0, THREE_RELATED.1)?;
-    let shown = run_program(
-        &rt,
-        &[
-            "conflicts",
-            "--budget",
-            "100",
-            signatures.as_str(),
-            priorities.as_str(),
-        ],
-    )?;
-    assert_eq!(rt;
-        shown.out.as_str(),
-        "ambiguous fmt/1 fmt/3 10 30 1\nambiguous fmt/1 fmt/4 10 40 5\n\
-         pairs 3 decided 1 ambiguous 2 unknown 0\n"
-    );
-    assert_eq!(rt; shown.status, 1);
-    fs::remove_dir_all(&rt, folder)?;
-    Ok(())
+    let folder = "bare";
+    make_with(&rt, folder, THREE_RELATED)?;
+    let shown = run_in(&rt, folder, &["conflicts", "--budget", "100", S, P])?;
+    let lines = "ambiguous fmt/1 fmt/3 10 30 1\nambiguous fmt/1 fmt/4 10 40 5\n\
+        pairs 3 decided 1 ambiguous 2 unknown 0\n";
+    assert!(rt; shown.says(1, lines));
+    remove(&rt, folder)
+}
+
+// Whether a witness of the table in the folder is told.
+fn is_ambiguous(rt: &HostRuntime, folder: &str) -> Result<bool, Fail> {
+    let lines = "ambiguous fmt/1 fmt/2 1 2 1 41\npairs 1 decided 0 ambiguous 1 unknown 0\n";
+    Ok(run_in(rt, folder, &words_for("100"))?.says(1, lines))
 }
 
 #[test]
 fn a_witness_is_told_where_many_signatures_outrank(rt: HostRuntime) -> Result<(), Fail> {
-    let folder = folder(&rt, "outranked")?;
-    let folder = folder.as_str();
-    let mut rows = "fmt/1,1,BOF,0,,41\nfmt/2,2,BOF,0,,41\n".to_string(rt.alloc())?;
-    for number in 3..68 {
-        let row = format!(in rt.alloc(); "fmt/3,{number},BOF,0,,42\n")?;
-        rows.push_str(row.as_str())?;
-    }
-    let shown = settle(
-        &rt,
-        folder,
-        "100",
-        rows.as_str(),
-        "fmt/3,fmt/1\nfmt/3,fmt/2\n",
-    )?;
-    assert_eq!(rt;
-        shown.out.as_str(),
-        "ambiguous fmt/1 fmt/2 1 2 1 41\npairs 1 decided 0 ambiguous 1 unknown 0\n"
-    );
-    assert_eq!(rt; shown.status, 1);
-    fs::remove_dir_all(&rt, folder)?;
-    Ok(())
+    let folder = "outranked";
+    make(&rt, folder)?;
+    put_outranked(&rt, folder)?;
+    assert!(rt; is_ambiguous(&rt, folder)?);
+    remove(&rt, folder)
 }
+
+const NO_TABLE: Rows = Rows("fmt/1,1,BOF,0,,4\n", "");
 
 #[test]
 fn settles_nothing_of_a_table_that_is_not_loaded(rt: HostRuntime) -> Result<(), Fail> {
-    let folder = folder(&rt, "unsettled")?;
-    let folder = folder.as_str();
-    let refused = settle(&rt, folder, "100", "fmt/1,1,BOF,0,,4\n", "")?;
-    assert!(rt;
-        refused.is_fault(2, "signatures row 1: L8 expression E2 at 1\n"),
-        "{refused:?}"
-    );
-    let missing = run_program(&rt, &["conflicts", "--budget", "100", "none", "none"])?;
-    assert!(rt; missing.is_fault(3, "cannot open none\n"), "{missing:?}");
-    fs::remove_dir_all(&rt, folder)?;
-    Ok(())
+    let folder = "unsettled";
+    make_with(&rt, folder, NO_TABLE)?;
+    let line = "signatures row 1: L8 expression E2 at 1\n";
+    assert!(rt; is_fault(&rt, folder, &words_for("100"), 2, line)?);
+    let words = &["conflicts", "--budget", "100", "none", "none"];
+    assert!(rt; is_fault(&rt, folder, words, 3, "cannot open none\n")?);
+    remove(&rt, folder)
 }
+
+// Words that are refused, and how the text that says so begins.
+const WRONG: &[(&[&str], &str)] = &[
+    (
+        &["conflicts", "a", "b"],
+        "error: the following required arguments were not provided:\n  --budget <N>\n",
+    ),
+    (
+        &["conflicts", "--budget", "0", "a", "b"],
+        "error: invalid value '0' for '--budget <N>': 0 is not in 1..=4294967295\n",
+    ),
+    (
+        &["conflicts", "--budget", "100", "a"],
+        "error: the following required arguments were not provided:\n  <PRIOS>\n",
+    ),
+    (
+        &["conflicts", "--budget", "100", "--out", "o", "a", "b"],
+        "error: unexpected argument '--out' found",
+    ),
+    (
+        &["conflicts", "--budget", "100", "a", "b", "c"],
+        "error: unexpected argument 'c' found",
+    ),
+];
 
 #[test]
 fn wants_a_budget_and_takes_no_other_flag(rt: HostRuntime) -> Result<(), Fail> {
-    let faults: [(&[&str], &str); 5] = [
-        (
-            &["conflicts", "a", "b"],
-            "error: the following required arguments were not provided:\n  --budget <N>\n",
-        ),
-        (
-            &["conflicts", "--budget", "0", "a", "b"],
-            "error: invalid value '0' for '--budget <N>': 0 is not in 1..=4294967295\n",
-        ),
-        (
-            &["conflicts", "--budget", "100", "a"],
-            "error: the following required arguments were not provided:\n  <PRIOS>\n",
-        ),
-        (
-            &["conflicts", "--budget", "100", "--out", "o", "a", "b"],
-            "error: unexpected argument '--out' found",
-        ),
-        (
-            &["conflicts", "--budget", "100", "a", "b", "c"],
-            "error: unexpected argument 'c' found",
-        ),
-    ];
-    for (words, begin) in faults {
-        let shown = run_program(&rt, words)?;
-        assert!(rt; shown.err.as_str().starts_with(begin), "{shown:?}");
-        assert_eq!(rt; shown.out.as_str(), "", "{words:?}");
-        assert_eq!(rt; shown.status, 2, "{words:?}");
+    for (words, begin) in WRONG {
+        assert!(rt; run_in(&rt, "", words)?.refuses(begin), "{words:?}");
     }
     Ok(())
 }
 
+// Whether the program fails to write where its output has this room, and leaves so much of it.
+fn is_left(rt: &HostRuntime, words: &[String], room: usize, left: usize) -> bool {
+    let mut out = Room::of(room);
+    let mut err = FromWrite::new(Vec::new(rt.alloc()));
+    let status = command(rt, words, &mut out, &mut err);
+    let line = err.into_inner();
+    status == 3 && out.left() == left && line.as_slice() == b"write failed\n".as_slice()
+}
+
+// Whether it writes all where its output has just this room.
+fn fills(rt: &HostRuntime, words: &[String], room: usize) -> bool {
+    let mut out = Room::of(room);
+    let mut err = FromWrite::new(Vec::new(rt.alloc()));
+    let status = command(rt, words, &mut out, &mut err);
+    status == 1 && out.left() == 0
+}
+
+// The room for an output, and what is left of it: the lines have 30, 26 and 40 bytes.
+const ROOMS: &[(usize, usize)] = &[(29, 29), (30, 0), (55, 25), (56, 0), (95, 39)];
+
 #[test]
 fn lines_before_a_failed_write_stand(rt: HostRuntime) -> Result<(), Fail> {
-    let folder = folder(&rt, "room")?;
-    let folder = folder.as_str();
-    let (signatures, priorities) = put_table(&rt, folder, THREE_RELATED.0, THREE_RELATED.1)?;
-    let words = owned_words(
-        &rt,
-        &[
-            "conflicts",
-            "--budget",
-            "3",
-            signatures.as_str(),
-            priorities.as_str(),
-        ],
-    )?;
-    // The lines have 30, 26 and 40 bytes.
-    let rooms = [(29, 29), (30, 0), (55, 25), (56, 0), (95, 39)];
-    for (room, left) in rooms {
-        let mut out = Room::of(room);
-        let mut err = FromWrite::new(Vec::new(rt.alloc()));
-        let status = command(&rt, words.as_slice(), &mut out, &mut err);
-        let line = String::from_utf8(err.into_inner())?;
-        assert_eq!(rt; line.as_str(), "write failed\n", "{room}");
-        assert_eq!(rt; status, 3, "{room}");
-        assert_eq!(rt; out.left(), left, "{room}");
+    let folder = "room";
+    make_with(&rt, folder, THREE_RELATED)?;
+    let words = words_in(&rt, folder, &["conflicts", "--budget", "3", S, P])?;
+    for (room, left) in ROOMS {
+        assert!(rt; is_left(&rt, &words, *room, *left), "{room}");
     }
-    let mut out = Room::of(96);
-    let mut err = FromWrite::new(Vec::new(rt.alloc()));
-    assert_eq!(rt; command(&rt, words.as_slice(), &mut out, &mut err), 1);
-    assert_eq!(rt; out.left(), 0);
-    fs::remove_dir_all(&rt, folder)?;
-    Ok(())
+    assert!(rt; fills(&rt, &words, 96));
+    remove(&rt, folder)
 }

@@ -1,6 +1,8 @@
 //! `find` through the program: tables worked out by hand, and what the other subcommands say of OUT.
 
-use crate::tests::{Shown, folder, put_table, run_program};
+use crate::tests::{
+    Fault, O, P, S, Shown, first_untold, make, make_with, path_in, put_table, remove, run_in,
+};
 use fixtures::{BOTH_ENDS, COVERED, EVERY_FILE, ONE, OVER_BOTH, OVER_FIRST, Rows, TWO};
 use std::fs;
 use std::test::Fail;
@@ -60,119 +62,137 @@ const SOUGHT: &[Sought] = &[
     ),
 ];
 
-// Runs `find` with `--hex` on two names of files, for an OUT of this name.
-fn find_files(
-    rt: &HostRuntime,
-    budget: &str,
-    out: &str,
-    signatures: &str,
-    priorities: &str,
-) -> Result<Shown, Fail> {
-    run_program(
+// Runs `find` with `--hex` on the table in the folder, for an OUT of this name.
+fn find(rt: &HostRuntime, folder: &str, budget: &str, out: &str) -> Result<Shown, Fail> {
+    run_in(
         rt,
-        &[
-            "find", "--budget", budget, "--out", out, "--hex", signatures, priorities,
-        ],
+        folder,
+        &["find", "--budget", budget, "--out", out, "--hex", S, P],
     )
+}
+
+// Whether `find` prints this of the table in the folder.
+fn is_found(rt: &HostRuntime, folder: &str, row: &Sought) -> Result<bool, Fail> {
+    let Sought(_, budget, lines, line) = *row;
+    let status = if line.is_empty() { 1 } else { 0 };
+    Ok(find(rt, folder, budget, O)?.is(status, lines, ""))
+}
+
+// Whether this is then printed of OUT.
+fn is_judged(rt: &HostRuntime, folder: &str, line: &str) -> Result<bool, Fail> {
+    let word = if line == "accepted\n" {
+        "check"
+    } else {
+        "witness"
+    };
+    let status = if line.is_empty() { 3 } else { 0 };
+    Ok(run_in(rt, folder, &[word, S, P, O])?.says(status, line))
+}
+
+// Whether both are so, in a folder of the row's own.
+fn is_sought(rt: &HostRuntime, row: &Sought) -> Result<bool, Fail> {
+    let folder = "sought";
+    make_with(rt, folder, row.0)?;
+    let is_so = is_found(rt, folder, row)? && is_judged(rt, folder, row.3)?;
+    remove(rt, folder)?;
+    Ok(is_so)
 }
 
 #[test]
 fn finds_what_the_rows_say(rt: HostRuntime) -> Result<(), Fail> {
-    for &Sought(rows, budget, lines, line) in SOUGHT {
-        let folder = folder(&rt, "sought")?;
-        let folder = folder.as_str();
-        let (signatures, priorities) = put_table(&rt, folder, rows.0, rows.1)?;
-        let (signatures, priorities) = (signatures.as_str(), priorities.as_str());
-        let out = format!(in rt.alloc(); "{folder}/out.bin")?;
-        let found = find_files(&rt, budget, out.as_str(), signatures, priorities)?;
-        assert_eq!(rt; found.out.as_str(), lines, "{rows:?}");
-        assert_eq!(rt;
-            found.status,
-            if line.is_empty() { 1 } else { 0 },
-            "{rows:?}"
-        );
-        assert!(rt; found.err.is_empty(), "{rows:?}");
-
-        let word = if line == "accepted\n" {
-            "check"
-        } else {
-            "witness"
-        };
-        let judged = run_program(&rt, &[word, signatures, priorities, out.as_str()])?;
-        assert_eq!(rt; judged.out.as_str(), line, "{rows:?}");
-        assert_eq!(rt;
-            judged.status,
-            if line.is_empty() { 3 } else { 0 },
-            "{rows:?}"
-        );
-        fs::remove_dir_all(&rt, folder)?;
+    for row in SOUGHT {
+        assert!(rt; is_sought(&rt, row)?, "{:?}", row.0);
     }
     Ok(())
+}
+
+// Puts the row of this number behind the others, all of one format.
+fn push_row(rt: &HostRuntime, rows: &mut String, number: u32) -> Result<(), Fail> {
+    let row = format!(in rt.alloc(); "fmt/3,{number},BOF,0,,42\n")?;
+    rows.push_str(&row)?;
+    Ok(())
+}
+
+// Two formats that are both hit, and one over them with 65 signatures.
+fn outranked_rows(rt: &HostRuntime) -> Result<String, Fail> {
+    let mut rows = "fmt/1,1,BOF,0,,41\nfmt/2,2,BOF,0,,41\n".to_string(rt.alloc())?;
+    for number in 3..68 {
+        push_row(rt, &mut rows, number)?;
+    }
+    Ok(rows)
+}
+
+// Puts that table into the folder.
+pub(crate) fn put_outranked(rt: &HostRuntime, folder: &str) -> Result<(), Fail> {
+    let rows = outranked_rows(rt)?;
+    put_table(rt, folder, &rows, "fmt/3,fmt/1\nfmt/3,fmt/2\n")
 }
 
 #[test]
 fn gives_up_on_a_sixty_fifth_blocker(rt: HostRuntime) -> Result<(), Fail> {
-    let folder = folder(&rt, "blockers")?;
-    let folder = folder.as_str();
-    let mut rows = "fmt/1,1,BOF,0,,41\nfmt/2,2,BOF,0,,41\n".to_string(rt.alloc())?;
-    for number in 3..68 {
-        let row = format!(in rt.alloc(); "fmt/3,{number},BOF,0,,42\n")?;
-        rows.push_str(row.as_str())?;
-    }
-    let pairs = "fmt/3,fmt/1\nfmt/3,fmt/2\n";
-    let (signatures, priorities) = put_table(&rt, folder, rows.as_str(), pairs)?;
-    let found = find_files(
-        &rt,
-        "100",
-        "none/none",
-        signatures.as_str(),
-        priorities.as_str(),
-    )?;
-    assert_eq!(rt; found.out.as_str(), "gave up 1 2\n");
-    assert_eq!(rt; found.status, 1);
-    fs::remove_dir_all(&rt, folder)?;
-    Ok(())
+    let folder = "blockers";
+    make(&rt, folder)?;
+    put_outranked(&rt, folder)?;
+    let found = find(&rt, folder, "100", "none/none")?;
+    assert!(rt; found.says(1, "gave up 1 2\n"));
+    remove(&rt, folder)
+}
+
+const TWO_ANYWHERE: Rows = Rows("fmt/1,1,Variable,,,41\nfmt/2,2,Variable,,,42\n", "");
+
+// Whether `find` finds a witness of the table in the folder.
+fn has_witness(rt: &HostRuntime, folder: &str) -> Result<bool, Fail> {
+    Ok(find(rt, folder, "100", O)?.begins("witness fmt/1 fmt/2\n"))
+}
+
+// How many bytes OUT has.
+fn out_len(rt: &HostRuntime, folder: &str) -> Result<usize, Fail> {
+    let out = path_in(rt, folder, "out.bin")?;
+    Ok(fs::read(rt, out.as_str())?.len())
 }
 
 #[test]
 fn a_witness_is_as_short_as_can_be(rt: HostRuntime) -> Result<(), Fail> {
-    let folder = folder(&rt, "shortest")?;
-    let folder = folder.as_str();
-    let rows = "fmt/1,1,Variable,,,41\nfmt/2,2,Variable,,,42\n";
-    let (signatures, priorities) = put_table(&rt, folder, rows, "")?;
-    let out = format!(in rt.alloc(); "{folder}/out.bin")?;
-    let found = find_files(
-        &rt,
-        "100",
-        out.as_str(),
-        signatures.as_str(),
-        priorities.as_str(),
-    )?;
-    assert!(rt;
-        found.out.as_str().starts_with("witness fmt/1 fmt/2\n"),
-        "{found:?}"
-    );
-    assert_eq!(rt; found.status, 0);
-    assert_eq!(rt; fs::read(&rt, out.as_str())?.len(), 2);
-    fs::remove_dir_all(&rt, folder)?;
-    Ok(())
+    let folder = "shortest";
+    make_with(&rt, folder, TWO_ANYWHERE)?;
+    assert!(rt; has_witness(&rt, folder)?);
+    assert!(rt; out_len(&rt, folder)? == 2);
+    remove(&rt, folder)
 }
+
+// An OUT that cannot be made, a text that is no table, and one that is not there.
+const OPENED: &[Fault] = &[
+    Fault(
+        &["find", "--budget", "2", "--out", "none/none", "--hex", S, P],
+        3,
+        "cannot open none/none\n",
+    ),
+    Fault(
+        &["find", "--budget", "2", "--out", "none/none", "--hex", P, P],
+        2,
+        "signatures: L2 header\n",
+    ),
+    Fault(
+        &[
+            "find",
+            "--budget",
+            "2",
+            "--out",
+            "none/none",
+            "--hex",
+            "none",
+            P,
+        ],
+        3,
+        "cannot open none\n",
+    ),
+];
 
 #[test]
 fn opens_out_after_the_search(rt: HostRuntime) -> Result<(), Fail> {
-    let folder = folder(&rt, "out")?;
-    let folder = folder.as_str();
-    let (signatures, priorities) = put_table(&rt, folder, TWO.0, TWO.1)?;
-    let (signatures, priorities) = (signatures.as_str(), priorities.as_str());
-    let unmade = find_files(&rt, "2", "none/none", signatures, priorities)?;
-    assert!(rt; unmade.is_fault(3, "cannot open none/none\n"), "{unmade:?}");
-    let refused = find_files(&rt, "2", "none/none", priorities, priorities)?;
-    assert!(rt;
-        refused.is_fault(2, "signatures: L2 header\n"),
-        "{refused:?}"
-    );
-    let missing = find_files(&rt, "2", "none/none", "none", priorities)?;
-    assert!(rt; missing.is_fault(3, "cannot open none\n"), "{missing:?}");
-    fs::remove_dir_all(&rt, folder)?;
-    Ok(())
+    let folder = "out";
+    make_with(&rt, folder, TWO)?;
+    let untold = first_untold(&rt, folder, OPENED)?;
+    assert!(rt; untold.is_none(), "{untold:?}");
+    remove(&rt, folder)
 }

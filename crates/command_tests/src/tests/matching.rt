@@ -1,7 +1,9 @@
 //! `match` through the program: its words, its files and the order in which they are opened.
 
-use crate::tests::{folder, match_files, matched_rows, put, put_table, run_program};
-use std::fs;
+use crate::tests::{
+    F, Fault, P, S, first_untold, is_answer, make, make_with, put, put_table, remove,
+};
+use fixtures::{OVER_BOTH, Rows};
 use std::test::Fail;
 
 // Signature rows, priority rows, a file, and the lines of what is left.
@@ -41,15 +43,31 @@ const LEFT: &[(&str, &str, &[u8], &str)] = &[
     ),
 ];
 
+// Whether `match` answers so of these rows, pairs and file.
+fn is_left(
+    rt: &HostRuntime,
+    folder: &str,
+    rows: &str,
+    pairs: &str,
+    file: &[u8],
+    out: &str,
+) -> Result<bool, Fail> {
+    put_table(rt, folder, rows, pairs)?;
+    put(rt, folder, "file.bin", file)?;
+    is_answer(rt, folder, &["match", S, P, F], out)
+}
+
 #[test]
 fn prints_a_line_for_each_format_left(rt: HostRuntime) -> Result<(), Fail> {
-    let folder = folder(&rt, "left")?;
-    for &(rows, pairs, file, out) in LEFT {
-        let shown = matched_rows(&rt, folder.as_str(), rows, pairs, file)?;
-        assert!(rt; shown.is_answer(out), "{rows}{shown:?}");
+    let folder = "left";
+    make(&rt, folder)?;
+    for (rows, pairs, file, out) in LEFT {
+        assert!(rt;
+            is_left(&rt, folder, rows, pairs, file, out)?,
+            "{rows}{out}"
+        );
     }
-    fs::remove_dir_all(&rt, folder.as_str())?;
-    Ok(())
+    remove(&rt, folder)
 }
 
 // The lines of three formats that are hit.
@@ -57,77 +75,41 @@ const ALL_THREE: &str = "fmt/1 1\nfmt/2 2\nfmt/3 3\n";
 
 #[test]
 fn prints_a_line_for_each_hit_with_all(rt: HostRuntime) -> Result<(), Fail> {
-    let folder = folder(&rt, "all")?;
-    let rows = "fmt/1,1,BOF,0,,41??\nfmt/2,2,BOF,0,,??42\nfmt/3,3,BOF,0,,4142\n";
-    let pairs = "fmt/3,fmt/1\nfmt/3,fmt/2\n";
-    let (signatures, priorities) = put_table(&rt, folder.as_str(), rows, pairs)?;
-    let file = put(&rt, folder.as_str(), "file.bin", b"AB")?;
-    let (signatures, priorities, file) = (signatures.as_str(), priorities.as_str(), file.as_str());
-    let first = run_program(&rt, &["match", "--all", signatures, priorities, file])?;
-    assert!(rt; first.is_answer(ALL_THREE), "{first:?}");
-    let last = run_program(&rt, &["match", signatures, priorities, file, "--all"])?;
-    assert!(rt; last.is_answer(ALL_THREE), "{last:?}");
-    fs::remove_dir_all(&rt, folder.as_str())?;
-    Ok(())
+    let folder = "all";
+    make_with(&rt, folder, OVER_BOTH)?;
+    put(&rt, folder, "file.bin", b"AB")?;
+    assert!(rt; is_answer(&rt, folder, &["match", "--all", S, P, F], ALL_THREE)?);
+    assert!(rt; is_answer(&rt, folder, &["match", S, P, F, "--all"], ALL_THREE)?);
+    remove(&rt, folder)
 }
 
-// Whether `match` of these files ends with this fault.
-fn ends_with(
-    rt: &HostRuntime,
-    signatures: &str,
-    priorities: &str,
-    file: &str,
-    status: u8,
-    line: &str,
-) -> Result<bool, Fail> {
-    Ok(match_files(rt, signatures, priorities, file)?.is_fault(status, line))
-}
+const ONE_WORD: Rows = Rows("fmt/1,1,BOF,0,,4142\n", "");
+
+// Files that are not there, texts that are no table, and folders.
+const OPENED: &[Fault] = &[
+    Fault(
+        &["match", "none.csv", "other.csv", "none"],
+        3,
+        "cannot open none.csv\n",
+    ),
+    Fault(
+        &["match", S, "other.csv", "none"],
+        3,
+        "cannot open other.csv\n",
+    ),
+    Fault(&["match", S, P, "none"], 3, "cannot open none\n"),
+    Fault(&["match", P, P, "none"], 2, "signatures: L2 header\n"),
+    Fault(&["match", "@", P, F], 3, "read failed\n"),
+    Fault(&["match", S, "@", F], 3, "read failed\n"),
+    Fault(&["match", S, P, "@"], 3, "read failed\n"),
+];
 
 #[test]
 fn opens_the_table_first_and_the_file_after_the_load(rt: HostRuntime) -> Result<(), Fail> {
-    let folder = folder(&rt, "opens")?;
-    let (signatures, priorities) = put_table(&rt, folder.as_str(), "fmt/1,1,BOF,0,,4142\n", "")?;
-    let file = put(&rt, folder.as_str(), "file.bin", b"AB")?;
-    let (folder, signatures, priorities, file) = (
-        folder.as_str(),
-        signatures.as_str(),
-        priorities.as_str(),
-        file.as_str(),
-    );
-    assert!(rt;
-        ends_with(
-            &rt,
-            "none.csv",
-            "other.csv",
-            "none",
-            3,
-            "cannot open none.csv\n"
-        )?
-    );
-    assert!(rt;
-        ends_with(
-            &rt,
-            signatures,
-            "other.csv",
-            "none",
-            3,
-            "cannot open other.csv\n"
-        )?
-    );
-    assert!(rt; ends_with(&rt, signatures, priorities, "none", 3, "cannot open none\n")?);
-    assert!(rt;
-        ends_with(
-            &rt,
-            priorities,
-            priorities,
-            "none",
-            2,
-            "signatures: L2 header\n"
-        )?
-    );
-    assert!(rt; ends_with(&rt, folder, priorities, file, 3, "read failed\n")?);
-    assert!(rt; ends_with(&rt, signatures, folder, file, 3, "read failed\n")?);
-    assert!(rt; ends_with(&rt, signatures, priorities, folder, 3, "read failed\n")?);
-    fs::remove_dir_all(&rt, folder)?;
-    Ok(())
+    let folder = "opens";
+    make_with(&rt, folder, ONE_WORD)?;
+    put(&rt, folder, "file.bin", b"AB")?;
+    let untold = first_untold(&rt, folder, OPENED)?;
+    assert!(rt; untold.is_none(), "{untold:?}");
+    remove(&rt, folder)
 }

@@ -1,149 +1,154 @@
 //! `match` of several files through the program: each line behind its file's name, files with faults
 //! among others, a refused table and a failed write.
 
-use crate::tests::{folder, owned_words, put, put_table, run_program};
-use fixtures::Broken;
+use crate::tests::{Fault, P, S, first_untold, make_with, path_of, put, remove, run_in, words_in};
+use fixtures::{Broken, Rows};
 use sig_bits::FromWrite;
 use sig_command::command;
-use std::fs;
 use std::test::Fail;
 
 // A format whose files begin with `A`, below one whose files begin with `AB`.
-const ROWS: &str = "fmt/1,1,BOF,0,,41\nfmt/2,2,BOF,0,,4142\n";
+const BELOW: Rows = Rows("fmt/1,1,BOF,0,,41\nfmt/2,2,BOF,0,,4142\n", "fmt/2,fmt/1\n");
 
-const PAIRS: &str = "fmt/2,fmt/1\n";
+// Words, the status, and what is written to both outputs.
+struct Answered(&'static [&'static str], u8, &'static str, &'static str);
+
+// The text, with the path of the folder in the place of each `@`.
+fn text_in(rt: &HostRuntime, folder: &str, text: &str) -> Result<String, Fail> {
+    let path = path_of(rt, folder)?;
+    Ok(text.replace(rt.alloc(), "@", path.as_str())?)
+}
+
+// Whether the program answers so.
+fn is_answered(rt: &HostRuntime, folder: &str, row: &Answered) -> Result<bool, Fail> {
+    let Answered(words, status, out, err) = *row;
+    let out = text_in(rt, folder, out)?;
+    let err = text_in(rt, folder, err)?;
+    is_shown(rt, folder, words, status, &out, &err)
+}
+
+fn is_shown(
+    rt: &HostRuntime,
+    folder: &str,
+    words: &[&str],
+    status: u8,
+    out: &str,
+    err: &str,
+) -> Result<bool, Fail> {
+    Ok(run_in(rt, folder, words)?.is(status, out, err))
+}
+
+// Puts files into the folder: one that begins with `AB`, one with neither, and one with `A`.
+fn put_many(rt: &HostRuntime, folder: &str) -> Result<(), Fail> {
+    put(rt, folder, "both.bin", b"AB")?;
+    put(rt, folder, "none.bin", b"B")?;
+    put(rt, folder, "one.bin", b"AC")
+}
+
+const MANY: &[Answered] = &[
+    Answered(
+        &[
+            "match",
+            S,
+            P,
+            "@/one.bin",
+            "@/both.bin",
+            "@/none.bin",
+            "@/both.bin",
+        ],
+        0,
+        "@/one.bin\tfmt/1 1\n@/both.bin\tfmt/2 2\n@/none.bin\t-\n@/both.bin\tfmt/2 2\n",
+        "",
+    ),
+    Answered(
+        &["match", "--all", S, P, "@/both.bin", "@/one.bin"],
+        0,
+        "@/both.bin\tfmt/1 1\n@/both.bin\tfmt/2 2\n@/one.bin\tfmt/1 1\n",
+        "",
+    ),
+    Answered(&["match", S, P, "@/none.bin"], 0, "", ""),
+];
 
 #[test]
 fn prints_the_lines_of_each_file_behind_its_name(rt: HostRuntime) -> Result<(), Fail> {
-    let folder = folder(&rt, "many")?;
-    let (signatures, priorities) = put_table(&rt, folder.as_str(), ROWS, PAIRS)?;
-    let both = put(&rt, folder.as_str(), "both.bin", b"AB")?;
-    let none = put(&rt, folder.as_str(), "none.bin", b"B")?;
-    let one = put(&rt, folder.as_str(), "one.bin", b"AC")?;
-    let lines = format!(in rt.alloc();
-        "{one}\tfmt/1 1\n{both}\tfmt/2 2\n{none}\t-\n{both}\tfmt/2 2\n"
-    )?;
-    let shown = run_program(
-        &rt,
-        &[
-            "match",
-            signatures.as_str(),
-            priorities.as_str(),
-            one.as_str(),
-            both.as_str(),
-            none.as_str(),
-            both.as_str(),
-        ],
-    )?;
-    assert!(rt; shown.is_answer(lines.as_str()), "{shown:?}");
-    let lines = format!(in rt.alloc(); "{both}\tfmt/1 1\n{both}\tfmt/2 2\n{one}\tfmt/1 1\n")?;
-    let shown = run_program(
-        &rt,
-        &[
-            "match",
-            "--all",
-            signatures.as_str(),
-            priorities.as_str(),
-            both.as_str(),
-            one.as_str(),
-        ],
-    )?;
-    assert!(rt; shown.is_answer(lines.as_str()), "{shown:?}");
-    let shown = run_program(
-        &rt,
-        &[
-            "match",
-            signatures.as_str(),
-            priorities.as_str(),
-            none.as_str(),
-        ],
-    )?;
-    assert!(rt; shown.is_answer(""), "{shown:?}");
-    fs::remove_dir_all(&rt, folder.as_str())?;
-    Ok(())
+    let folder = "many";
+    make_with(&rt, folder, BELOW)?;
+    put_many(&rt, folder)?;
+    for row in MANY {
+        assert!(rt; is_answered(&rt, folder, row)?, "{:?}", row.0);
+    }
+    remove(&rt, folder)
 }
+
+const GOING_ON: &Answered = &Answered(
+    &[
+        "match",
+        S,
+        P,
+        "@/missing.bin",
+        "@/one.bin",
+        "@",
+        "@/one.bin",
+    ],
+    3,
+    "@/one.bin\tfmt/1 1\n@/one.bin\tfmt/1 1\n",
+    "cannot open @/missing.bin\n@: read failed\n",
+);
 
 #[test]
 fn goes_on_behind_a_file_with_a_fault(rt: HostRuntime) -> Result<(), Fail> {
-    let folder = folder(&rt, "go_on")?;
-    let (signatures, priorities) = put_table(&rt, folder.as_str(), ROWS, PAIRS)?;
-    let one = put(&rt, folder.as_str(), "one.bin", b"A")?;
-    let missing = format!(in rt.alloc(); "{folder}/missing.bin")?;
-    let shown = run_program(
-        &rt,
-        &[
-            "match",
-            signatures.as_str(),
-            priorities.as_str(),
-            missing.as_str(),
-            one.as_str(),
-            folder.as_str(),
-            one.as_str(),
-        ],
-    )?;
-    let lines = format!(in rt.alloc(); "{one}\tfmt/1 1\n{one}\tfmt/1 1\n")?;
-    let faults = format!(in rt.alloc(); "cannot open {missing}\n{folder}: read failed\n")?;
-    assert_eq!(rt; shown.out.as_str(), lines.as_str());
-    assert_eq!(rt; shown.err.as_str(), faults.as_str());
-    assert_eq!(rt; shown.status, 3);
-    fs::remove_dir_all(&rt, folder.as_str())?;
-    Ok(())
+    let folder = "go_on";
+    make_with(&rt, folder, BELOW)?;
+    put(&rt, folder, "one.bin", b"A")?;
+    assert!(rt; is_answered(&rt, folder, GOING_ON)?);
+    remove(&rt, folder)
 }
+
+const REFUSED: &[Fault] = &[
+    Fault(
+        &["match", P, P, "@/one.bin", "none.bin"],
+        2,
+        "signatures: L2 header\n",
+    ),
+    Fault(
+        &["match", S, "none.csv", "none.bin", "@/one.bin"],
+        3,
+        "cannot open none.csv\n",
+    ),
+];
 
 #[test]
 fn a_refused_table_comes_before_any_line(rt: HostRuntime) -> Result<(), Fail> {
-    let folder = folder(&rt, "no_table")?;
-    let (signatures, priorities) = put_table(&rt, folder.as_str(), ROWS, PAIRS)?;
-    let one = put(&rt, folder.as_str(), "one.bin", b"A")?;
-    let shown = run_program(
-        &rt,
-        &[
-            "match",
-            priorities.as_str(),
-            priorities.as_str(),
-            one.as_str(),
-            "none.bin",
-        ],
-    )?;
-    assert!(rt; shown.is_fault(2, "signatures: L2 header\n"), "{shown:?}");
-    let shown = run_program(
-        &rt,
-        &[
-            "match",
-            signatures.as_str(),
-            "none.csv",
-            "none.bin",
-            one.as_str(),
-        ],
-    )?;
-    assert!(rt; shown.is_fault(3, "cannot open none.csv\n"), "{shown:?}");
-    fs::remove_dir_all(&rt, folder.as_str())?;
-    Ok(())
+    let folder = "no_table";
+    make_with(&rt, folder, BELOW)?;
+    put(&rt, folder, "one.bin", b"A")?;
+    let untold = first_untold(&rt, folder, REFUSED)?;
+    assert!(rt; untold.is_none(), "{untold:?}");
+    remove(&rt, folder)
+}
+
+// Whether the program, run with a broken output, ends with this status and reports this.
+fn is_unwritten(
+    rt: &HostRuntime,
+    folder: &str,
+    words: &[&str],
+    faults: &str,
+) -> Result<bool, Fail> {
+    let words = words_in(rt, folder, words)?;
+    let mut out = Broken::new();
+    let mut err = FromWrite::new(Vec::new(rt.alloc()));
+    let status = command(rt, words.as_slice(), &mut out, &mut err);
+    let told = err.into_inner();
+    Ok(status == 3 && told.as_slice() == faults.as_bytes())
 }
 
 #[test]
 fn a_failed_write_is_told_last(rt: HostRuntime) -> Result<(), Fail> {
-    let folder = folder(&rt, "no_room")?;
-    let (signatures, priorities) = put_table(&rt, folder.as_str(), ROWS, PAIRS)?;
-    let one = put(&rt, folder.as_str(), "one.bin", b"A")?;
-    let (signatures, priorities, one) = (signatures.as_str(), priorities.as_str(), one.as_str());
-    let words = owned_words(
-        &rt,
-        &[
-            "match",
-            signatures,
-            priorities,
-            "none.bin",
-            one,
-            "other.bin",
-        ],
-    )?;
-    let mut out = Broken::new();
-    let mut err = FromWrite::new(Vec::new(rt.alloc()));
-    let status = command(&rt, words.as_slice(), &mut out, &mut err);
-    let faults = String::from_utf8(err.into_inner())?;
-    assert_eq!(rt; faults.as_str(), "cannot open none.bin\nwrite failed\n");
-    assert_eq!(rt; status, 3);
-    fs::remove_dir_all(&rt, folder.as_str())?;
-    Ok(())
+    let folder = "no_room";
+    make_with(&rt, folder, BELOW)?;
+    put(&rt, folder, "one.bin", b"A")?;
+    let words = &["match", S, P, "none.bin", "@/one.bin", "other.bin"];
+    let faults = "cannot open none.bin\nwrite failed\n";
+    assert!(rt; is_unwritten(&rt, folder, words, faults)?);
+    remove(&rt, folder)
 }

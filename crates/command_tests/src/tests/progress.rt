@@ -1,23 +1,49 @@
 //! How much of a search is done, as `--progress` shows it on standard error.
 
-use crate::tests::{folder, owned_words, put_table, run_program, run_words};
+use crate::tests::{P, S, make, make_with, put_table, remove, run_in, words_in};
 use fixtures::{ONE, Room, Rows, THREE_RELATED, TWO};
 use sig_bits::FromWrite;
 use sig_command::command;
-use std::fs;
 use std::test::Fail;
 
-// A table, the words before its files, the status, and the error output.
+// A table, the words, the status, and the error output.
 #[derive(Clone, Copy)]
 struct Watched(Rows, &'static [&'static str], u8, &'static str);
 
-const FIND_ONE: &[&str] = &["find", "--progress", "--budget", "1", "--out", "/dev/null"];
+const FIND_ONE: &[&str] = &[
+    "find",
+    "--progress",
+    "--budget",
+    "1",
+    "--out",
+    "/dev/null",
+    S,
+    P,
+];
 
-const FIND_TWO: &[&str] = &["find", "--progress", "--budget", "2", "--out", "/dev/null"];
+const FIND_TWO: &[&str] = &[
+    "find",
+    "--progress",
+    "--budget",
+    "2",
+    "--out",
+    "/dev/null",
+    S,
+    P,
+];
 
-const FIND_UNMADE: &[&str] = &["find", "--progress", "--budget", "2", "--out", "none/none"];
+const FIND_UNMADE: &[&str] = &[
+    "find",
+    "--progress",
+    "--budget",
+    "2",
+    "--out",
+    "none/none",
+    S,
+    P,
+];
 
-const SETTLE: &[&str] = &["conflicts", "--progress", "--budget", "3"];
+const SETTLE: &[&str] = &["conflicts", "--progress", "--budget", "3", S, P];
 
 const REFUSED: Rows = Rows("fmt/1,1,BOF,0,,4\n", "");
 
@@ -48,95 +74,91 @@ const WATCHED: &[Watched] = &[
     Watched(ONE, SETTLE, 0, "\r0 of 0 pairs\n"),
 ];
 
+// Whether so much of the search is shown.
+fn is_watched(rt: &HostRuntime, folder: &str, row: &Watched) -> Result<bool, Fail> {
+    let Watched(Rows(rows, pairs), words, status, err) = *row;
+    put_table(rt, folder, rows, pairs)?;
+    Ok(run_in(rt, folder, words)?.reports(status, err))
+}
+
 #[test]
 fn shows_how_much_is_done(rt: HostRuntime) -> Result<(), Fail> {
-    let folder = folder(&rt, "watched")?;
-    let folder = folder.as_str();
-    for &Watched(rows, words, status, err) in WATCHED {
-        let (signatures, priorities) = put_table(&rt, folder, rows.0, rows.1)?;
-        let mut words = owned_words(&rt, words)?;
-        words.push(signatures)?;
-        words.push(priorities)?;
-        let shown = run_words(&rt, words.as_slice())?;
-        assert_eq!(rt; shown.err.as_str(), err, "{rows:?}");
-        assert_eq!(rt; shown.status, status, "{rows:?}");
+    let folder = "watched";
+    make(&rt, folder)?;
+    for row in WATCHED {
+        assert!(rt; is_watched(&rt, folder, row)?, "{:?} {:?}", row.0, row.1);
     }
-    fs::remove_dir_all(&rt, folder)?;
+    remove(&rt, folder)
+}
+
+// Puts the row of this number behind the others: those of the first format begin with 41, the others with 42.
+fn push_row(rt: &HostRuntime, rows: &mut String, number: u32) -> Result<(), Fail> {
+    let (format, byte) = if number < 16 { (1, 41) } else { (2, 42) };
+    let row = format!(in rt.alloc(); "fmt/{format},{number},BOF,0,,{byte}\n")?;
+    rows.push_str(&row)?;
     Ok(())
+}
+
+// Two formats with 15 signatures each.
+fn many_rows(rt: &HostRuntime) -> Result<String, Fail> {
+    let mut rows = String::new(rt.alloc());
+    for number in 1..31u32 {
+        push_row(rt, &mut rows, number)?;
+    }
+    Ok(rows)
+}
+
+// How many reports there are.
+fn count_reports(err: &str) -> usize {
+    let mut count: usize = 0;
+    for byte in err.as_bytes() {
+        if *byte == b'\r' {
+            count = count.saturating_add(1);
+        }
+    }
+    count
+}
+
+// Whether every third product is reported.
+fn are_thirds(err: &str) -> bool {
+    count_reports(err) == 76
+        && err.starts_with("\r0 of 225 products\r3 of 225 products\r6 of 225")
+        && err.ends_with("\r222 of 225 products\r225 of 225 products\n")
+}
+
+// Whether they are when `find` decides those.
+fn decides_by_thirds(rt: &HostRuntime, folder: &str) -> Result<bool, Fail> {
+    let rows = many_rows(rt)?;
+    put_table(rt, folder, &rows, "")?;
+    let shown = run_in(rt, folder, FIND_ONE)?;
+    Ok(shown.answer() == "decided\n" && are_thirds(shown.report()))
 }
 
 // Two formats with 15 signatures each have 225 products, and every third one is more than a percent.
 #[test]
 fn shows_at_most_a_report_for_a_percent(rt: HostRuntime) -> Result<(), Fail> {
-    let folder = folder(&rt, "percents")?;
-    let folder = folder.as_str();
-    let mut rows = String::new(rt.alloc());
-    for number in 1..31 {
-        let row = if number < 16 {
-            format!(in rt.alloc(); "fmt/1,{number},BOF,0,,41\n")?
-        } else {
-            format!(in rt.alloc(); "fmt/2,{number},BOF,0,,42\n")?
-        };
-        rows.push_str(row.as_str())?;
-    }
-    let (signatures, priorities) = put_table(&rt, folder, rows.as_str(), "")?;
-    let shown = run_program(
-        &rt,
-        &[
-            "find",
-            "--budget",
-            "1",
-            "--out",
-            "/dev/null",
-            "--progress",
-            signatures.as_str(),
-            priorities.as_str(),
-        ],
-    )?;
-    assert_eq!(rt; shown.out.as_str(), "decided\n");
-    let err = shown.err.as_str();
-    assert_eq!(rt; err.as_bytes().iter().filter(|b| **b == b'\r').count(), 76);
-    assert!(rt;
-        err.starts_with("\r0 of 225 products\r3 of 225 products\r6 of 225"),
-        "{err}"
-    );
-    assert!(rt;
-        err.ends_with("\r222 of 225 products\r225 of 225 products\n"),
-        "{err}"
-    );
-    fs::remove_dir_all(&rt, folder)?;
-    Ok(())
+    let folder = "percents";
+    make(&rt, folder)?;
+    assert!(rt; decides_by_thirds(&rt, folder)?);
+    remove(&rt, folder)
+}
+
+// Whether the program decides where there is room for so much of its reports.
+fn is_decided(rt: &HostRuntime, words: &[String], room: usize) -> bool {
+    let mut out = FromWrite::new(Vec::new(rt.alloc()));
+    let mut err = Room::of(room);
+    let status = command(rt, words, &mut out, &mut err);
+    let answer = out.into_inner();
+    status == 0 && answer.as_slice() == b"decided\n".as_slice()
 }
 
 #[test]
 fn a_failed_report_changes_nothing(rt: HostRuntime) -> Result<(), Fail> {
-    let folder = folder(&rt, "unheard")?;
-    let folder = folder.as_str();
-    let (signatures, priorities) = put_table(&rt, folder, TWO.0, TWO.1)?;
-    let words = owned_words(
-        &rt,
-        &[
-            "find",
-            "--progress",
-            "--budget",
-            "2",
-            "--out",
-            "/dev/null",
-            signatures.as_str(),
-            priorities.as_str(),
-        ],
-    )?;
+    let folder = "unheard";
+    make_with(&rt, folder, TWO)?;
+    let words = words_in(&rt, folder, FIND_TWO)?;
     for room in 0..37 {
-        let mut out = FromWrite::new(Vec::new(rt.alloc()));
-        let mut err = Room::of(room);
-        let status = command(&rt, words.as_slice(), &mut out, &mut err);
-        assert_eq!(rt; status, 0, "{room}");
-        assert_eq!(rt;
-            String::from_utf8(out.into_inner())?.as_str(),
-            "decided\n",
-            "{room}"
-        );
+        assert!(rt; is_decided(&rt, &words, room), "{room}");
     }
-    fs::remove_dir_all(&rt, folder)?;
-    Ok(())
+    remove(&rt, folder)
 }

@@ -1,24 +1,40 @@
 //! Tables that are refused: the line of the first fault, for `show` and `match` alike.
 
-use crate::tests::{folder, match_files, matched_rows, put, run_program};
-use fixtures::{PRIORITIES, SIGNATURES};
-use std::fs;
+use crate::tests::{F, P, S, is_answer, is_fault, make, make_with, put, put_table, remove};
+use fixtures::{NONE, PRIORITIES, SIGNATURES};
 use std::test::Fail;
 
-// Whether both subcommands refuse the table of these two texts with this line.
-fn is_refused(
+// Whether both subcommands refuse the table in the folder with this line.
+fn is_refused(rt: &HostRuntime, folder: &str, line: &str) -> Result<bool, Fail> {
+    Ok(
+        is_fault(rt, folder, &["show", S, P], 2, line)?
+            && is_fault(rt, folder, &["match", S, P, "none"], 2, line)?,
+    )
+}
+
+// Whether they refuse the table of these texts.
+fn are_refused(
     rt: &HostRuntime,
     folder: &str,
     signatures: &str,
     priorities: &str,
     line: &str,
 ) -> Result<bool, Fail> {
-    let signatures = put(rt, folder, "signatures.csv", signatures.as_bytes())?;
-    let priorities = put(rt, folder, "priorities.csv", priorities.as_bytes())?;
-    let (signatures, priorities) = (signatures.as_str(), priorities.as_str());
-    let shown = run_program(rt, &["show", signatures, priorities])?;
-    let matched = match_files(rt, signatures, priorities, "none")?;
-    Ok(shown.is_fault(2, line) && matched.is_fault(2, line))
+    put(rt, folder, "signatures.csv", signatures.as_bytes())?;
+    put(rt, folder, "priorities.csv", priorities.as_bytes())?;
+    is_refused(rt, folder, line)
+}
+
+// Whether they refuse the table of these rows, below their headers.
+fn rows_are_refused(
+    rt: &HostRuntime,
+    folder: &str,
+    rows: &str,
+    pairs: &str,
+    line: &str,
+) -> Result<bool, Fail> {
+    put_table(rt, folder, rows, pairs)?;
+    is_refused(rt, folder, line)
 }
 
 // Signature rows, and the line of their first fault.
@@ -79,14 +95,12 @@ const SIGNATURE_FAULTS: &[(&str, &str)] = &[
 
 #[test]
 fn names_the_first_fault_of_the_signatures(rt: HostRuntime) -> Result<(), Fail> {
-    let folder = folder(&rt, "signatures")?;
-    for &(rows, line) in SIGNATURE_FAULTS {
-        let signatures = format!(in rt.alloc(); "{SIGNATURES}{rows}")?;
-        let refused = is_refused(&rt, folder.as_str(), signatures.as_str(), PRIORITIES, line)?;
-        assert!(rt; refused, "{line}");
+    let folder = "signatures";
+    make(&rt, folder)?;
+    for (rows, line) in SIGNATURE_FAULTS {
+        assert!(rt; rows_are_refused(&rt, folder, rows, "", line)?, "{line}");
     }
-    fs::remove_dir_all(&rt, folder.as_str())?;
-    Ok(())
+    remove(&rt, folder)
 }
 
 // Priority rows, and the line of their first fault.
@@ -110,89 +124,130 @@ const PRIORITY_FAULTS: &[(&str, &str)] = &[
 
 #[test]
 fn names_the_first_fault_of_the_priorities(rt: HostRuntime) -> Result<(), Fail> {
-    let folder = folder(&rt, "priorities")?;
-    let signatures = format!(in rt.alloc(); "{SIGNATURES}fmt/1,1,BOF,0,,41\nfmt/2,2,BOF,0,,41\n")?;
-    for &(pairs, line) in PRIORITY_FAULTS {
-        let priorities = format!(in rt.alloc(); "{PRIORITIES}{pairs}")?;
-        let refused = is_refused(
-            &rt,
-            folder.as_str(),
-            signatures.as_str(),
-            priorities.as_str(),
-            line,
-        )?;
-        assert!(rt; refused, "{line}");
+    let folder = "priorities";
+    make(&rt, folder)?;
+    let rows = "fmt/1,1,BOF,0,,41\nfmt/2,2,BOF,0,,41\n";
+    for (pairs, line) in PRIORITY_FAULTS {
+        assert!(rt; rows_are_refused(&rt, folder, rows, pairs, line)?, "{line}");
     }
-    fs::remove_dir_all(&rt, folder.as_str())?;
+    remove(&rt, folder)
+}
+
+// Puts the row of this number behind the others: the text, with the number in the place of each `#`.
+fn push_row(rt: &HostRuntime, rows: &mut String, number: u64, text: &str) -> Result<(), Fail> {
+    let number = number.to_string(rt.alloc())?;
+    let row = text.replace(rt.alloc(), "#", &number)?;
+    rows.push_str(&row)?;
     Ok(())
 }
 
 // The text once for each number from 1 to `count`, with `#` for the number.
 fn repeated(rt: &HostRuntime, count: u32, text: &str) -> Result<String, Fail> {
-    let mut all = SIGNATURES.to_string(rt.alloc())?;
+    let mut rows = String::new(rt.alloc());
     for i in 0..count {
-        let number = (u64::from(i) + 1).to_string(rt.alloc())?;
-        all.push_str(text.replace(rt.alloc(), "#", number.as_str())?.as_str())?;
+        push_row(rt, &mut rows, u64::from(i) + 1, text)?;
     }
-    Ok(all)
+    Ok(rows)
 }
 
-#[test]
-fn names_a_header_and_a_limit(rt: HostRuntime) -> Result<(), Fail> {
-    let folder = folder(&rt, "limits")?;
-    let pairs = "41".repeat(rt.alloc(), 4097)?;
-    let long = format!(in rt.alloc(); "{SIGNATURES}fmt/1,1,BOF,0,,{pairs}\n")?;
-    let nine = repeated(&rt, 9, "fmt/1,1,BOF,0,,41\n")?;
-    let many = repeated(&rt, 1001, "fmt/#,#,BOF,0,,41\n")?;
-    let cases = [
-        ("no header\n", PRIORITIES, "signatures: L2 header\n"),
-        (SIGNATURES, "lower,higher\n", "priorities: L2 header\n"),
-        (SIGNATURES, "", "priorities: L2 header\n"),
-        (
-            long.as_str(),
-            PRIORITIES,
-            "signatures row 1: L8 expression E1\n",
-        ),
-        (
-            nine.as_str(),
-            PRIORITIES,
-            "signatures row 9: L10 too many sequences\n",
-        ),
-        (
-            many.as_str(),
-            PRIORITIES,
-            "signatures row 1001: L12 too many formats\n",
-        ),
-    ];
-    for (signatures, priorities, line) in cases {
-        let refused = is_refused(&rt, folder.as_str(), signatures, priorities, line)?;
-        assert!(rt; refused, "{line}");
-    }
-    fs::remove_dir_all(&rt, folder.as_str())?;
-    Ok(())
+// Whether they refuse so many rows.
+fn many_are_refused(
+    rt: &HostRuntime,
+    folder: &str,
+    count: u32,
+    text: &str,
+    line: &str,
+) -> Result<bool, Fail> {
+    let rows = repeated(rt, count, text)?;
+    rows_are_refused(rt, folder, &rows, "", line)
 }
 
-// Expressions with as many slots as the limit, and with one more.
-const SLOTS: &[(&str, &str)] = &[
-    ("{65525}[4142:4241]", "{65526}[4142:4241]"),
-    ("{65525}[!4142]", "{65526}[!4142]"),
-    ("{65531}[!0000:FFFE]", "{65532}[!0000:FFFE]"),
+// Whether they refuse an expression of so many bytes 41.
+fn long_is_refused(rt: &HostRuntime, folder: &str, count: usize, line: &str) -> Result<bool, Fail> {
+    let pairs = "41".repeat(rt.alloc(), count)?;
+    let row = format!(in rt.alloc(); "fmt/1,1,BOF,0,,{pairs}\n")?;
+    rows_are_refused(rt, folder, &row, "", line)
+}
+
+// Texts of the two files, and the line of their fault.
+const HEADER_FAULTS: &[(&str, &str, &str)] = &[
+    ("no header\n", PRIORITIES, "signatures: L2 header\n"),
+    (SIGNATURES, "lower,higher\n", "priorities: L2 header\n"),
+    (SIGNATURES, "", "priorities: L2 header\n"),
+];
+
+// Rows, how many of them there are, and the line of their fault.
+const TOO_MANY: &[(&str, u32, &str)] = &[
+    (
+        "fmt/1,1,BOF,0,,41\n",
+        9,
+        "signatures row 9: L10 too many sequences\n",
+    ),
+    (
+        "fmt/#,#,BOF,0,,41\n",
+        1001,
+        "signatures row 1001: L12 too many formats\n",
+    ),
 ];
 
 #[test]
-fn takes_as_many_slots_as_the_limit(rt: HostRuntime) -> Result<(), Fail> {
-    let folder = folder(&rt, "slots")?;
-    for &(most, over) in SLOTS {
-        let row = format!(in rt.alloc(); "fmt/1,1,Variable,,,{most}\n")?;
-        let shown = matched_rows(&rt, folder.as_str(), row.as_str(), "", b"A")?;
-        assert!(rt; shown.is_answer(""), "{shown:?}");
-        let row = format!(in rt.alloc(); "fmt/1,1,Variable,,,{over}\n")?;
-        let shown = matched_rows(&rt, folder.as_str(), row.as_str(), "", b"A")?;
+fn names_a_header_and_a_limit(rt: HostRuntime) -> Result<(), Fail> {
+    let folder = "limits";
+    make(&rt, folder)?;
+    for (signatures, priorities, line) in HEADER_FAULTS {
         assert!(rt;
-            shown.is_fault(2, "signatures row 1: L11 too many slots\n"),
-            "{shown:?}"
+            are_refused(&rt, folder, signatures, priorities, line)?,
+            "{line}"
         );
     }
-    fs::remove_dir_all(&rt, folder.as_str())?;
-    Ok(())
+    let line = "signatures row 1: L8 expression E1\n";
+    assert!(rt; long_is_refused(&rt, folder, 4097, line)?);
+    for (text, count, line) in TOO_MANY {
+        assert!(rt;
+            many_are_refused(&rt, folder, *count, text, line)?,
+            "{line}"
+        );
+    }
+    remove(&rt, folder)
+}
+
+// Rows of expressions with as many slots as the limit, and with one more.
+const SLOTS: &[(&str, &str)] = &[
+    (
+        "fmt/1,1,Variable,,,{65525}[4142:4241]\n",
+        "fmt/1,1,Variable,,,{65526}[4142:4241]\n",
+    ),
+    (
+        "fmt/1,1,Variable,,,{65525}[!4142]\n",
+        "fmt/1,1,Variable,,,{65526}[!4142]\n",
+    ),
+    (
+        "fmt/1,1,Variable,,,{65531}[!0000:FFFE]\n",
+        "fmt/1,1,Variable,,,{65532}[!0000:FFFE]\n",
+    ),
+];
+
+// Whether the file in the folder is matched against this row, and hits nothing.
+fn is_taken(rt: &HostRuntime, folder: &str, row: &str) -> Result<bool, Fail> {
+    put_table(rt, folder, row, "")?;
+    is_answer(rt, folder, &["match", S, P, F], "")
+}
+
+// Whether `match` refuses this row.
+fn has_too_many(rt: &HostRuntime, folder: &str, row: &str) -> Result<bool, Fail> {
+    put_table(rt, folder, row, "")?;
+    let line = "signatures row 1: L11 too many slots\n";
+    is_fault(rt, folder, &["match", S, P, F], 2, line)
+}
+
+#[test]
+fn takes_as_many_slots_as_the_limit(rt: HostRuntime) -> Result<(), Fail> {
+    let folder = "slots";
+    make_with(&rt, folder, NONE)?;
+    put(&rt, folder, "file.bin", b"A")?;
+    for (most, over) in SLOTS {
+        assert!(rt; is_taken(&rt, folder, most)?, "{most}");
+        assert!(rt; has_too_many(&rt, folder, over)?, "{over}");
+    }
+    remove(&rt, folder)
 }

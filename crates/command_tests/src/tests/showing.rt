@@ -1,8 +1,7 @@
 //! `show` through the program.
 
-use crate::tests::{folder, put, put_table, run_program};
-use fixtures::{PRIORITIES, SIGNATURES};
-use std::fs;
+use crate::tests::{Fault, P, S, first_untold, is_answer, make, make_with, put_table, remove};
+use fixtures::{NONE, PRIORITIES, SIGNATURES};
 use std::test::Fail;
 
 const THREE: &str = "fmt/1,1,BOF,0,0,41\nfmt/2,2,BOF,0,0,41\nfmt/3,3,BOF,0,0,41\n";
@@ -25,38 +24,53 @@ const SHOWN: &[(&str, &str, &str)] = &[
     (THREE, PAIRS, THREE),
 ];
 
-#[test]
-fn shows_both_canonical_files(rt: HostRuntime) -> Result<(), Fail> {
-    let folder = folder(&rt, "show")?;
-    for &(rows, pairs, lines) in SHOWN {
-        let (signatures, priorities) = put_table(&rt, folder.as_str(), rows, pairs)?;
-        let out = format!(in rt.alloc(); "{SIGNATURES}{lines}\n{PRIORITIES}{pairs}")?;
-        let shown = run_program(&rt, &["show", signatures.as_str(), priorities.as_str()])?;
-        assert!(rt; shown.is_answer(out.as_str()), "{shown:?}");
-    }
-    fs::remove_dir_all(&rt, folder.as_str())?;
-    Ok(())
+// Whether `show` prints this of the table in the folder.
+fn is_shown(rt: &HostRuntime, folder: &str, pairs: &str, lines: &str) -> Result<bool, Fail> {
+    let out = format!(in rt.alloc(); "{SIGNATURES}{lines}\n{PRIORITIES}{pairs}")?;
+    is_answer(rt, folder, &["show", S, P], &out)
 }
 
-// Whether `show` of these two files ends with this fault.
-fn ends_with(
+// Whether it prints this of the table of these rows and pairs.
+fn is_shown_of(
     rt: &HostRuntime,
-    signatures: &str,
-    priorities: &str,
-    line: &str,
+    folder: &str,
+    rows: &str,
+    pairs: &str,
+    lines: &str,
 ) -> Result<bool, Fail> {
-    Ok(run_program(rt, &["show", signatures, priorities])?.is_fault(3, line))
+    put_table(rt, folder, rows, pairs)?;
+    is_shown(rt, folder, pairs, lines)
 }
+
+#[test]
+fn shows_both_canonical_files(rt: HostRuntime) -> Result<(), Fail> {
+    let folder = "show";
+    make(&rt, folder)?;
+    for (rows, pairs, lines) in SHOWN {
+        assert!(rt;
+            is_shown_of(&rt, folder, rows, pairs, lines)?,
+            "{rows}{pairs}"
+        );
+    }
+    remove(&rt, folder)
+}
+
+// Files that are not there, and a folder.
+const OPENED: &[Fault] = &[
+    Fault(
+        &["show", "none.csv", "other.csv"],
+        3,
+        "cannot open none.csv\n",
+    ),
+    Fault(&["show", S, "other.csv"], 3, "cannot open other.csv\n"),
+    Fault(&["show", "@", S], 3, "read failed\n"),
+];
 
 #[test]
 fn opens_no_third_file_to_show(rt: HostRuntime) -> Result<(), Fail> {
-    let folder = folder(&rt, "unshown")?;
-    let folder = folder.as_str();
-    let signatures = put(&rt, folder, "signatures.csv", SIGNATURES.as_bytes())?;
-    let signatures = signatures.as_str();
-    assert!(rt; ends_with(&rt, "none.csv", "other.csv", "cannot open none.csv\n")?);
-    assert!(rt; ends_with(&rt, signatures, "other.csv", "cannot open other.csv\n")?);
-    assert!(rt; ends_with(&rt, folder, signatures, "read failed\n")?);
-    fs::remove_dir_all(&rt, folder)?;
-    Ok(())
+    let folder = "unshown";
+    make_with(&rt, folder, NONE)?;
+    let untold = first_untold(&rt, folder, OPENED)?;
+    assert!(rt; untold.is_none(), "{untold:?}");
+    remove(&rt, folder)
 }

@@ -1,7 +1,7 @@
 //! The program over stores: which of its files it reads for which answer, and a file whose reads
 //! fail.
 
-use crate::tests::{Shown, owned_words};
+use crate::tests::{Shown, words_in};
 use fixtures::{Failing, Memory, Named};
 use sig_bits::FromWrite;
 use sig_command::command_over;
@@ -115,62 +115,73 @@ const OF_A_TABLE: &[&[&str]] = &[
 
 // Runs the program on words over a store.
 fn run_over<S: Store>(rt: &HostRuntime, store: &S, words: &[&str]) -> Result<Shown, Fail> {
-    let words = owned_words(rt, words)?;
+    let words = words_in(rt, "", words)?;
     let mut out = FromWrite::new(Vec::new(rt.alloc()));
     let mut err = FromWrite::new(Vec::new(rt.alloc()));
     let status = command_over(store, rt.alloc(), words.as_slice(), &mut out, &mut err);
-    Ok(Shown {
-        status,
-        out: String::from_utf8(out.into_inner())?,
-        err: String::from_utf8(err.into_inner())?,
-    })
+    Shown::of(status, out.into_inner(), err.into_inner())
+}
+
+// Whether the program answers so.
+fn is_answered(rt: &HostRuntime, row: &Answered) -> Result<bool, Fail> {
+    let Answered(file, words, status, out, err) = *row;
+    let store = Memory {
+        alloc: rt.alloc(),
+        first: SIGNATURES,
+        second: PRIORITIES,
+        third: Named {
+            bytes: file,
+            ..FILE
+        },
+    };
+    Ok(run_over(rt, &store, words)?.is(status, out, err))
 }
 
 #[test]
 fn answers_for_the_files_that_the_words_name(rt: HostRuntime) -> Result<(), Fail> {
-    for &Answered(file, words, status, out, err) in ANSWERED {
-        let store = Memory {
-            alloc: rt.alloc(),
-            first: SIGNATURES,
-            second: PRIORITIES,
-            third: Named {
-                bytes: file,
-                ..FILE
-            },
-        };
-        let shown = run_over(&rt, &store, words)?;
-        assert_eq!(rt; shown.out.as_str(), out, "{words:?}");
-        assert_eq!(rt; shown.err.as_str(), err, "{words:?}");
-        assert_eq!(rt; shown.status, status, "{words:?}");
+    for row in ANSWERED {
+        assert!(rt; is_answered(&rt, row)?, "{:?}", row.1);
     }
     Ok(())
 }
 
+// Whether it reports this of each of these words with this status, and answers nothing.
+fn all_report(
+    rt: &HostRuntime,
+    store: &Failing,
+    words: &[&[&str]],
+    status: u8,
+    err: &str,
+) -> Result<bool, Fail> {
+    for words in words {
+        if !run_over(rt, store, words)?.is(status, "", err) {
+            return Ok(false);
+        }
+    }
+    Ok(true)
+}
+
+const FILE_FAILS: &Failing = &Failing {
+    first: SIGNATURES,
+    second: PRIORITIES,
+    third: FILE,
+};
+
+const PRIORITIES_FAIL: &Failing = &Failing {
+    first: SIGNATURES,
+    second: FILE,
+    third: PRIORITIES,
+};
+
 #[test]
 fn says_nothing_of_a_file_whose_reads_fail(rt: HostRuntime) -> Result<(), Fail> {
-    let store = Failing {
-        first: SIGNATURES,
-        second: PRIORITIES,
-        third: FILE,
-    };
-    for &words in OF_A_FILE {
-        let shown = run_over(&rt, &store, words)?;
-        assert!(rt; shown.is_fault(3, "read failed\n"), "{words:?}{shown:?}");
-    }
+    assert!(rt; all_report(&rt, FILE_FAILS, OF_A_FILE, 3, "read failed\n")?);
     Ok(())
 }
 
 #[test]
 fn says_nothing_of_a_table_whose_reads_fail(rt: HostRuntime) -> Result<(), Fail> {
-    let store = Failing {
-        first: SIGNATURES,
-        second: FILE,
-        third: PRIORITIES,
-    };
-    for &words in OF_A_TABLE {
-        let shown = run_over(&rt, &store, words)?;
-        assert!(rt; shown.is_fault(3, "read failed\n"), "{words:?}{shown:?}");
-    }
+    assert!(rt; all_report(&rt, PRIORITIES_FAIL, OF_A_TABLE, 3, "read failed\n")?);
     Ok(())
 }
 
@@ -180,35 +191,24 @@ const OF_TWO: Named = Named {
     bytes: b"puid,signature,position,offset,max_offset,expression\nfmt/1,1,BOF,0,,4142\nfmt/2,1,BOF,0,,4143\n",
 };
 
+const OF_TWO_FAILS: &Failing = &Failing {
+    first: OF_TWO,
+    second: FILE,
+    third: PRIORITIES,
+};
+
 #[test]
 fn a_fault_of_the_signatures_comes_before_a_failed_read_of_the_priorities(
     rt: HostRuntime,
 ) -> Result<(), Fail> {
-    let store = Failing {
-        first: OF_TWO,
-        second: FILE,
-        third: PRIORITIES,
-    };
-    for &words in OF_A_TABLE {
-        let shown = run_over(&rt, &store, words)?;
-        assert!(rt;
-            shown.is_fault(2, "signatures row 2: L9 signature of two formats\n"),
-            "{words:?}{shown:?}"
-        );
-    }
+    let line = "signatures row 2: L9 signature of two formats\n";
+    assert!(rt; all_report(&rt, OF_TWO_FAILS, OF_A_TABLE, 2, line)?);
     Ok(())
 }
 
 #[test]
 fn says_of_which_of_several_files_the_reads_fail(rt: HostRuntime) -> Result<(), Fail> {
-    let store = Failing {
-        first: SIGNATURES,
-        second: PRIORITIES,
-        third: FILE,
-    };
-    let shown = run_over(&rt, &store, &["match", "s", "p", "s", "f", "p"])?;
-    assert_eq!(rt; shown.out.as_str(), "s\t-\np\t-\n");
-    assert_eq!(rt; shown.err.as_str(), "f: read failed\n");
-    assert_eq!(rt; shown.status, 3);
+    let shown = run_over(&rt, FILE_FAILS, &["match", "s", "p", "s", "f", "p"])?;
+    assert!(rt; shown.is(3, "s\t-\np\t-\n", "f: read failed\n"));
     Ok(())
 }

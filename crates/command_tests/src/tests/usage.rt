@@ -1,6 +1,6 @@
 //! Help, the version, and words that are refused.
 
-use crate::tests::run_program;
+use crate::tests::run_in;
 use std::test::Fail;
 
 // Words that ask for a text, and how it begins.
@@ -32,29 +32,23 @@ const TEXTS: &[(&[&str], &str)] = &[
     (&["--version"], "pronom_sig 0.1.0\n"),
 ];
 
+// What the help of `match` says.
+const OF_MATCH: &[&str] = &[
+    "No line means that no format of the table is hit.",
+    "the file is ambiguous.\n\nWith more than one FILE each line begins",
+    "and the others go on.\n\nStatuses:\n  0  ",
+    "<SIGS> <PRIOS> <FILE>...",
+];
+
 #[test]
 fn shows_help_and_the_version(rt: HostRuntime) -> Result<(), Fail> {
-    for &(words, begin) in TEXTS {
-        let shown = run_program(&rt, words)?;
-        assert!(rt; shown.out.as_str().starts_with(begin), "{shown:?}");
-        assert_eq!(rt; shown.err.as_str(), "", "{words:?}");
-        assert_eq!(rt; shown.status, 0, "{words:?}");
+    for (words, begin) in TEXTS {
+        assert!(rt; run_in(&rt, "", words)?.begins(begin), "{words:?}");
     }
-    let shown = run_program(&rt, &["match", "--help"])?;
-    let out = shown.out.as_str();
-    assert!(rt;
-        out.contains("No line means that no format of the table is hit."),
-        "{out}"
-    );
-    assert!(rt;
-        out.contains("the file is ambiguous.\n\nWith more than one FILE each line begins"),
-        "{out}"
-    );
-    assert!(rt;
-        out.contains("and the others go on.\n\nStatuses:\n  0  "),
-        "{out}"
-    );
-    assert!(rt; out.contains("<SIGS> <PRIOS> <FILE>..."), "{out}");
+    let shown = run_in(&rt, "", &["match", "--help"])?;
+    for text in OF_MATCH {
+        assert!(rt; shown.answer().contains(*text), "{text}");
+    }
     Ok(())
 }
 
@@ -94,11 +88,8 @@ const WRONG: &[(&[&str], &str)] = &[
 
 #[test]
 fn refuses_wrong_words(rt: HostRuntime) -> Result<(), Fail> {
-    for &(words, begin) in WRONG {
-        let shown = run_program(&rt, words)?;
-        assert!(rt; shown.err.as_str().starts_with(begin), "{words:?}");
-        assert_eq!(rt; shown.out.as_str(), "", "{words:?}");
-        assert_eq!(rt; shown.status, 2, "{words:?}");
+    for (words, begin) in WRONG {
+        assert!(rt; run_in(&rt, "", words)?.refuses(begin), "{words:?}");
     }
     Ok(())
 }
@@ -133,11 +124,8 @@ const WITHOUT_BUDGET: &[(&[&str], &str)] = &[
 
 #[test]
 fn wants_a_budget_and_a_name(rt: HostRuntime) -> Result<(), Fail> {
-    for &(words, begin) in WITHOUT_BUDGET {
-        let shown = run_program(&rt, words)?;
-        assert!(rt; shown.err.as_str().starts_with(begin), "{shown:?}");
-        assert_eq!(rt; shown.out.as_str(), "", "{words:?}");
-        assert_eq!(rt; shown.status, 2, "{words:?}");
+    for (words, begin) in WITHOUT_BUDGET {
+        assert!(rt; run_in(&rt, "", words)?.refuses(begin), "{words:?}");
     }
     Ok(())
 }

@@ -1,9 +1,8 @@
 //! `witness` through the program: files of tables worked out by hand, and the words and files that
 //! it takes.
 
-use crate::tests::{Shown, folder, put, put_table, run_program};
+use crate::tests::{F, Fault, P, S, first_untold, make, make_with, put, put_table, remove, run_in};
 use fixtures::{BOTH_ENDS, EVERY_FILE, ONE, OVER_BOTH, OVER_FIRST, Rows};
-use std::fs;
 use std::test::Fail;
 
 // A table, a file, and the line that is printed.
@@ -22,48 +21,37 @@ const WITNESSED: &[Witnessed] = &[
     Witnessed(ONE, b"A", "not ambiguous\n"),
 ];
 
-// Runs `witness` on three names of files.
-fn witness_files(
-    rt: &HostRuntime,
-    signatures: &str,
-    priorities: &str,
-    file: &str,
-) -> Result<Shown, Fail> {
-    run_program(rt, &["witness", signatures, priorities, file])
+// Whether this is printed of the file.
+fn is_told(rt: &HostRuntime, folder: &str, row: &Witnessed) -> Result<bool, Fail> {
+    let Witnessed(Rows(rows, pairs), file, line) = *row;
+    put_table(rt, folder, rows, pairs)?;
+    put(rt, folder, "file.bin", file)?;
+    let status = if line == "not ambiguous\n" { 1 } else { 0 };
+    Ok(run_in(rt, folder, &["witness", S, P, F])?.is(status, line, ""))
 }
 
 #[test]
 fn names_the_first_two_formats_left(rt: HostRuntime) -> Result<(), Fail> {
-    let folder = folder(&rt, "witnessed")?;
-    let folder = folder.as_str();
-    for &Witnessed(rows, file, line) in WITNESSED {
-        let is_ambiguous = line != "not ambiguous\n";
-        let (signatures, priorities) = put_table(&rt, folder, rows.0, rows.1)?;
-        let file = put(&rt, folder, "file.bin", file)?;
-        let shown = witness_files(&rt, signatures.as_str(), priorities.as_str(), file.as_str())?;
-        assert_eq!(rt; shown.out.as_str(), line, "{rows:?}");
-        assert_eq!(rt; shown.status, if is_ambiguous { 0 } else { 1 }, "{rows:?}");
-        assert!(rt; shown.err.is_empty(), "{rows:?}");
+    let folder = "witnessed";
+    make(&rt, folder)?;
+    for row in WITNESSED {
+        assert!(rt; is_told(&rt, folder, row)?, "{:?} {:?}", row.0, row.1);
     }
-    fs::remove_dir_all(&rt, folder)?;
-    Ok(())
+    remove(&rt, folder)
 }
+
+// A file that is not there, a text that is no table, and a folder.
+const OPENED: &[Fault] = &[
+    Fault(&["witness", S, P, "none"], 3, "cannot open none\n"),
+    Fault(&["witness", P, P, "none"], 2, "signatures: L2 header\n"),
+    Fault(&["witness", S, P, "@"], 3, "read failed\n"),
+];
 
 #[test]
 fn opens_the_file_after_the_load(rt: HostRuntime) -> Result<(), Fail> {
-    let folder = folder(&rt, "witness")?;
-    let folder = folder.as_str();
-    let (signatures, priorities) = put_table(&rt, folder, BOTH_ENDS.0, BOTH_ENDS.1)?;
-    let (signatures, priorities) = (signatures.as_str(), priorities.as_str());
-    let missing = witness_files(&rt, signatures, priorities, "none")?;
-    assert!(rt; missing.is_fault(3, "cannot open none\n"), "{missing:?}");
-    let refused = witness_files(&rt, priorities, priorities, "none")?;
-    assert!(rt;
-        refused.is_fault(2, "signatures: L2 header\n"),
-        "{refused:?}"
-    );
-    let unread = witness_files(&rt, signatures, priorities, folder)?;
-    assert!(rt; unread.is_fault(3, "read failed\n"), "{unread:?}");
-    fs::remove_dir_all(&rt, folder)?;
-    Ok(())
+    let folder = "witness";
+    make_with(&rt, folder, BOTH_ENDS)?;
+    let untold = first_untold(&rt, folder, OPENED)?;
+    assert!(rt; untold.is_none(), "{untold:?}");
+    remove(&rt, folder)
 }

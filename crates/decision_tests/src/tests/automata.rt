@@ -2,27 +2,35 @@
 
 use sig_auto::{Auto, accepts_empty, first_bytes};
 use sig_bits::{ByteClass, FromRead};
-use sig_table::{SigId, Table};
+use sig_table::{Sequence, SigId, Table};
 use std::alloc::Global;
-use std::test::Fail;
 
 const HEADER: &[u8] = b"puid,signature,position,offset,max_offset,expression\nfmt/1,1,";
 
-// The automaton of the one sequence with this position and this expression.
-fn automaton(alloc: Global, placed: &str) -> Option<Auto> {
+// The table of the one sequence with this position and this expression.
+fn table_of(alloc: Global, placed: &str) -> Option<Table> {
     let mut signatures = HEADER.to_vec(alloc).ok()?;
     signatures.extend_from_slice(placed.as_bytes()).ok()?;
-    let table = Table::load(
-        alloc,
-        &mut FromRead::new(signatures.as_slice()),
-        &mut FromRead::new(b"higher,lower\n".as_slice()),
-    );
-    let table = table.ok()?;
+    let mut signatures = FromRead::new(signatures.as_slice());
+    let mut priorities = FromRead::new(b"higher,lower\n".as_slice());
+    Table::load(alloc, &mut signatures, &mut priorities).ok()
+}
+
+// Its first sequence.
+fn first_of(table: &Table) -> Option<&Sequence> {
     if table.signature_count() == 0 {
         return None;
     }
-    let sequence = table.sequences_of(SigId(0)).first()?;
-    Auto::of(alloc, sequence).ok()
+    table.sequences_of(SigId(0)).first()
+}
+
+// The automaton of that sequence.
+fn automaton(alloc: Global, placed: &str) -> Option<Auto> {
+    let table = table_of(alloc, placed)?;
+    match first_of(&table) {
+        Some(sequence) => Auto::of(alloc, sequence).ok(),
+        None => None,
+    }
 }
 
 // Whether these states, and no others, follow p.
@@ -49,105 +57,142 @@ fn takes(auto: &Auto, q: u32, first: u8, last: u8) -> bool {
     true
 }
 
-#[test]
-fn the_slots_of_a_list(rt: HostRuntime) -> Result<(), Fail> {
-    let auto = automaton(rt.alloc(), "BOF,0,,(41|4142)43").expect(&rt, "loads");
-    assert_eq!(rt; auto.slots(), 5);
-    let classes: [(u32, u8, u8); 5] = [
+// An automaton: its sequence, how many slots it has, the first and the last byte that some slots take, the
+// states that follow some, and the accepting states, if it says them.
+struct Made {
+    placed: &'static str,
+    slots: u32,
+    classes: &'static [(u32, u8, u8)],
+    followers: &'static [(u32, &'static [u32])],
+    accepting: Option<&'static [u32]>,
+}
+
+fn has_classes(auto: &Auto, classes: &[(u32, u8, u8)]) -> bool {
+    for (q, first, last) in classes {
+        if !takes(auto, *q, *first, *last) {
+            return false;
+        }
+    }
+    true
+}
+
+fn has_followers(auto: &Auto, followers: &[(u32, &[u32])]) -> bool {
+    for (p, states) in followers {
+        if !is_followed_by(auto, *p, states) {
+            return false;
+        }
+    }
+    true
+}
+
+// Whether it accepts by these states alone.
+fn accepts_by(auto: &Auto, states: &[u32]) -> bool {
+    for p in 0..=auto.slots() {
+        if auto.accepting(p) != states.contains(&p) {
+            return false;
+        }
+    }
+    true
+}
+
+// Whether the automaton is made so.
+fn is_made_so(alloc: Global, made: &Made) -> Option<bool> {
+    let auto = automaton(alloc, made.placed)?;
+    let accepts = match made.accepting {
+        Some(states) => accepts_by(&auto, states),
+        None => true,
+    };
+    Some(
+        accepts
+            && auto.slots() == made.slots
+            && has_classes(&auto, made.classes)
+            && has_followers(&auto, made.followers),
+    )
+}
+
+const LIST: &Made = &Made {
+    placed: "BOF,0,,(41|4142)43",
+    slots: 5,
+    classes: &[
         (1, 0x41, 0x41),
         (2, 0x41, 0x41),
         (3, 0x42, 0x42),
         (4, 0x43, 0x43),
         (5, 0, 255),
-    ];
-    for (q, first, last) in classes {
-        assert!(rt; takes(&auto, q, first, last), "class of {q}");
-    }
-    let followers: [(u32, [u32; 2]); 6] = [
-        (0, [1, 2]),
-        (1, [4, 4]),
-        (2, [3, 3]),
-        (3, [4, 4]),
-        (4, [5, 5]),
-        (5, [5, 5]),
-    ];
-    for (p, followers) in followers {
-        assert!(rt; is_followed_by(&auto, p, &followers), "behind {p}");
-    }
-    for p in 0..6 {
-        assert_eq!(rt; auto.accepting(p), p == 4 || p == 5, "{p}");
-    }
-    Ok(())
-}
+    ],
+    followers: &[
+        (0, &[1, 2]),
+        (1, &[4]),
+        (2, &[3]),
+        (3, &[4]),
+        (4, &[5]),
+        (5, &[5]),
+    ],
+    accepting: Some(&[4, 5]),
+};
 
 #[test]
-fn the_slots_of_a_gap_with_a_greatest_length(rt: HostRuntime) -> Result<(), Fail> {
-    let auto = automaton(rt.alloc(), "BOF,0,,41{1-2}42").expect(&rt, "loads");
-    assert_eq!(rt; auto.slots(), 5);
-    let classes: [(u32, u8, u8); 5] = [
+fn the_slots_of_a_list(rt: HostRuntime) {
+    assert!(rt; is_made_so(rt.alloc(), LIST) == Some(true));
+}
+
+const GAP: &Made = &Made {
+    placed: "BOF,0,,41{1-2}42",
+    slots: 5,
+    classes: &[
         (1, 0x41, 0x41),
         (2, 0, 255),
         (3, 0, 255),
         (4, 0x42, 0x42),
         (5, 0, 255),
-    ];
-    for (q, first, last) in classes {
-        assert!(rt; takes(&auto, q, first, last), "class of {q}");
-    }
-    let followers: [(u32, [u32; 2]); 6] = [
-        (0, [1, 1]),
-        (1, [2, 2]),
-        (2, [3, 4]),
-        (3, [4, 4]),
-        (4, [5, 5]),
-        (5, [5, 5]),
-    ];
-    for (p, followers) in followers {
-        assert!(rt; is_followed_by(&auto, p, &followers), "behind {p}");
-    }
-    for p in 0..6 {
-        assert_eq!(rt; auto.accepting(p), p == 4 || p == 5, "{p}");
-    }
-    Ok(())
-}
+    ],
+    followers: &[
+        (0, &[1]),
+        (1, &[2]),
+        (2, &[3, 4]),
+        (3, &[4]),
+        (4, &[5]),
+        (5, &[5]),
+    ],
+    accepting: Some(&[4, 5]),
+};
 
 #[test]
-fn the_slots_of_an_offset_from_the_end(rt: HostRuntime) -> Result<(), Fail> {
-    let auto = automaton(rt.alloc(), "EOF,0,2,4142").expect(&rt, "loads");
-    assert_eq!(rt; auto.slots(), 5);
-    let classes: [(u32, u8, u8); 5] = [
+fn the_slots_of_a_gap_with_a_greatest_length(rt: HostRuntime) {
+    assert!(rt; is_made_so(rt.alloc(), GAP) == Some(true));
+}
+
+const FROM_END: &Made = &Made {
+    placed: "EOF,0,2,4142",
+    slots: 5,
+    classes: &[
         (1, 0, 255),
         (2, 0x41, 0x41),
         (3, 0x42, 0x42),
         (4, 0, 255),
         (5, 0, 255),
-    ];
-    for (q, first, last) in classes {
-        assert!(rt; takes(&auto, q, first, last), "class of {q}");
-    }
-    let followers: [(u32, [u32; 2]); 5] = [
-        (0, [1, 2]),
-        (1, [1, 2]),
-        (2, [3, 3]),
-        (3, [4, 4]),
-        (4, [5, 5]),
-    ];
-    for (p, followers) in followers {
-        assert!(rt; is_followed_by(&auto, p, &followers), "behind {p}");
-    }
-    assert!(rt; is_followed_by(&auto, 5, &[]), "behind 5");
-    for p in 0..6 {
-        assert_eq!(rt; auto.accepting(p), p >= 3, "{p}");
-    }
-    Ok(())
-}
+    ],
+    followers: &[
+        (0, &[1, 2]),
+        (1, &[1, 2]),
+        (2, &[3]),
+        (3, &[4]),
+        (4, &[5]),
+        (5, &[]),
+    ],
+    accepting: Some(&[3, 4, 5]),
+};
 
 #[test]
-fn the_rows_of_brackets_of_two_bytes(rt: HostRuntime) -> Result<(), Fail> {
-    // `41 42`, `41 43-FF`, `42 00-40`, `42 41`
-    let auto = automaton(rt.alloc(), "BOF,0,,[4142:4241]").expect(&rt, "loads");
-    assert_eq!(rt; auto.slots(), 9);
-    let classes: [(u32, u8, u8); 8] = [
+fn the_slots_of_an_offset_from_the_end(rt: HostRuntime) {
+    assert!(rt; is_made_so(rt.alloc(), FROM_END) == Some(true));
+}
+
+// Its rows are `41 42`, `41 43-FF`, `42 00-40`, `42 41`.
+const ONE_RANGE: &Made = &Made {
+    placed: "BOF,0,,[4142:4241]",
+    slots: 9,
+    classes: &[
         (1, 0x41, 0x41),
         (2, 0x42, 0x42),
         (3, 0x41, 0x41),
@@ -156,20 +201,26 @@ fn the_rows_of_brackets_of_two_bytes(rt: HostRuntime) -> Result<(), Fail> {
         (6, 0x00, 0x40),
         (7, 0x42, 0x42),
         (8, 0x41, 0x41),
-    ];
-    for (q, first, last) in classes {
-        assert!(rt; takes(&auto, q, first, last), "class of {q}");
-    }
-    assert!(rt; is_followed_by(&auto, 0, &[1, 3, 5, 7]), "the rows begin");
-    for p in 1..9 {
-        let next = if p % 2 == 1 { p + 1 } else { 9 };
-        assert!(rt; is_followed_by(&auto, p, &[next]), "behind {p}");
-    }
+    ],
+    followers: &[
+        (0, &[1, 3, 5, 7]),
+        (1, &[2]),
+        (2, &[9]),
+        (3, &[4]),
+        (4, &[9]),
+        (5, &[6]),
+        (6, &[9]),
+        (7, &[8]),
+        (8, &[9]),
+    ],
+    accepting: None,
+};
 
-    // `00-40 all`, `41 00-41`, `41 43-FF`, `42-FF all`
-    let auto = automaton(rt.alloc(), "BOF,0,,[!4142]").expect(&rt, "loads");
-    assert_eq!(rt; auto.slots(), 9);
-    let classes: [(u32, u8, u8); 8] = [
+// Its rows are `00-40 all`, `41 00-41`, `41 43-FF`, `42-FF all`.
+const ALL_BUT_ONE: &Made = &Made {
+    placed: "BOF,0,,[!4142]",
+    slots: 9,
+    classes: &[
         (1, 0x00, 0x40),
         (2, 0x00, 0xFF),
         (3, 0x41, 0x41),
@@ -178,17 +229,25 @@ fn the_rows_of_brackets_of_two_bytes(rt: HostRuntime) -> Result<(), Fail> {
         (6, 0x43, 0xFF),
         (7, 0x42, 0xFF),
         (8, 0x00, 0xFF),
-    ];
-    for (q, first, last) in classes {
-        assert!(rt; takes(&auto, q, first, last), "class of {q}");
-    }
+    ],
+    followers: &[],
+    accepting: None,
+};
 
-    // `FF FF`
-    let auto = automaton(rt.alloc(), "BOF,0,,[!0000:FFFE]").expect(&rt, "loads");
-    assert_eq!(rt; auto.slots(), 3);
-    assert!(rt; takes(&auto, 1, 0xFF, 0xFF));
-    assert!(rt; takes(&auto, 2, 0xFF, 0xFF));
-    Ok(())
+// Its row is `FF FF`.
+const LAST_ALONE: &Made = &Made {
+    placed: "BOF,0,,[!0000:FFFE]",
+    slots: 3,
+    classes: &[(1, 0xFF, 0xFF), (2, 0xFF, 0xFF)],
+    followers: &[],
+    accepting: None,
+};
+
+#[test]
+fn the_rows_of_brackets_of_two_bytes(rt: HostRuntime) {
+    assert!(rt; is_made_so(rt.alloc(), ONE_RANGE) == Some(true));
+    assert!(rt; is_made_so(rt.alloc(), ALL_BUT_ONE) == Some(true));
+    assert!(rt; is_made_so(rt.alloc(), LAST_ALONE) == Some(true));
 }
 
 // The set that one byte makes of a set of the states of `(41|4142)43`.
@@ -201,25 +260,29 @@ fn stepped(auto: &Auto, from: u8, byte: u8) -> Option<u8> {
     Some(to[0])
 }
 
+// A set of those states, a byte, and the set to which it steps.
+const STEPS: &[(u8, u8, u8)] = &[
+    (0x01, 0x41, 0x06),
+    (0x06, 0x42, 0x08),
+    (0x06, 0x43, 0x10),
+    (0x08, 0x43, 0x10),
+    (0x01, 0x42, 0x00),
+    (0x00, 0x41, 0x00),
+];
+
 #[test]
-fn a_set_of_states_steps_to_all_successors(rt: HostRuntime) -> Result<(), Fail> {
+fn a_set_of_states_steps_to_all_successors(rt: HostRuntime) {
     let auto = automaton(rt.alloc(), "BOF,0,,(41|4142)43").expect(&rt, "loads");
-    let rows: [(u8, u8, u8); 6] = [
-        (0x01, 0x41, 0x06),
-        (0x06, 0x42, 0x08),
-        (0x06, 0x43, 0x10),
-        (0x08, 0x43, 0x10),
-        (0x01, 0x42, 0x00),
-        (0x00, 0x41, 0x00),
-    ];
-    for (from, byte, to) in rows {
-        assert_eq!(rt; stepped(&auto, from, byte), Some(to), "{from} on {byte}");
+    for (from, byte, to) in STEPS {
+        assert!(rt;
+            stepped(&auto, *from, *byte) == Some(*to),
+            "{from} on {byte}"
+        );
     }
     // The last slot follows the one of 43 and takes every byte.
     for byte in 0..=255 {
-        assert_eq!(rt; stepped(&auto, 0x10, byte), Some(0x20), "on {byte}");
+        assert!(rt; stepped(&auto, 0x10, byte) == Some(0x20), "on {byte}");
     }
-    Ok(())
 }
 
 // Whether these are the successors, in this order.
@@ -234,82 +297,109 @@ fn has_successors(auto: &Auto, p: u32, byte: u8, wanted: &[u32]) -> bool {
     count == wanted.len()
 }
 
-#[test]
-fn successors_rise(rt: HostRuntime) -> Result<(), Fail> {
-    let auto = automaton(rt.alloc(), "BOF,0,,(41|4142)43").expect(&rt, "loads");
-    assert!(rt; has_successors(&auto, 0, 0x41, &[1, 2]));
-    assert!(rt; has_successors(&auto, 0, 0x42, &[]));
-    assert!(rt; has_successors(&auto, 1, 0x43, &[4]));
-    assert!(rt; has_successors(&auto, 5, 0x00, &[5]));
-    let auto = automaton(rt.alloc(), "BOF,0,,41{1-2}42").expect(&rt, "loads");
-    assert!(rt; has_successors(&auto, 2, 0x42, &[3, 4]));
-    assert!(rt; has_successors(&auto, 2, 0x41, &[3]));
-    Ok(())
-}
+// A sequence, a state, a byte, and the successors.
+const SUCCESSORS: &[(&str, u32, u8, &[u32])] = &[
+    ("BOF,0,,(41|4142)43", 0, 0x41, &[1, 2]),
+    ("BOF,0,,(41|4142)43", 0, 0x42, &[]),
+    ("BOF,0,,(41|4142)43", 1, 0x43, &[4]),
+    ("BOF,0,,(41|4142)43", 5, 0x00, &[5]),
+    ("BOF,0,,41{1-2}42", 2, 0x42, &[3, 4]),
+    ("BOF,0,,41{1-2}42", 2, 0x41, &[3]),
+];
 
 #[test]
-fn a_set_begins_with_the_start(rt: HostRuntime) -> Result<(), Fail> {
-    let auto = automaton(rt.alloc(), "BOF,0,,(41|4142)43{2}").expect(&rt, "loads");
-    assert_eq!(rt; auto.slots(), 7);
-    assert_eq!(rt; auto.set_len(), 1);
-    let mut set = [0xFF];
-    auto.start_set(&mut set);
-    assert_eq!(rt; set, [0x01]);
-    let auto = automaton(rt.alloc(), "BOF,0,,(41|4142)43{3}").expect(&rt, "loads");
-    assert_eq!(rt; auto.set_len(), 2);
+fn successors_rise(rt: HostRuntime) {
+    for (placed, p, byte, wanted) in SUCCESSORS {
+        let auto = automaton(rt.alloc(), placed).expect(&rt, "loads");
+        assert!(rt;
+            has_successors(&auto, *p, *byte, wanted),
+            "{placed} {p} {byte}"
+        );
+    }
+}
+
+// Whether a set of its states begins with these bytes; none where its sets are longer or shorter.
+fn starts_with(auto: &Auto, wanted: &[u8]) -> Option<bool> {
     let mut set = [0xFF; 2];
-    auto.start_set(&mut set);
-    assert_eq!(rt; set, [0x01, 0x00]);
-    Ok(())
+    if auto.set_len() != wanted.len() || set.len() < wanted.len() {
+        return None;
+    }
+    let set = &mut set[..wanted.len()];
+    auto.start_set(set);
+    Some(*set == *wanted)
 }
 
 #[test]
-fn a_set_accepts_by_one_of_its_states(rt: HostRuntime) -> Result<(), Fail> {
+fn a_set_begins_with_the_start(rt: HostRuntime) {
+    let auto = automaton(rt.alloc(), "BOF,0,,(41|4142)43{2}").expect(&rt, "loads");
+    assert!(rt; auto.slots() == 7);
+    assert!(rt; starts_with(&auto, &[0x01]) == Some(true));
+    let auto = automaton(rt.alloc(), "BOF,0,,(41|4142)43{3}").expect(&rt, "loads");
+    assert!(rt; starts_with(&auto, &[0x01, 0x00]) == Some(true));
+}
+
+// Sets of the states of `(41|4142)43`, and whether they accept.
+const ACCEPTING: &[(u8, bool)] = &[
+    (0x00, false),
+    (0x01, false),
+    (0x0E, false),
+    (0x10, true),
+    (0x20, true),
+    (0x3F, true),
+];
+
+// Whether the set of one byte accepts; none where sets have more.
+fn accepts(auto: &Auto, set: u8) -> Option<bool> {
+    if auto.set_len() != 1 {
+        return None;
+    }
+    Some(auto.any_accepting(&[set]))
+}
+
+#[test]
+fn a_set_accepts_by_one_of_its_states(rt: HostRuntime) {
     let auto = automaton(rt.alloc(), "BOF,0,,(41|4142)43").expect(&rt, "loads");
-    assert_eq!(rt; auto.set_len(), 1);
-    let rows: [(u8, bool); 6] = [
-        (0x00, false),
-        (0x01, false),
-        (0x0E, false),
-        (0x10, true),
-        (0x20, true),
-        (0x3F, true),
-    ];
-    for (set, accepts) in rows {
-        assert_eq!(rt; auto.any_accepting(&[set]), accepts, "{set}");
+    for (set, wanted) in ACCEPTING {
+        assert!(rt; accepts(&auto, *set) == Some(*wanted), "{set}");
     }
-    Ok(())
 }
 
+// Two bytes, and whether each class of `(41|[42:44])??46` has both or neither.
+const SIDES: &[(u8, u8, bool)] = &[
+    (0x42, 0x44, true),
+    (0x00, 0xFF, true),
+    (0x41, 0x42, false),
+    (0x44, 0x45, false),
+    (0x46, 0x47, false),
+];
+
 #[test]
-fn bytes_on_the_same_sides(rt: HostRuntime) -> Result<(), Fail> {
+fn bytes_on_the_same_sides(rt: HostRuntime) {
     let auto = automaton(rt.alloc(), "BOF,0,,(41|[42:44])??46").expect(&rt, "loads");
-    assert!(rt; auto.same_side(0x42, 0x44));
-    assert!(rt; auto.same_side(0x00, 0xFF));
-    assert!(rt; !auto.same_side(0x41, 0x42));
-    assert!(rt; !auto.same_side(0x44, 0x45));
-    assert!(rt; !auto.same_side(0x46, 0x47));
-    Ok(())
+    for (a, b, wanted) in SIDES {
+        assert!(rt; auto.same_side(*a, *b) == *wanted, "{a} and {b}");
+    }
 }
 
+// Two states of `(41|4243|44)(45|46)`, and whether the same ones follow them.
+const ALIKE: &[(u32, u32, bool)] = &[
+    (1, 3, true),
+    (3, 4, true),
+    (4, 1, true),
+    (5, 6, true),
+    (2, 2, true),
+    (1, 2, false),
+    (2, 3, false),
+    (4, 5, false),
+    (0, 1, false),
+];
+
 #[test]
-fn states_that_go_on_alike(rt: HostRuntime) -> Result<(), Fail> {
+fn states_that_go_on_alike(rt: HostRuntime) {
     let auto = automaton(rt.alloc(), "BOF,0,,(41|4243|44)(45|46)").expect(&rt, "loads");
-    let cases: [(u32, u32, bool); 9] = [
-        (1, 3, true),
-        (3, 4, true),
-        (4, 1, true),
-        (5, 6, true),
-        (2, 2, true),
-        (1, 2, false),
-        (2, 3, false),
-        (4, 5, false),
-        (0, 1, false),
-    ];
-    for (p, q, wanted) in cases {
-        assert_eq!(rt; auto.go_on_alike(p, q), wanted, "{p} and {q}");
+    for (p, q, wanted) in ALIKE {
+        assert!(rt; auto.go_on_alike(*p, *q) == *wanted, "{p} and {q}");
     }
-    Ok(())
 }
 
 // The class of these bytes.
@@ -321,78 +411,122 @@ fn class_of(bytes: &[u8]) -> ByteClass {
     class
 }
 
-#[test]
-fn bytes_that_lead_on(rt: HostRuntime) -> Result<(), Fail> {
-    let auto = automaton(rt.alloc(), "BOF,0,,(41|[42:44])??46").expect(&rt, "loads");
+// Whether it goes on behind the state by these bytes, and has cuts at just those.
+fn leads_on(auto: &Auto, p: u32, live: ByteClass, at: &[u8]) -> bool {
     let mut cuts = ByteClass::none();
-    assert_eq!(rt; auto.live_bytes(0, &mut cuts), ByteClass::range(0x41, 0x44));
-    assert_eq!(rt; cuts, class_of(&[0x41, 0x42, 0x45]));
+    auto.live_bytes(p, &mut cuts) == live && cuts == class_of(at)
+}
+
+// Whether any byte leads on behind the states 1 and 4 of `(41|[42:44])??46`, and 46 alone behind 3: there are
+// cuts at it and behind it, and none at 41.
+fn leads_on_by_46(auto: &Auto) -> bool {
     let mut cuts = ByteClass::none();
-    assert_eq!(rt; auto.live_bytes(1, &mut cuts), ByteClass::all());
-    assert_eq!(rt; auto.live_bytes(3, &mut cuts), ByteClass::of_byte(0x46));
-    assert!(rt; cuts.contains(0x46) && cuts.contains(0x47) && !cuts.contains(0x41));
-    assert_eq!(rt; auto.live_bytes(4, &mut cuts), ByteClass::all());
+    auto.live_bytes(1, &mut cuts) == ByteClass::all()
+        && auto.live_bytes(3, &mut cuts) == ByteClass::of_byte(0x46)
+        && cuts.contains(0x46)
+        && cuts.contains(0x47)
+        && !cuts.contains(0x41)
+        && auto.live_bytes(4, &mut cuts) == ByteClass::all()
+}
+
+// Whether its slots are cut at these bytes, and perhaps at 0.
+fn has_cuts(auto: &Auto, at: &[u8]) -> bool {
     let mut cuts = ByteClass::none();
     auto.add_cuts(&mut cuts);
     cuts.insert(0);
-    assert_eq!(rt; cuts, class_of(&[0, 0x41, 0x42, 0x45, 0x46, 0x47]));
+    cuts == class_of(at)
+}
+
+// Whether these bytes stand alone in it.
+fn has_alone(auto: &Auto, bytes: &[u8]) -> bool {
     let mut alone = ByteClass::none();
     auto.add_alone(&mut alone);
-    assert_eq!(rt; alone, class_of(&[0x41, 0x46]));
-    Ok(())
+    alone == class_of(bytes)
 }
 
 #[test]
-fn a_copy_of_the_successors_has_the_same_to_come(rt: HostRuntime) -> Result<(), Fail> {
-    let auto = automaton(rt.alloc(), "BOF,0,,41{1-2}42").expect(&rt, "loads");
-    let mut successors = auto.successors(2, 0x42);
-    assert_eq!(rt; successors.next(), Some(3));
-    let mut copy = successors.clone()?;
-    assert_eq!(rt; successors.next(), Some(4));
-    assert_eq!(rt; copy.next(), Some(4));
-    assert_eq!(rt; copy.next(), None);
-    Ok(())
+fn bytes_that_lead_on(rt: HostRuntime) {
+    let auto = automaton(rt.alloc(), "BOF,0,,(41|[42:44])??46").expect(&rt, "loads");
+    let first = ByteClass::range(0x41, 0x44);
+    assert!(rt; leads_on(&auto, 0, first, &[0x41, 0x42, 0x45]));
+    assert!(rt; leads_on_by_46(&auto));
+    assert!(rt; has_cuts(&auto, &[0, 0x41, 0x42, 0x45, 0x46, 0x47]));
+    assert!(rt; has_alone(&auto, &[0x41, 0x46]));
 }
 
-// A text with so many of the same parts.
-fn repeated(alloc: Global, head: &str, part: &str, times: u32) -> Option<String> {
-    let mut text = String::new(alloc);
-    text.push_str(head).ok()?;
+// Whether the successors and their copy go on alike.
+fn copy_goes_on(auto: &Auto) -> Option<bool> {
+    let mut successors = auto.successors(2, 0x42);
+    let first = successors.next();
+    let mut copy = successors.clone().ok()?;
+    Some(
+        first == Some(3)
+            && successors.next() == Some(4)
+            && copy.next() == Some(4)
+            && copy.next().is_none(),
+    )
+}
+
+#[test]
+fn a_copy_of_the_successors_has_the_same_to_come(rt: HostRuntime) {
+    let auto = automaton(rt.alloc(), "BOF,0,,41{1-2}42").expect(&rt, "loads");
+    assert!(rt; copy_goes_on(&auto) == Some(true));
+}
+
+// Puts so many of the same parts behind the text.
+fn push_repeated(text: &mut String, part: &str, times: u32) -> Option<()> {
     for _ in 0..times {
         text.push_str(part).ok()?;
     }
-    Some(text)
+    Some(())
+}
+
+// The automaton of a sequence with so many of the same parts.
+fn repeated(alloc: Global, head: &str, part: &str, times: u32) -> Option<Auto> {
+    let mut text = String::new(alloc);
+    text.push_str(head).ok()?;
+    push_repeated(&mut text, part, times)?;
+    automaton(alloc, &text)
+}
+
+// Whether its slots follow each other, and its last one but one accepts, as it should be.
+fn goes_to_its_end(auto: &Auto) -> bool {
+    auto.slots() == 5402
+        && auto.follows(5400, 5401)
+        && !auto.follows(5399, 5402)
+        && auto.accepting(5401)
+        && !auto.accepting(5399)
 }
 
 #[test]
-fn a_long_expression(rt: HostRuntime) -> Result<(), Fail> {
-    let text = repeated(rt.alloc(), "BOF,0,,41", "*42", 2700).expect(&rt, "fits");
-    let auto = automaton(rt.alloc(), text.as_str()).expect(&rt, "loads");
-    assert_eq!(rt; auto.slots(), 5402);
-    assert!(rt; auto.follows(5400, 5401));
-    assert!(rt; !auto.follows(5399, 5402));
-    assert!(rt; auto.accepting(5401));
-    assert!(rt; !auto.accepting(5399));
+fn a_long_expression(rt: HostRuntime) {
+    let auto = repeated(rt.alloc(), "BOF,0,,41", "*42", 2700).expect(&rt, "loads");
+    assert!(rt; goes_to_its_end(&auto));
     assert!(rt; has_successors(&auto, 1, 0x42, &[2, 3]));
     assert!(rt; has_successors(&auto, 5399, 0x41, &[5400]));
     assert!(rt; has_successors(&auto, 5402, 0x41, &[5402]));
-    Ok(())
+}
+
+// Whether the successors of the state are all states from the first to 102.
+fn rise_from(auto: &Auto, p: u32, first: u32) -> bool {
+    let mut wanted = first;
+    for q in auto.successors(p, 0x41) {
+        if q != wanted {
+            return false;
+        }
+        wanted = wanted.wrapping_add(1);
+    }
+    wanted == 103
 }
 
 #[test]
-fn the_successors_before_a_row_of_gaps_are_all_of_them(rt: HostRuntime) -> Result<(), Fail> {
-    let text = repeated(rt.alloc(), "BOF,0,,41", "*", 100).expect(&rt, "fits");
-    let auto = automaton(rt.alloc(), text.as_str()).expect(&rt, "loads");
-    assert_eq!(rt; auto.slots(), 102);
-    for (p, first) in [(1u32, 2u32), (2, 2), (50, 50), (102, 102)] {
-        let mut wanted = first;
-        for q in auto.successors(p, 0x41) {
-            assert_eq!(rt; q, wanted, "behind {p}");
-            wanted = wanted.wrapping_add(1);
-        }
-        assert_eq!(rt; wanted, 103, "behind {p}");
-    }
-    Ok(())
+fn the_successors_before_a_row_of_gaps_are_all_of_them(rt: HostRuntime) {
+    let auto = repeated(rt.alloc(), "BOF,0,,41", "*", 100).expect(&rt, "loads");
+    assert!(rt; auto.slots() == 102);
+    assert!(rt; rise_from(&auto, 1, 2));
+    assert!(rt; rise_from(&auto, 2, 2));
+    assert!(rt; rise_from(&auto, 50, 50));
+    assert!(rt; rise_from(&auto, 102, 102));
 }
 
 // A sequence, its slots, and the bytes of a set of its states.
@@ -404,63 +538,72 @@ const SLOTS: &[(&str, u32, usize)] = &[
 
 #[test]
 fn slots_and_the_bytes_of_a_set_are_counted(rt: HostRuntime) {
-    for &(placed, slots, len) in SLOTS {
+    for (placed, slots, len) in SLOTS {
         let auto = automaton(rt.alloc(), placed).expect(&rt, "loads");
-        assert_eq!(rt; auto.slots(), slots, "{placed}");
-        assert_eq!(rt; auto.set_len(), len, "{placed}");
+        assert!(rt;
+            auto.slots() == *slots && auto.set_len() == *len,
+            "{placed}"
+        );
     }
 }
 
+// Whether the slots of the gap are followed as they should be.
+fn goes_through_gap(auto: &Auto) -> bool {
+    auto.follows(1, 2)
+        && auto.follows(1, 60002)
+        && auto.follows(60000, 60001)
+        && !auto.follows(1, 3)
+        && !auto.follows(60001, 60001)
+}
+
 #[test]
-fn a_gap_of_many_slots_steps_as_one(rt: HostRuntime) -> Result<(), Fail> {
+fn a_gap_of_many_slots_steps_as_one(rt: HostRuntime) {
     let auto = automaton(rt.alloc(), "BOF,0,,41{0-60000}42").expect(&rt, "loads");
-    assert_eq!(rt; auto.slots(), 60003);
-    assert!(rt; auto.follows(1, 2) && auto.follows(1, 60002) && auto.follows(60000, 60001));
-    assert!(rt; !auto.follows(1, 3) && !auto.follows(60001, 60001));
+    assert!(rt; auto.slots() == 60003);
+    assert!(rt; goes_through_gap(&auto));
     assert!(rt; has_successors(&auto, 60000, 0x42, &[60001, 60002]));
     assert!(rt; has_successors(&auto, 60001, 0x42, &[60002]));
     assert!(rt; has_successors(&auto, 60001, 0x41, &[]));
-    Ok(())
 }
 
 // The bytes with which the one sequence with this position and this expression begins, and whether it
 // stands in the empty file.
 fn begin_of(alloc: Global, placed: &str) -> Option<(ByteClass, bool)> {
-    let mut signatures = HEADER.to_vec(alloc).ok()?;
-    signatures.extend_from_slice(placed.as_bytes()).ok()?;
-    let table = Table::load(
-        alloc,
-        &mut FromRead::new(signatures.as_slice()),
-        &mut FromRead::new(b"higher,lower\n".as_slice()),
-    );
-    let table = table.ok()?;
-    if table.signature_count() == 0 {
-        return None;
+    let table = table_of(alloc, placed)?;
+    match first_of(&table) {
+        Some(sequence) => Some((first_bytes(sequence), accepts_empty(sequence))),
+        None => None,
     }
-    let sequence = table.sequences_of(SigId(0)).first()?;
-    Some((first_bytes(sequence), accepts_empty(sequence)))
+}
+
+// A sequence, the first and the last byte with which it begins, and whether it stands in the empty file.
+const BEGINS: &[(&str, u8, u8, bool)] = &[
+    ("BOF,0,,4142", 0x41, 0x41, false),
+    ("BOF,0,1,4142", 0, 255, false),
+    ("BOF,0,,{0-3}41", 0, 255, false),
+    ("BOF,0,,(41|4243|42)", 0x41, 0x42, false),
+    ("BOF,0,,[4142:4300]", 0x41, 0x43, false),
+    ("EOF,0,,41", 0, 255, false),
+    ("Variable,,,41", 0, 255, false),
+    ("Variable,,,*", 0, 255, true),
+    ("BOF,1,2,*", 0, 255, false),
+];
+
+// Whether the sequence begins with these bytes.
+fn begins_with(alloc: Global, placed: &str, bytes: ByteClass) -> bool {
+    match begin_of(alloc, placed) {
+        Some((first, _)) => first == bytes,
+        None => false,
+    }
 }
 
 #[test]
 fn the_first_bytes_of_sequences(rt: HostRuntime) {
-    let rows: [(&str, u8, u8, bool); 9] = [
-        ("BOF,0,,4142", 0x41, 0x41, false),
-        ("BOF,0,1,4142", 0, 255, false),
-        ("BOF,0,,{0-3}41", 0, 255, false),
-        ("BOF,0,,(41|4243|42)", 0x41, 0x42, false),
-        ("BOF,0,,[4142:4300]", 0x41, 0x43, false),
-        ("EOF,0,,41", 0, 255, false),
-        ("Variable,,,41", 0, 255, false),
-        ("Variable,,,*", 0, 255, true),
-        ("BOF,1,2,*", 0, 255, false),
-    ];
-    for (placed, first, last, is_empty) in rows {
-        let begin = begin_of(rt.alloc(), placed).expect(&rt, "loads");
-        assert_eq!(rt; begin.0, ByteClass::range(first, last), "{placed}");
-        assert_eq!(rt; begin.1, is_empty, "{placed}");
+    for (placed, first, last, is_empty) in BEGINS {
+        let wanted = Some((ByteClass::range(*first, *last), *is_empty));
+        assert!(rt; begin_of(rt.alloc(), placed) == wanted, "{placed}");
     }
-    let outside = begin_of(rt.alloc(), "BOF,0,,[!4100:42FF]").expect(&rt, "loads");
-    assert_eq!(rt; outside.0, ByteClass::range(0x41, 0x42).without());
-    let outside = begin_of(rt.alloc(), "BOF,0,,[!4101:42FE]").expect(&rt, "loads");
-    assert_eq!(rt; outside.0, ByteClass::all());
+    let others = ByteClass::range(0x41, 0x42).without();
+    assert!(rt; begins_with(rt.alloc(), "BOF,0,,[!4100:42FF]", others));
+    assert!(rt; begins_with(rt.alloc(), "BOF,0,,[!4101:42FE]", ByteClass::all()));
 }

@@ -15,6 +15,15 @@ fn a_field_that_is_not_all_there_moves_nothing(rt: HostRuntime) {
     assert!(rt; view.take(1).is_none());
 }
 
+// Files, and the first two formats that each of them leaves.
+const LEFT: &[(&[u8], Option<(FormatId, FormatId)>)] = &[
+    (b"AB", Some((FormatId(1), FormatId(2)))),
+    (b"A\x00", None),
+    (b"A\x00B", Some((FormatId(0), FormatId(3)))),
+    (b"B", None),
+    (b"", None),
+];
+
 #[test]
 fn names_the_first_two_formats_that_are_left(rt: HostRuntime) -> Result<(), Fail> {
     let mut signatures = FromRead::new(b"puid,signature,position,offset,max_offset,expression
@@ -26,15 +35,11 @@ fmt/4,4,EOF,0,,42
         .as_slice());
     let mut priorities = FromRead::new(b"higher,lower\nfmt/3,fmt/1\n".as_slice());
     let table = Table::load(rt.alloc(), &mut signatures, &mut priorities)?;
-    let cases: [(&[u8], Option<(FormatId, FormatId)>); 5] = [
-        (b"AB", Some((FormatId(1), FormatId(2)))),
-        (b"A\x00", None),
-        (b"A\x00B", Some((FormatId(0), FormatId(3)))),
-        (b"B", None),
-        (b"", None),
-    ];
-    for (file, two) in cases {
-        assert!(rt; check_witness(rt.alloc(), &table, file)? == two, "{file:?}");
+    for (file, two) in LEFT {
+        assert!(rt;
+            check_witness(rt.alloc(), &table, file)? == *two,
+            "{file:?}"
+        );
     }
     Ok(())
 }

@@ -25,32 +25,39 @@ fn stream_core_of_one(rt: &HostRuntime) -> Result<StreamCore, Fail> {
 // What is read of a file of two bytes, one a read, before a read fails.
 const FRONTS: &[&[u8]] = &[b"", b"A", b"AB"];
 
-// What `match` answers where the read behind this front fails, and how many bytes it writes.
-fn unread_answer<K: DroidCore>(
-    rt: &HostRuntime,
-    core: &K,
-    front: &[u8],
-) -> Result<(Result<(), RunError>, usize), Fail> {
+// Whether `match` reports the read that fails behind this front, and writes nothing.
+fn is_unread<K: DroidCore>(rt: &HostRuntime, core: &K, front: &[u8]) -> bool {
     let mut out = FromWrite::new(Vec::new(rt.alloc()));
     let mut file = Pieces::failing(front);
     let answer = run_match(rt.alloc(), core, false, &mut file, &mut out);
-    Ok((answer, out.into_inner().len()))
+    let written = out.into_inner();
+    answer == Err(RunError::Read) && written.is_empty()
+}
+
+// Whether it does so behind each front.
+fn all_unread<K: DroidCore>(rt: &HostRuntime, core: &K) -> bool {
+    for front in FRONTS {
+        if !is_unread(rt, core, front) {
+            return false;
+        }
+    }
+    true
+}
+
+fn whole_is_unread(rt: &HostRuntime) -> Result<bool, Fail> {
+    let core = core_of_one(rt)?;
+    Ok(all_unread(rt, &core))
+}
+
+fn stream_is_unread(rt: &HostRuntime) -> Result<bool, Fail> {
+    let core = stream_core_of_one(rt)?;
+    Ok(all_unread(rt, &core))
 }
 
 #[test]
 fn writes_nothing_before_the_last_read(rt: HostRuntime) -> Result<(), Fail> {
-    let whole = core_of_one(&rt)?;
-    let stream = stream_core_of_one(&rt)?;
-    for front in FRONTS {
-        let answers = [
-            unread_answer(&rt, &whole, front)?,
-            unread_answer(&rt, &stream, front)?,
-        ];
-        for (answer, written) in answers {
-            assert_eq!(rt; answer, Err(RunError::Read), "{front:?}");
-            assert_eq!(rt; written, 0, "{front:?}");
-        }
-    }
+    assert!(rt; whole_is_unread(&rt)?);
+    assert!(rt; stream_is_unread(&rt)?);
     Ok(())
 }
 
@@ -61,41 +68,63 @@ fn crowded_answer<K: DroidCore>(rt: &HostRuntime, core: &K, room: usize) -> Resu
     run_match(rt.alloc(), core, false, &mut file, &mut out)
 }
 
-// The line `fmt/1 1` has eight bytes, so one of its writes fails where there is room for less.
-#[test]
-fn reports_a_failed_write(rt: HostRuntime) -> Result<(), Fail> {
-    let whole = core_of_one(&rt)?;
-    let stream = stream_core_of_one(&rt)?;
+// Whether a write fails where there is room for less than the line, `fmt/1 1` and its end, of eight bytes, and
+// none where there is just that room.
+fn needs_eight_bytes<K: DroidCore>(rt: &HostRuntime, core: &K) -> bool {
     for room in 0..8 {
-        let answers = [
-            crowded_answer(&rt, &whole, room),
-            crowded_answer(&rt, &stream, room),
-        ];
-        for answer in answers {
-            assert_eq!(rt; answer, Err(RunError::Write), "{room}");
+        if crowded_answer(rt, core, room) != Err(RunError::Write) {
+            return false;
         }
     }
-    assert_eq!(rt; crowded_answer(&rt, &whole, 8), Ok(()));
-    assert_eq!(rt; crowded_answer(&rt, &stream, 8), Ok(()));
-    let table = table_of_one(&rt)?;
+    crowded_answer(rt, core, 8) == Ok(())
+}
+
+fn whole_needs_eight(rt: &HostRuntime) -> Result<bool, Fail> {
+    let core = core_of_one(rt)?;
+    Ok(needs_eight_bytes(rt, &core))
+}
+
+fn stream_needs_eight(rt: &HostRuntime) -> Result<bool, Fail> {
+    let core = stream_core_of_one(rt)?;
+    Ok(needs_eight_bytes(rt, &core))
+}
+
+// Whether `show` reports its first write as a failed one.
+fn is_unshown(rt: &HostRuntime) -> Result<bool, Fail> {
+    let table = table_of_one(rt)?;
     let mut out = Broken::new();
-    let answer = run_show(rt.alloc(), &table, &mut out);
-    assert_eq!(rt; answer, Err(RunError::Write));
+    Ok(run_show(rt.alloc(), &table, &mut out) == Err(RunError::Write))
+}
+
+#[test]
+fn reports_a_failed_write(rt: HostRuntime) -> Result<(), Fail> {
+    assert!(rt; whole_needs_eight(&rt)?);
+    assert!(rt; stream_needs_eight(&rt)?);
+    assert!(rt; is_unshown(&rt)?);
     Ok(())
 }
 
-// Whether the core calls a failed read behind this front one, and then finds its hit in a file that can
-// be read.
-fn matches_on<K: DroidCore>(core: &K, front: &[u8]) -> Result<bool, Fail> {
-    let mut broken = Pieces::failing(front);
-    let unread = core.match_binary_signatures(&mut broken);
-    let mut whole = Pieces::of(b"AB");
-    let results = core.match_binary_signatures(&mut whole)?;
+// Whether the core calls a failed read behind this front one.
+fn calls_it_failed<K: DroidCore>(core: &K, front: &[u8]) -> bool {
+    match core.match_binary_signatures(&mut Pieces::failing(front)) {
+        Ok(_) => false,
+        Err(error) => matches!(&error, CoreError::Read),
+    }
+}
+
+// Whether it finds its hit in a file that can be read.
+fn finds_its_hit<K: DroidCore>(core: &K) -> Result<bool, Fail> {
+    let results = core.match_binary_signatures(&mut Pieces::of(b"AB"))?;
     let hit = Hit {
         format: FormatId(0),
         signature: SigId(0),
     };
-    Ok(matches!(&unread, Err(CoreError::Read)) && results.hits() == [hit].as_slice())
+    Ok(results.hits() == [hit].as_slice())
+}
+
+// Whether it does both, one after the other.
+fn matches_on<K: DroidCore>(core: &K, front: &[u8]) -> Result<bool, Fail> {
+    Ok(calls_it_failed(core, front) && finds_its_hit(core)?)
 }
 
 #[test]
@@ -103,8 +132,10 @@ fn a_core_matches_on_after_a_failed_read(rt: HostRuntime) -> Result<(), Fail> {
     let whole = core_of_one(&rt)?;
     let stream = stream_core_of_one(&rt)?;
     for front in FRONTS {
-        assert!(rt; matches_on(&whole, front)?, "{front:?}");
-        assert!(rt; matches_on(&stream, front)?, "{front:?}");
+        assert!(rt;
+            matches_on(&whole, front)? && matches_on(&stream, front)?,
+            "{front:?}"
+        );
     }
     Ok(())
 }
@@ -115,47 +146,65 @@ fn hit_count<K: DroidCore>(core: &K) -> Result<usize, Fail> {
     Ok(results.hits().len())
 }
 
-// Whether the core hits its one format no more once it is removed, and no other removal counts.
-fn removes<K: DroidCore>(core: &mut K) -> Result<bool, Fail> {
-    let other = Puid::parse(b"fmt/9").ok_or("the text is a PUID")?;
-    let first = Puid::parse(b"fmt/1").ok_or("the text is a PUID")?;
-    let kept = !core.remove_signature_for_puid(&other) && hit_count(core)? == 1;
-    let removed = core.remove_signature_for_puid(&first) && hit_count(core)? == 0;
-    Ok(kept && removed && core.table().format_count() == 1)
+// Whether a removal of the format finds it.
+fn finds<K: DroidCore>(core: &mut K, puid: &[u8]) -> Option<bool> {
+    let puid = Puid::parse(puid)?;
+    Some(core.remove_signature_for_puid(&puid))
+}
+
+// Whether the core of so many formats, each of which is hit, hits this one no more once it is removed, and still
+// all others, and no other removal counts.
+fn removes<K: DroidCore>(core: &mut K, puid: &[u8], count: usize) -> Result<bool, Fail> {
+    Ok(
+        finds(core, b"fmt/9") == Some(false)
+            && hit_count(core)? == count
+            && finds(core, puid) == Some(true)
+            && hit_count(core)?.saturating_add(1) == count
+            && core.table().format_count() == count,
+    )
 }
 
 #[test]
 fn a_removed_format_is_hit_no_more(rt: HostRuntime) -> Result<(), Fail> {
-    assert!(rt; removes(&mut core_of_one(&rt)?)?);
-    assert!(rt; removes(&mut stream_core_of_one(&rt)?)?);
+    assert!(rt; removes(&mut core_of_one(&rt)?, b"fmt/1", 1)?);
+    assert!(rt; removes(&mut stream_core_of_one(&rt)?, b"fmt/1", 1)?);
     Ok(())
 }
 
-// Whether the core of three formats hits the third no more once it is removed, and still both others.
-fn removes_the_third<K: DroidCore>(core: &mut K) -> Result<bool, Fail> {
-    let other = Puid::parse(b"fmt/9").ok_or("the text is a PUID")?;
-    let third = Puid::parse(b"fmt/3").ok_or("the text is a PUID")?;
-    let kept = !core.remove_signature_for_puid(&other) && hit_count(core)? == 3;
-    let removed = core.remove_signature_for_puid(&third) && hit_count(core)? == 2;
-    Ok(kept && removed && core.table().format_count() == 3)
+// Whether the core of three formats, each of which is hit, hits the third no more.
+fn whole_removes_third(rt: &HostRuntime) -> Result<bool, Fail> {
+    let table = table_of(rt, OVER_BOTH.0, OVER_BOTH.1)?;
+    removes(&mut WholeCore::new(rt.alloc(), table), b"fmt/3", 3)
+}
+
+fn stream_removes_third(rt: &HostRuntime) -> Result<bool, Fail> {
+    let table = table_of(rt, OVER_BOTH.0, OVER_BOTH.1)?;
+    removes(&mut StreamCore::new(rt.alloc(), table), b"fmt/3", 3)
 }
 
 #[test]
 fn the_others_are_hit_when_one_is_removed(rt: HostRuntime) -> Result<(), Fail> {
-    let table = table_of(&rt, OVER_BOTH.0, OVER_BOTH.1)?;
-    assert!(rt; removes_the_third(&mut WholeCore::new(rt.alloc(), table))?);
-    let table = table_of(&rt, OVER_BOTH.0, OVER_BOTH.1)?;
-    assert!(rt; removes_the_third(&mut StreamCore::new(rt.alloc(), table))?);
+    assert!(rt; whole_removes_third(&rt)?);
+    assert!(rt; stream_removes_third(&rt)?);
     Ok(())
+}
+
+// How many hits each core finds in a file that is lent.
+fn whole_count(core: &WholeCore, file: &[u8]) -> Result<usize, Fail> {
+    Ok(core.match_bytes(file)?.hits().len())
+}
+
+fn stream_count(core: &StreamCore, file: &[u8]) -> Result<usize, Fail> {
+    Ok(core.match_bytes(file)?.hits().len())
 }
 
 #[test]
 fn a_lent_file_is_matched_as_one_that_is_read(rt: HostRuntime) -> Result<(), Fail> {
     let whole = core_of_one(&rt)?;
+    assert!(rt; whole_count(&whole, b"AB")? == 1);
+    assert!(rt; whole_count(&whole, b"BA")? == 0);
     let stream = stream_core_of_one(&rt)?;
-    for (file, hits) in [(b"AB".as_slice(), 1), (b"BA".as_slice(), 0)] {
-        assert_eq!(rt; whole.match_bytes(file)?.hits().len(), hits);
-        assert_eq!(rt; stream.match_bytes(file)?.hits().len(), hits);
-    }
+    assert!(rt; stream_count(&stream, b"AB")? == 1);
+    assert!(rt; stream_count(&stream, b"BA")? == 0);
     Ok(())
 }

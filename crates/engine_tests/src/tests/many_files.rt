@@ -25,7 +25,7 @@ const BAD: Named = Named {
     bytes: b"AB",
 };
 
-const FAILING: Failing = Failing {
+const FAILING: &Failing = &Failing {
     first: GOOD,
     second: ODD,
     third: BAD,
@@ -62,40 +62,39 @@ const PRINTED: &[Printed] = &[
     Printed(&[], false, true, "", ""),
 ];
 
-// What is answered for files, and what is written to both outputs.
-fn run_many<S: Store, K: DroidCore>(
-    rt: &HostRuntime,
-    store: &S,
-    core: &K,
-    all: bool,
-    names: &[&str],
-) -> Result<(Result<bool, RunError>, String, String), Fail> {
+// Whether this is answered for files, and these are the lines and the faults that are written.
+fn is_run<S: Store, K: DroidCore>(rt: &HostRuntime, store: &S, core: &K, row: &Printed) -> bool {
+    let Printed(names, all, is_whole, lines, faults) = *row;
     let mut out = FromWrite::new(Vec::new(rt.alloc()));
     let mut err = FromWrite::new(Vec::new(rt.alloc()));
     let answer = run_match_many(rt.alloc(), store, core, all, names, &mut out, &mut err);
-    let lines = String::from_utf8(out.into_inner())?;
-    let faults = String::from_utf8(err.into_inner())?;
-    Ok((answer, lines, faults))
+    let (out, err) = (out.into_inner(), err.into_inner());
+    answer == Ok(is_whole)
+        && out.as_slice() == lines.as_bytes()
+        && err.as_slice() == faults.as_bytes()
 }
 
-// Whether this is printed of the files in memory.
-fn is_printed<K: DroidCore>(rt: &HostRuntime, core: &K, row: Printed) -> Result<bool, Fail> {
+// Whether it is so of the files in memory.
+fn is_printed<K: DroidCore>(rt: &HostRuntime, core: &K, row: &Printed) -> bool {
     let store = Memory {
         alloc: rt.alloc(),
         first: GOOD,
         second: ODD,
         third: BAD,
     };
-    let Printed(names, all, is_whole, lines, faults) = row;
-    let (answer, out, err) = run_many(rt, &store, core, all, names)?;
-    Ok(answer == Ok(is_whole) && out.as_str() == lines && err.as_str() == faults)
+    is_run(rt, &store, core, row)
+}
+
+// The core of that table.
+fn core_below(rt: &HostRuntime) -> Result<WholeCore, Fail> {
+    Ok(WholeCore::new(rt.alloc(), table_of(rt, BELOW.0, BELOW.1)?))
 }
 
 #[test]
 fn each_line_begins_with_the_name_of_its_file(rt: HostRuntime) -> Result<(), Fail> {
-    let core = WholeCore::new(rt.alloc(), table_of(&rt, BELOW.0, BELOW.1)?);
-    for &row in PRINTED {
-        assert!(rt; is_printed(&rt, &core, row)?, "{}", row.3);
+    let core = core_below(&rt)?;
+    for row in PRINTED {
+        assert!(rt; is_printed(&rt, &core, row), "{}", row.3);
     }
     Ok(())
 }
@@ -103,61 +102,58 @@ fn each_line_begins_with_the_name_of_its_file(rt: HostRuntime) -> Result<(), Fai
 #[test]
 fn a_core_that_streams_prints_the_same(rt: HostRuntime) -> Result<(), Fail> {
     let core = StreamCore::new(rt.alloc(), table_of(&rt, BELOW.0, BELOW.1)?);
-    for &row in PRINTED {
-        assert!(rt; is_printed(&rt, &core, row)?, "{}", row.3);
+    for row in PRINTED {
+        assert!(rt; is_printed(&rt, &core, row), "{}", row.3);
     }
     Ok(())
 }
 
+// What is printed where the reads of the second file fail.
+const GOING_ON: &Printed = &Printed(
+    &["good", "bad", "good"],
+    false,
+    false,
+    "good\tfmt/2 2\ngood\tfmt/2 2\n",
+    "bad: read failed\n",
+);
+
 #[test]
 fn the_files_behind_one_that_is_not_read_go_on(rt: HostRuntime) -> Result<(), Fail> {
-    let core = WholeCore::new(rt.alloc(), table_of(&rt, BELOW.0, BELOW.1)?);
-    let names = &["good", "bad", "good"];
-    let (answer, out, err) = run_many(&rt, &FAILING, &core, false, names)?;
-    assert_eq!(rt; answer, Ok(false));
-    assert_eq!(rt; out.as_str(), "good\tfmt/2 2\ngood\tfmt/2 2\n");
-    assert_eq!(rt; err.as_str(), "bad: read failed\n");
+    let core = core_below(&rt)?;
+    assert!(rt; is_run(&rt, FAILING, &core, GOING_ON));
     Ok(())
+}
+
+const NAMES: &[&str] = &["bad", "good", "none"];
+
+// Whether a failed write ends the run, with these faults told before it.
+fn ends_at_a_write(rt: &HostRuntime, core: &WholeCore, faults: &[u8]) -> bool {
+    let mut out = Broken::new();
+    let mut err = FromWrite::new(Vec::new(rt.alloc()));
+    let answer = run_match_many(rt.alloc(), FAILING, core, false, NAMES, &mut out, &mut err);
+    let told = err.into_inner();
+    answer == Err(RunError::Write) && told.as_slice() == faults
 }
 
 #[test]
 fn a_failed_write_ends_the_run(rt: HostRuntime) -> Result<(), Fail> {
-    let core = WholeCore::new(rt.alloc(), table_of(&rt, BELOW.0, BELOW.1)?);
-    let names = &["bad", "good", "none"];
-    let mut out = Broken::new();
-    let mut err = FromWrite::new(Vec::new(rt.alloc()));
-    let answer = run_match_many(
-        rt.alloc(),
-        &FAILING,
-        &core,
-        false,
-        names,
-        &mut out,
-        &mut err,
-    );
-    assert_eq!(rt; answer, Err(RunError::Write));
-    let faults = String::from_utf8(err.into_inner())?;
-    assert_eq!(rt; faults.as_str(), "bad: read failed\n");
+    let core = core_below(&rt)?;
+    assert!(rt; ends_at_a_write(&rt, &core, b"bad: read failed\n"));
     Ok(())
+}
+
+// Whether a fault that is not told ends nothing, and these lines are written.
+fn goes_on_untold(rt: &HostRuntime, core: &WholeCore, lines: &[u8]) -> bool {
+    let mut out = FromWrite::new(Vec::new(rt.alloc()));
+    let mut err = Broken::new();
+    let answer = run_match_many(rt.alloc(), FAILING, core, false, NAMES, &mut out, &mut err);
+    let written = out.into_inner();
+    answer == Ok(false) && written.as_slice() == lines
 }
 
 #[test]
 fn a_fault_that_is_not_told_ends_nothing(rt: HostRuntime) -> Result<(), Fail> {
-    let core = WholeCore::new(rt.alloc(), table_of(&rt, BELOW.0, BELOW.1)?);
-    let names = &["bad", "good", "none"];
-    let mut out = FromWrite::new(Vec::new(rt.alloc()));
-    let mut err = Broken::new();
-    let answer = run_match_many(
-        rt.alloc(),
-        &FAILING,
-        &core,
-        false,
-        names,
-        &mut out,
-        &mut err,
-    );
-    assert_eq!(rt; answer, Ok(false));
-    let lines = String::from_utf8(out.into_inner())?;
-    assert_eq!(rt; lines.as_str(), "good\tfmt/2 2\n");
+    let core = core_below(&rt)?;
+    assert!(rt; goes_on_untold(&rt, &core, b"good\tfmt/2 2\n"));
     Ok(())
 }

@@ -5,8 +5,8 @@ use crate::tests::table_of;
 use fixtures::Pieces;
 use sig_bits::FromWrite;
 use sig_engines::run_match;
-use sig_match::{DroidCore, Results, Scan, StreamCore, WholeCore};
-use sig_table::Table;
+use sig_match::{DroidCore, Hit, Results, Scan, StreamCore, WholeCore};
+use sig_table::{FormatId, SigId, Table};
 use std::test::Fail;
 
 // Signature rows, priority rows, a file, the lines of all hits, and those of what is left.
@@ -138,67 +138,97 @@ const TABLES: &[WorkedRow] = &[
 ];
 
 // How many bytes a read gives at most.
-const CUTS: [usize; 5] = [1, 2, 3, 7, usize::MAX];
+const CUTS: &[usize] = &[1, 2, 3, 7, usize::MAX];
 
-// What `match` writes of a file that comes in pieces of at most so many bytes.
-fn lines_of<K: DroidCore>(
+// Whether `match` writes these lines of a file that comes in pieces of at most so many bytes.
+fn is_matched<K: DroidCore>(
     rt: &HostRuntime,
     core: &K,
     all: bool,
     file: &[u8],
     most: usize,
-) -> Result<String, Fail> {
+    lines: &str,
+) -> bool {
     let mut file = Pieces::cut(file, most);
     let mut out = FromWrite::new(Vec::new(rt.alloc()));
-    run_match(rt.alloc(), core, all, &mut file, &mut out)?;
-    let lines = String::from_utf8(out.into_inner())?;
-    Ok(lines)
+    let answer = run_match(rt.alloc(), core, all, &mut file, &mut out);
+    let written = out.into_inner();
+    answer == Ok(()) && written.as_slice() == lines.as_bytes()
 }
 
 // Whether the core answers the file with these lines, of all hits and of what is left.
-fn answers<K: DroidCore>(
-    rt: &HostRuntime,
-    core: &K,
-    file: &[u8],
-    all: &str,
-    left: &str,
-) -> Result<bool, Fail> {
+fn answers<K: DroidCore>(rt: &HostRuntime, core: &K, file: &[u8], all: &str, left: &str) -> bool {
     for most in CUTS {
-        let hits = lines_of(rt, core, true, file, most)?;
-        let kept = lines_of(rt, core, false, file, most)?;
-        if hits.as_str() != all || kept.as_str() != left {
-            return Ok(false);
+        if !is_matched(rt, core, true, file, *most, all)
+            || !is_matched(rt, core, false, file, *most, left)
+        {
+            return false;
         }
     }
-    Ok(true)
+    true
+}
+
+// The two cores.
+#[derive(Clone, Copy)]
+enum By {
+    Whole,
+    Stream,
+}
+
+// Whether this core of the table answers so.
+fn answers_by(rt: &HostRuntime, by: By, table: Table, file: &[u8], all: &str, left: &str) -> bool {
+    match by {
+        By::Whole => answers(rt, &WholeCore::new(rt.alloc(), table), file, all, left),
+        By::Stream => answers(rt, &StreamCore::new(rt.alloc(), table), file, all, left),
+    }
+}
+
+// The table of the rows of signature 1 of `fmt/1`.
+fn table_of_one(rt: &HostRuntime, sequences: &str) -> Result<Table, Fail> {
+    let rows = format!(in rt.alloc(); "fmt/1,1,{sequences}")?;
+    table_of(rt, rows.as_str(), "")
+}
+
+// Whether this core says so of the one signature.
+fn answers_one(
+    rt: &HostRuntime,
+    by: By,
+    sequences: &str,
+    file: &[u8],
+    hits: bool,
+) -> Result<bool, Fail> {
+    let lines = if hits { "fmt/1 1\n" } else { "" };
+    let table = table_of_one(rt, sequences)?;
+    Ok(answers_by(rt, by, table, file, lines, lines))
+}
+
+// Whether it does of the several signatures of the row.
+fn answers_row(rt: &HostRuntime, by: By, row: &WorkedRow) -> Result<bool, Fail> {
+    let WorkedRow(rows, pairs, file, all, left) = *row;
+    let table = table_of(rt, rows, pairs)?;
+    Ok(answers_by(rt, by, table, file, all, left))
 }
 
 #[test]
 fn the_whole_core_answers_the_worked_rows(rt: HostRuntime) -> Result<(), Fail> {
-    for &(sequences, file, hits) in ONE_SIGNATURE {
-        let rows = format!(in rt.alloc(); "fmt/1,1,{sequences}")?;
-        let core = WholeCore::new(rt.alloc(), table_of(&rt, rows.as_str(), "")?);
-        let lines = if hits { "fmt/1 1\n" } else { "" };
-        assert!(rt; answers(&rt, &core, file, lines, lines)?, "{rows}{file:?}");
+    for (sequences, file, hits) in ONE_SIGNATURE {
+        let answers = answers_one(&rt, By::Whole, sequences, file, *hits)?;
+        assert!(rt; answers, "{sequences}{file:?}");
     }
-    for &WorkedRow(rows, pairs, file, all, left) in TABLES {
-        let core = WholeCore::new(rt.alloc(), table_of(&rt, rows, pairs)?);
-        assert!(rt; answers(&rt, &core, file, all, left)?, "{rows}{file:?}");
+    for row in TABLES {
+        assert!(rt; answers_row(&rt, By::Whole, row)?, "{}{:?}", row.0, row.2);
     }
     Ok(())
 }
 
 #[test]
 fn the_stream_core_answers_the_worked_rows(rt: HostRuntime) -> Result<(), Fail> {
-    for &(sequences, file, hits) in ONE_SIGNATURE {
-        let rows = format!(in rt.alloc(); "fmt/1,1,{sequences}")?;
-        let core = StreamCore::new(rt.alloc(), table_of(&rt, rows.as_str(), "")?);
-        let lines = if hits { "fmt/1 1\n" } else { "" };
-        assert!(rt; answers(&rt, &core, file, lines, lines)?, "{rows}{file:?}");
+    for (sequences, file, hits) in ONE_SIGNATURE {
+        let answers = answers_one(&rt, By::Stream, sequences, file, *hits)?;
+        assert!(rt; answers, "{sequences}{file:?}");
     }
-    for &WorkedRow(rows, pairs, file, all, left) in TABLES {
-        let core = StreamCore::new(rt.alloc(), table_of(&rt, rows, pairs)?);
-        assert!(rt; answers(&rt, &core, file, all, left)?, "{rows}{file:?}");
+    for row in TABLES {
+        assert!(rt; answers_row(&rt, By::Stream, row)?, "{}{:?}", row.0, row.2);
     }
     Ok(())
 }
@@ -212,24 +242,61 @@ fn scanned(rt: &HostRuntime, table: &Table, file: &[u8], most: usize) -> Result<
     Ok(scan.finish())
 }
 
+// Whether it finds these hits, however the file is cut.
+fn all_find(rt: &HostRuntime, table: &Table, file: &[u8], hits: &[Hit]) -> Result<bool, Fail> {
+    for most in CUTS {
+        let found = scanned(rt, table, file, *most)?;
+        if found.hits() != hits {
+            return Ok(false);
+        }
+    }
+    Ok(true)
+}
+
+// The hit of the one signature.
+const ONE_HIT: &[Hit] = &[Hit {
+    format: FormatId(0),
+    signature: SigId(0),
+}];
+
+// Whether it finds that hit, or none.
+fn find_one(rt: &HostRuntime, sequences: &str, file: &[u8], hits: bool) -> Result<bool, Fail> {
+    let wants: &[Hit] = if hits { ONE_HIT } else { &[] };
+    let table = table_of_one(rt, sequences)?;
+    all_find(rt, &table, file, wants)
+}
+
+// Whether it finds what the whole core finds.
+fn find_whole(rt: &HostRuntime, core: &WholeCore, file: &[u8]) -> Result<bool, Fail> {
+    let whole = core.match_bytes(file)?;
+    all_find(rt, core.table(), file, whole.hits())
+}
+
+// Whether it does of the several signatures of the row.
+fn find_row(rt: &HostRuntime, row: &WorkedRow) -> Result<bool, Fail> {
+    let core = WholeCore::new(rt.alloc(), table_of(rt, row.0, row.1)?);
+    find_whole(rt, &core, row.2)
+}
+
 // A core scans only what is longer than its first piece, so the rows are fed to a scan by themselves.
 #[test]
 fn a_scan_answers_the_worked_rows(rt: HostRuntime) -> Result<(), Fail> {
-    for &(sequences, file, hits) in ONE_SIGNATURE {
-        let rows = format!(in rt.alloc(); "fmt/1,1,{sequences}")?;
-        let table = table_of(&rt, rows.as_str(), "")?;
-        for most in CUTS {
-            let found = scanned(&rt, &table, file, most)?;
-            assert_eq!(rt; found.hits().len() == 1, hits, "{rows}{file:?}");
-        }
+    for (sequences, file, hits) in ONE_SIGNATURE {
+        assert!(rt;
+            find_one(&rt, sequences, file, *hits)?,
+            "{sequences}{file:?}"
+        );
     }
-    for &WorkedRow(rows, pairs, file, _, _) in TABLES {
-        let core = WholeCore::new(rt.alloc(), table_of(&rt, rows, pairs)?);
-        let whole = core.match_bytes(file)?;
-        for most in CUTS {
-            let found = scanned(&rt, core.table(), file, most)?;
-            assert!(rt; found.hits() == whole.hits(), "{rows}{file:?}");
-        }
+    for row in TABLES {
+        assert!(rt; find_row(&rt, row)?, "{}{:?}", row.0, row.2);
+    }
+    Ok(())
+}
+
+// Puts so many zeros behind the file.
+fn push_zeros(file: &mut Vec<u8>, zeros: usize) -> Result<(), Fail> {
+    for _ in 0..zeros {
+        file.push(0)?;
     }
     Ok(())
 }
@@ -237,22 +304,26 @@ fn a_scan_answers_the_worked_rows(rt: HostRuntime) -> Result<(), Fail> {
 // A byte 41, so many zeros and a byte 42.
 fn between_zeros(rt: &HostRuntime, zeros: usize) -> Result<Vec<u8>, Fail> {
     let mut file = b"A".to_vec(rt.alloc())?;
-    file.extend_from_slice(&vec![in rt.alloc(); 0u8; zeros]?)?;
+    push_zeros(&mut file, zeros)?;
     file.push(b'B')?;
     Ok(file)
 }
 
-// Whether both cores answer `41{65530}42` with these lines.
-fn both_answer(rt: &HostRuntime, file: &[u8], lines: &str) -> Result<bool, Fail> {
-    let rows = "fmt/1,1,BOF,0,,41{65530}42\n";
-    let whole = WholeCore::new(rt.alloc(), table_of(rt, rows, "")?);
-    let stream = StreamCore::new(rt.alloc(), table_of(rt, rows, "")?);
-    Ok(answers(rt, &whole, file, lines, lines)? && answers(rt, &stream, file, lines, lines)?)
+// Whether both cores answer `41{65530}42` with these lines where there are so many zeros.
+fn both_answer(rt: &HostRuntime, zeros: usize, lines: &str) -> Result<bool, Fail> {
+    let file = between_zeros(rt, zeros)?;
+    let rows = "BOF,0,,41{65530}42\n";
+    let whole = table_of_one(rt, rows)?;
+    let stream = table_of_one(rt, rows)?;
+    Ok(
+        answers_by(rt, By::Whole, whole, &file, lines, lines)
+            && answers_by(rt, By::Stream, stream, &file, lines, lines),
+    )
 }
 
 #[test]
 fn a_long_gap_is_passed_and_not_left_early(rt: HostRuntime) -> Result<(), Fail> {
-    assert!(rt; both_answer(&rt, &between_zeros(&rt, 65_530)?, "fmt/1 1\n")?);
-    assert!(rt; both_answer(&rt, &between_zeros(&rt, 65_529)?, "")?);
+    assert!(rt; both_answer(&rt, 65_530, "fmt/1 1\n")?);
+    assert!(rt; both_answer(&rt, 65_529, "")?);
     Ok(())
 }

@@ -1,6 +1,9 @@
 //! Sequences of many kinds over files of few letters, held against the plain scan.
 
-use crate::tests::{fronts_agree, letters, loaded, repeated, table_of};
+use crate::tests::{
+    fronts_agree, letters, loaded, push_letters, push_repeated, repeated, table_of,
+};
+use sig_table::Table;
 use std::alloc::Global;
 use std::test::Fail;
 
@@ -18,21 +21,37 @@ const MIXED: &[&str] = &[
     "EOF,0,0,4142*",
 ];
 
-// Whether they agree on each of these sequences behind each front of the file.
+// Whether they agree on the sequence behind each front of the file.
+fn agrees(alloc: Global, sequence: &str, file: &[u8]) -> Result<bool, Fail> {
+    let table = table_of(alloc, sequence)?;
+    Ok(fronts_agree(alloc, &table, file)?)
+}
+
+// Whether they do on each of these sequences.
 fn all_agree(alloc: Global, sequences: &[&str], file: &[u8]) -> Result<bool, Fail> {
     for sequence in sequences {
-        if !fronts_agree(alloc, &table_of(alloc, sequence)?, file)? {
+        if !agrees(alloc, sequence, file)? {
             return Ok(false);
         }
     }
     Ok(true)
 }
 
+// Whether they do on a file of so many letters.
+fn agree_on_letters(
+    alloc: Global,
+    sequences: &[&str],
+    seed: u32,
+    len: usize,
+) -> Result<bool, Fail> {
+    let file = letters(alloc, seed, len)?;
+    all_agree(alloc, sequences, &file)
+}
+
 #[test]
 fn the_plain_scan_agrees_on_files_of_few_letters(rt: HostRuntime) -> Result<(), Fail> {
     for seed in 1..3 {
-        let file = letters(rt.alloc(), seed, 120)?;
-        assert!(rt; all_agree(rt.alloc(), MIXED, &file)?, "{seed}");
+        assert!(rt; agree_on_letters(rt.alloc(), MIXED, seed, 120)?, "{seed}");
     }
     Ok(())
 }
@@ -48,16 +67,21 @@ const AT_END: &[&str] = &[
 #[test]
 fn the_plain_scan_agrees_at_the_end_of_a_file(rt: HostRuntime) -> Result<(), Fail> {
     for seed in 0..6 {
-        let file = letters(rt.alloc(), seed, 100)?;
-        assert!(rt; all_agree(rt.alloc(), AT_END, &file)?, "{seed}");
+        assert!(rt; agree_on_letters(rt.alloc(), AT_END, seed, 100)?, "{seed}");
     }
     Ok(())
 }
 
+// Bytes 41, and a few others behind them.
+fn with_end(alloc: Global) -> Result<Vec<u8>, Fail> {
+    let mut file = repeated(alloc, b"A", 90)?;
+    file.extend_from_slice(b"BABA\x00\x00")?;
+    Ok(file)
+}
+
 #[test]
 fn the_plain_scan_agrees_where_a_word_may_always_have_begun(rt: HostRuntime) -> Result<(), Fail> {
-    let mut file = repeated(rt.alloc(), b"A", 90)?;
-    file.extend_from_slice(b"BABA\x00\x00")?;
+    let file = with_end(rt.alloc())?;
     assert!(rt; all_agree(rt.alloc(), AT_END, &file)?);
     Ok(())
 }
@@ -72,17 +96,22 @@ const FAR_FROM_END: &[&str] = &[
 // Letters, so many zeros, letters, and as many bytes 41 as the longest of these sequences is far from the end.
 fn with_zeros(alloc: Global, seed: u32) -> Result<Vec<u8>, Fail> {
     let mut file = letters(alloc, seed, 90)?;
-    file.extend_from_slice(&repeated(alloc, b"\x00", 230)?)?;
-    file.extend_from_slice(&letters(alloc, seed, 40)?)?;
-    file.extend_from_slice(&repeated(alloc, b"A", 190)?)?;
+    push_repeated(&mut file, b"\x00", 230)?;
+    push_letters(&mut file, seed, 40)?;
+    push_repeated(&mut file, b"A", 190)?;
     Ok(file)
+}
+
+// Whether they agree on those.
+fn agree_far_from_end(alloc: Global, seed: u32) -> Result<bool, Fail> {
+    let file = with_zeros(alloc, seed)?;
+    all_agree(alloc, FAR_FROM_END, &file)
 }
 
 #[test]
 fn the_plain_scan_agrees_where_words_move_away_from_the_end(rt: HostRuntime) -> Result<(), Fail> {
     for seed in 0..3 {
-        let file = with_zeros(rt.alloc(), seed)?;
-        assert!(rt; all_agree(rt.alloc(), FAR_FROM_END, &file)?, "{seed}");
+        assert!(rt; agree_far_from_end(rt.alloc(), seed)?, "{seed}");
     }
     Ok(())
 }
@@ -103,12 +132,20 @@ const MANY_FRONTS: &str = "fmt/1,1,Variable,,,4142\n\
     fmt/13,13,Variable,,,00410042[!00]\n\
     fmt/14,14,Variable,,,42410000\n";
 
+// Whether they agree on so many letters, with all of those at once.
+fn fronts_of_letters_agree(alloc: Global, table: &Table, seed: u32) -> Result<bool, Fail> {
+    let file = letters(alloc, seed, 90)?;
+    Ok(fronts_agree(alloc, table, &file)?)
+}
+
 #[test]
 fn many_fronts_are_told_apart_in_one_look(rt: HostRuntime) -> Result<(), Fail> {
     let table = loaded(rt.alloc(), MANY_FRONTS)?;
     for seed in 0..6 {
-        let file = letters(rt.alloc(), seed, 90)?;
-        assert!(rt; fronts_agree(rt.alloc(), &table, &file)?, "{seed}");
+        assert!(rt;
+            fronts_of_letters_agree(rt.alloc(), &table, seed)?,
+            "{seed}"
+        );
     }
     Ok(())
 }

@@ -31,27 +31,38 @@ const AWAKE: &[&str] = &[
      (41|42)(41|42)(41|42)(41|42)(41|42)(41|42)",
 ];
 
-// Whether they agree on those behind each of these pieces.
+// Whether they agree on the sequence behind each of these pieces.
+fn agrees(alloc: Global, sequence: &str, pieces: &[&[u8]]) -> Result<bool, Fail> {
+    let table = table_of(alloc, sequence)?;
+    Ok(pieces_agree(alloc, &table, pieces)?)
+}
+
+// Whether they do on each of those.
 fn agree_awake(alloc: Global, pieces: &[&[u8]]) -> Result<bool, Fail> {
     for sequence in AWAKE {
-        if !pieces_agree(alloc, &table_of(alloc, sequence)?, pieces)? {
+        if !agrees(alloc, sequence, pieces)? {
             return Ok(false);
         }
     }
     Ok(true)
 }
 
-// Whether they agree on a file of the pattern over and over, and on those with other bytes in it.
+// Whether they do on this long piece, and on those with other bytes in it.
+fn agree_on_long(alloc: Global, long: &[u8]) -> Result<bool, Fail> {
+    let (front, back) = long.split_at(long.len().min(4700));
+    Ok(
+        agree_awake(alloc, &[long, b"C"])?
+            && agree_awake(alloc, &[front, b"BC", back, b"", b"ABBC"])?
+            && agree_awake(alloc, &[b"A", long, b"\x00\x00", long, b"BAC"])?,
+    )
+}
+
+// Whether they do where it is the pattern over and over.
 fn agree_on_pattern(alloc: Global, pattern: &[u8]) -> Result<bool, Fail>
     requires { 0 < length pattern.now }
 {
     let long = repeated(alloc, pattern, 9000)?;
-    let (front, back) = long.split_at(long.len().min(4700));
-    Ok(
-        agree_awake(alloc, &[&long, b"C"])?
-            && agree_awake(alloc, &[front, b"BC", back, b"", b"ABBC"])?
-            && agree_awake(alloc, &[b"A", &long, b"\x00\x00", &long, b"BAC"])?,
-    )
+    agree_on_long(alloc, &long)
 }
 
 #[test]

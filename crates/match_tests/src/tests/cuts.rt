@@ -2,6 +2,7 @@
 
 use crate::tests::{hit, scanned, table_of};
 use sig_match::Scan;
+use sig_table::Table;
 use std::alloc::Global;
 use std::test::Fail;
 
@@ -107,39 +108,54 @@ const CUTS: &[(&str, &[&[u8]], bool)] = &[
 ];
 
 // Whether the one signature hits what is fed in these pieces, with room for so many bytes that wait.
-fn one_hits(alloc: Global, room: usize, sequence: &str, pieces: &[&[u8]]) -> Result<bool, Fail> {
-    let table = table_of(alloc, sequence)?;
-    let mut scan = Scan::with_room(alloc, &table, room)?;
+fn hits_pieces(alloc: Global, room: usize, table: &Table, pieces: &[&[u8]]) -> Result<bool, Fail> {
+    let mut scan = Scan::with_room(alloc, table, room)?;
     for piece in pieces {
         scan.feed(piece);
     }
-    let results = scan.finish();
-    Ok(results.hits() == [hit(0, 0)].as_slice())
+    Ok(scan.finish().hits() == [hit(0, 0)].as_slice())
+}
+
+// Room for so many bytes that wait.
+const ROOMS: &[usize] = &[0, 1, 5, 4096];
+
+// Whether the one sequence stands in what these pieces make up, or does not, whatever the room.
+fn is_told(alloc: Global, sequence: &str, pieces: &[&[u8]], stands: bool) -> Result<bool, Fail> {
+    let table = table_of(alloc, sequence)?;
+    for room in ROOMS {
+        if hits_pieces(alloc, *room, &table, pieces)? != stands {
+            return Ok(false);
+        }
+    }
+    Ok(true)
 }
 
 #[test]
 fn a_cut_makes_no_difference(rt: HostRuntime) -> Result<(), Fail> {
     for (sequence, pieces, stands) in CUTS {
-        for room in [0, 1, 5, 4096] {
-            assert!(rt;
-                one_hits(rt.alloc(), room, sequence, pieces)? == *stands,
-                "{room} {sequence} {pieces:?}"
-            );
-        }
+        assert!(rt;
+            is_told(rt.alloc(), sequence, pieces, *stands)?,
+            "{sequence} {pieces:?}"
+        );
     }
     Ok(())
 }
 
-// Whether `41{65530}42` hits a byte 41, so many zeros and a byte 42, fed one by one.
-fn hits_behind_zeros(alloc: Global, room: usize, zeros: usize) -> Result<bool, Fail> {
-    let table = table_of(alloc, "BOF,0,,41{65530}42")?;
-    let mut scan = Scan::with_room(alloc, &table, room)?;
+// Whether the one signature hits a byte 41, so many zeros and a byte 42, fed one by one.
+fn hits_zeros(alloc: Global, table: &Table, room: usize, zeros: usize) -> Result<bool, Fail> {
+    let mut scan = Scan::with_room(alloc, table, room)?;
     scan.feed(b"A");
     for _ in 0..zeros {
         scan.feed(b"\x00");
     }
     scan.feed(b"B");
     Ok(scan.finish().hits().len() == 1)
+}
+
+// Whether `41{65530}42` does.
+fn hits_behind_zeros(alloc: Global, room: usize, zeros: usize) -> Result<bool, Fail> {
+    let table = table_of(alloc, "BOF,0,,41{65530}42")?;
+    hits_zeros(alloc, &table, room, zeros)
 }
 
 #[test]
@@ -158,14 +174,21 @@ fn a_long_gap_is_not_left_a_byte_early(rt: HostRuntime) -> Result<(), Fail> {
     Ok(())
 }
 
+// Whether the one signature hits the file.
+fn is_hit(alloc: Global, table: &Table, file: &[u8]) -> Result<bool, Fail> {
+    Ok(scanned(alloc, table, &[file])?.hits().len() == 1)
+}
+
+// Where `AABBABAAB` may end so that `41{1-2}42` stands at its end, or a byte before it.
+const ENDS: &[usize] = &[3, 4, 5, 9];
+
 #[test]
 fn a_scan_may_end_anywhere(rt: HostRuntime) -> Result<(), Fail> {
     let table = table_of(rt.alloc(), "EOF,0,1,41{1-2}42")?;
     let file = b"AABBABAAB";
-    let ends = [3, 4, 5, 9];
     for len in 0..file.len() + 1 {
-        let results = scanned(rt.alloc(), &table, &[&file[..len]])?;
-        assert_eq!(rt; results.hits().len() == 1, ends.contains(&len), "{len}");
+        let stands = is_hit(rt.alloc(), &table, &file[..len])?;
+        assert!(rt; stands == ENDS.contains(&len), "{len}");
     }
     Ok(())
 }

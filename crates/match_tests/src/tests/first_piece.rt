@@ -1,6 +1,6 @@
 //! Files longer than the first piece, whose beginning settles most of the sequences of a table.
 
-use crate::tests::{letters, loaded};
+use crate::tests::{letters, loaded, push_letters, push_repeated};
 use sig_bits::FromRead;
 use sig_match::{DroidCore, StreamCore, WholeCore};
 use std::alloc::Global;
@@ -24,9 +24,35 @@ const SETTLED: &str = "fmt/1,1,BOF,0,,41\n\
 // Some letters, so many zeros, and as many other letters.
 fn long_file(alloc: Global, seed: u32, zeros: usize) -> Result<Vec<u8>, Fail> {
     let mut file = letters(alloc, seed, 24)?;
-    file.extend_from_slice(&vec![in alloc; 0u8; zeros]?)?;
-    file.extend_from_slice(&letters(alloc, seed.wrapping_add(100), 24)?)?;
+    push_repeated(&mut file, b"\x00", zeros)?;
+    push_letters(&mut file, seed.wrapping_add(100), 24)?;
     Ok(file)
+}
+
+// Whether both cores hit the file with the same signatures.
+fn both_hit(whole: &WholeCore, stream: &StreamCore, file: &[u8]) -> Result<bool, Fail> {
+    let wants = whole.match_bytes(file)?;
+    let results = stream.match_binary_signatures(&mut FromRead::new(file))?;
+    Ok(results.hits() == wants.hits())
+}
+
+// How many zeros there are: the first piece ends in the letters at the end, or in the zeros before them.
+const ZEROS: &[usize] = &[262_100, 262_110, 262_144, 300_000];
+
+// Whether they do with so many zeros between the letters.
+fn both_hit_letters(
+    alloc: Global,
+    whole: &WholeCore,
+    stream: &StreamCore,
+    seed: u32,
+) -> Result<bool, Fail> {
+    for zeros in ZEROS {
+        let file = long_file(alloc, seed, *zeros)?;
+        if !both_hit(whole, stream, &file)? {
+            return Ok(false);
+        }
+    }
+    Ok(true)
 }
 
 #[test]
@@ -34,13 +60,10 @@ fn the_first_piece_settles_no_more_than_it_can(rt: HostRuntime) -> Result<(), Fa
     let whole = WholeCore::new(rt.alloc(), loaded(rt.alloc(), SETTLED)?);
     let stream = StreamCore::new(rt.alloc(), loaded(rt.alloc(), SETTLED)?);
     for seed in 0..12 {
-        // The first piece ends in the letters at the end, or in the zeros before them.
-        for zeros in [262_100, 262_110, 262_144, 300_000] {
-            let file = long_file(rt.alloc(), seed, zeros)?;
-            let wants = whole.match_bytes(&file)?;
-            let results = stream.match_binary_signatures(&mut FromRead::new(file.as_slice()))?;
-            assert!(rt; results.hits() == wants.hits(), "{seed} {zeros}");
-        }
+        assert!(rt;
+            both_hit_letters(rt.alloc(), &whole, &stream, seed)?,
+            "{seed}"
+        );
     }
     Ok(())
 }

@@ -23,26 +23,47 @@ const ENDS: &[(&str, &[usize])] = &[
     ("(4041|42)", &[2, 3]),
 ];
 
-// Whether both cores and a scan say that the one signature hits the file, or that it does not.
+// How many hits of the file each core and a scan answer.
+fn whole_count(alloc: Global, rows: &str, file: &[u8]) -> Result<usize, Fail> {
+    let core = WholeCore::new(alloc, loaded(alloc, rows)?);
+    Ok(core.match_bytes(file)?.hits().len())
+}
+
+fn stream_count(alloc: Global, rows: &str, file: &[u8]) -> Result<usize, Fail> {
+    let core = StreamCore::new(alloc, loaded(alloc, rows)?);
+    Ok(core.match_bytes(file)?.hits().len())
+}
+
+fn scan_count(alloc: Global, rows: &str, file: &[u8]) -> Result<usize, Fail> {
+    let table = loaded(alloc, rows)?;
+    Ok(scanned_by(alloc, &table, file, 1)?.hits().len())
+}
+
+// Whether all three say that the one signature hits the file, or that it does not.
 fn all_say(alloc: Global, rows: &str, file: &[u8], hits: bool) -> Result<bool, Fail> {
     let count = hits as usize;
-    let whole = WholeCore::new(alloc, loaded(alloc, rows)?);
-    let stream = StreamCore::new(alloc, loaded(alloc, rows)?);
-    let scan = scanned_by(alloc, &loaded(alloc, rows)?, file, 1)?;
     Ok(
-        whole.match_bytes(file)?.hits().len() == count
-            && stream.match_bytes(file)?.hits().len() == count
-            && scan.hits().len() == count,
+        whole_count(alloc, rows, file)? == count
+            && stream_count(alloc, rows, file)? == count
+            && scan_count(alloc, rows, file)? == count,
     )
+}
+
+// Whether they do of the item at this place from the end of `FILE`.
+fn all_say_behind(alloc: Global, item: &str, behind: usize, hits: bool) -> Result<bool, Fail> {
+    let rows = format!(in alloc; "fmt/1,1,EOF,{behind},,{item}\n")?;
+    all_say(alloc, &rows, FILE, hits)
 }
 
 #[test]
 fn an_item_ends_at_each_place_that_it_allows(rt: HostRuntime) -> Result<(), Fail> {
     for (item, ends) in ENDS {
         for behind in 0..5usize {
-            let rows = format!(in rt.alloc(); "fmt/1,1,EOF,{behind},,{item}\n")?;
             let hits = ends.contains(&(4 - behind));
-            assert!(rt; all_say(rt.alloc(), &rows, FILE, hits)?, "{rows}");
+            assert!(rt;
+                all_say_behind(rt.alloc(), item, behind, hits)?,
+                "{item} {behind}"
+            );
         }
     }
     Ok(())
@@ -62,11 +83,19 @@ const OVERLAPPING: &[(&str, &[u8], bool)] = &[
     ("BOF,0,,[4142:4243]", b"A\xff", true),
 ];
 
+// Whether all three say so of the sequence.
+fn all_say_of(alloc: Global, sequence: &str, file: &[u8], hits: bool) -> Result<bool, Fail> {
+    let rows = format!(in alloc; "fmt/1,1,{sequence}\n")?;
+    all_say(alloc, &rows, file, hits)
+}
+
 #[test]
 fn a_run_is_found_where_it_overlaps_itself(rt: HostRuntime) -> Result<(), Fail> {
     for (sequence, file, hits) in OVERLAPPING {
-        let rows = format!(in rt.alloc(); "fmt/1,1,{sequence}\n")?;
-        assert!(rt; all_say(rt.alloc(), &rows, file, *hits)?, "{rows}");
+        assert!(rt;
+            all_say_of(rt.alloc(), sequence, file, *hits)?,
+            "{sequence} {file:?}"
+        );
     }
     Ok(())
 }

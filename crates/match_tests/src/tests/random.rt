@@ -1,9 +1,7 @@
 //! Random tables over random files, cut anywhere: the scan, the search of a whole file and the plain scan agree.
 
-ghost use Rattle.std.specs.Prelude.{◌<◌};
-
 use crate::tests::{are_plain, letters, loaded, next_state, scanned_by};
-use sig_match::left_in;
+use sig_match::{Results, left_in};
 use sig_table::Table;
 use std::alloc::Global;
 use std::test::Fail;
@@ -46,34 +44,56 @@ fn push_items(rows: &mut String, seed: u32) -> Result<(), Fail> {
     Ok(())
 }
 
-// Eight rows of three items, each of a signature and a format of its own.
+// Puts a row of three items behind the others, of a signature and a format of its own.
+fn push_row(alloc: Global, rows: &mut String, number: u32, state: u32) -> Result<(), Fail> {
+    push_place(alloc, rows, number, position_of(state))?;
+    push_items(rows, state)?;
+    rows.push_str("\n")?;
+    Ok(())
+}
+
+fn push_place(alloc: Global, rows: &mut String, number: u32, position: &str) -> Result<(), Fail> {
+    let place = format!(in alloc; "fmt/{number},{number},{position},")?;
+    rows.push_str(&place)?;
+    Ok(())
+}
+
+// Eight such rows.
 fn random_rows(alloc: Global, seed: u32) -> Result<String, Fail> {
     let mut state = seed;
     let mut rows = String::new(alloc);
     for number in 1..9u32 {
         state = next_state(state);
-        let position = position_of(state);
-        rows.push_str(&format!(in alloc; "fmt/{number},{number},{position},")?)?;
-        push_items(&mut rows, state)?;
-        rows.push_str("\n")?;
+        push_row(alloc, &mut rows, number, state)?;
     }
     Ok(rows)
 }
 
-// Whether all three agree on the file, which the scan gets in pieces of this length.
-fn three_agree(alloc: Global, table: &Table, file: &[u8], piece: usize) -> Result<bool, Fail>
-    requires { 0 < piece }
-{
-    let results = scanned_by(alloc, table, file, piece)?;
-    let searched = left_in(alloc, table, file)?;
-    Ok(searched.hits() == results.hits() && are_plain(alloc, table, file, &results)?)
+// The table of them.
+fn random_table(alloc: Global, seed: u32) -> Result<Table, Fail> {
+    let rows = random_rows(alloc, seed)?;
+    loaded(alloc, &rows)
 }
+
+// Whether the search of the whole file answers these results.
+fn is_searched(alloc: Global, table: &Table, file: &[u8], results: &Results) -> Result<bool, Fail> {
+    Ok(left_in(alloc, table, file)?.hits() == results.hits())
+}
+
+// Whether all three agree on the file, which the scan gets in pieces of this length.
+fn three_agree(alloc: Global, table: &Table, file: &[u8], piece: usize) -> Result<bool, Fail> {
+    let results = scanned_by(alloc, table, file, piece)?;
+    Ok(is_searched(alloc, table, file, &results)? && are_plain(alloc, table, file, &results)?)
+}
+
+// The lengths of pieces that fronts are fed in.
+const PIECES: &[usize] = &[1, 2, 3, 7, 64];
 
 // Whether they do on each front of the file, with a new scan for each.
 fn agree_on_fronts(alloc: Global, table: &Table, file: &[u8]) -> Result<bool, Fail> {
     for len in 0..file.len() + 1 {
-        for piece in [1, 2, 3, 7, 64] {
-            if !three_agree(alloc, table, &file[..len], piece)? {
+        for piece in PIECES {
+            if !three_agree(alloc, table, &file[..len], *piece)? {
                 return Ok(false);
             }
         }
@@ -81,16 +101,17 @@ fn agree_on_fronts(alloc: Global, table: &Table, file: &[u8]) -> Result<bool, Fa
     Ok(true)
 }
 
+// Whether they do on the random table and the random file of this number.
+fn agree_on(alloc: Global, seed: u32) -> Result<bool, Fail> {
+    let table = random_table(alloc, seed)?;
+    let file = letters(alloc, seed, 32)?;
+    agree_on_fronts(alloc, &table, &file)
+}
+
 #[test]
 fn fronts_of_random_files_are_told_alike(rt: HostRuntime) -> Result<(), Fail> {
     for seed in 0..40 {
-        let rows = random_rows(rt.alloc(), seed)?;
-        let table = loaded(rt.alloc(), &rows)?;
-        let file = letters(rt.alloc(), seed, 32)?;
-        assert!(rt;
-            agree_on_fronts(rt.alloc(), &table, &file)?,
-            "{seed} {rows}"
-        );
+        assert!(rt; agree_on(rt.alloc(), seed)?, "{seed}");
     }
     Ok(())
 }

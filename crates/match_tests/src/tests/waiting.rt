@@ -46,14 +46,30 @@ const WAITING: &[(&str, &[u8], usize, &[u8], bool)] = &[
     ("EOF,4098,", b"AB", 4_097, b"", false),
 ];
 
+// The table of `41 42` in this position.
+fn table_at(alloc: Global, position: &str) -> Result<Table, Fail> {
+    let sequence = format!(in alloc; "{position},4142")?;
+    table_of(alloc, &sequence)
+}
+
+// Whether it hits such a file.
+fn stands_around(
+    alloc: Global,
+    position: &str,
+    front: &[u8],
+    zeros: usize,
+    end: &[u8],
+) -> Result<bool, Fail> {
+    let table = table_at(alloc, position)?;
+    let zeros = repeated(alloc, b"\x00", zeros)?;
+    hits_around(alloc, &table, front, &zeros, end)
+}
+
 #[test]
 fn bytes_that_wait_come_in_their_turn(rt: HostRuntime) -> Result<(), Fail> {
     for (position, front, zeros, end, stands) in WAITING {
-        let sequence = format!(in rt.alloc(); "{position},4142")?;
-        let table = table_of(rt.alloc(), &sequence)?;
-        let between = repeated(rt.alloc(), b"\x00", *zeros)?;
-        let hits = hits_around(rt.alloc(), &table, front, &between, end)?;
-        assert_eq!(rt; hits, *stands, "{position} {zeros}");
+        let hits = stands_around(rt.alloc(), position, front, *zeros, end)?;
+        assert!(rt; hits == *stands, "{position} {zeros}");
     }
     Ok(())
 }

@@ -1,9 +1,9 @@
 //! The worked rows, fed to a scan in pieces of any length.
 
-use crate::tests::{fronts_agree, hit, loaded, scanned_by, table_of};
+use crate::tests::{PIECES, fronts_agree, hit, loaded, scanned_by, table_of};
 use sig_match::Hit;
 use sig_table::Table;
-use std::alloc::Global;
+use std::alloc::{AllocError, Global};
 use std::test::Fail;
 
 // Sequences of signature 1 of `fmt/1`, a file, and whether it hits, worked out by hand.
@@ -97,50 +97,71 @@ const WORKED_TABLES: &[(&str, &[u8], &[(u16, u16)])] = &[
     ),
 ];
 
+// Whether these are the hits.
+fn are_hits(hits: &[Hit], wants: &[(u16, u16)]) -> bool {
+    for (it, (format, signature)) in hits.iter().zip(wants) {
+        if *it != hit(*format, *signature) {
+            return false;
+        }
+    }
+    hits.len() == wants.len()
+}
+
 // Whether the scan answers these hits of the file, whole and in pieces of several lengths.
-fn answers(alloc: Global, table: &Table, file: &[u8], hits: &[Hit]) -> Result<bool, Fail> {
-    for piece in [1, 2, 3, 7, 1024] {
-        if scanned_by(alloc, table, file, piece)?.hits() != hits {
+fn answers(
+    alloc: Global,
+    table: &Table,
+    file: &[u8],
+    wants: &[(u16, u16)],
+) -> Result<bool, AllocError> {
+    for piece in PIECES {
+        let results = scanned_by(alloc, table, file, *piece)?;
+        if !are_hits(results.hits(), wants) {
             return Ok(false);
         }
     }
     Ok(true)
 }
 
+// Whether it does so of the sequences of one signature, and agrees with the plain scans behind each front.
+fn answers_one(
+    alloc: Global,
+    sequences: &str,
+    file: &[u8],
+    wants: &[(u16, u16)],
+) -> Result<bool, Fail> {
+    let table = table_of(alloc, sequences)?;
+    Ok(answers(alloc, &table, file, wants)? && fronts_agree(alloc, &table, file)?)
+}
+
 #[test]
 fn the_rows_of_one_signature_are_answered(rt: HostRuntime) -> Result<(), Fail> {
-    let hits = [hit(0, 0)];
     for (sequences, file, is_hit) in WORKED {
-        let table = table_of(rt.alloc(), sequences)?;
-        let wants: &[Hit] = if *is_hit { &hits } else { &[] };
+        let wants: &[(u16, u16)] = if *is_hit { &[(0, 0)] } else { &[] };
         assert!(rt;
-            answers(rt.alloc(), &table, file, wants)?,
-            "{sequences} {file:?}"
-        );
-        assert!(rt;
-            fronts_agree(rt.alloc(), &table, file)?,
+            answers_one(rt.alloc(), sequences, file, wants)?,
             "{sequences} {file:?}"
         );
     }
     Ok(())
 }
 
-// These hits.
-fn hits_of(alloc: Global, wanted: &[(u16, u16)]) -> Result<Vec<Hit>, Fail> {
-    let mut hits = Vec::new(alloc);
-    for (format, signature) in wanted {
-        hits.push(hit(*format, *signature))?;
-    }
-    Ok(hits)
+// Whether it does so of the signatures of these rows.
+fn answers_rows(
+    alloc: Global,
+    rows: &str,
+    file: &[u8],
+    wants: &[(u16, u16)],
+) -> Result<bool, Fail> {
+    let table = loaded(alloc, rows)?;
+    Ok(answers(alloc, &table, file, wants)?)
 }
 
 #[test]
 fn the_rows_of_several_formats_are_answered(rt: HostRuntime) -> Result<(), Fail> {
-    for (rows, file, wanted) in WORKED_TABLES {
-        let table = loaded(rt.alloc(), rows)?;
-        let hits = hits_of(rt.alloc(), wanted)?;
+    for (rows, file, wants) in WORKED_TABLES {
         assert!(rt;
-            answers(rt.alloc(), &table, file, &hits)?,
+            answers_rows(rt.alloc(), rows, file, wants)?,
             "{rows} {file:?}"
         );
     }

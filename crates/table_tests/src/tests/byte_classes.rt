@@ -2,46 +2,74 @@
 
 use sig_bits::ByteClass;
 
-#[test]
-fn a_class_holds_its_bytes_alone(rt: HostRuntime) {
-    let letter = ByteClass::of_byte(0x41);
+// Whether the classes of 41, of the capitals and of all others have the byte as they should.
+fn is_held_alone(byte: u8) -> bool {
     let capitals = ByteClass::range(0x41, 0x5a);
-    for b in 0..=255 {
-        assert_eq!(rt; letter.contains(b), b == 0x41, "{b}");
-        assert_eq!(rt; capitals.contains(b), b.is_ascii_uppercase(), "{b}");
-        assert_eq!(rt;
-            capitals.without().contains(b),
-            !b.is_ascii_uppercase(),
-            "{b}"
-        );
-    }
-    assert!(rt; ByteClass::range(0x42, 0x41).is_empty());
-    assert!(rt; ByteClass::range(0, 255).without().is_empty());
-    assert!(rt; !ByteClass::of_byte(0).is_empty());
-    assert!(rt; capitals.same_side(0x41, 0x5a));
-    assert!(rt; capitals.same_side(0x40, 0x5b));
-    assert!(rt; !capitals.same_side(0x40, 0x41));
+    ByteClass::of_byte(0x41).contains(byte) == (byte == 0x41)
+        && capitals.contains(byte) == byte.is_ascii_uppercase()
+        && capitals.without().contains(byte) != byte.is_ascii_uppercase()
+}
+
+// Whether just those are empty that should be.
+fn are_empty_alone() -> bool {
+    ByteClass::range(0x42, 0x41).is_empty()
+        && ByteClass::range(0, 255).without().is_empty()
+        && !ByteClass::of_byte(0).is_empty()
+        && ByteClass::none().is_empty()
+}
+
+// Whether bytes are on the same side of the capitals just where they should be.
+fn have_sides() -> bool {
+    let capitals = ByteClass::range(0x41, 0x5a);
+    capitals.same_side(0x41, 0x5a)
+        && capitals.same_side(0x40, 0x5b)
+        && !capitals.same_side(0x40, 0x41)
+}
+
+// Whether two classes have the bytes of either and those of both.
+fn are_joined_and_met() -> bool {
     let first = ByteClass::range(0x41, 0x43);
     let second = ByteClass::range(0x43, 0x45);
-    assert_eq!(rt; first.union(second), ByteClass::range(0x41, 0x45));
-    assert_eq!(rt; first.intersection(second), ByteClass::of_byte(0x43));
-    assert!(rt; ByteClass::none().is_empty());
-    assert_eq!(rt; ByteClass::all(), ByteClass::range(0, 255));
+    first.union(second) == ByteClass::range(0x41, 0x45)
+        && first.intersection(second) == ByteClass::of_byte(0x43)
+}
+
+#[test]
+fn a_class_holds_its_bytes_alone(rt: HostRuntime) {
+    for byte in 0..=255 {
+        assert!(rt; is_held_alone(byte), "{byte}");
+    }
+    assert!(rt; are_empty_alone());
+    assert!(rt; have_sides());
+    assert!(rt; are_joined_and_met());
+    assert!(rt; ByteClass::all() == ByteClass::range(0, 255));
+}
+
+// The class of 41 and FF.
+fn ends() -> ByteClass {
+    let mut ends = ByteClass::none();
+    ends.insert(0x41);
+    ends.insert(0xff);
+    ends
+}
+
+// Whether the lowest of its bytes is found from any place on.
+fn has_lowest() -> bool {
+    let ends = ends();
+    ByteClass::none().lowest_from(0).is_none()
+        && ends.lowest_from(0) == Some(0x41)
+        && ends.lowest_from(0x42) == Some(0xff)
+        && ends.lowest_from(0x100).is_none()
 }
 
 #[test]
 fn classes_are_put_together(rt: HostRuntime) {
-    let mut ends = ByteClass::none();
-    assert_eq!(rt; ends.lowest_from(0), None);
-    ends.insert(0x41);
-    ends.insert(0xff);
-    assert_eq!(rt; ends.lowest_from(0), Some(0x41));
-    assert_eq!(rt; ends.lowest_from(0x42), Some(0xff));
-    assert_eq!(rt; ends.lowest_from(0x100), None);
+    assert!(rt; has_lowest());
     let capitals = ByteClass::range(0x41, 0x5a);
-    assert_eq!(rt; ends.intersection(capitals), ByteClass::of_byte(0x41));
-    assert_eq!(rt; ends.intersection(ByteClass::all()), ends);
+    let mut ends = ends();
+    assert!(rt; ends.intersection(capitals) == ByteClass::of_byte(0x41));
+    assert!(rt; ends.intersection(ByteClass::all()) == ends);
     ends.extend(&capitals);
-    assert_eq!(rt; ends.intersection(capitals), capitals);
+    assert!(rt; ends.intersection(capitals) == capitals);
     assert!(rt; ends.contains(0xff));
 }

@@ -1,6 +1,7 @@
 //! Inputs and outputs.
 
 use sig_bits::{DeviceFault, FromRead, FromWrite, Input, Output, ReadWholeError, read_whole};
+use std::alloc::Global;
 use std::io::{Error, ErrorKind, Read, Result as IoResult, Write};
 use std::test::Fail;
 
@@ -116,39 +117,54 @@ impl Read for Failing<'_> {
     }
 }
 
+// Whether each of three reads of the input fails.
+fn fails_thrice<R: Read>(input: &mut FromRead<R>) -> bool {
+    let mut buf = [0u8; 3];
+    for _ in 0..3u8 {
+        if input.read(&mut buf) != Err(DeviceFault) {
+            return false;
+        }
+    }
+    true
+}
+
 #[test]
 fn a_failed_reader_is_not_read_again(rt: HostRuntime) {
     let mut reads = 0;
     {
         let mut input = FromRead::new(Failing { reads: &mut reads });
-        let mut buf = [0u8; 3];
-        for _ in 0..3u8 {
-            assert_eq!(rt; input.read(&mut buf), Err(DeviceFault));
-        }
+        assert!(rt; fails_thrice(&mut input));
         let refused = read_whole(rt.alloc(), &mut input).err();
-        assert_eq!(rt; refused, Some(ReadWholeError::Read));
+        assert!(rt; refused == Some(ReadWholeError::Read));
     }
-    assert_eq!(rt; reads, 1);
+    assert!(rt; reads == 1);
 }
 
 #[test]
 fn an_empty_buffer_takes_nothing(rt: HostRuntime) {
     let mut input = FromRead::new(&b"\x41\x42"[..]);
     let mut buf = [0u8; 2];
-    assert_eq!(rt; input.read(&mut []), Ok(0));
-    assert_eq!(rt; input.read(&mut buf), Ok(2));
-    assert_eq!(rt; buf, [0x41, 0x42]);
-    assert_eq!(rt; input.read(&mut []), Ok(0));
+    assert!(rt; input.read(&mut []) == Ok(0));
+    assert!(rt; input.read(&mut buf) == Ok(2));
+    assert!(rt; buf == [0x41, 0x42]);
+    assert!(rt; input.read(&mut []) == Ok(0));
+}
+
+// Whether these are so many bytes, 0, 1, 2 and so on.
+fn are_rising(bytes: &[u8], count: usize) -> bool {
+    for (i, byte) in bytes.iter().enumerate() {
+        if *byte as usize != i {
+            return false;
+        }
+    }
+    bytes.len() == count
 }
 
 #[test]
 fn a_reader_that_gives_one_byte_a_read_is_read_whole(rt: HostRuntime) -> Result<(), Fail> {
     let mut input = FromRead::new(OneByOne { next: 0, end: 255 });
     let whole = read_whole(rt.alloc(), &mut input)?;
-    assert_eq!(rt; whole.len(), 255);
-    for (i, byte) in whole.as_slice().iter().enumerate() {
-        assert_eq!(rt; *byte as usize, i);
-    }
+    assert!(rt; are_rising(&whole, 255));
     Ok(())
 }
 
@@ -156,12 +172,12 @@ fn a_reader_that_gives_one_byte_a_read_is_read_whole(rt: HostRuntime) -> Result<
 fn a_reader_is_read_to_its_end(rt: HostRuntime) {
     let mut input = FromRead::new(&b"\x41\x42\x43\x44"[..]);
     let mut buf = [0u8; 3];
-    assert_eq!(rt; input.read(&mut buf), Ok(3));
-    assert_eq!(rt; buf, [0x41, 0x42, 0x43]);
-    assert_eq!(rt; input.read(&mut buf), Ok(1));
-    assert_eq!(rt; buf[0], 0x44);
-    assert_eq!(rt; input.read(&mut buf), Ok(0));
-    assert_eq!(rt; input.read(&mut buf), Ok(0));
+    assert!(rt; input.read(&mut buf) == Ok(3));
+    assert!(rt; buf == [0x41, 0x42, 0x43]);
+    assert!(rt; input.read(&mut buf) == Ok(1));
+    assert!(rt; buf[0] == 0x44);
+    assert!(rt; input.read(&mut buf) == Ok(0));
+    assert!(rt; input.read(&mut buf) == Ok(0));
 }
 
 #[test]
@@ -171,40 +187,45 @@ fn an_interrupted_read_is_final(rt: HostRuntime) {
         done: false,
     });
     let mut buf = [0u8; 3];
-    assert_eq!(rt; input.read(&mut buf), Ok(1));
-    assert_eq!(rt; input.read(&mut buf), Err(DeviceFault));
-    assert_eq!(rt; input.read(&mut buf), Err(DeviceFault));
+    assert!(rt; input.read(&mut buf) == Ok(1));
+    assert!(rt; input.read(&mut buf) == Err(DeviceFault));
+    assert!(rt; input.read(&mut buf) == Err(DeviceFault));
+}
+
+// Whether just these bytes are read of the whole input.
+fn is_read_as<R: Read>(alloc: Global, input: &mut FromRead<R>, bytes: &[u8]) -> bool {
+    match read_whole(alloc, input) {
+        Ok(whole) => whole.as_slice() == bytes,
+        Err(_) => false,
+    }
 }
 
 #[test]
 fn a_reader_is_read_whole(rt: HostRuntime) -> Result<(), Fail> {
     let long = vec![in rt.alloc(); 0x42; 200_000]?;
     let mut input = FromRead::new(long.as_slice());
-    let whole = read_whole(rt.alloc(), &mut input)?;
-    assert_eq!(rt; whole.as_slice(), long.as_slice());
+    assert!(rt; is_read_as(rt.alloc(), &mut input, &long));
     let mut one_a_read = FromRead::new(Interrupted {
         before: 5,
         done: true,
     });
-    let whole = read_whole(rt.alloc(), &mut one_a_read)?;
-    assert_eq!(rt; whole.as_slice(), b"AAAAA".as_slice());
+    assert!(rt; is_read_as(rt.alloc(), &mut one_a_read, b"AAAAA"));
     let mut failing = FromRead::new(Interrupted {
         before: 5,
         done: false,
     });
     let refused = read_whole(rt.alloc(), &mut failing).err();
-    assert_eq!(rt; refused, Some(ReadWholeError::Read));
+    assert!(rt; refused == Some(ReadWholeError::Read));
     Ok(())
 }
 
 #[test]
-fn writes_follow_one_another(rt: HostRuntime) -> Result<(), Fail> {
+fn writes_follow_one_another(rt: HostRuntime) {
     let mut output = FromWrite::new(Vec::new(rt.alloc()));
-    output.write_all(b"ab")?;
-    output.write_all(b"")?;
-    output.write_all(b"c")?;
-    assert_eq!(rt; output.into_inner().as_slice(), b"abc".as_slice());
-    Ok(())
+    assert!(rt; output.write_all(b"ab").is_ok());
+    assert!(rt; output.write_all(b"").is_ok());
+    assert!(rt; output.write_all(b"c").is_ok());
+    assert!(rt; output.into_inner().as_slice() == b"abc".as_slice());
 }
 
 #[test]
@@ -214,12 +235,12 @@ fn a_short_write_goes_on_and_a_failed_one_is_final(rt: HostRuntime) {
         taken: 0,
         calls: 0,
     });
-    assert_eq!(rt; output.write_all(b"ab"), Ok(()));
-    assert_eq!(rt; output.write_all(b"cd"), Err(DeviceFault));
-    assert_eq!(rt; output.write_all(b""), Err(DeviceFault));
-    assert_eq!(rt; output.write_all(b"ef"), Err(DeviceFault));
+    assert!(rt; output.write_all(b"ab") == Ok(()));
+    assert!(rt; output.write_all(b"cd") == Err(DeviceFault));
+    assert!(rt; output.write_all(b"") == Err(DeviceFault));
+    assert!(rt; output.write_all(b"ef") == Err(DeviceFault));
     let writer = output.into_inner();
-    assert_eq!(rt; writer.taken, 3);
+    assert!(rt; writer.taken == 3);
     assert_eq!(rt;
         writer.calls,
         5,
@@ -230,12 +251,12 @@ fn a_short_write_goes_on_and_a_failed_one_is_final(rt: HostRuntime) {
 #[test]
 fn a_failed_flush_is_a_failed_write(rt: HostRuntime) {
     let mut output = FromWrite::new(NeverFlushed);
-    assert_eq!(rt; output.write_all(b"ab"), Err(DeviceFault));
+    assert!(rt; output.write_all(b"ab") == Err(DeviceFault));
 }
 
 #[test]
 fn an_interrupted_write_is_final(rt: HostRuntime) {
     let mut output = FromWrite::new(InterruptedOnce { done: false });
-    assert_eq!(rt; output.write_all(b"ab"), Err(DeviceFault));
-    assert_eq!(rt; output.write_all(b"ab"), Err(DeviceFault));
+    assert!(rt; output.write_all(b"ab") == Err(DeviceFault));
+    assert!(rt; output.write_all(b"ab") == Err(DeviceFault));
 }

@@ -30,237 +30,292 @@ fn loaded_rows(alloc: Global, rows: &[u8]) -> Result<Table, TableError> {
     loaded(alloc, text.as_slice(), b"higher,lower\n".as_slice())
 }
 
-#[test]
-fn a_puid_prints_as_it_was_read(rt: HostRuntime) -> Result<(), Fail> {
-    let rows: [(&str, bool); 10] = [
-        ("fmt/1", true),
-        ("fmt/999999999", true),
-        ("x-fmt/40", true),
-        ("fmt/0", false),
-        ("fmt/01", false),
-        ("fmt/1000000000", false),
-        ("fmt/", false),
-        ("FMT/1", false),
-        ("fmt/1 ", false),
-        ("", false),
-    ];
-    for (text, is_puid) in rows {
-        let puid = Puid::parse(text.as_bytes());
-        assert_eq!(rt; puid.is_some(), is_puid, "{text}");
-        if let Some(puid) = puid {
-            let printed = puid.to_string(rt.alloc())?;
-            assert_eq!(rt; printed.as_str(), text);
-        }
+// Texts, and whether they are PUIDs.
+const PUIDS: &[(&str, bool)] = &[
+    ("fmt/1", true),
+    ("fmt/999999999", true),
+    ("x-fmt/40", true),
+    ("fmt/0", false),
+    ("fmt/01", false),
+    ("fmt/1000000000", false),
+    ("fmt/", false),
+    ("FMT/1", false),
+    ("fmt/1 ", false),
+    ("", false),
+];
+
+// Whether the text is a PUID that is printed so, or none, as it should be.
+fn is_as_it_was_read(alloc: Global, text: &str, is_puid: bool) -> bool {
+    let Some(puid) = Puid::parse(text.as_bytes()) else {
+        return !is_puid;
+    };
+    match puid.to_string(alloc) {
+        Ok(printed) => is_puid && printed.as_str() == text,
+        Err(_) => false,
     }
-    Ok(())
+}
+
+#[test]
+fn a_puid_prints_as_it_was_read(rt: HostRuntime) {
+    for (text, is_puid) in PUIDS {
+        assert!(rt; is_as_it_was_read(rt.alloc(), text, *is_puid), "{text}");
+    }
 }
 
 // Rows of two formats, of which those of the first signature do not stand together.
 const TWO_FORMATS: &[u8] =
     b"fmt/2,7,BOF,0,,41\nx-fmt/1,3,EOF,1,2,4243\nfmt/2,7,Variable,,,43\nfmt/2,7,BOF,0,,41\n";
 
+// Whether this is the PUID of the format.
+fn is_puid_of(table: &Table, format: u16, puid: &[u8]) -> bool {
+    (format as usize) < table.format_count()
+        && Some(table.puid(FormatId(format))) == Puid::parse(puid)
+}
+
 #[test]
 fn formats_stand_in_the_order_of_their_first_rows(rt: HostRuntime) -> Result<(), Fail> {
     let table = loaded_rows(rt.alloc(), TWO_FORMATS)?;
-    assert_eq!(rt; table.format_count(), 2);
-    assert_eq!(rt; Some(table.puid(FormatId(0))), Puid::parse(b"fmt/2"));
-    assert_eq!(rt; Some(table.puid(FormatId(1))), Puid::parse(b"x-fmt/1"));
+    assert!(rt; table.format_count() == 2);
+    assert!(rt; is_puid_of(&table, 0, b"fmt/2"));
+    assert!(rt; is_puid_of(&table, 1, b"x-fmt/1"));
     Ok(())
+}
+
+// Whether the signature has this number and is of this format.
+fn is_signature(table: &Table, signature: u16, number: u32, format: u16) -> bool {
+    (signature as usize) < table.signature_count()
+        && table.number_of(SigId(signature)) == number
+        && table.format_of(SigId(signature)) == FormatId(format)
 }
 
 #[test]
 fn signatures_stand_in_the_order_of_their_first_rows(rt: HostRuntime) -> Result<(), Fail> {
     let table = loaded_rows(rt.alloc(), TWO_FORMATS)?;
-    assert_eq!(rt; table.signature_count(), 2);
-    assert_eq!(rt; table.number_of(SigId(0)), 7);
-    assert_eq!(rt; table.number_of(SigId(1)), 3);
-    assert_eq!(rt; table.format_of(SigId(1)), FormatId(1));
+    assert!(rt; table.signature_count() == 2);
+    assert!(rt; is_signature(&table, 0, 7, 0));
+    assert!(rt; is_signature(&table, 1, 3, 1));
     Ok(())
 }
 
-// Whether these are sequences of these positions and so many slots.
-fn are_sequences(sequences: &[Sequence], wants: &[(Position, u32)]) -> bool {
+// Whether the sequences of the signature are of these positions and so many slots.
+fn are_sequences(table: &Table, signature: u16, wants: &[(Position, u32)]) -> bool {
+    if table.signature_count() <= signature as usize {
+        return false;
+    }
+    let sequences = table.sequences_of(SigId(signature));
+    for (it, (position, slots)) in sequences.iter().zip(wants) {
+        if it.position() != *position || it.slots() != *slots {
+            return false;
+        }
+    }
     sequences.len() == wants.len()
-        && sequences.iter().zip(wants).all(|(it, (position, slots))| it.position() == *position
-            && it.slots() == *slots)
 }
+
+const START: Position = Position::Bof { min: 0, max: 0 };
+
+// The sequences of the two signatures of `TWO_FORMATS`.
+const FIRST: &[(Position, u32)] = &[(START, 2), (Position::Variable, 3), (START, 2)];
+
+const SECOND: &[(Position, u32)] = &[(Position::Eof { min: 1, max: 2 }, 5)];
 
 #[test]
 fn sequences_stand_in_the_order_of_their_rows(rt: HostRuntime) -> Result<(), Fail> {
     let table = loaded_rows(rt.alloc(), TWO_FORMATS)?;
-    assert_eq!(rt; table.signature_count(), 2);
-    let start = Position::Bof { min: 0, max: 0 };
-    let first = [(start, 2), (Position::Variable, 3), (start, 2)];
-    let second = [(Position::Eof { min: 1, max: 2 }, 5)];
-    assert!(rt; are_sequences(table.sequences_of(SigId(0)), &first));
-    assert!(rt; are_sequences(table.sequences_of(SigId(1)), &second));
+    assert!(rt; table.signature_count() == 2);
+    assert!(rt; are_sequences(&table, 0, FIRST));
+    assert!(rt; are_sequences(&table, 1, SECOND));
     Ok(())
+}
+
+// Whether these are the signatures of the format, in this order.
+fn has_signatures(table: &Table, format: u16, wanted: &[SigId]) -> bool {
+    let mut count = 0;
+    for signature in table.signatures_of(FormatId(format)) {
+        if wanted.get(count) != Some(&signature) {
+            return false;
+        }
+        count += 1;
+    }
+    count == wanted.len()
 }
 
 #[test]
 fn the_signatures_of_a_format_rise(rt: HostRuntime) -> Result<(), Fail> {
     let rows = b"fmt/1,9,BOF,0,,41\nfmt/2,1,BOF,0,,41\nfmt/1,2,BOF,0,,41\nfmt/1,9,BOF,1,,41\n";
     let table = loaded_rows(rt.alloc(), rows.as_slice())?;
-    let first = table
-        .signatures_of(FormatId(0))
-        .collect::<Vec<SigId>>(rt.alloc())?;
-    assert_eq!(rt; first.as_slice(), [SigId(0), SigId(2)].as_slice());
-    let second = table
-        .signatures_of(FormatId(1))
-        .collect::<Vec<SigId>>(rt.alloc())?;
-    assert_eq!(rt; second.as_slice(), [SigId(1)].as_slice());
-    let none = table
-        .signatures_of(FormatId(2))
-        .collect::<Vec<SigId>>(rt.alloc())?;
-    assert!(rt; none.is_empty());
+    assert!(rt; has_signatures(&table, 0, &[SigId(0), SigId(2)]));
+    assert!(rt; has_signatures(&table, 1, &[SigId(1)]));
+    assert!(rt; has_signatures(&table, 2, &[]));
     Ok(())
+}
+
+// Whether a removal of the format finds it.
+fn removes(table: &mut Table, puid: &[u8]) -> Option<bool> {
+    let puid = Puid::parse(puid)?;
+    Some(table.remove_signature_for_puid(&puid))
 }
 
 #[test]
 fn a_removal_takes_the_signatures_of_its_format_alone(rt: HostRuntime) -> Result<(), Fail> {
     let rows = b"fmt/1,4,BOF,0,,41\nfmt/2,7,BOF,0,,42\nfmt/1,5,BOF,0,,43\nfmt/3,6,BOF,0,,44\n";
     let mut table = loaded_rows(rt.alloc(), rows.as_slice())?;
-    let other = Puid::parse(b"fmt/9").ok_or("the text is a PUID")?;
-    assert!(rt; !table.remove_signature_for_puid(&other));
-    assert_eq!(rt; table.signature_count(), 4);
-    let first = Puid::parse(b"fmt/1").ok_or("the text is a PUID")?;
-    assert!(rt; table.remove_signature_for_puid(&first));
-    assert_eq!(rt; table.format_count(), 3);
-    assert_eq!(rt; Some(table.puid(FormatId(0))), Puid::parse(b"fmt/1"));
-    assert_eq!(rt; table.signature_count(), 2);
-    assert_eq!(rt; table.number_of(SigId(0)), 7);
-    assert_eq!(rt; table.format_of(SigId(0)), FormatId(1));
-    assert_eq!(rt; table.number_of(SigId(1)), 6);
-    assert_eq!(rt; table.format_of(SigId(1)), FormatId(2));
+    assert!(rt; removes(&mut table, b"fmt/9") == Some(false));
+    assert!(rt; table.signature_count() == 4);
+    assert!(rt; removes(&mut table, b"fmt/1") == Some(true));
+    assert!(rt; table.format_count() == 3);
+    assert!(rt; is_puid_of(&table, 0, b"fmt/1"));
+    assert!(rt; table.signature_count() == 2);
+    assert!(rt; is_signature(&table, 0, 7, 1));
+    assert!(rt; is_signature(&table, 1, 6, 2));
     Ok(())
 }
 
+const SIGNATURES: TableFile = TableFile::Signatures;
+
+const PRIORITIES: TableFile = TableFile::Priorities;
+
+// Signature rows, and their first fault.
+const ROW_FAULTS: &[(&[u8], TableError)] = &[
+    (
+        b"fmt/1,1,BOF,0,41\n",
+        TableError::Fields {
+            file: SIGNATURES,
+            row: 1,
+        },
+    ),
+    (
+        b"fmt/0,0,BOF,0,,41\n",
+        TableError::Puid {
+            file: SIGNATURES,
+            row: 1,
+        },
+    ),
+    (
+        b"fmt/1,01,Bof,0,,41\n",
+        TableError::SignatureNumber { row: 1 },
+    ),
+    (b"fmt/1,1,Bof,00,,41\n", TableError::Position { row: 1 }),
+    (b"fmt/1,1,BOF,00,,\n", TableError::Offset { row: 1 }),
+    (b"fmt/1,1,BOF,5,4,41\n", TableError::Offset { row: 1 }),
+    (b"fmt/1,1,EOF,65536,,41\n", TableError::Offset { row: 1 }),
+    (b"fmt/1,1,Variable,0,,41\n", TableError::Offset { row: 1 }),
+    (
+        b"fmt/1,1,BOF,0,,41 42\n",
+        TableError::Expression {
+            row: 1,
+            error: ExprError::Syntax { place: 2 },
+        },
+    ),
+    (
+        b"fmt/1,1,BOF,0,,4142\nfmt/2,1,BOF,0,,4143\n",
+        TableError::SignatureOfTwo { row: 2 },
+    ),
+    (
+        b"fmt/1,1,BOF,0,,41\nfmt/2,1,BOF,0,,41\nfmt/0,3,BOF,0,,41\n",
+        TableError::SignatureOfTwo { row: 2 },
+    ),
+    (
+        b"fmt/1,1,BOF,0,,41\nfmt/1,1,BOF,0,,41\nfmt/1,1,BOF,0,,41\nfmt/1,1,BOF,0,,41\n\
+        fmt/1,1,BOF,0,,41\nfmt/1,1,BOF,0,,41\nfmt/1,1,BOF,0,,41\nfmt/1,1,BOF,0,,41\nfmt/1,1,BOF,0,,41\n",
+        TableError::TooManySequences { row: 9 },
+    ),
+    (
+        b"fmt/1,1,Variable,,,{65534}\n",
+        TableError::TooManySlots { row: 1 },
+    ),
+    (
+        b"fmt/1,1,BOF,0,,{65535}\n",
+        TableError::TooManySlots { row: 1 },
+    ),
+    (
+        b"fmt/1,1,BOF,65535,,41\n",
+        TableError::TooManySlots { row: 1 },
+    ),
+    (
+        b"fmt/1,1,Variable,,,{65526}[4142:4241]\n",
+        TableError::TooManySlots { row: 1 },
+    ),
+    (
+        b"fmt/1,1,Variable,,,{65526}[!4142]\n",
+        TableError::TooManySlots { row: 1 },
+    ),
+    (
+        b"fmt/1,1,Variable,,,{65532}[!0000:FFFE]\n",
+        TableError::TooManySlots { row: 1 },
+    ),
+];
+
 #[test]
 fn the_first_fault_of_a_row_is_named(rt: HostRuntime) {
-    let file = TableFile::Signatures;
-    let rows: [(&[u8], TableError); 18] = [
-        (b"fmt/1,1,BOF,0,41\n", TableError::Fields { file, row: 1 }),
-        (b"fmt/0,0,BOF,0,,41\n", TableError::Puid { file, row: 1 }),
-        (
-            b"fmt/1,01,Bof,0,,41\n",
-            TableError::SignatureNumber { row: 1 },
-        ),
-        (b"fmt/1,1,Bof,00,,41\n", TableError::Position { row: 1 }),
-        (b"fmt/1,1,BOF,00,,\n", TableError::Offset { row: 1 }),
-        (b"fmt/1,1,BOF,5,4,41\n", TableError::Offset { row: 1 }),
-        (b"fmt/1,1,EOF,65536,,41\n", TableError::Offset { row: 1 }),
-        (b"fmt/1,1,Variable,0,,41\n", TableError::Offset { row: 1 }),
-        (
-            b"fmt/1,1,BOF,0,,41 42\n",
-            TableError::Expression {
-                row: 1,
-                error: ExprError::Syntax { place: 2 },
-            },
-        ),
-        (
-            b"fmt/1,1,BOF,0,,4142\nfmt/2,1,BOF,0,,4143\n",
-            TableError::SignatureOfTwo { row: 2 },
-        ),
-        (
-            b"fmt/1,1,BOF,0,,41\nfmt/2,1,BOF,0,,41\nfmt/0,3,BOF,0,,41\n",
-            TableError::SignatureOfTwo { row: 2 },
-        ),
-        (
-            b"fmt/1,1,BOF,0,,41\nfmt/1,1,BOF,0,,41\nfmt/1,1,BOF,0,,41\nfmt/1,1,BOF,0,,41\n\
-            fmt/1,1,BOF,0,,41\nfmt/1,1,BOF,0,,41\nfmt/1,1,BOF,0,,41\nfmt/1,1,BOF,0,,41\nfmt/1,1,BOF,0,,41\n",
-            TableError::TooManySequences { row: 9 },
-        ),
-        (
-            b"fmt/1,1,Variable,,,{65534}\n",
-            TableError::TooManySlots { row: 1 },
-        ),
-        (
-            b"fmt/1,1,BOF,0,,{65535}\n",
-            TableError::TooManySlots { row: 1 },
-        ),
-        (
-            b"fmt/1,1,BOF,65535,,41\n",
-            TableError::TooManySlots { row: 1 },
-        ),
-        (
-            b"fmt/1,1,Variable,,,{65526}[4142:4241]\n",
-            TableError::TooManySlots { row: 1 },
-        ),
-        (
-            b"fmt/1,1,Variable,,,{65526}[!4142]\n",
-            TableError::TooManySlots { row: 1 },
-        ),
-        (
-            b"fmt/1,1,Variable,,,{65532}[!0000:FFFE]\n",
-            TableError::TooManySlots { row: 1 },
-        ),
-    ];
-    for (text, error) in rows {
-        assert_eq!(rt; loaded_rows(rt.alloc(), text).err(), Some(error));
+    for (text, error) in ROW_FAULTS {
+        assert!(rt;
+            loaded_rows(rt.alloc(), text).err() == Some(*error),
+            "{error:?}"
+        );
     }
 }
 
+// Texts of the two files, and their first fault.
+const FILE_FAULTS: &[(&[u8], &[u8], TableError)] = &[
+    (b"", b"", TableError::Header { file: SIGNATURES }),
+    (
+        b"puid\n",
+        b"higher,lower\nfmt/1\n",
+        TableError::Header { file: SIGNATURES },
+    ),
+    (
+        b"puid,signature\n",
+        b"",
+        TableError::Header { file: SIGNATURES },
+    ),
+    (HEADER, b"", TableError::Header { file: PRIORITIES }),
+    (
+        HEADER,
+        b"lower,higher\n",
+        TableError::Header { file: PRIORITIES },
+    ),
+    (
+        HEADER,
+        b"higher,lower\nfmt/1,fmt/2\n",
+        TableError::PriorityUnknown { row: 1 },
+    ),
+];
+
 #[test]
 fn the_signature_file_is_judged_first(rt: HostRuntime) {
-    let signatures = TableFile::Signatures;
-    let priorities = TableFile::Priorities;
-    let rows: [(&[u8], &[u8], TableError); 6] = [
-        (b"", b"", TableError::Header { file: signatures }),
-        (
-            b"puid\n",
-            b"higher,lower\nfmt/1\n",
-            TableError::Header { file: signatures },
-        ),
-        (
-            b"puid,signature\n",
-            b"",
-            TableError::Header { file: signatures },
-        ),
-        (HEADER, b"", TableError::Header { file: priorities }),
-        (
-            HEADER,
-            b"lower,higher\n",
-            TableError::Header { file: priorities },
-        ),
-        (
-            HEADER,
-            b"higher,lower\nfmt/1,fmt/2\n",
-            TableError::PriorityUnknown { row: 1 },
-        ),
-    ];
-    for (s, p, error) in rows {
-        assert_eq!(rt; loaded(rt.alloc(), s, p).err(), Some(error));
+    for (signatures, priorities, error) in FILE_FAULTS {
+        let refused = loaded(rt.alloc(), signatures, priorities).err();
+        assert!(rt; refused == Some(*error), "{error:?}");
     }
 }
 
 // The table of the formats 1 to 3, and of these pairs.
 fn loaded_pairs(alloc: Global, pairs: &[u8]) -> Result<Table, TableError> {
-    let Ok(mut signatures) = HEADER.to_vec(alloc) else {
-        return Err(TableError::OutOfMemory);
-    };
-    let rows = b"fmt/1,1,BOF,0,,41\nfmt/2,2,BOF,0,,41\nfmt/3,3,BOF,0,,41\n".as_slice();
-    if signatures.extend_from_slice(rows).is_err() {
-        return Err(TableError::OutOfMemory);
-    }
     let Ok(mut priorities) = b"higher,lower\n".to_vec(alloc) else {
         return Err(TableError::OutOfMemory);
     };
     if priorities.extend_from_slice(pairs).is_err() {
         return Err(TableError::OutOfMemory);
     }
-    loaded(alloc, signatures.as_slice(), priorities.as_slice())
+    loaded(alloc, THREE_FORMATS, priorities.as_slice())
+}
+
+const THREE_FORMATS: &[u8] = b"puid,signature,position,offset,max_offset,expression\n\
+    fmt/1,1,BOF,0,,41\nfmt/2,2,BOF,0,,41\nfmt/3,3,BOF,0,,41\n";
+
+// Whether these are the priorities that are written of the table.
+fn has_priorities(alloc: Global, table: &Table, lines: &[u8]) -> bool {
+    let mut out = FromWrite::new(Vec::new(alloc));
+    let answer = table.write_priorities(alloc, &mut out);
+    let written = out.into_inner();
+    answer.is_ok() && written.as_slice() == lines
 }
 
 #[test]
 fn pairs_stand_in_the_order_of_their_rows(rt: HostRuntime) -> Result<(), Fail> {
     let table = loaded_pairs(rt.alloc(), b"fmt/3,fmt/1\nfmt/1,fmt/2\n".as_slice())?;
-    let mut out = FromWrite::new(Vec::new(rt.alloc()));
-    table.write_priorities(rt.alloc(), &mut out)?;
-    let written = out.into_inner();
-    assert_eq!(rt;
-        written.as_slice(),
-        b"higher,lower\nfmt/3,fmt/1\nfmt/1,fmt/2\n".as_slice()
-    );
+    let lines = b"higher,lower\nfmt/3,fmt/1\nfmt/1,fmt/2\n";
+    assert!(rt; has_priorities(rt.alloc(), &table, lines));
     Ok(())
 }
 
@@ -275,65 +330,99 @@ fn no_pair_is_implied_by_others(rt: HostRuntime) -> Result<(), Fail> {
     Ok(())
 }
 
+// Priority rows, and their first fault.
+const PAIR_FAULTS: &[(&[u8], TableError)] = &[
+    (
+        b"fmt/1\n",
+        TableError::Fields {
+            file: PRIORITIES,
+            row: 1,
+        },
+    ),
+    (
+        b"fmt/0,fmt/0,fmt/0\n",
+        TableError::Fields {
+            file: PRIORITIES,
+            row: 1,
+        },
+    ),
+    (
+        b"fmt/1,fmt/2\nfmt/0,fmt/3\n",
+        TableError::Puid {
+            file: PRIORITIES,
+            row: 2,
+        },
+    ),
+    (
+        b"fmt/9,fmt/0\n",
+        TableError::Puid {
+            file: PRIORITIES,
+            row: 1,
+        },
+    ),
+    (b"fmt/9,fmt/9\n", TableError::PriorityUnknown { row: 1 }),
+    (b"fmt/1,x-fmt/1\n", TableError::PriorityUnknown { row: 1 }),
+    (
+        b"fmt/1,fmt/2\nfmt/2,fmt/2\n",
+        TableError::PrioritySelf { row: 2 },
+    ),
+    (
+        b"fmt/1,fmt/2\nfmt/2,fmt/3\nfmt/1,fmt/2\n",
+        TableError::PriorityTwice { row: 3 },
+    ),
+    (
+        b"fmt/1,fmt/2\nfmt/2,fmt/1\n",
+        TableError::PriorityCycle { row: 2 },
+    ),
+    (
+        b"fmt/1,fmt/2\nfmt/2,fmt/3\nfmt/3,fmt/1\n",
+        TableError::PriorityCycle { row: 3 },
+    ),
+    (
+        b"fmt/2,fmt/3\nfmt/1,fmt/2\nfmt/3,fmt/1\n",
+        TableError::PriorityCycle { row: 3 },
+    ),
+    (
+        b"fmt/1,fmt/2\nfmt/1,fmt/3\nfmt/3,fmt/2\nfmt/2,fmt/1\n",
+        TableError::PriorityCycle { row: 4 },
+    ),
+    (
+        b"fmt/1,fmt/2\nfmt/2,fmt/1\nfmt/1\n",
+        TableError::PriorityCycle { row: 2 },
+    ),
+];
+
 #[test]
 fn the_first_fault_of_a_pair_is_named(rt: HostRuntime) {
-    let file = TableFile::Priorities;
-    let rows: [(&[u8], TableError); 13] = [
-        (b"fmt/1\n", TableError::Fields { file, row: 1 }),
-        (b"fmt/0,fmt/0,fmt/0\n", TableError::Fields { file, row: 1 }),
-        (
-            b"fmt/1,fmt/2\nfmt/0,fmt/3\n",
-            TableError::Puid { file, row: 2 },
-        ),
-        (b"fmt/9,fmt/0\n", TableError::Puid { file, row: 1 }),
-        (b"fmt/9,fmt/9\n", TableError::PriorityUnknown { row: 1 }),
-        (b"fmt/1,x-fmt/1\n", TableError::PriorityUnknown { row: 1 }),
-        (
-            b"fmt/1,fmt/2\nfmt/2,fmt/2\n",
-            TableError::PrioritySelf { row: 2 },
-        ),
-        (
-            b"fmt/1,fmt/2\nfmt/2,fmt/3\nfmt/1,fmt/2\n",
-            TableError::PriorityTwice { row: 3 },
-        ),
-        (
-            b"fmt/1,fmt/2\nfmt/2,fmt/1\n",
-            TableError::PriorityCycle { row: 2 },
-        ),
-        (
-            b"fmt/1,fmt/2\nfmt/2,fmt/3\nfmt/3,fmt/1\n",
-            TableError::PriorityCycle { row: 3 },
-        ),
-        (
-            b"fmt/2,fmt/3\nfmt/1,fmt/2\nfmt/3,fmt/1\n",
-            TableError::PriorityCycle { row: 3 },
-        ),
-        (
-            b"fmt/1,fmt/2\nfmt/1,fmt/3\nfmt/3,fmt/2\nfmt/2,fmt/1\n",
-            TableError::PriorityCycle { row: 4 },
-        ),
-        (
-            b"fmt/1,fmt/2\nfmt/2,fmt/1\nfmt/1\n",
-            TableError::PriorityCycle { row: 2 },
-        ),
-    ];
-    for (text, error) in rows {
-        assert_eq!(rt; loaded_pairs(rt.alloc(), text).err(), Some(error));
+    for (text, error) in PAIR_FAULTS {
+        assert!(rt;
+            loaded_pairs(rt.alloc(), text).err() == Some(*error),
+            "{error:?}"
+        );
     }
 }
 
+// Rows of sequences with as many slots as the limit.
+const MOST_SLOTS: &[&[u8]] = &[
+    b"fmt/1,1,Variable,,,{65533}\n",
+    b"fmt/1,1,BOF,0,,{65534}\n",
+    b"fmt/1,1,Variable,,,{65525}[4142:4241]\n",
+    b"fmt/1,1,Variable,,,{65525}[!4142]\n",
+    b"fmt/1,1,Variable,,,{65531}[!0000:FFFE]\n",
+];
+
 #[test]
 fn as_many_slots_as_the_limit_are_taken(rt: HostRuntime) {
-    let rows: [&[u8]; 5] = [
-        b"fmt/1,1,Variable,,,{65533}\n",
-        b"fmt/1,1,BOF,0,,{65534}\n",
-        b"fmt/1,1,Variable,,,{65525}[4142:4241]\n",
-        b"fmt/1,1,Variable,,,{65525}[!4142]\n",
-        b"fmt/1,1,Variable,,,{65531}[!0000:FFFE]\n",
-    ];
-    for row in rows {
-        assert!(rt; loaded_rows(rt.alloc(), row).is_ok());
+    for row in MOST_SLOTS {
+        assert!(rt; loaded_rows(rt.alloc(), row).is_ok(), "{row:?}");
     }
+}
+
+// Puts the row of this signature behind the others.
+fn push_row(alloc: Global, rows: &mut Vec<u8>, format: u32, number: u32) -> Result<(), Fail> {
+    let row = format!(in alloc; "fmt/{format},{number},BOF,0,,41\n")?;
+    rows.extend_from_slice(row.as_bytes())?;
+    Ok(())
 }
 
 // So many rows, each of a signature of its own. The first ones are each of a format of its own, and where
@@ -342,28 +431,38 @@ fn many_rows(alloc: Global, count: u32, formats: u32) -> Result<Vec<u8>, Fail> {
     let mut rows = Vec::new(alloc);
     for i in 0..count {
         let number = i + 1;
-        let format = number.min(formats);
-        let row = format!(in alloc; "fmt/{format},{number},BOF,0,,41\n")?;
-        rows.extend_from_slice(row.as_bytes())?;
+        push_row(alloc, &mut rows, number.min(formats), number)?;
     }
     Ok(rows)
 }
 
-// What loading them answers.
-fn loaded_many(alloc: Global, count: u32, formats: u32) -> Result<Result<Table, TableError>, Fail> {
+// What a load refuses of them.
+fn refused_many(alloc: Global, count: u32, formats: u32) -> Result<Option<TableError>, Fail> {
     let rows = many_rows(alloc, count, formats)?;
-    Ok(loaded_rows(alloc, &rows))
+    Ok(loaded_rows(alloc, &rows).err())
+}
+
+// How many formats and signatures are loaded of them.
+fn counts_of_many(alloc: Global, count: u32, formats: u32) -> Result<(usize, usize), Fail> {
+    let rows = many_rows(alloc, count, formats)?;
+    let table = loaded_rows(alloc, &rows)?;
+    Ok((table.format_count(), table.signature_count()))
 }
 
 #[test]
 fn formats_and_signatures_are_taken_to_their_limits(rt: HostRuntime) -> Result<(), Fail> {
-    let table = loaded_many(rt.alloc(), 4000, 1000)??;
-    assert_eq!(rt; table.format_count(), 1000);
-    assert_eq!(rt; table.signature_count(), 4000);
-    let refused = loaded_many(rt.alloc(), 4001, 1000)?.err();
-    assert_eq!(rt; refused, Some(TableError::TooManyFormats { row: 4001 }));
-    let refused = loaded_many(rt.alloc(), 1001, 1001)?.err();
-    assert_eq!(rt; refused, Some(TableError::TooManyFormats { row: 1001 }));
+    assert!(rt; counts_of_many(rt.alloc(), 4000, 1000)? == (1000, 4000));
+    let refused = refused_many(rt.alloc(), 4001, 1000)?;
+    assert!(rt; refused == Some(TableError::TooManyFormats { row: 4001 }));
+    let refused = refused_many(rt.alloc(), 1001, 1001)?;
+    assert!(rt; refused == Some(TableError::TooManyFormats { row: 1001 }));
+    Ok(())
+}
+
+// Puts the pair of these formats behind the others.
+fn push_pair(alloc: Global, pairs: &mut Vec<u8>, higher: u32, lower: u32) -> Result<(), Fail> {
+    let pair = format!(in alloc; "fmt/{higher},fmt/{lower}\n")?;
+    pairs.extend_from_slice(pair.as_bytes())?;
     Ok(())
 }
 
@@ -372,18 +471,22 @@ fn all_pairs(alloc: Global) -> Result<Vec<u8>, Fail> {
     let mut pairs = b"higher,lower\n".to_vec(alloc)?;
     for higher in 1..1001u32 {
         for lower in higher + 1..1001u32 {
-            let pair = format!(in alloc; "fmt/{higher},fmt/{lower}\n")?;
-            pairs.extend_from_slice(pair.as_bytes())?;
+            push_pair(alloc, &mut pairs, higher, lower)?;
         }
     }
     Ok(pairs)
 }
 
+// The table of a thousand formats and of all their pairs.
+fn loaded_all_pairs(alloc: Global) -> Result<Table, Fail> {
+    let mut signatures = HEADER.to_vec(alloc)?;
+    signatures.extend_from_slice(&many_rows(alloc, 1000, 1000)?)?;
+    Ok(loaded(alloc, &signatures, &all_pairs(alloc)?)?)
+}
+
 #[test]
 fn all_pairs_of_the_formats_of_a_table_are_taken(rt: HostRuntime) -> Result<(), Fail> {
-    let mut signatures = HEADER.to_vec(rt.alloc())?;
-    signatures.extend_from_slice(&many_rows(rt.alloc(), 1000, 1000)?)?;
-    let table = loaded(rt.alloc(), &signatures, &all_pairs(rt.alloc())?)?;
+    let table = loaded_all_pairs(rt.alloc())?;
     assert!(rt; table.outranks(FormatId(0), FormatId(999)));
     assert!(rt; table.outranks(FormatId(998), FormatId(999)));
     assert!(rt; !table.outranks(FormatId(999), FormatId(998)));
@@ -400,21 +503,27 @@ impl Read for Failing {
     }
 }
 
+// What a load of the two files that these give refuses.
+fn refused_by<A: Read, B: Read>(
+    alloc: Global,
+    signatures: &mut FromRead<A>,
+    priorities: &mut FromRead<B>,
+) -> Option<TableError> {
+    Table::load(alloc, signatures, priorities).err()
+}
+
 #[test]
 fn a_failed_read_is_named_with_its_file(rt: HostRuntime) {
     let mut failing = FromRead::new(Failing);
     let mut priorities = FromRead::new(b"higher,lower\n".as_slice());
-    let refused = Table::load(rt.alloc(), &mut failing, &mut priorities).err();
-    let file = TableFile::Signatures;
-    assert_eq!(rt; refused, Some(TableError::Read { file }));
+    let refused = refused_by(rt.alloc(), &mut failing, &mut priorities);
+    assert!(rt; refused == Some(TableError::Read { file: SIGNATURES }));
     let mut signatures = FromRead::new(HEADER);
-    let refused = Table::load(rt.alloc(), &mut signatures, &mut failing).err();
-    let file = TableFile::Priorities;
-    assert_eq!(rt; refused, Some(TableError::Read { file }));
+    let refused = refused_by(rt.alloc(), &mut signatures, &mut failing);
+    assert!(rt; refused == Some(TableError::Read { file: PRIORITIES }));
     let mut faulty = FromRead::new(b"puid\n".as_slice());
-    let refused = Table::load(rt.alloc(), &mut faulty, &mut failing).err();
-    let file = TableFile::Signatures;
-    assert_eq!(rt; refused, Some(TableError::Header { file }));
+    let refused = refused_by(rt.alloc(), &mut faulty, &mut failing);
+    assert!(rt; refused == Some(TableError::Header { file: SIGNATURES }));
 }
 
 // Gives a record that is no header, and then fails.
@@ -439,14 +548,12 @@ impl Read for Interrupted {
 fn a_read_that_fails_later_is_named_before_a_fault(rt: HostRuntime) {
     let mut interrupted = FromRead::new(Interrupted { is_given: false });
     let mut priorities = FromRead::new(b"higher,lower\n".as_slice());
-    let refused = Table::load(rt.alloc(), &mut interrupted, &mut priorities).err();
-    let file = TableFile::Signatures;
-    assert_eq!(rt; refused, Some(TableError::Read { file }));
+    let refused = refused_by(rt.alloc(), &mut interrupted, &mut priorities);
+    assert!(rt; refused == Some(TableError::Read { file: SIGNATURES }));
     let mut signatures = FromRead::new(HEADER);
     let mut interrupted = FromRead::new(Interrupted { is_given: false });
-    let refused = Table::load(rt.alloc(), &mut signatures, &mut interrupted).err();
-    let file = TableFile::Priorities;
-    assert_eq!(rt; refused, Some(TableError::Read { file }));
+    let refused = refused_by(rt.alloc(), &mut signatures, &mut interrupted);
+    assert!(rt; refused == Some(TableError::Read { file: PRIORITIES }));
 }
 
 // Gives bytes one a read, and then fails or is at its end. It counts its reads.
@@ -534,43 +641,44 @@ fn a_fault_of_the_signature_file_is_named_before_a_read_of_the_other(rt: HostRun
     }
 }
 
-// The canonical signature file of the table of these rows.
-fn written(alloc: Global, rows: &[u8]) -> Result<Vec<u8>, Fail> {
-    let table = loaded_rows(alloc, rows)?;
+// Whether this is the signature file that is written of the table.
+fn has_signature_file(alloc: Global, table: &Table, lines: &[u8]) -> bool {
     let mut out = FromWrite::new(Vec::new(alloc));
-    table.write_signatures(alloc, &mut out)?;
-    Ok(out.into_inner())
+    let answer = table.write_signatures(alloc, &mut out);
+    let written = out.into_inner();
+    answer.is_ok() && written.as_slice() == lines
+}
+
+// Whether it is that of the table of these rows.
+fn is_written(alloc: Global, rows: &[u8], lines: &[u8]) -> bool {
+    match loaded_rows(alloc, rows) {
+        Ok(table) => has_signature_file(alloc, &table, lines),
+        Err(_) => false,
+    }
 }
 
 #[test]
-fn a_row_is_written_in_canonical_text(rt: HostRuntime) -> Result<(), Fail> {
-    let text = written(rt.alloc(), b"fmt/1,7,BOF,3,,4a{3-3}{0-*}\n")?;
+fn a_row_is_written_in_canonical_text(rt: HostRuntime) {
     let lines = b"puid,signature,position,offset,max_offset,expression\nfmt/1,7,BOF,3,3,4A{3}*\n";
-    assert_eq!(rt; text.as_slice(), lines.as_slice());
-    Ok(())
+    assert!(rt; is_written(rt.alloc(), b"fmt/1,7,BOF,3,,4a{3-3}{0-*}\n", lines));
 }
 
 #[test]
-fn sequences_of_a_signature_are_written_together(rt: HostRuntime) -> Result<(), Fail> {
+fn sequences_of_a_signature_are_written_together(rt: HostRuntime) {
     let rows = b"fmt/2,7,BOF,0,,41\nx-fmt/1,3,EOF,1,2,4243\nfmt/2,7,Variable,,,43??\n\
         fmt/2,9,EOF,0,,[41:5a]{2-5}\nx-fmt/1,3,BOF,65,,(0d0a|[!0a]){1-*}\n";
     let lines = b"puid,signature,position,offset,max_offset,expression\n\
         fmt/2,7,BOF,0,0,41\nfmt/2,7,Variable,,,43??\nx-fmt/1,3,EOF,1,2,4243\n\
         x-fmt/1,3,BOF,65,65,(0D0A|[!0A]){1-*}\nfmt/2,9,EOF,0,0,[41:5A]{2-5}\n";
-    let text = written(rt.alloc(), rows.as_slice())?;
-    assert_eq!(rt; text.as_slice(), lines.as_slice());
-    let again = written(rt.alloc(), &text[HEADER.len().min(text.len())..])?;
-    assert_eq!(rt; again.as_slice(), lines.as_slice());
-    Ok(())
+    assert!(rt; is_written(rt.alloc(), rows, lines));
+    let lines = lines.as_slice();
+    assert!(rt; is_written(rt.alloc(), &lines[HEADER.len().min(lines.len())..], lines));
 }
 
 #[test]
 fn no_priority_is_written_as_the_header(rt: HostRuntime) -> Result<(), Fail> {
     let table = loaded_rows(rt.alloc(), b"fmt/1,7,BOF,3,,41\n")?;
-    let mut out = FromWrite::new(Vec::new(rt.alloc()));
-    table.write_priorities(rt.alloc(), &mut out)?;
-    let text = out.into_inner();
-    assert_eq!(rt; text.as_slice(), b"higher,lower\n".as_slice());
+    assert!(rt; has_priorities(rt.alloc(), &table, b"higher,lower\n"));
     Ok(())
 }
 
@@ -584,16 +692,22 @@ impl Write for Failing {
     }
 }
 
+// What is refused of writing the two files of the table where no write succeeds.
+fn unwritten(alloc: Global, table: &Table) -> (Result<(), OutError>, Result<(), OutError>) {
+    let mut first = FromWrite::new(Failing);
+    let mut second = FromWrite::new(Failing);
+    (
+        table.write_signatures(alloc, &mut first),
+        table.write_priorities(alloc, &mut second),
+    )
+}
+
 #[test]
 fn a_failed_write_is_named(rt: HostRuntime) -> Result<(), Fail> {
     let table = loaded_rows(rt.alloc(), b"fmt/1,1,BOF,0,,41\n")?;
-    let mut failing = FromWrite::new(Failing);
-    let refused = table.write_signatures(rt.alloc(), &mut failing);
-    assert_eq!(rt; refused, Err(OutError::Write));
-    let mut failing = FromWrite::new(Failing);
-    let refused = table.write_priorities(rt.alloc(), &mut failing);
-    assert_eq!(rt; refused, Err(OutError::Write));
+    let refused = Err(OutError::Write);
+    assert!(rt; unwritten(rt.alloc(), &table) == (refused, refused));
     let told = OutError::Write.to_string(rt.alloc())?;
-    assert_eq!(rt; told.as_str(), "write failed");
+    assert!(rt; told.as_str() == "write failed");
     Ok(())
 }
