@@ -19,7 +19,7 @@ use Rattle.sig_table.specs.Loading.{records_of, table_of}
 use Rattle.sig_table.specs.Views.{TableView}
 use Rattle.sig_table.specs.declared.error.TableError.{TableError}
 
-table_or : TableView → Result TableView TableError → TableView
+abbrev table_or : TableView → Result TableView TableError → TableView
 table_or other (Ok table) = table
 table_or other (Err error) = other
 
@@ -33,8 +33,8 @@ same_table files paths one other r q =
 
 -- the verdict of a yes
 accepts : (table : TableView) (certificate : List ℕ) (verdict : Result Unit CheckError) → Verdict table certificate verdict → is_ok verdict ≡ true → Verdict table certificate (Ok tt)
-accepts table certificate (Ok accepted) is yes = is
-accepts table certificate (Err fault) is yes = cc
+accepts table certificate (Ok accepted) is agreed = is
+accepts table certificate (Err fault) is agreed = cc
 
 -- the line of a decided table's file
 pub one_line : (files : List ℕ → Option (List ℕ)) (table : TablePaths) (certificate name : Bor (List ℕ)) (is_yes : Bool) (checked_before checked_after before after : Option (List ℕ)) → Answers (Some files) (Check table certificate) true checked_before checked_after → Answers (Some files) (Match false table name) is_yes before after → (t : TableView) × (hits : List Hit) × (length hits ≤ 1) × Adds before (lines_of t hits) after
