@@ -19,6 +19,9 @@ pub(crate) const FEW: usize = 8;
 // Behind how many bytes, after the first one, a front is looked for.
 const SKIPPED: usize = 7;
 
+// So many bytes of a front are enough for the sieve: more are written only where they are told at once.
+const ENOUGH: usize = 4;
+
 /// Within how many bytes a way comes to nothing of which that is known.
 pub(crate) const DEPTH: usize = 64;
 
@@ -339,7 +342,7 @@ fn spell(auto: &Auto, byte: u8, state: u32, room: &mut [u8]) -> usize
         return 0;
     };
     *place = byte;
-    match only_way(auto, state) {
+    match only_way(auto, state, later.len() > FRONT - ENOUGH) {
         Some((byte, state)) => 1 + spell(auto, byte, state, later),
         None => 1,
     }
@@ -350,7 +353,7 @@ fn spell_on(auto: &Auto, state: u32, room: &mut [u8]) -> usize
     ensures goes { GoesBy (whole_tree auto.now) state (take result room.new) }
     ensures within { result ≤ length room.new }
 {
-    match only_way(auto, state) {
+    match only_way(auto, state, true) {
         Some((byte, state)) => spell(auto, byte, state, room),
         None => 0,
     }
@@ -392,12 +395,15 @@ fn lone_follower(auto: &Auto, state: u32) -> Option<u32>
     found
 }
 
-// The byte and the state that alone follow this state.
-fn only_way(auto: &Auto, state: u32) -> Option<(u8, u32)>
+// The byte and the state that alone follow this state, if that is told by one walk, or all is asked.
+fn only_way(auto: &Auto, state: u32, asks_all: bool) -> Option<(u8, u32)>
     ensures { IfSome result (λ way. IsOnlyWay (whole_tree auto.now) state way.0 way.1) }
 {
     if let Some(byte) = auto.byte_behind(state) {
         return Some((byte, state + 1));
+    }
+    if !asks_all {
+        return None;
     }
     let live = auto.live_bytes(state, &mut ByteClass::none());
     let byte = lone_byte(&live)?;
