@@ -1,7 +1,6 @@
 -- Lemmas of this crate.
 pub mod BudgetLemmas
 pub mod EndLemmas
-pub mod OnceLemmas
 pub mod RequestLemmas
 pub mod RowLemmas
 pub mod SeveralLemmas
