@@ -1,8 +1,9 @@
 -- What is known of a node that spells a sequence.
-use Rattle.std.proofs.Common.{◌≡◌, ◌↔◌, ◌+◌, ◌/◌, ◌<◌, ◌≤◌, ℕ, List, subst, sym, ap, arith, ◌∙◌}
+use Rattle.std.proofs.Common.{[], ◌∷◌, ◌≡◌, ◌↔◌, ◌+◌, ◌/◌, ◌<◌, ◌≤◌, ℕ, List, subst, sym, ap, arith, ◌∙◌}
 use Rattle.sig_auto.proofs.SameLemmas.{same_accepting, same_follows, same_takes}
 use Rattle.sig_auto.proofs.WholeLemmas.{whole_is_trim, whole_slots}
 use Rattle.sig_auto.specs.declared.node.Node.{Node}
+use Rattle.sig_auto.specs.Reaching.{IsReached, Reaches}
 use Rattle.sig_auto.specs.Runs.{StepsAlone}
 use Rattle.sig_auto.specs.Same.{IsSame}
 use Rattle.sig_auto.specs.Seen.{seen}
@@ -106,3 +107,19 @@ stepped_alone a b p byte same alone = record {
   step = λ q c small follows takes. alone.step q c small ((same_follows a b p q same).1 follows) ((same_takes a b q c same).1 takes);
   small = alone.small;
 }
+
+-- the same bytes lead on
+reached : (a b : Tree) (bytes : List ℕ) (p q : ℕ) → IsSame a b → Reaches a p bytes q → Reaches b p bytes q
+reached a b [] p q same h = h
+reached a b (c ∷ bytes) p q same h = (h.0, (same_follows a b p h.0 same).0 h.1, (same_takes a b h.0 c same).0 h.2, reached a b bytes h.0 q same h.3)
+
+reached_back : (a b : Tree) (bytes : List ℕ) (p q : ℕ) → IsSame a b → Reaches b p bytes q → Reaches a p bytes q
+reached_back a b [] p q same h = h
+reached_back a b (c ∷ bytes) p q same h = (h.0, (same_follows a b p h.0 same).1 h.1, (same_takes a b h.0 c same).1 h.2, reached_back a b bytes h.0 q same h.3)
+
+-- two sets that lead to the same, each by its bytes
+pub led_alike : (a b : Tree) (set other left right : List ℕ) (q : ℕ) → IsSame a b → (IsReached a set left q ↔ IsReached a other right q) → IsReached b set left q ↔ IsReached b other right q
+led_alike a b set other left right q same h = (
+  λ x. (let on = h.0 (x.0, x.1, reached_back a b left x.0 q same x.2) in (on.0, on.1, reached a b right on.0 q same on.2)),
+  λ x. (let on = h.1 (x.0, x.1, reached_back a b right x.0 q same x.2) in (on.0, on.1, reached a b left on.0 q same on.2)),
+)

@@ -7,6 +7,7 @@ pub mod Tracks
 pub mod Runs
 pub mod ByteCuts
 pub mod Remaining
+pub mod Reaching
 pub mod Moves
 pub mod StateSets
 -- These are words of the proofs.

@@ -135,12 +135,12 @@ table_fault failed held paths first second one two error opens_first opens_secon
 
 pub match_is_answered : (held : Holding) (request : Request) (all : Bool) (paths : TablePaths) (name : Bor (List ℕ)) (table : TableView) (to_come before after : Option (List ℕ)) → request ≡ Match all paths name → IsTableOf held paths table → Opens held name.now (Some to_come) → AddsLinesOfSome all table to_come before after → Answers held request true before after
 match_is_answered held request all paths name table to_come before after same is opens adds =
-    subst (λ r. Answers held r true before after) (sym same) (refl, table, is, adds.file, holds_read held name.now to_come adds.file opens adds.is_to_come, adds.adds_lines)
+    subst (λ r. Answers held r true before after) (sym same) (refl, table, is, adds.file, adds.bytes, holds_read held name.now to_come adds.file opens adds.is_to_come, adds.adds_lines)
 
 pub check_is_answered : (held : Holding) (request : Request) (paths : TablePaths) (name : Bor (List ℕ)) (table : TableView) (to_come before after : Option (List ℕ)) (is_yes : Bool) → request ≡ Check paths name → IsTableOf held paths table → Opens held name.now (Some to_come) → AddsVerdictOfSome is_yes table to_come before after → Answers held request is_yes before after
 check_is_answered held request paths name table to_come before after is_yes same is opens adds =
-    subst (λ r. Answers held r is_yes before after) (sym same) (table, is, adds.certificate, holds_read held name.now to_come adds.certificate opens adds.is_to_come, adds.adds_verdict)
+    subst (λ r. Answers held r is_yes before after) (sym same) (table, is, adds.certificate, adds.bytes, holds_read held name.now to_come adds.certificate opens adds.is_to_come, adds.adds_verdict)
 
 pub witness_is_answered : (held : Holding) (request : Request) (paths : TablePaths) (name : Bor (List ℕ)) (table : TableView) (to_come before after : Option (List ℕ)) (is_yes : Bool) → request ≡ Witness paths name → IsTableOf held paths table → Opens held name.now (Some to_come) → AddsWitnessOfSome is_yes table to_come before after → Answers held request is_yes before after
 witness_is_answered held request paths name table to_come before after is_yes same is opens adds =
-    subst (λ r. Answers held r is_yes before after) (sym same) (table, is, adds.file, holds_read held name.now to_come adds.file opens adds.is_to_come, adds.adds_witness)
+    subst (λ r. Answers held r is_yes before after) (sym same) (table, is, adds.file, adds.bytes, holds_read held name.now to_come adds.file opens adds.is_to_come, adds.adds_witness)

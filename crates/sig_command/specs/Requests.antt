@@ -2,6 +2,7 @@
 use Rattle.std.specs.Borrow.{Bor}
 use Rattle.std.specs.Prelude.{◌≡◌, ℕ, ◌⊎◌, Bool, false, true, List, Option, None, ⊤, ◌<◌, length, map}
 use Rattle.clap.specs.Words.{Text, subcommand_of}
+use Rattle.sig_bits.specs.Bytes.{IsBytes}
 use Rattle.sig_bits.specs.Device.{Adds}
 use Rattle.sig_table.specs.Views.{TableView}
 use Rattle.sig_command.specs.CommandLine.{Asks, program}
@@ -96,12 +97,12 @@ IsFaultOf failed held request fault = IsLoadFault failed held (paths_of request)
 -- what is written grows by the canonical files of a table, by the lines that are asked for of what a file hits in a table, by those of each of several files, by the lines of what was found, by those of the pairs of formats of a table, by the line of the verdict on a certificate, or by that of a file that is ambiguous or not; the first three can't be a no
 abbrev pub Answers : Holding → Request → Bool → Option (List ℕ) → Option (List ℕ) → Type 0
 Answers held (Show table) is_yes before after = (is_yes ≡ true) × (t : TableView) × IsTableOf held table t × Adds before (show_text t) after
-Answers held (Match all table name) is_yes before after = (is_yes ≡ true) × (t : TableView) × IsTableOf held table t × (file : List ℕ) × Holds held name.now file × AddsLines all t file before after
+Answers held (Match all table name) is_yes before after = (is_yes ≡ true) × (t : TableView) × IsTableOf held table t × (file : List ℕ) × IsBytes file × Holds held name.now file × AddsLines all t file before after
 Answers held (MatchMany all table files) is_yes before after = (is_yes ≡ true) × (t : TableView) × IsTableOf held table t × AddsLinesOfEach all t held (map (λ n. n.now) files.now) before after
 Answers held (Find table budget out hex progress) is_yes before after = (t : TableView) × IsTableOf held table t × AddsFound is_yes hex t budget before after
 Answers held (Conflicts table budget hex progress) is_yes before after = (t : TableView) × IsTableOf held table t × AddsConflicts is_yes hex t budget before after
-Answers held (Check table name) is_yes before after = (t : TableView) × IsTableOf held table t × (certificate : List ℕ) × Holds held name.now certificate × AddsVerdict is_yes t certificate before after
-Answers held (Witness table name) is_yes before after = (t : TableView) × IsTableOf held table t × (file : List ℕ) × Holds held name.now file × AddsWitness is_yes t file before after
+Answers held (Check table name) is_yes before after = (t : TableView) × IsTableOf held table t × (certificate : List ℕ) × IsBytes certificate × Holds held name.now certificate × AddsVerdict is_yes t certificate before after
+Answers held (Witness table name) is_yes before after = (t : TableView) × IsTableOf held table t × (file : List ℕ) × IsBytes file × Holds held name.now file × AddsWitness is_yes t file before after
 
 -- what is written grows by an answer to what the words ask for, a yes or a no
 abbrev pub AnswersWords : Holding → List Text → Bool → Option (List ℕ) → Option (List ℕ) → Type 0

@@ -1,10 +1,28 @@
 //! Laws of the command line.
 
-ghost use Rattle.std.specs.Prelude.{◌≡◌, Some, false, true, [], ◌∷◌, codes};
+ghost use Rattle.std.specs.Borrow.{Bor};
+ghost use Rattle.std.specs.Prelude.{◌≡◌, ◌≤◌, ℕ, Bool, List, Option, Some, false, true, [], ◌∷◌, codes, length};
 ghost use Rattle.clap.specs.Words.{fault_of, takes};
+ghost use Rattle.sig_bits.specs.Device.{Adds};
 ghost use Rattle.sig_command.specs.CommandLine.{AreTableWords, all_named, first_named, one_named, program};
+ghost use Rattle.sig_command.specs.Requests.{Answers};
+ghost use Rattle.sig_command.specs.declared.args.Request.TheVariants.{Check, Match};
+ghost use Rattle.sig_engines.specs.Lines.{lines_of};
+ghost use Rattle.sig_engines.specs.declared.store.TablePaths.{TablePaths};
+ghost use Rattle.sig_match.specs.declared.results.Hit.{Hit};
+ghost use Rattle.sig_table.specs.Views.{TableView};
 
 use clap::error::ErrorKind;
+
+/// Where a certificate of a table is accepted, `match` without `--all` never writes two lines: of whatever store
+/// that tells what its files hold, of whatever file there, and whoever made the certificate.
+pub fn accepted_tables_match_once()
+    ensures { (files : List ℕ → Option (List ℕ)) (table : TablePaths) (certificate name : Bor (List ℕ)) (is_yes : Bool)
+        (checked_before checked_after before after : Option (List ℕ))
+        → Answers (Some files) (Check table certificate) true checked_before checked_after
+        → Answers (Some files) (Match false table name) is_yes before after
+        → (t : TableView) × (hits : List Hit) × (length hits ≤ 1) × Adds before (lines_of t hits) after }
+{}
 
 /// Words that name all files are taken, also where `match` has several, and they ask for no help.
 /// `--help` alone asks for it, and `--version` for the version.

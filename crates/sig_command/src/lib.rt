@@ -21,6 +21,8 @@
 //! - With 0 a search has made the file that the words name, of the bytes of what it found, and the lines
 //!   are of just that.
 //! - `command` is `command_over` over the files of the system, of which nothing is known.
+//! - Where `check` accepts a certificate of a table of such a store, `match` of one file never writes two
+//!   lines (`accepted_tables_match_once`).
 //! - What the words ask for is what the definition of `clap` finds in them by the command line
 //!   `program`; `words_are_taken` and `words_name_files` have it at words.
 #![tactic(auto)]
@@ -30,5 +32,5 @@ mod fault;
 mod laws;
 mod requests;
 
-pub use laws::{words_are_taken, words_name_files};
+pub use laws::{accepted_tables_match_once, words_are_taken, words_name_files};
 pub use requests::{command, command_over, run};

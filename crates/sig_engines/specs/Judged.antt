@@ -1,6 +1,7 @@
 -- What is printed of a certificate.
 use Rattle.std.specs.Prelude.{◌≡◌, ℕ, ◌/◌, ◌%◌, Bool, true, List, [], ◌∷◌, ◌++◌, codes, IfSome, Option, Result, Ok, Err, is_ok}
 use Rattle.std.specs.Fmt.{decimal, digit_glyph}
+use Rattle.sig_bits.specs.Bytes.{IsBytes}
 use Rattle.sig_bits.specs.Device.{Adds}
 use Rattle.sig_cert.specs.Verdicts.{Verdict}
 use Rattle.sig_cert.specs.declared.error.CheckError.{CheckError}
@@ -53,5 +54,6 @@ pub record AddsVerdict (is_accepted : Bool) (table : TableView) (certificate : L
 -- the certificate is some bytes: those to come, where they are known
 pub record AddsVerdictOfSome (is_accepted : Bool) (table : TableView) (to_come before after : Option (List ℕ)) : Type 0 where
   pub certificate : List ℕ
+  pub bytes : IsBytes certificate
   pub is_to_come : IfSome to_come (λ bytes. certificate ≡ bytes)
   pub adds_verdict : AddsVerdict is_accepted table certificate before after

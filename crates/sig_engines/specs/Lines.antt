@@ -2,6 +2,7 @@
 use Rattle.std.specs.Prelude.{◌≡◌, ℕ, Bool, true, false, List, [], ◌∷◌, ◌++◌, IfSome, Option, Some, None, slice_get}
 use Rattle.std.specs.Fmt.{decimal}
 use Rattle.std.specs.List.{flat_map}
+use Rattle.sig_bits.specs.Bytes.{IsBytes}
 use Rattle.sig_bits.specs.Device.{Adds}
 use Rattle.sig_match.specs.Hits.{HitFormats, Left}
 use Rattle.sig_match.specs.declared.results.Hit.{Hit}
@@ -52,6 +53,7 @@ AreAsked false table file hits = Left table file hits
 -- the hits that are asked for are those of some file: of the one to come, where its bytes are known
 pub record AreAskedOfSome (all : Bool) (table : TableView) (to_come : Option (List ℕ)) (hits : List Hit) : Type 0 where
   pub file : List ℕ
+  pub bytes : IsBytes file
   pub is_to_come : IfSome to_come (λ bytes. file ≡ bytes)
   pub are_asked : AreAsked all table file hits
 
@@ -70,5 +72,6 @@ pub record AddsLines (all : Bool) (table : TableView) (file : List ℕ) (before 
 -- the file is some file: the one to come, where its bytes are known
 pub record AddsLinesOfSome (all : Bool) (table : TableView) (to_come before after : Option (List ℕ)) : Type 0 where
   pub file : List ℕ
+  pub bytes : IsBytes file
   pub is_to_come : IfSome to_come (λ bytes. file ≡ bytes)
   pub adds_lines : AddsLines all table file before after

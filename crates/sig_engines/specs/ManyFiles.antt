@@ -2,6 +2,7 @@
 use Rattle.std.specs.Prelude.{◌≡◌, ℕ, Bool, false, List, [], ◌∷◌, ◌++◌, All, codes, flat_map, is_ok, map, Option, Some, Result, Ok, Err}
 use Rattle.std.specs.Borrow.{Bor}
 use Rattle.std.specs.List.{list_all}
+use Rattle.sig_bits.specs.Bytes.{IsBytes}
 use Rattle.sig_bits.specs.Device.{Adds, AddsFront}
 use Rattle.sig_match.specs.declared.results.Hit.{Hit}
 use Rattle.sig_table.specs.Views.{TableView}
@@ -21,6 +22,7 @@ Printed = Result (List ℕ) FileFault
 -- these are the lines of the hits that are asked for, of the file of this name
 pub record AreLinesOf (all : Bool) (table : TableView) (held : Holding) (name lines : List ℕ) : Type 0 where
   pub file : List ℕ
+  pub bytes : IsBytes file
   pub holds : Holds held name file
   pub hits : List Hit
   pub are_asked : AreAsked all table file hits

@@ -1,5 +1,6 @@
 -- What is printed of a file that leaves two formats, and of one that does not.
 use Rattle.std.specs.Prelude.{◌≡◌, ℕ, Bool, true, false, List, [], ◌∷◌, ◌++◌, codes, IfSome, Option, Some, None, slice_get}
+use Rattle.sig_bits.specs.Bytes.{IsBytes}
 use Rattle.sig_bits.specs.Device.{Adds}
 use Rattle.sig_cert.specs.Deciding.{Ambiguous, AreFirstLeft}
 use Rattle.sig_table.specs.Puids.{puid_text}
@@ -30,5 +31,6 @@ AddsWitness false table file before after = (¬ Ambiguous table file) × Adds be
 -- the file is some bytes: those to come, where they are known
 pub record AddsWitnessOfSome (is_ambiguous : Bool) (table : TableView) (to_come before after : Option (List ℕ)) : Type 0 where
   pub file : List ℕ
+  pub bytes : IsBytes file
   pub is_to_come : IfSome to_come (λ bytes. file ≡ bytes)
   pub adds_witness : AddsWitness is_ambiguous table file before after

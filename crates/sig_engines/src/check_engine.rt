@@ -3,6 +3,7 @@
 //! The certificate is judged whole before a byte is written.
 
 ghost use Rattle.std.specs.Prelude.{◌≡◌, false, true, IfErr, IfOk, IsErrOf, Ok, OnOk};
+ghost use Rattle.sig_bits.specs.Bytes.{IsBytes};
 ghost use Rattle.sig_bits.specs.Device.{IsAtEnd};
 ghost use Rattle.sig_cert.specs.Deciding.{Decided};
 ghost use Rattle.sig_cert.specs.Verdicts.{Verdict};
@@ -54,6 +55,7 @@ fn judge(
     table: &Table,
     certificate: &[u8],
 ) -> Result<Result<(), CheckError>, RunError>
+    ensures bytes { IsBytes certificate.now }
     ensures verdict { IfOk result (λ verdict. Verdict table.now certificate.now verdict) }
     ensures decided { IfOk result (λ verdict. OnOk verdict (Decided table.now)) }
     ensures memory { IfErr result (λ e. e ≡ RunError.OutOfMemory) }

@@ -16,7 +16,7 @@ use std::alloc::Global;
 /// that the file hits.
 ///
 /// Nothing is written before the file was read to its end. Where the input does not tell its bytes,
-/// the answer is that of some file.
+/// the answer is that of some file of bytes.
 #[inline(never)]
 pub fn run_match<K: DroidCore, R: Input, W: Output>(
     alloc: Global,

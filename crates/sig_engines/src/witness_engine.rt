@@ -2,15 +2,17 @@
 //!
 //! The file is judged whole before a byte is written.
 
-ghost use Rattle.std.specs.Prelude.{◌≡◌, false, true, IfOk, IsErrOf, OnOk};
+ghost use Rattle.std.specs.Prelude.{◌≡◌, ◌↔◌, false, true, IfErr, IfOk, IfSome, IsErrOf, IsSome, OnOk};
+ghost use Rattle.sig_bits.specs.Bytes.{IsBytes};
 ghost use Rattle.sig_bits.specs.Device.{IsAtEnd};
+ghost use Rattle.sig_cert.specs.Deciding.{Ambiguous, AreFirstLeft, AreFormats};
 ghost use Rattle.sig_engines.specs.Witnessed.{AddsWitnessOfSome};
 
 use crate::error::RunError;
 use crate::lines::line_of_witness;
 use sig_bits::{Input, Output, read_whole};
 use sig_cert::check_witness;
-use sig_table::Table;
+use sig_table::{FormatId, Table};
 use std::alloc::Global;
 
 /// Writes `ambiguous` and the first two formats left for the file, or `not ambiguous`, and answers
@@ -39,8 +41,23 @@ pub fn run_witness<R: Input, W: Output>(
     ensures memory_stays { IsErrOf result RunError.OutOfMemory → out.new ≡ out.old }
 {
     let bytes = read_whole(alloc, file)?;
-    let two = check_witness(alloc, table, &bytes).map_err(|_| RunError::OutOfMemory)?;
+    let two = first_left(alloc, table, &bytes)?;
     let line = line_of_witness(alloc, table, two).map_err(|_| RunError::OutOfMemory)?;
     out.write_all(line.as_bytes()).map_err(|_| RunError::Write)?;
     Ok(two.is_some())
+}
+
+// The first two formats left for the bytes, where more than one is.
+fn first_left(
+    alloc: Global,
+    table: &Table,
+    file: &[u8],
+) -> Result<Option<(FormatId, FormatId)>, RunError>
+    ensures bytes { IsBytes file.now }
+    ensures ambiguous { IfOk result (λ two. IsSome two ↔ Ambiguous table.now file.now) }
+    ensures first_left { IfOk result (λ two. IfSome two (AreFirstLeft table.now file.now)) }
+    ensures known { IfOk result (λ two. IfSome two (AreFormats table.now)) }
+    ensures memory { IfErr result (λ e. e ≡ RunError.OutOfMemory) }
+{
+    check_witness(alloc, table, file).map_err(|_| RunError::OutOfMemory)
 }

@@ -19,7 +19,7 @@ use Rattle.sig_bits.specs.ByteClasses.{Holds}
 use Rattle.sig_bits.specs.declared.byte_class.ByteClass.{ByteClass}
 use Rattle.sig_table.specs.Views.{SequenceView}
 use Rattle.sig_match.specs.Scans.{IsSequenceScanOf, SequenceScanView}
-use Rattle.sig_match.specs.Rests.{AreCutsOf, Fades, FrontAt, GoesBy, GoesLater, IsFollower, IsNoLoss, IsLeftAlike, IsLeftOn, IsLeftTo, IsOnlyWay, IsPassed, IsReached, IsRest, LeadsOnlyTo, Misses, Opens, OpensLater, Reaches, front_at, no_front}
+use Rattle.sig_match.specs.Rests.{AreCutsOf, Fades, FrontAt, GoesBy, GoesLater, IsFollower, IsNoLoss, IsLeftAlike, IsLeftOn, IsLeftTo, IsNoWay, IsOnlyWay, IsPassed, IsReached, IsRest, LeadsOnlyTo, Misses, Opens, OpensLater, Reaches, front_at, no_front}
 
 -- what misses the front is not a way on
 goes_not : (tree : Tree) (front bytes : List ℕ) (p q : ℕ) → IsBytes bytes → GoesBy tree p front → Misses front bytes → Reaches tree p bytes q → ⊥
@@ -387,9 +387,9 @@ pub left_to_all : (tree : Tree) (set : List ℕ) (found : Option ℕ) (n : ℕ) 
 left_to_all tree set None n all left = tt
 left_to_all tree set (Some state) n all left = λ b small. left.below b (omega arith)
 
--- whatever leads on from the new state is the front
-pub later_front_known : (tree : Tree) (set : List ℕ) (exits : ByteClass) (state : ℕ) (front : List ℕ) → LeadsOnlyTo tree set state → GoesBy tree state front → IsRest tree set exits (no_front 0) → IsRest tree set exits (front_at 0 1 front)
-later_front_known tree set exits state front left goes rest = record {
+-- whatever leads on from the new state has the front, behind so many bytes
+pub later_front_known : (n : ℕ) (tree : Tree) (set : List ℕ) (exits : ByteClass) (state : ℕ) (front : List ℕ) → LeadsOnlyTo tree set state → GoesLater n tree state front → IsRest tree set exits (no_front 0) → IsRest tree set exits (front_at 0 (suc n) front)
+later_front_known n tree set exits state front left goes rest = record {
   stays = rest.stays;
   leaves = λ p q b small bit follows takes.
       ⊎_elim
@@ -397,17 +397,47 @@ later_front_known tree set exits state front left goes rest = record {
       (λ out.
       ⊎_elim
       (λ inside. inl (inl inside))
-      (λ (is : Some state ≡ Some q). inr (out.0, subst (λ r. GoesBy tree r front) (same_Some state q is) goes))
+      (λ (is : Some state ≡ Some q). inr (out.0, subst (λ r. GoesLater n tree r front) (same_Some state q is) goes))
       (left b small p q bit follows takes))
       (rest.leaves p q b small bit follows takes);
 }
 
--- no front behind the first byte is known either
-pub IsRest-no_later_front : (tree : Tree) (set : List ℕ) (exits : ByteClass) → IsRest tree set exits (no_front 0) → IsRest tree set exits (front_at 0 1 [])
-IsRest-no_later_front tree set exits rest = record {
-  stays = rest.stays;
-  leaves = λ p q b small bit follows takes. ⊎_elim (λ inside. inl inside) (λ out. inr (out.0, tt)) (rest.leaves p q b small bit follows takes);
-}
+-- so for the state that alone follows another, behind one byte more
+pub goes_later_more : (n : ℕ) (tree : Tree) (p s : ℕ) (front : List ℕ) → ((q : ℕ) → Follows tree p q → q ≡ s) → GoesLater n tree s front → GoesLater (n + 1) tree p front
+goes_later_more n tree p s front lone goes =
+    let more : GoesLater (suc n) tree p front = λ q b small follows takes. subst (λ r. GoesLater n tree r front) (sym (lone q follows)) goes in
+    let same : suc n ≡ n + 1 = omega arith in
+    subst (λ k. GoesLater k tree p front) same more
+
+-- of the first states this one alone follows
+abbrev pub IsLoneFollower : Tree → ℕ → ℕ → Option ℕ → Type 0
+IsLoneFollower tree p n found = (q : ℕ) → q < n → Follows tree p q → found ≡ Some q
+
+-- no state is asked yet, and none follows a state as the start
+pub IsLoneFollower-none : (tree : Tree) (p : ℕ) → IsLoneFollower tree p 1 None
+IsLoneFollower-none tree p = λ q below follows. absurd (let above = follows_above_the_start tree p q follows in omega arith)
+
+-- one that does not follow
+pub IsLoneFollower-old : (tree : Tree) (p n : ℕ) (found : Option ℕ) → (Follows tree p n → ⊥) → IsLoneFollower tree p n found → IsLoneFollower tree p (n + 1) found
+IsLoneFollower-old tree p n found not before = λ q below follows.
+    ⊎_elim
+    (λ (same : q ≡ n). absurd (not (subst (λ r. Follows tree p r) same follows)))
+    (λ other. before q (omega arith) follows)
+    (cases_eq q n)
+
+-- the first one that does
+pub IsLoneFollower-new : (tree : Tree) (p n : ℕ) (found : Option ℕ) → is_some found ≡ false → IsLoneFollower tree p n found → IsLoneFollower tree p (n + 1) (Some n)
+IsLoneFollower-new tree p n None first before = λ q below follows.
+    ⊎_elim
+    (λ (same : q ≡ n). ap Some (sym same))
+    (λ other. absurd (none-some q (before q (omega arith) follows)))
+    (cases_eq q n)
+IsLoneFollower-new tree p n (Some s) first before = λ q below follows. absurd (false≢true (sym first))
+
+-- all are asked
+pub IsLoneFollower-all : (tree : Tree) (p n : ℕ) (found : Option ℕ) → slots_of tree < n → IsLoneFollower tree p n found → IfSome found (λ s. (q : ℕ) → Follows tree p q → q ≡ s)
+IsLoneFollower-all tree p n None all below = tt
+IsLoneFollower-all tree p n (Some s) all below = λ q follows. sym (same_Some s q (below q (let within = follows_to_a_slot tree p q follows in omega arith) follows))
 
 -- what leads on from a state is the only way on, and what opens behind it
 pub goes_by_way : (tree : Tree) (p byte state : ℕ) (front : List ℕ) → IsOnlyWay tree p byte state → Opens tree state byte front → GoesBy tree p front
@@ -422,10 +452,33 @@ passed_by_byte exits front [] x deep none = absurd (omega arith)
 passed_by_byte exits front (b ∷ bytes) zero deep none = (omega arith, inl none)
 passed_by_byte exits front (b ∷ bytes) (suc x) deep none = passed_by_byte exits front bytes x (omega arith) none
 
+-- a place that is no way
+pub passed_by_no_way : (exits : ByteClass) (front : FrontAt) (bytes : List ℕ) (x : ℕ) → front.depth + x < length bytes → IsNoWay exits front (drop x bytes) → IsPassed exits front (drop x bytes)
+passed_by_no_way exits front [] x deep none = absurd (omega arith)
+passed_by_no_way exits front (b ∷ bytes) zero deep none = (omega arith, none)
+passed_by_no_way exits front (b ∷ bytes) (suc x) deep none = passed_by_no_way exits front bytes x (omega arith) none
+
+-- a byte that is no exit is none
+pub no_way_by_byte : (exits : ByteClass) (front : FrontAt) (bytes : List ℕ) → ¬ Holds exits (get_or bytes 0 0) → IsNoWay exits front bytes
+no_way_by_byte exits front [] none = tt
+no_way_by_byte exits front (b ∷ bytes) none = inl none
+
+-- nor are bytes that miss the front
+pub no_way_by_miss : (exits : ByteClass) (front : FrontAt) (bytes : List ℕ) → Misses front.bytes (drop front.skip bytes) → IsNoWay exits front bytes
+no_way_by_miss exits front [] misses = tt
+no_way_by_miss exits front (b ∷ bytes) misses = inr misses
+
 -- so are bytes that miss the front
 pub passed_by_miss : (exits : ByteClass) (front : FrontAt) (bytes : List ℕ) → front.depth < length bytes → Misses front.bytes (drop front.skip bytes) → IsPassed exits front bytes
 passed_by_miss exits front [] deep misses = tt
 passed_by_miss exits front (b ∷ bytes) deep misses = (omega arith, inr misses)
+
+-- where the first byte of the front does not stand, they miss it
+pub missed_by_byte : (front bytes : List ℕ) (x : ℕ) → 0 < length front → x < length bytes → get_or bytes x 0 ≢ get_or front 0 0 → Misses front (drop x bytes)
+missed_by_byte front bytes x some within differs =
+    let long = length-drop x bytes in
+    let place : get_or (drop x bytes) 0 0 ≡ get_or bytes x 0 = get_or-drop x bytes 0 0 ∙ ap (λ k. get_or bytes k 0) (omega arith) in
+    missed_at front (drop x bytes) 0 some (omega arith) (λ same. differs (sym place ∙ same))
 
 -- where the front does not occur within the bytes, they miss it
 pub missed_by_none : (bytes front : List ℕ) (x : ℕ) → x + length front ≤ length bytes → (OccursAt bytes front x → ⊥) → Misses front (drop x bytes)
@@ -703,3 +756,27 @@ fades_later tree set state (suc depth) n q (Some way) all some is below fades = 
     (λ on. inl on)
     (λ (at : r ≡ way). inr (subst (λ k. Fades tree set k r) same (subst (λ k. Fades tree set (suc depth - 1) k) (sym (at ∙ way_is)) fades)))
     (below r (let within = follows_to_a_slot tree state r follows in omega arith) follows)
+
+-- one leap: to the next place of the front, and from there to the next exit
+pub no_way_to : (exits : ByteClass) (front : FrontAt) (bytes : List ℕ) (at to end x : ℕ) → ((y : ℕ) → y < at → IsNoWay exits front (drop y bytes)) → ((y : ℕ) → y < to → Misses front.bytes (drop y (drop front.skip (take (length bytes - at) (drop at bytes))))) → ((y : ℕ) → y < end → ¬ Holds exits (get_or (take (length bytes - (at + to)) (drop (at + to) bytes)) y 0)) → x < at + to + end → IsNoWay exits front (drop x bytes)
+no_way_to exits front bytes at to end x before misses none below =
+    ⊎_elim
+    (λ (early : x < at). before x early)
+    (λ (after : at ≤ x).
+    ⊎_elim
+    (λ (fronts : x < at + to).
+    let y : ℕ = x - at in
+    let P : List ℕ → Type 0 = λ l. Misses front.bytes (drop y (drop front.skip l)) in
+    let here : Misses front.bytes (drop y (drop front.skip (drop at bytes))) = subst P (take_rest bytes at) (misses y (omega arith)) in
+    let first : drop y (drop front.skip (drop at bytes)) ≡ drop (at + front.skip + y) bytes = ap (λ l. drop y l) (drop_further bytes at front.skip (at + front.skip) refl) ∙ drop_further bytes (at + front.skip) y (at + front.skip + y) refl in
+    let second : drop front.skip (drop x bytes) ≡ drop (at + front.skip + y) bytes = drop_further bytes x front.skip (at + front.skip + y) (omega arith) in
+    no_way_by_miss exits front (drop x bytes) (subst (λ l. Misses front.bytes l) (first ∙ sym second) here))
+    (λ (past : at + to ≤ x).
+    let y : ℕ = x - (at + to) in
+    let Q : List ℕ → Type 0 = λ l. ¬ Holds exits (get_or l y 0) in
+    let there : ¬ Holds exits (get_or (drop (at + to) bytes) y 0) = subst Q (take_rest bytes (at + to)) (none y (omega arith)) in
+    let R : ℕ → Type 0 = λ b. ¬ Holds exits b in
+    let place : get_or (drop (at + to) bytes) y 0 ≡ get_or (drop x bytes) 0 0 = get_or-drop (at + to) bytes y 0 ∙ ap (λ k. get_or bytes k 0) (omega arith) ∙ sym (get_or-drop x bytes 0 0) in
+    no_way_by_byte exits front (drop x bytes) (subst R place there))
+    (below_or x (at + to)))
+    (below_or x at)

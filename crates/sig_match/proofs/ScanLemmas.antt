@@ -457,13 +457,14 @@ fed_to_end scan table before at hits end finish fed =
     let Q : TableView → Type 0 = λ t. HitFormats t fed.file hits in
     record {
       file = fed.file;
+      bytes = fed.is_of.is.bytes;
       is_to_come = gives_all before at fed.file fed.given end;
       hit_formats = subst Q fed.table_is (finish fed.file fed.is_of);
     }
 
 -- all is read at once
-pub hits_at_once : (table : TableView) (before at : Option (List ℕ)) (file : List ℕ) (hits : List Hit) → Gives before file at → IsAtEnd at → HitFormats table file hits → HitFormatsOfSome table before hits
-hits_at_once table before at file hits gives end are = record { file = file; is_to_come = gives_all before at file gives end; hit_formats = are }
+pub hits_at_once : (table : TableView) (before at : Option (List ℕ)) (file : List ℕ) (hits : List Hit) → IsBytes file → Gives before file at → IsAtEnd at → HitFormats table file hits → HitFormatsOfSome table before hits
+hits_at_once table before at file hits bytes gives end are = record { file = file; bytes = bytes; is_to_come = gives_all before at file gives end; hit_formats = are }
 
 pub whole_front : (n : ℕ) (xs : List ℕ) → length xs ≤ n → take n xs ≡ xs
 whole_front n xs all = take_all n xs all

@@ -2,6 +2,7 @@
 use Rattle.std.specs.Prelude.{◌≡◌, ℕ, ◌<◌, not, List, All, Contains, Option, Some, IfSome, IsSomeAnd, map, filter, slice_get}
 use Rattle.std.specs.List.{list_any}
 use Rattle.std.specs.List.Sorted.{IsStrictlyIncreasing}
+use Rattle.sig_bits.specs.Bytes.{IsBytes}
 use Rattle.sig_match.specs.declared.results.Hit.{Hit}
 use Rattle.sig_table.specs.Ranking.{Outranks, ranks}
 use Rattle.sig_table.specs.Views.{SignatureView, TableView}
@@ -36,6 +37,7 @@ pub record HitFormats (table : TableView) (file : List ℕ) (hits : List Hit) : 
 -- the hits are the hit formats of some file: of the one to come, where its bytes are known
 pub record HitFormatsOfSome (table : TableView) (to_come : Option (List ℕ)) (hits : List Hit) : Type 0 where
   pub file : List ℕ
+  pub bytes : IsBytes file
   pub is_to_come : IfSome to_come (λ bytes. file ≡ bytes)
   pub hit_formats : HitFormats table file hits
 

@@ -1,21 +1,13 @@
 -- Sets of states in which a scan rests, and the bytes by which they are left.
 use Rattle.std.specs.Prelude.{◌≡◌, ◌≢◌, ◌⊎◌, ◌↔◌, ℕ, zero, suc, ◌+◌, ◌<◌, ◌≤◌, Bool, false, List, [], ◌∷◌, Option, Some, drop, length, ⊤}
 use Rattle.sig_auto.specs.Runs.{IsStepOf}
+pub use Rattle.sig_auto.specs.Reaching.{IsReached, Reaches}
 use Rattle.sig_auto.specs.Tracks.{Follows}
 use Rattle.sig_auto.specs.Trees.{Tree}
 use Rattle.sig_auto.specs.TreeSlots.{Takes, slots_of}
 use Rattle.sig_bits.specs.BitSets.{HasBit}
 use Rattle.sig_bits.specs.ByteClasses.{Holds}
 use Rattle.sig_bits.specs.declared.byte_class.ByteClass.{ByteClass}
-
--- these bytes lead from state p to state q
-abbrev pub Reaches : Tree → ℕ → List ℕ → ℕ → Type 0
-Reaches tree p [] q = p ≡ q
-Reaches tree p (b ∷ bytes) q = (r : ℕ) × Follows tree p r × Takes tree r b × Reaches tree r bytes q
-
--- they lead from some state of the set to q
-abbrev pub IsReached : Tree → List ℕ → List ℕ → ℕ → Type 0
-IsReached tree set bytes q = (p : ℕ) × HasBit set p × Reaches tree p bytes q
 
 -- the two sets lead to the same states, each by what is left
 abbrev pub LeadsAlike : Tree → List ℕ → List ℕ → List ℕ → List ℕ → Type 0
@@ -88,10 +80,15 @@ Misses [] bytes = ⊥
 Misses (f ∷ front) [] = ⊥
 Misses (f ∷ front) (b ∷ bytes) = (b ≢ f) ⊎ Misses front bytes
 
+-- the first of these bytes is no exit, or they differ from the front
+abbrev pub IsNoWay : ByteClass → FrontAt → List ℕ → Type 0
+IsNoWay exits front [] = ⊤
+IsNoWay exits front (b ∷ bytes) = (¬ Holds exits b) ⊎ Misses front.bytes (drop front.skip (b ∷ bytes))
+
 -- no way out of a set of these exits and this front begins with these bytes
 abbrev pub IsPassed : ByteClass → FrontAt → List ℕ → Type 0
 IsPassed exits front [] = ⊤
-IsPassed exits front (b ∷ bytes) = (front.depth ≤ length bytes) × ((¬ Holds exits b) ⊎ Misses front.bytes (drop front.skip (b ∷ bytes)))
+IsPassed exits front (b ∷ bytes) = (front.depth ≤ length bytes) × IsNoWay exits front (b ∷ bytes)
 
 -- each state that follows one of the set takes both bytes or neither
 abbrev pub IsLeftAlike : Tree → List ℕ → ℕ → ℕ → Type 0

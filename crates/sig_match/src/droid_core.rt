@@ -21,7 +21,7 @@ pub trait DroidCore {
         ensures { result.now ≡ lists self.now };
 
     /// Reads the input to its end and answers which formats it hits, each with its first signature
-    /// that hits. Where the input does not tell its bytes, they are the hits of some file.
+    /// that hits. Where the input does not tell its bytes, they are the hits of some file of bytes.
     fn match_binary_signatures<R: Input>(&self, input: &mut R) -> Result<Results, CoreError>
         ensures hits { IfOk result (HitFormatsOfSome (lists self.now) (R.to_come input.old)) }
         ensures at_end { OnOk result (IsAtEnd (R.to_come input.new)) }

@@ -1,6 +1,7 @@
 //! The matcher that reads a file once, piece by piece, and keeps no more of it than one piece.
 
 ghost use Rattle.std.specs.Prelude.{◌≡◌, ◌+◌, ◌<◌, ◌≤◌, false, true, IfErr, IfOk, IfSome, IsErrOf, OnOk, is_err, length, take};
+ghost use Rattle.sig_bits.specs.Bytes.{IsBytes};
 ghost use Rattle.sig_bits.specs.Device.{Gives, IsAtEnd};
 ghost use Rattle.sig_match.specs.Hits.{HitFormats, HitFormatsOfSome};
 ghost use Rattle.sig_match.specs.Readies.{AreBegins};
@@ -138,7 +139,8 @@ fn hits_of(
     file: &[u8],
 ) -> Result<Results, AllocError>
     requires { IfSome ready (λ r. AreBegins table.now r.now.begins.items) }
-    ensures { IfOk result (λ hits. HitFormats table.now file.now hits) }
+    ensures bytes { IsBytes file.now }
+    ensures hits { IfOk result (λ hits. HitFormats table.now file.now hits) }
 {
     match ready {
         Some(ready) => hits_by(alloc, table, ready, file),

@@ -10,6 +10,7 @@
 //! within a list of alternatives.
 
 ghost use Rattle.std.specs.Prelude.{◌≡◌, ◌<◌, ◌↔◌, IfOk, IfErr, IsTrue, length};
+ghost use Rattle.sig_bits.specs.Bytes.{IsBytes};
 ghost use Rattle.sig_match.specs.Hits.{HitFormats, HitsOf, Left};
 ghost use Rattle.sig_match.specs.Readies.{AreBegins};
 ghost use Rattle.sig_table.specs.Views.{TableView};
@@ -64,7 +65,7 @@ impl WholeCore {
         ensures hits { IfOk result (λ hits. HitFormats self.now file.now hits) }
         ensures memory { IfErr result (λ e. e ≡ CoreError.OutOfMemory) }
     {
-        hits_in(self.alloc, &self.table, file).map_err(|_| CoreError::OutOfMemory)
+        hits_read(self.alloc, &self.table, file)
     }
 }
 
@@ -77,7 +78,7 @@ impl DroidCore for WholeCore {
 
     fn match_binary_signatures<R: Input>(&self, input: &mut R) -> Result<Results, CoreError> {
         match read_whole(self.alloc, input) {
-            Ok(file) => self.match_bytes(&file),
+            Ok(file) => hits_read(self.alloc, &self.table, &file),
             Err(ReadWholeError::Read) => Err(CoreError::Read),
             Err(ReadWholeError::OutOfMemory) => Err(CoreError::OutOfMemory),
         }
@@ -115,6 +116,15 @@ pub fn signature_hits(
 {
     let hits = is_hit(alloc, table, signature, file).map_err(|_| CoreError::OutOfMemory)?;
     Ok(hits)
+}
+
+// The formats that these bytes hit.
+fn hits_read(alloc: Global, table: &Table, file: &[u8]) -> Result<Results, CoreError>
+    ensures bytes { IsBytes file.now }
+    ensures hits { IfOk result (λ hits. HitFormats table.now file.now hits) }
+    ensures memory { IfErr result (λ e. e ≡ CoreError.OutOfMemory) }
+{
+    hits_in(alloc, table, file).map_err(|_| CoreError::OutOfMemory)
 }
 
 /// The formats that a file hits.

@@ -1,19 +1,26 @@
 //! How a sequence leaves a set of states, found out by its automaton.
 
 ghost use Rattle.std.specs.Prelude.{◌≡◌, ◌⊎◌, ◌↔◌, ℕ, ◌<◌, ◌≤◌, IfSome, IsTrue, length, take};
+ghost use Rattle.sig_auto.specs.Tracks.{Follows};
 ghost use Rattle.sig_auto.specs.Trees.{whole_tree};
 ghost use Rattle.sig_auto.specs.TreeSlots.{set_len, slots_of};
 ghost use Rattle.sig_bits.specs.BitSets.{HasBit};
 ghost use Rattle.sig_bits.specs.ByteClasses.{Holds};
 ghost use Rattle.sig_match.specs.Ways.{front_of};
-ghost use Rattle.sig_match.specs.Rests.{AreCutsOf, Fades, GoesBy, IsFollower, IsLeftOn, IsLoneNew, IsNoLoss, IsOnlyWay, IsRest, LeadsOnlyTo, Opens, front_at, no_front};
+ghost use Rattle.sig_match.specs.Rests.{AreCutsOf, Fades, GoesBy, GoesLater, IsFollower, IsLeftOn, IsLoneNew, IsNoLoss, IsOnlyWay, IsRest, LeadsOnlyTo, Opens, front_at, no_front};
 
-use crate::scan::way::{FRONT, Way};
+use crate::scan::way::{FRONT, Way, lone_byte};
 use sig_auto::Auto;
 use sig_bits::{ByteClass, get_bit, subset};
 
 /// The greatest set, in bytes, whose states are asked one by one.
 pub(crate) const FEW: usize = 8;
+
+// Behind how many bytes, after the first one, a front is looked for.
+const SKIPPED: usize = 7;
+
+// So many bytes of a front are enough for the sieve: more are written only where they are told at once.
+const ENOUGH: usize = 4;
 
 /// Within how many bytes a way comes to nothing of which that is known.
 pub(crate) const DEPTH: usize = 64;
@@ -28,7 +35,7 @@ pub(crate) fn way_of(auto: &Auto, set: &[u8], next: &mut [u8]) -> Option<Way>
     let exits = exits_of(auto, set, next)?;
     let mut front = [0; FRONT];
     let len = add_front(auto, set, next, &exits, 0, &mut front);
-    if len > 0 {
+    if len > 1 {
         return Some(Way {
             exits,
             front,
@@ -37,13 +44,23 @@ pub(crate) fn way_of(auto: &Auto, set: &[u8], next: &mut [u8]) -> Option<Way>
             depth: 0,
         });
     }
-    let len = add_later_front(auto, set, next, &exits, &mut front);
+    let mut later = [0; FRONT];
+    let (skip, known) = add_later_front(auto, set, next, &exits, &mut later);
+    if known > 0 {
+        return Some(Way {
+            exits,
+            front: later,
+            len: known,
+            skip,
+            depth: 0,
+        });
+    }
     if len > 0 || set.len() > FEW || !has_several(auto, set) {
         return Some(Way {
             exits,
             front,
             len,
-            skip: 1,
+            skip: 0,
             depth: 0,
         });
     }
@@ -156,24 +173,27 @@ fn add_front(
     spell(auto, byte, state, room)
 }
 
-// Writes the bytes that each way out has behind its first byte, and answers how many they are.
+// Writes bytes that each way out has behind its first byte, and answers behind how many they stand, and how
+// many they are.
 fn add_later_front(
     auto: &Auto,
     set: &[u8],
     next: &mut [u8],
     exits: &ByteClass,
     room: &mut [u8],
-) -> usize
+) -> (usize, usize)
     requires set_len { length set.now ≡ set_len (whole_tree auto.now) }
     requires next_len { length next.old ≡ set_len (whole_tree auto.now) }
     ensures rest { IsRest (whole_tree auto.now) set.now exits.now (no_front 0)
-        → IsRest (whole_tree auto.now) set.now exits.now (front_at 0 1 (take result room.new)) }
-    ensures within { result ≤ length room.new }
+        → IsRest (whole_tree auto.now) set.now exits.now (front_at 0 result.0 (take result.1 room.new)) }
+    ensures within { result.1 ≤ length room.new }
 {
-    match first_state(auto, set, next, exits) {
-        Some(state) => spell_on(auto, state, room),
-        None => 0,
-    }
+    let Some(state) = first_state(auto, set, next, exits) else {
+        return (0, 0);
+    };
+    let most = if set.len() > FEW { 0 } else { SKIPPED };
+    let (behind, known) = spell_behind(auto, state, most, room);
+    (behind + 1, known)
 }
 
 // The state outside the set to which each exit leads, where that is one alone.
@@ -255,7 +275,7 @@ pub(crate) fn all_fade(auto: &Auto, set: &[u8], next: &[u8]) -> bool
 }
 
 // Whether all ways on from the state are also those of the set within so many bytes: each state that
-// follows it follows the set too, or one does not, and fades.
+// follows it follows the set too, or one does not, and fades. One that follows itself never does.
 fn fades(auto: &Auto, set: &[u8], state: u32, depth: usize) -> bool
     requires { length set.now ≡ set_len (whole_tree auto.now) }
     ensures { IsTrue result → Fades (whole_tree auto.now) set.now depth state }
@@ -273,7 +293,7 @@ fn fades(auto: &Auto, set: &[u8], state: u32, depth: usize) -> bool
         }
     }
     match way {
-        Some(q) => fades(auto, set, q, depth - 1),
+        Some(q) => q != state && fades(auto, set, q, depth - 1),
         None => true,
     }
 }
@@ -289,17 +309,6 @@ fn follows_some(auto: &Auto, set: &[u8], q: u32) -> bool
         }
     }
     false
-}
-
-// The byte of the class, where it has one alone.
-fn lone_byte(class: &ByteClass) -> Option<u8>
-    ensures { IfSome result (λ b. (a : ℕ) → Holds class.now a → a ≡ b) }
-{
-    let byte = class.lowest_from(0)?;
-    match class.lowest_from(byte as usize + 1) {
-        Some(_) => None,
-        None => Some(byte),
-    }
 }
 
 // The state of the second set that the first has not and that does not fade, where it is one alone.
@@ -333,7 +342,7 @@ fn spell(auto: &Auto, byte: u8, state: u32, room: &mut [u8]) -> usize
         return 0;
     };
     *place = byte;
-    match only_way(auto, state) {
+    match only_way(auto, state, later.len() > FRONT - ENOUGH) {
         Some((byte, state)) => 1 + spell(auto, byte, state, later),
         None => 1,
     }
@@ -344,18 +353,57 @@ fn spell_on(auto: &Auto, state: u32, room: &mut [u8]) -> usize
     ensures goes { GoesBy (whole_tree auto.now) state (take result room.new) }
     ensures within { result ≤ length room.new }
 {
-    match only_way(auto, state) {
+    match only_way(auto, state, true) {
         Some((byte, state)) => spell(auto, byte, state, room),
         None => 0,
     }
 }
 
-// The byte and the state that alone follow this state.
-fn only_way(auto: &Auto, state: u32) -> Option<(u8, u32)>
+// The same behind as few bytes as may be, at most so many, that are the only way on whatever they are. Answers
+// behind how many, and how many bytes are written.
+fn spell_behind(auto: &Auto, state: u32, most: usize, room: &mut [u8]) -> (usize, usize)
+    ensures goes { GoesLater result.0 (whole_tree auto.now) state (take result.1 room.new) }
+    ensures within { result.1 ≤ length room.new }
+    ensures near { result.0 ≤ most }
+{
+    let known = spell_on(auto, state, room);
+    if known > 0 || most == 0 {
+        return (0, known);
+    }
+    match lone_follower(auto, state) {
+        Some(follower) => {
+            let (behind, known) = spell_behind(auto, follower, most - 1, room);
+            (behind + 1, known)
+        }
+        None => (0, known),
+    }
+}
+
+// The state that alone follows this state.
+fn lone_follower(auto: &Auto, state: u32) -> Option<u32>
+    ensures { IfSome result (λ s. (q : ℕ) → Follows (whole_tree auto.now) state q → q ≡ s) }
+{
+    let mut found = None;
+    for q in 1..auto.slots() + 1 {
+        if auto.follows(state, q) {
+            if found.is_some() {
+                return None;
+            }
+            found = Some(q);
+        }
+    }
+    found
+}
+
+// The byte and the state that alone follow this state, if that is told by one walk, or all is asked.
+fn only_way(auto: &Auto, state: u32, asks_all: bool) -> Option<(u8, u32)>
     ensures { IfSome result (λ way. IsOnlyWay (whole_tree auto.now) state way.0 way.1) }
 {
     if let Some(byte) = auto.byte_behind(state) {
         return Some((byte, state + 1));
+    }
+    if !asks_all {
+        return None;
     }
     let live = auto.live_bytes(state, &mut ByteClass::none());
     let byte = lone_byte(&live)?;

@@ -22,6 +22,7 @@ use crate::scan::span::climbs;
 use crate::scan::way::{FRONT, Way, same_bytes};
 use sig_auto::Auto;
 use sig_bits::{and_any, clear, get_bit, set_bit, subset};
+use sig_expr::Item;
 use sig_table::Sequence;
 use std::alloc::{AllocError, Global};
 use std::marker::Model;
@@ -49,7 +50,7 @@ const AWAKE: usize = 128;
 
 // The set, the room of the next one, and a set in which the sequence can rest, with the way out of it:
 // at first the one in which most files leave it, then the one in which it rested last. `number` is the
-// place of the first front in the sieve. `run` has the bytes of a long sequence of fixed bytes alone that may
+// place of its front in the sieve, and `later` that of the front behind an open gap. `run` has the bytes of a long sequence of fixed bytes alone that may
 // begin anywhere, and none of any other. `inner` is how many slots stand before those of the gap at the end of the
 // file. `resting` tells that it is in that set now, and `pause` how many bytes are stepped before that is asked again.
 // `awake` is how many bytes were stepped since it last rested, went by words or slid.
@@ -62,6 +63,7 @@ pub(crate) struct SequenceScan {
     rest: Vec<u8>,
     way: Way,
     number: usize,
+    later: usize,
     climbs: bool,
     inner: usize,
     resting: bool,
@@ -118,6 +120,7 @@ impl SequenceScan {
             rest,
             way: Way::none(),
             number: usize::MAX,
+            later: usize::MAX,
             climbs: climbs(sequence),
             inner,
             resting: false,
@@ -125,6 +128,7 @@ impl SequenceScan {
             awake: 0,
         };
         scan.look_ahead(alloc, sieve)?;
+        scan.look_further(sequence, sieve)?;
         Ok(scan)
     }
 
@@ -142,9 +146,21 @@ impl SequenceScan {
             return Ok(());
         }
         self.number = self.way.put_into(sieve)?;
+        self.later = self.number;
         let may_rest = and_any(&self.rest, &self.rest);
         if may_rest && self.number == usize::MAX {
             self.auto.note_steps(alloc)?;
+        }
+        Ok(())
+    }
+
+    // Puts the bytes behind an inner gap into the sieve too: once that is reached, they are the front.
+    fn look_further(&mut self, sequence: &Sequence, sieve: &mut Sieve) -> Result<(), AllocError>
+        ensures { self.new ≡ self.old }
+    {
+        let (front, len) = bytes_behind_gap(sequence.expr().items());
+        if len >= 4 {
+            self.later = sieve.add(front, len)?;
         }
         Ok(())
     }
@@ -187,6 +203,7 @@ impl SequenceScan {
             self.retreat(piece, from + 1);
             self.shed(piece, from + 1);
             from = self.next_place(piece, from + 1);
+            from = self.step_on(piece, from);
             from = self.go_narrow(piece, from);
             from = self.slide(piece, from);
         }
@@ -227,6 +244,26 @@ impl SequenceScan {
         set_bit(&mut self.set, 1);
         self.resting = same_bytes(&self.set, &self.rest);
         len - slots
+    }
+
+    // Goes on from this place, if the steps of the sequence are noted, to where it rests, or to where it looks back
+    // or asks for another set to rest in. Answers that place.
+    fn step_on(&mut self, piece: &Piece<'_>, from: usize) -> usize
+        requires { from ≤ length piece.now }
+        ensures sequence { self.new.sequence ≡ self.old.sequence }
+        ensures after { from ≤ result }
+        ensures within { result ≤ length piece.now }
+        ensures same { LeadsAlike (whole_tree self.old.sequence) self.old.set (drop from piece.now) self.new.set (drop result piece.now) }
+    {
+        if self.resting || self.set.len() > FEW {
+            return from;
+        }
+        let behind = &piece.bytes()[from..];
+        let most = FRONT - 1 - self.awake % FRONT;
+        let count = self.auto.step_to(&mut self.set, &self.rest, behind, most);
+        self.awake = self.awake.saturating_add(count);
+        self.resting = same_bytes(&self.set, &self.rest);
+        from + count
     }
 
     // Goes on from this place by words, if the sequence has few states and has not rested for long. Answers
@@ -362,6 +399,7 @@ impl SequenceScan {
         if let Some(way) = way_of(&self.auto, &self.set, &mut self.next) {
             self.rest.copy_from_slice(&self.set);
             self.way = way;
+            self.number = self.later;
             self.resting = true;
         }
     }
@@ -425,6 +463,7 @@ impl SequenceScan {
             self.rest.copy_from_slice(kept);
             self.set.copy_from_slice(kept);
             self.way = way;
+            self.number = self.later;
             self.resting = true;
         }
     }
@@ -466,6 +505,27 @@ fn leads_to(auto: &Auto, from: &[u8], bytes: &[u8], to: &[u8]) -> bool
     let next = &mut room[..from.len()];
     auto.step_set(from, *byte, next);
     leads_to(auto, next, later, to)
+}
+
+// The fixed bytes right behind the first open gap inside of the expression, and how many they are.
+fn bytes_behind_gap(items: &[Item]) -> ([u8; FRONT], usize)
+    ensures { result.1 ≤ 8 }
+{
+    let mut front = [0; FRONT];
+    let mut len = 0;
+    let mut is_behind = false;
+    for item in items.iter().skip(1) {
+        match item {
+            Item::Byte(byte) if is_behind && len < FRONT => {
+                front[len] = *byte;
+                len += 1;
+            }
+            _ if is_behind => return (front, len),
+            Item::Gap { max: None, .. } => is_behind = true,
+            _ => {}
+        }
+    }
+    (front, len)
 }
 
 // A set of no state.

@@ -1,18 +1,19 @@
 //! The way out of a set of states in which a sequence rests: most bytes lead from it to itself.
 //!
 //! Such a set stays as it is up to a byte of its exits, and where only one byte is an exit, up to
-//! that byte and those that have to follow. Where several are, all may lead to the same state, and then
-//! the bytes that have to follow stand behind any of them: of `[41:5A]4243` that may begin anywhere the
-//! front is `42 43`, and it skips one byte. So the file is searched for a front and not stepped through.
+//! that byte and those that have to follow. All exits may lead to the same state, and then the bytes that
+//! have to follow can stand behind any of them, and behind bytes that may be any: of `[41:5A]4243` that may
+//! begin anywhere the front is `42 43`, and it skips one byte; of `41??42` it is `42`, and skips two. So the
+//! file is searched for a front, with an exit before it, and not stepped through.
 
-ghost use Rattle.std.specs.Prelude.{◌≡◌, ℕ, ◌+◌, ◌<◌, ◌≤◌, false, IsTrue, drop, length, slice_index, take};
+ghost use Rattle.std.specs.Prelude.{◌≡◌, ◌≢◌, ℕ, ◌+◌, ◌<◌, ◌≤◌, false, IfSome, IsTrue, drop, length, slice_index, take};
 ghost use Rattle.sig_bits.specs.ByteClasses.{Holds};
 ghost use Rattle.sig_bits.specs.Bytes.{IsBytes};
-ghost use Rattle.sig_match.specs.Rests.{IsPassed, Misses};
+ghost use Rattle.sig_match.specs.Rests.{IsNoWay, IsPassed, Misses};
 
 use crate::scan::piece::Piece;
 use crate::scan::sieve::Sieve;
-use memchr::memmem;
+use memchr::{memchr, memmem};
 use sig_bits::ByteClass;
 use std::alloc::AllocError;
 
@@ -32,7 +33,6 @@ pub(crate) struct Way {
     // Of other ways out nothing is left behind so many bytes.
     pub(crate) depth: usize,
     ghost within: { len ≤ 8 },
-    ghost near: { skip ≤ 1 },
 }
 
 impl Way {
@@ -94,13 +94,17 @@ impl Way {
         if bytes.len() <= self.depth {
             return true;
         }
-        if self.len > 0 {
-            return may_begin(&self.front[..self.len], self.behind_skip(bytes));
-        }
         match bytes.first() {
-            Some(byte) => self.exits.contains(*byte),
+            Some(byte) => self.exits.contains(*byte) && self.front_may_begin(bytes),
             None => true,
         }
+    }
+
+    // Whether the bytes agree with the front behind those that it skips.
+    fn front_may_begin(&self, bytes: &[u8]) -> bool
+        ensures { result ≡ false → Misses (take self.now.len self.now.front) (drop self.now.skip bytes.now) }
+    {
+        may_begin(&self.front[..self.len], self.behind_skip(bytes))
     }
 
     /// The first place of the bytes at which a way out may begin, or their end.
@@ -108,12 +112,42 @@ impl Way {
         ensures within { result ≤ length bytes.now }
         ensures passed { (x : ℕ) → x < result → IsPassed self.now.exits (front_of self.now) (drop x bytes.now) }
     {
-        let at = if self.len > 0 {
-            next_front(&self.front[..self.len], self.behind_skip(bytes))
-        } else {
+        let at = if self.len == 0 {
             next_exit(&self.exits, bytes)
+        } else if self.skip == 0 {
+            self.next_front(bytes)
+        } else {
+            self.next_of_both(bytes)
         };
         at.min(self.places(bytes))
+    }
+
+    // The first place of the bytes at which the front may stand, behind those that it skips, or their end.
+    fn next_front(&self, bytes: &[u8]) -> usize
+        requires { 0 < self.now.len }
+        ensures within { result ≤ length bytes.now }
+        ensures passed { (x : ℕ) → x < result → Misses (take self.now.len self.now.front) (drop x (drop self.now.skip bytes.now)) }
+    {
+        next_front(&self.front[..self.len], self.behind_skip(bytes))
+    }
+
+    // The first place of an exit with the front behind it, or the end: from a place of the front to the next
+    // exit, and from there to the next place of the front, until both are one. So neither bytes that are
+    // all exits nor those that are all like the front are gone through one by one.
+    fn next_of_both(&self, bytes: &[u8]) -> usize
+        requires { 0 < self.now.len }
+        ensures within { result ≤ length bytes.now }
+        ensures passed { (x : ℕ) → x < result → IsNoWay self.now.exits (front_of self.now) (drop x bytes.now) }
+    {
+        let lone = lone_byte(&self.exits);
+        let mut at = 0;
+        'leaps: loop {
+            let front = at + self.next_front(&bytes[at..]);
+            at = front + next_exit_by(&self.exits, lone, &bytes[front..]);
+            if at == front {
+                return at;
+            }
+        }
     }
 
     // Behind so many of the first places there are as many bytes as a way takes to fade.
@@ -132,6 +166,17 @@ impl Way {
     }
 }
 
+/// The byte of the class, where it has one alone.
+pub(crate) fn lone_byte(class: &ByteClass) -> Option<u8>
+    ensures { IfSome result (λ b. (a : ℕ) → Holds class.now a → a ≡ b) }
+{
+    let byte = class.lowest_from(0)?;
+    match class.lowest_from(byte as usize + 1) {
+        Some(_) => None,
+        None => Some(byte),
+    }
+}
+
 // The first place of a byte of the class, or the end.
 fn next_exit(exits: &ByteClass, bytes: &[u8]) -> usize
     ensures within { result ≤ length bytes.now }
@@ -139,6 +184,18 @@ fn next_exit(exits: &ByteClass, bytes: &[u8]) -> usize
 {
     if exits.is_empty() {
         return bytes.len();
+    }
+    next_exit_by(exits, lone_byte(exits), bytes)
+}
+
+// The same, where it is known which byte of the class is the only one.
+fn next_exit_by(exits: &ByteClass, lone: Option<u8>, bytes: &[u8]) -> usize
+    requires { IfSome lone (λ b. (a : ℕ) → Holds exits.now a → a ≡ b) }
+    ensures within { result ≤ length bytes.now }
+    ensures passed { (x : ℕ) → x < result → ¬ Holds exits.now (slice_index bytes.now x) }
+{
+    if let Some(exit) = lone {
+        return memchr(exit, bytes).unwrap_or(bytes.len());
     }
     for (at, byte) in bytes.iter().enumerate() {
         if exits.contains(*byte) {
@@ -150,6 +207,26 @@ fn next_exit(exits: &ByteClass, bytes: &[u8]) -> usize
 
 // The first place at which the bytes begin with the front, as far as they go, or their end.
 fn next_front(front: &[u8], bytes: &[u8]) -> usize
+    requires { 0 < length front.now }
+    ensures within { result ≤ length bytes.now }
+    ensures passed { (x : ℕ) → x < result → Misses front.now (drop x bytes.now) }
+{
+    match front {
+        [byte] => next_byte(*byte, bytes),
+        _ => next_run(front, bytes),
+    }
+}
+
+// The same of one byte.
+fn next_byte(byte: u8, bytes: &[u8]) -> usize
+    ensures within { result ≤ length bytes.now }
+    ensures passed { (x : ℕ) → x < result → slice_index bytes.now x ≢ byte }
+{
+    memchr(byte, bytes).unwrap_or(bytes.len())
+}
+
+// The same of several.
+fn next_run(front: &[u8], bytes: &[u8]) -> usize
     requires { 0 < length front.now }
     ensures within { result ≤ length bytes.now }
     ensures passed { (x : ℕ) → x < result → Misses front.now (drop x bytes.now) }

@@ -11,7 +11,7 @@ returns-then-first-lt-PIECE-clause-hits g c =
     let same : take c.in_ok-first.first c.deref.result.now ≡ take c.in_ok-first.first buffer = ap (λ l. take c.in_ok-first.first l) (c.deref.ensures.value ∙ written buffer (drop (length buffer) c.in_ok-piece.piece.items) (vec_len c.in_ok-piece.piece) long) in
     let P : List ℕ → Type 0 = λ l. Gives (g.R.Input.to_come c.args.input.now) l (g.R.Input.to_come c.fill.new.input) in
     let short = c.if-first-lt-PIECE.true in
-    hits_at_once _ _ _ (take c.in_ok-first.first c.deref.result.now) _ (subst P (sym same) c.in_ok-first.ensures.gives) (c.in_ok-first.ensures.at_end (omega arith)) c.in_ok-hits_of.ensures
+    hits_at_once _ _ _ (take c.in_ok-first.first c.deref.result.now) _ c.in_ok-hits_of.ensures.bytes (subst P (sym same) c.in_ok-first.ensures.gives) (c.in_ok-first.ensures.at_end (omega arith)) c.in_ok-hits_of.ensures.hits
 
 pub pieces-init : goal.pieces-init
 pieces-init g c =

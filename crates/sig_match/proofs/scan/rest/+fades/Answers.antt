@@ -27,8 +27,8 @@ loop-q-preserved t c =
           subst P (sym w.way'-is) (IsWayBelow-old tree set c.args.state q _ old c.loop-q.invariant)
     ]
 
-pub returns-in-Some : goal.returns-in-Some
-returns-in-Some t c is = fades_later _ _ _ _ c.loop-q.q _ _ (let slots = c.slots-q-end.ensures.slots in omega arith) (omega arith) c.in-Some.is c.loop-q.invariant (c.fades.ensures is)
+pub returns-then-q-state : goal.returns-then-q-state
+returns-then-q-state t c is = fades_later _ _ _ _ c.loop-q.q _ _ (let slots = c.slots-q-end.ensures.slots in omega arith) (omega arith) c.in-Some.is c.loop-q.invariant (c.fades.ensures is)
 
 pub returns-in-None : goal.returns-in-None
 returns-in-None t c is = fades_at_once _ _ _ _ c.loop-q.q _ (let slots = c.slots-q-end.ensures.slots in omega arith) (omega arith) c.in-None.is c.loop-q.invariant

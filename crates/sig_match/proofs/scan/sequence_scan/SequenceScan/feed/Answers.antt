@@ -49,7 +49,8 @@ loop-from-preserved c =
           let retreats = scan_changes _ _ _ s settled back c.retreat.ensures.sequence c.retreat.ensures.same stepped in
           let sheds = scan_changes _ _ _ s back new c.shed.ensures.sequence c.shed.ensures.same retreats in
           let moved = scan_moves _ _ (drop next piece) s new c.next_place-from-in-loop-from.ensures.same sheds in
-          let narrow = scan_changes _ (drop next piece) _ s new c.go_narrow-from.new.self c.go_narrow-from.ensures.sequence c.go_narrow-from.ensures.same moved in
+          let on = scan_changes _ (drop next piece) _ s new c.step_on-from.new.self c.step_on-from.ensures.sequence c.step_on-from.ensures.same moved in
+          let narrow = scan_changes _ _ _ s c.step_on-from.new.self c.go_narrow-from.new.self c.go_narrow-from.ensures.sequence c.go_narrow-from.ensures.same on in
           scan_changes _ _ _ s c.go_narrow-from.new.self c.slide-from.new.self c.slide-from.ensures.sequence c.slide-from.ensures.same narrow;
     }
 

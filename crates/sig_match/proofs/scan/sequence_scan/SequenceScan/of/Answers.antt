@@ -25,5 +25,5 @@ invariant_of-scan c =
 pub returns : goal.returns
 returns c =
     let long : length c.start_set.new.set ≡ c.in_ok-set.set.len = c.start_set.auto.set ∙ c.deref_mut.ensures.len in
-    subst (IsSequenceScanOf [] c.args.sequence.now) (sym c.look_ahead.ensures)
+    subst (IsSequenceScanOf [] c.args.sequence.now) (sym (c.look_further.ensures ∙ c.look_ahead.ensures))
     (subst (λ l. IsSequenceScanOf [] c.args.sequence.now (record { sequence = c.in_ok-auto.auto; set = l })) (sym (written _ _ _ long)) (record { sequence_is = c.in_ok-auto.ensures; set_is = set_begins (whole_tree c.args.sequence.now) c.start_set.new.set c.start_set.ensures }))

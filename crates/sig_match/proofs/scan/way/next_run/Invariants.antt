@@ -1,6 +1,6 @@
 use Rattle.std.proofs.Common.{ℕ, ◌-◌, ◌<◌, ◌≤◌, drop, length}
 use Rattle.sig_match.specs.Rests.{Misses}
-use Rattle.sig_match.proofs.scan.way.next_front.Given as goal
+use Rattle.sig_match.proofs.scan.way.next_run.Given as goal
 
 -- the front stands at no place so far
 abbrev pub invariant-loop-at : goal.invariant-loop-at
