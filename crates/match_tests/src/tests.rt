@@ -7,7 +7,6 @@ mod items;
 mod plain;
 mod random;
 mod runs;
-mod spaced;
 mod waiting;
 mod worked;
 

@@ -8,7 +8,6 @@ mod HitLaws
 mod HitLemmas
 mod ItemLemmas
 mod LangLemmas
-mod LeapLemmas
 mod LeftLemmas
 mod ListingLemmas
 mod MarkLemmas
