@@ -8,7 +8,10 @@ use std::test::Fail;
 
 // Two blockers, neither of which is hit wherever both others are, over brackets of two bytes, a gap and a list.
 pub(crate) const TWO_BLOCKERS: Rows = Rows(
-    "fmt/1,1,BOF,0,,[4142:4241]{0-1}43\nfmt/2,2,BOF,0,,[4142:4241](43|44)*\nfmt/3,3,BOF,0,,????43\nfmt/4,4,BOF,0,,????44\n",
+    "fmt/1,1,BOF,0,,[4142:4241]{0-1}43\n\
+     fmt/2,2,BOF,0,,[4142:4241](43|44)*\n\
+     fmt/3,3,BOF,0,,????43\n\
+     fmt/4,4,BOF,0,,????44\n",
     "fmt/3,fmt/1\nfmt/3,fmt/2\nfmt/4,fmt/1\nfmt/4,fmt/2\n",
 );
 
@@ -16,7 +19,16 @@ pub(crate) const ONE_FORMAT: Rows = Rows("fmt/1,1,BOF,0,,4142\n", "");
 
 // Nine words that may stand anywhere, so many that one look at a file is for all of them.
 pub(crate) const NINE_WORDS: Rows = Rows(
-    "fmt/1,1,Variable,,,41424341\nfmt/2,2,Variable,,,41424342\nfmt/3,3,Variable,,,41424343\nfmt/4,4,Variable,,,41424344\nfmt/5,5,Variable,,,41424345\nfmt/6,6,Variable,,,41424346\nfmt/7,7,Variable,,,41424347\nfmt/8,8,Variable,,,41424348\nfmt/9,9,Variable,,,4142434445\nfmt/10,10,BOF,0,9,41*5A\n",
+    "fmt/1,1,Variable,,,41424341\n\
+     fmt/2,2,Variable,,,41424342\n\
+     fmt/3,3,Variable,,,41424343\n\
+     fmt/4,4,Variable,,,41424344\n\
+     fmt/5,5,Variable,,,41424345\n\
+     fmt/6,6,Variable,,,41424346\n\
+     fmt/7,7,Variable,,,41424347\n\
+     fmt/8,8,Variable,,,41424348\n\
+     fmt/9,9,Variable,,,4142434445\n\
+     fmt/10,10,BOF,0,9,41*5A\n",
     "",
 );
 

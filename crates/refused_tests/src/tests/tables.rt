@@ -40,8 +40,11 @@ fn load_lacks_memory_or_is_right(rt: HostRuntime) -> Result<(), Fail> {
 }
 
 // The canonical signature file of `TWO_BLOCKERS`, and its priority file.
-pub(crate) const ITS_SIGNATURES: &str =
-    "puid,signature,position,offset,max_offset,expression\nfmt/1,1,BOF,0,0,[4142:4241]{0-1}43\nfmt/2,2,BOF,0,0,[4142:4241](43|44)*\nfmt/3,3,BOF,0,0,????43\nfmt/4,4,BOF,0,0,????44\n";
+pub(crate) const ITS_SIGNATURES: &str = "puid,signature,position,offset,max_offset,expression\n\
+    fmt/1,1,BOF,0,0,[4142:4241]{0-1}43\n\
+    fmt/2,2,BOF,0,0,[4142:4241](43|44)*\n\
+    fmt/3,3,BOF,0,0,????43\n\
+    fmt/4,4,BOF,0,0,????44\n";
 
 pub(crate) const ITS_PRIORITIES: &str =
     "higher,lower\nfmt/3,fmt/1\nfmt/3,fmt/2\nfmt/4,fmt/1\nfmt/4,fmt/2\n";
