@@ -7,6 +7,7 @@ mod items;
 mod plain;
 mod random;
 mod runs;
+mod spaced;
 mod waiting;
 mod worked;
 

@@ -8,6 +8,7 @@ mod HitLaws
 mod HitLemmas
 mod ItemLemmas
 mod LangLemmas
+mod LeapLemmas
 mod LeftLemmas
 mod ListingLemmas
 mod MarkLemmas

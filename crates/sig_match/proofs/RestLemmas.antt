@@ -756,27 +756,3 @@ fades_later tree set state (suc depth) n q (Some way) all some is below fades = 
     (λ on. inl on)
     (λ (at : r ≡ way). inr (subst (λ k. Fades tree set k r) same (subst (λ k. Fades tree set (suc depth - 1) k) (sym (at ∙ way_is)) fades)))
     (below r (let within = follows_to_a_slot tree state r follows in omega arith) follows)
-
--- one leap: to the next place of the front, and from there to the next exit
-pub no_way_to : (exits : ByteClass) (front : FrontAt) (bytes : List ℕ) (at to end x : ℕ) → ((y : ℕ) → y < at → IsNoWay exits front (drop y bytes)) → ((y : ℕ) → y < to → Misses front.bytes (drop y (drop front.skip (take (length bytes - at) (drop at bytes))))) → ((y : ℕ) → y < end → ¬ Holds exits (get_or (take (length bytes - (at + to)) (drop (at + to) bytes)) y 0)) → x < at + to + end → IsNoWay exits front (drop x bytes)
-no_way_to exits front bytes at to end x before misses none below =
-    ⊎_elim
-    (λ (early : x < at). before x early)
-    (λ (after : at ≤ x).
-    ⊎_elim
-    (λ (fronts : x < at + to).
-    let y : ℕ = x - at in
-    let P : List ℕ → Type 0 = λ l. Misses front.bytes (drop y (drop front.skip l)) in
-    let here : Misses front.bytes (drop y (drop front.skip (drop at bytes))) = subst P (take_rest bytes at) (misses y (omega arith)) in
-    let first : drop y (drop front.skip (drop at bytes)) ≡ drop (at + front.skip + y) bytes = ap (λ l. drop y l) (drop_further bytes at front.skip (at + front.skip) refl) ∙ drop_further bytes (at + front.skip) y (at + front.skip + y) refl in
-    let second : drop front.skip (drop x bytes) ≡ drop (at + front.skip + y) bytes = drop_further bytes x front.skip (at + front.skip + y) (omega arith) in
-    no_way_by_miss exits front (drop x bytes) (subst (λ l. Misses front.bytes l) (first ∙ sym second) here))
-    (λ (past : at + to ≤ x).
-    let y : ℕ = x - (at + to) in
-    let Q : List ℕ → Type 0 = λ l. ¬ Holds exits (get_or l y 0) in
-    let there : ¬ Holds exits (get_or (drop (at + to) bytes) y 0) = subst Q (take_rest bytes (at + to)) (none y (omega arith)) in
-    let R : ℕ → Type 0 = λ b. ¬ Holds exits b in
-    let place : get_or (drop (at + to) bytes) y 0 ≡ get_or (drop x bytes) 0 0 = get_or-drop (at + to) bytes y 0 ∙ ap (λ k. get_or bytes k 0) (omega arith) ∙ sym (get_or-drop x bytes 0 0) in
-    no_way_by_byte exits front (drop x bytes) (subst R place there))
-    (below_or x (at + to)))
-    (below_or x at)

@@ -18,6 +18,7 @@ pub mod Frontiers
 pub mod Fronts
 pub mod Gaps
 pub mod Lates
+pub mod Leaps
 pub mod Narrow
 pub mod Parts
 pub mod Readies

@@ -80,6 +80,10 @@ Misses [] bytes = ⊥
 Misses (f ∷ front) [] = ⊥
 Misses (f ∷ front) (b ∷ bytes) = (b ≢ f) ⊎ Misses front bytes
 
+-- where a byte is told, it is the only one of the class
+abbrev pub IsLone : ByteClass → Option ℕ → Type 0
+IsLone exits lone = (b a : ℕ) → lone ≡ Some b → Holds exits a → a ≡ b
+
 -- the first of these bytes is no exit, or they differ from the front
 abbrev pub IsNoWay : ByteClass → FrontAt → List ℕ → Type 0
 IsNoWay exits front [] = ⊤

@@ -16,6 +16,7 @@ use std::marker::Model;
 
 mod entry;
 mod fixed;
+mod leaps;
 mod narrow;
 mod piece;
 mod rest;
@@ -39,8 +40,9 @@ const ROOM: usize = 1 << 12;
 ///
 /// All memory is taken at the start: for each sequence that is looked for its automaton with what it
 /// notes, three sets of a bit for each state, and its bytes if it is a long run of them; the sieve of
-/// fronts; the room of the answer; and that of the bytes that wait. The bytes of short pieces wait until a
-/// piece has no room beside them, and are then gone through as one.
+/// fronts, and the room of leaps where many sequences go by them; the room of the answer; and that of the
+/// bytes that wait. The bytes of short pieces wait until a piece has no room beside them, and are then gone
+/// through as one.
 #[derive(Debug, Drop)]
 pub struct Scan<'t> {
     scan: TableScan<'t>,

@@ -2,30 +2,34 @@
 
 ghost use Rattle.std.specs.Prelude.{◌≡◌, ℕ, ◌+◌, ◌<◌, drop};
 ghost use Rattle.sig_bits.specs.Bytes.{IsBytes};
+ghost use Rattle.sig_match.specs.Leaps.{AreLeaps};
 ghost use Rattle.sig_match.specs.Rests.{Misses};
 ghost use Rattle.sig_match.specs.Sieves.{IsKnown, IsSample};
 
 use crate::scan::sieve::Sieve;
 use std::marker::Model;
 
-/// The bytes, and of each front of a sieve a place before which it does not stand in them.
+/// The bytes, of each front of a sieve a place before which it does not stand in them, and leaps from the first
+/// places, or from none.
 #[derive(Debug, Drop)]
 pub(crate) struct Piece<'p> {
     bytes: &'p [u8],
     sieve: &'p Sieve,
     known: &'p [usize],
+    leaps: &'p [u16],
 }
 
 impl<'p> Model for Piece<'p> {
     ghost use Rattle.std.specs.Prelude.{List, ℕ};
     ghost use Rattle.sig_bits.specs.Bytes.{IsBytes};
+    ghost use Rattle.sig_match.specs.Leaps.{AreLeaps};
     ghost use Rattle.sig_match.specs.Sieves.{IsKnown};
 
     ghost Value = { List ℕ };
 
     ghost view = { λ p. p.bytes.now };
 
-    ghost invariant = { λ p. IsBytes p.bytes.now × IsKnown p.sieve.now p.bytes.now p.known.now };
+    ghost invariant = { λ p. IsBytes p.bytes.now × IsKnown p.sieve.now p.bytes.now p.known.now × AreLeaps p.bytes.now p.leaps.now };
 }
 
 impl<'p> Piece<'p> {
@@ -33,10 +37,24 @@ impl<'p> Piece<'p> {
         requires { IsKnown sieve.now bytes.now known.now }
         ensures { result ≡ bytes.now }
     {
+        Piece::with_leaps(bytes, sieve, known, &[])
+    }
+
+    pub(crate) fn with_leaps(
+        bytes: &'p [u8],
+        sieve: &'p Sieve,
+        known: &'p [usize],
+        leaps: &'p [u16],
+    ) -> Piece<'p>
+        requires known { IsKnown sieve.now bytes.now known.now }
+        requires leaps { AreLeaps bytes.now leaps.now }
+        ensures { result ≡ bytes.now }
+    {
         Piece {
             bytes,
             sieve,
             known,
+            leaps,
         }
     }
 
@@ -45,6 +63,13 @@ impl<'p> Piece<'p> {
         ensures bytes { IsBytes self.now }
     {
         self.bytes
+    }
+
+    /// The leaps from this place on.
+    pub(crate) fn leaps_from(&self, from: usize) -> &[u16]
+        ensures { AreLeaps (drop from self.now) result.now }
+    {
+        behind(self.leaps, from)
     }
 
     /// A place before which the front does not stand: 0, where the sieve does not have it from this number
@@ -71,4 +96,11 @@ impl<'p> Piece<'p> {
             0
         }
     }
+}
+
+// The leaps without the first ones.
+fn behind(leaps: &[u16], from: usize) -> &[u16]
+    ensures { result.now ≡ drop from leaps.now }
+{
+    &leaps[from.min(leaps.len())..]
 }

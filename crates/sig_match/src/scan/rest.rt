@@ -36,52 +36,22 @@ pub(crate) fn way_of(auto: &Auto, set: &[u8], next: &mut [u8]) -> Option<Way>
     let mut front = [0; FRONT];
     let len = add_front(auto, set, next, &exits, 0, &mut front);
     if len > 1 {
-        return Some(Way {
-            exits,
-            front,
-            len,
-            skip: 0,
-            depth: 0,
-        });
+        return Some(Way::by(exits, front, len, 0, 0));
     }
     let mut later = [0; FRONT];
     let (skip, known) = add_later_front(auto, set, next, &exits, &mut later);
     if known > 0 {
-        return Some(Way {
-            exits,
-            front: later,
-            len: known,
-            skip,
-            depth: 0,
-        });
+        return Some(Way::by(exits, later, known, skip, 0));
     }
     if len > 0 || set.len() > FEW || !has_several(auto, set) {
-        return Some(Way {
-            exits,
-            front,
-            len,
-            skip: 0,
-            depth: 0,
-        });
+        return Some(Way::by(exits, front, len, 0, 0));
     }
     let lasting = lasting_exits(auto, set, next, &exits);
     let len = add_front(auto, set, next, &lasting, DEPTH, &mut front);
     if len > 0 {
-        return Some(Way {
-            exits: lasting,
-            front,
-            len,
-            skip: 0,
-            depth: DEPTH,
-        });
+        return Some(Way::by(lasting, front, len, 0, DEPTH));
     }
-    Some(Way {
-        exits,
-        front,
-        len,
-        skip: 0,
-        depth: 0,
-    })
+    Some(Way::on(exits, 0))
 }
 
 // The bytes on which a state outside the set comes.

@@ -18,7 +18,7 @@ use crate::scan::piece::Piece;
 use crate::scan::rest::{DEPTH, FEW, all_fade, way_of};
 use crate::scan::sieve::Sieve;
 use crate::scan::slide::{is_beside, slots_before_end, write_slid};
-use crate::scan::span::climbs;
+use crate::scan::span::{climbs, may_rest};
 use crate::scan::way::{FRONT, Way, same_bytes};
 use sig_auto::Auto;
 use sig_bits::{and_any, clear, get_bit, set_bit, subset};
@@ -50,10 +50,11 @@ const AWAKE: usize = 128;
 
 // The set, the room of the next one, and a set in which the sequence can rest, with the way out of it:
 // at first the one in which most files leave it, then the one in which it rested last. `number` is the
-// place of its front in the sieve, and `later` that of the front behind an open gap. `run` has the bytes of a long sequence of fixed bytes alone that may
-// begin anywhere, and none of any other. `inner` is how many slots stand before those of the gap at the end of the
-// file. `resting` tells that it is in that set now, and `pause` how many bytes are stepped before that is asked again.
-// `awake` is how many bytes were stepped since it last rested, went by words or slid.
+// place of its front in the sieve, and `later` that of the front behind an open gap. `run` has the bytes of a long
+// sequence of fixed bytes alone that may begin anywhere, and none of any other. `inner` is how many slots stand before
+// those of the gap at the end of the file. `resting` tells that it is in that set now, and `pause` how many bytes are
+// stepped before that is asked again. `awake` is how many bytes were stepped since it last rested, went by words or
+// slid.
 #[derive(Debug, Drop)]
 pub(crate) struct SequenceScan {
     auto: Auto,
@@ -127,16 +128,24 @@ impl SequenceScan {
             pause: 0,
             awake: 0,
         };
-        scan.look_ahead(alloc, sieve)?;
+        scan.look_ahead(alloc, sequence, sieve)?;
         scan.look_further(sequence, sieve)?;
         Ok(scan)
     }
 
-    // Finds out where the sequence will rest behind bytes that mean nothing to it, and puts the front of
+    // Finds out where the sequence will rest behind bytes that mean nothing to it, if it may, and puts the front of
     // the way out into the sieve, unless pieces are passed over without it.
-    fn look_ahead(&mut self, alloc: Global, sieve: &mut Sieve) -> Result<(), AllocError>
+    fn look_ahead(
+        &mut self,
+        alloc: Global,
+        sequence: &Sequence,
+        sieve: &mut Sieve,
+    ) -> Result<(), AllocError>
         ensures { self.new ≡ self.old }
     {
+        if !may_rest(sequence) {
+            return Ok(());
+        }
         let mut ahead = empty_set(alloc, &self.auto)?;
         self.rest_behind(0x00, &mut ahead);
         if self.way.len == 0 {
@@ -147,8 +156,8 @@ impl SequenceScan {
         }
         self.number = self.way.put_into(sieve)?;
         self.later = self.number;
-        let may_rest = and_any(&self.rest, &self.rest);
-        if may_rest && self.number == usize::MAX {
+        let rests = and_any(&self.rest, &self.rest);
+        if rests && self.number == usize::MAX {
             self.auto.note_steps(alloc)?;
         }
         Ok(())
@@ -184,6 +193,11 @@ impl SequenceScan {
             self.way = way;
             self.resting = false;
         }
+    }
+
+    // Whether the front of its first way out stands behind bytes that may be any.
+    pub(crate) fn is_spaced(&self) -> bool {
+        self.way.is_spaced()
     }
 
     // Goes on by the piece.

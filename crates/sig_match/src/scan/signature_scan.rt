@@ -80,6 +80,11 @@ impl SignatureScan {
         }
     }
 
+    // How many of its sequences look for a spaced front.
+    pub(crate) fn count_spaced(&self) -> usize {
+        self.sequences.iter().filter(|sequence| sequence.is_spaced()).count()
+    }
+
     // Goes on by the piece.
     pub(crate) fn feed(&mut self, piece: &Piece<'_>)
         ensures lost { self.new.lost ≡ self.old.lost }

@@ -19,6 +19,15 @@ pub(crate) fn climbs(sequence: &Sequence) -> bool
     }
 }
 
+/// Whether a sequence can rest before it is complete: it may begin anywhere, stands at the end of the file, or has an
+/// open gap.
+pub(crate) fn may_rest(sequence: &Sequence) -> bool {
+    match sequence.position() {
+        Position::Bof { .. } => !has_no_open_gap(sequence.expr().items()),
+        Position::Eof { .. } | Position::Variable => true,
+    }
+}
+
 fn has_no_open_gap(items: &[Item]) -> bool
     ensures { IsTrue result → (k : ℕ) (i : Item) → slice_get items.now k ≡ Some i → IsClosedItem i }
 {

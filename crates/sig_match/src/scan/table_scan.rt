@@ -18,6 +18,7 @@ ghost use Rattle.sig_match.specs.Scans.{IsTableScanOf, IsSignatureScanOf};
 
 use crate::hits::list_hits;
 use crate::results::{Hit, Results};
+use crate::scan::leaps::{WINDOW, write_leaps};
 use crate::scan::piece::Piece;
 use crate::scan::sieve::Sieve;
 use crate::scan::signature_scan::SignatureScan;
@@ -25,12 +26,17 @@ use sig_table::{SigId, Table};
 use std::alloc::{AllocError, Global};
 use std::marker::Model;
 
-// A file on its way past a table, of which each byte that is fed is seen at once.
+// So many sequences that look for a spaced front make it worth while to write leaps for all.
+const SPACED: usize = 16;
+
+// A file on its way past a table, of which each byte that is fed is seen at once. Where pieces have leaps, there is
+// room for those of one window.
 #[derive(Debug, Drop)]
 pub(crate) struct TableScan<'t> {
     table: &'t Table,
     sieve: Sieve,
     known: Vec<usize>,
+    leaps: Vec<u16>,
     signatures: Vec<SignatureScan>,
     marks: Vec<bool>,
     hits: Vec<Hit>,
@@ -50,7 +56,8 @@ impl<'t> Model for TableScan<'t> {
         × (length s.signatures.items ≡ length s.table.now.signatures)
         × (length s.marks.items ≡ length s.table.now.signatures)
         × (length s.table.now.formats ≤ vec_capacity s.hits)
-        × (length s.known.items ≡ length s.sieve) };
+        × (length s.known.items ≡ length s.sieve)
+        × (length s.leaps.items ≤ 65535) };
 }
 
 impl<'t> TableScan<'t> {
@@ -93,10 +100,13 @@ impl<'t> TableScan<'t> {
         ensures signatures { IfOk result (λ scan. scan.signatures ≡ signatures.items) }
     {
         let known = vec![in alloc; 0; sieve.len()]?;
+        let window = if count_spaced(&signatures) < SPACED { 0 } else { WINDOW };
+        let leaps = vec![in alloc; 0; window]?;
         Ok(TableScan {
             table,
             sieve,
             known,
+            leaps,
             signatures,
             marks: vec![in alloc; false; table.signature_count()]?,
             hits: Vec::with_capacity(alloc, table.format_count())?,
@@ -109,8 +119,24 @@ impl<'t> TableScan<'t> {
         ensures goes_on { (file : List ℕ) → IsTableScanOf self.old file → IsTableScanOf self.new (file ++ piece.now) }
         ensures late { (front file : List ℕ) → IsLateTableOf front file self.old → IsLateTableOf front (file ++ piece.now) self.new }
     {
-        self.sieve.look(piece, &mut self.known);
-        let piece = Piece::new(piece, &self.sieve, &self.known);
+        let most = if self.leaps.is_empty() { piece.len() } else { self.leaps.len() };
+        let mut at = 0;
+        while at < piece.len() {
+            let end = at + most.min(piece.len() - at);
+            self.go_on(&piece[at..end]);
+            at = end;
+        }
+    }
+
+    // Goes on by the next bytes, with leaps where there is room for them.
+    fn go_on(&mut self, window: &[u8])
+        ensures table { self.new.table ≡ self.old.table }
+        ensures goes_on { (file : List ℕ) → IsTableScanOf self.old file → IsTableScanOf self.new (file ++ window.now) }
+        ensures late { (front file : List ℕ) → IsLateTableOf front file self.old → IsLateTableOf front (file ++ window.now) self.new }
+    {
+        self.sieve.look(window, &mut self.known);
+        let count = write_leaps(window, &mut self.leaps);
+        let piece = Piece::with_leaps(window, &self.sieve, &self.known, &self.leaps[..count]);
         feed_each(&mut self.signatures, &piece);
     }
 
@@ -127,6 +153,7 @@ impl<'t> TableScan<'t> {
             mut hits,
             sieve: _,
             known: _,
+            leaps: _,
         } = self;
         mark_hits(&signatures, &mut marks);
         list_hits(table, &marks, &mut hits).unwrap();
@@ -167,6 +194,15 @@ fn scans_behind(
         scans.push(SignatureScan::behind(alloc, front, sequences, sieve)?)?;
     }
     Ok(scans)
+}
+
+// How many sequences look for a spaced front at first.
+fn count_spaced(signatures: &[SignatureScan]) -> usize {
+    let mut count = 0usize;
+    for signature in signatures {
+        count = count.saturating_add(signature.count_spaced());
+    }
+    count
 }
 
 // Goes on by the piece in each signature.

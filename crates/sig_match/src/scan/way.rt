@@ -9,7 +9,8 @@
 ghost use Rattle.std.specs.Prelude.{◌≡◌, ◌≢◌, ℕ, ◌+◌, ◌<◌, ◌≤◌, false, IfSome, IsTrue, drop, length, slice_index, take};
 ghost use Rattle.sig_bits.specs.ByteClasses.{Holds};
 ghost use Rattle.sig_bits.specs.Bytes.{IsBytes};
-ghost use Rattle.sig_match.specs.Rests.{IsNoWay, IsPassed, Misses};
+ghost use Rattle.sig_match.specs.Leaps.{AreLeaps};
+ghost use Rattle.sig_match.specs.Rests.{IsLone, IsNoWay, IsPassed, Misses};
 
 use crate::scan::piece::Piece;
 use crate::scan::sieve::Sieve;
@@ -20,11 +21,16 @@ use std::alloc::AllocError;
 // How many bytes of a way out are known at most.
 pub(crate) const FRONT: usize = 8;
 
+// So many exits in a row are gone along, before the next place of the front is searched for: it may be far behind
+// them, where the file is full of exits.
+const EXITS: usize = 256;
+
 /// How a set is left.
 #[derive(Debug, Drop)]
 pub(crate) struct Way {
-    // The bytes on which another state comes.
+    // The bytes on which another state comes, and which one it is where it is one alone.
     pub(crate) exits: ByteClass,
+    lone: Option<u8>,
     // As many bytes as `len` says, which each way out has behind its first `skip` ones. At 0 none is
     // known.
     pub(crate) front: [u8; FRONT],
@@ -33,9 +39,11 @@ pub(crate) struct Way {
     // Of other ways out nothing is left behind so many bytes.
     pub(crate) depth: usize,
     ghost within: { len ≤ 8 },
+    ghost one: { IsLone exits lone },
 }
 
 impl Way {
+    ghost use Rattle.sig_match.specs.Rests.{front_at, no_front};
     ghost use Rattle.sig_match.specs.Ways.{front_of};
 
     /// No way out.
@@ -43,12 +51,39 @@ impl Way {
         ensures exits { (b : ℕ) → ¬ Holds result.exits b }
         ensures len { result.len ≡ 0 }
     {
+        Way::on(ByteClass::none(), 0)
+    }
+
+    /// On these exits, with no known bytes.
+    pub(crate) fn on(exits: ByteClass, depth: usize) -> Way
+        ensures exits { result.exits ≡ exits }
+        ensures front { front_of result ≡ no_front depth }
+        ensures len { result.len ≡ 0 }
+    {
+        Way::by(exits, [0; FRONT], 0, 0, depth)
+    }
+
+    /// On these exits, with so many of these bytes behind the first `skip` ones.
+    pub(crate) fn by(
+        exits: ByteClass,
+        front: [u8; FRONT],
+        len: usize,
+        skip: usize,
+        depth: usize,
+    ) -> Way
+        requires { len ≤ 8 }
+        ensures exits { result.exits ≡ exits }
+        ensures front { front_of result ≡ front_at depth skip (take len front) }
+        ensures len { result.len ≡ len }
+    {
+        let lone = lone_byte(&exits);
         Way {
-            exits: ByteClass::none(),
-            front: [0; FRONT],
-            len: 0,
-            skip: 0,
-            depth: 0,
+            exits,
+            lone,
+            front,
+            len,
+            skip,
+            depth,
         }
     }
 
@@ -71,7 +106,12 @@ impl Way {
         let bytes = piece.bytes();
         let known = piece.known_of(number, &self.front[..self.len]);
         let at = from.max(known.saturating_sub(self.skip).min(self.places(bytes)));
-        at + self.next(&bytes[at..])
+        at + self.next(&bytes[at..], piece.leaps_from(at))
+    }
+
+    /// Whether it is left on one byte alone, and its front is looked for behind bytes that may be any.
+    pub(crate) fn is_spaced(&self) -> bool {
+        self.len > 0 && self.skip > 0 && self.lone.is_some()
     }
 
     /// Whether no way out begins at one of the first so many places of the bytes.
@@ -107,19 +147,39 @@ impl Way {
         may_begin(&self.front[..self.len], self.behind_skip(bytes))
     }
 
-    /// The first place of the bytes at which a way out may begin, or their end.
-    pub(crate) fn next(&self, bytes: &[u8]) -> usize
+    // The first place of the bytes at which a way out may begin, or their end.
+    fn next(&self, bytes: &[u8], leaps: &[u16]) -> usize
+        requires { AreLeaps bytes.now leaps.now }
         ensures within { result ≤ length bytes.now }
         ensures passed { (x : ℕ) → x < result → IsPassed self.now.exits (front_of self.now) (drop x bytes.now) }
     {
         let at = if self.len == 0 {
-            next_exit(&self.exits, bytes)
+            self.next_exit(bytes)
         } else if self.skip == 0 {
             self.next_front(bytes)
         } else {
-            self.next_of_both(bytes)
+            self.next_of_both(bytes, leaps)
         };
         at.min(self.places(bytes))
+    }
+
+    // The first place of an exit, or the end.
+    fn next_exit(&self, bytes: &[u8]) -> usize
+        ensures within { result ≤ length bytes.now }
+        ensures passed { (x : ℕ) → x < result → ¬ Holds self.now.exits (slice_index bytes.now x) }
+    {
+        if self.exits.is_empty() {
+            return bytes.len();
+        }
+        if let Some(exit) = self.lone {
+            return memchr(exit, bytes).unwrap_or(bytes.len());
+        }
+        for (at, byte) in bytes.iter().enumerate() {
+            if self.exits.contains(*byte) {
+                return at;
+            }
+        }
+        bytes.len()
     }
 
     // The first place of the bytes at which the front may stand, behind those that it skips, or their end.
@@ -131,23 +191,49 @@ impl Way {
         next_front(&self.front[..self.len], self.behind_skip(bytes))
     }
 
-    // The first place of an exit with the front behind it, or the end: from a place of the front to the next
-    // exit, and from there to the next place of the front, until both are one. So neither bytes that are
-    // all exits nor those that are all like the front are gone through one by one.
-    fn next_of_both(&self, bytes: &[u8]) -> usize
-        requires { 0 < self.now.len }
+    // The first place of an exit with the front behind it, or the end: from an exit on along the exits, while none has
+    // the front behind it, from there to the next place of the front, and from that to the next exit, until both are
+    // one. So neither bytes that are all exits nor those that are all like the front are gone through one by one.
+    fn next_of_both(&self, bytes: &[u8], leaps: &[u16]) -> usize
+        requires some { 0 < self.now.len }
+        requires leaps { AreLeaps bytes.now leaps.now }
         ensures within { result ≤ length bytes.now }
         ensures passed { (x : ℕ) → x < result → IsNoWay self.now.exits (front_of self.now) (drop x bytes.now) }
     {
-        let lone = lone_byte(&self.exits);
         let mut at = 0;
-        'leaps: loop {
-            let front = at + self.next_front(&bytes[at..]);
-            at = front + next_exit_by(&self.exits, lone, &bytes[front..]);
-            if at == front {
+        'searches: loop {
+            let exit = at + self.next_exit(&bytes[at..]);
+            let place = self.along_exits(bytes, leaps, exit);
+            let front = place + self.next_front(&bytes[place..]);
+            if front == place {
+                return front;
+            }
+            at = front;
+        }
+    }
+
+    // The place to which the exits can be gone along from this one on, if all are of one byte: that behind which the
+    // front may begin, or the one behind so many.
+    fn along_exits(&self, bytes: &[u8], leaps: &[u16], from: usize) -> usize
+        requires leaps { AreLeaps bytes.now leaps.now }
+        requires from { from ≤ length bytes.now }
+        ensures after { from ≤ result }
+        ensures within { result ≤ length bytes.now }
+        ensures passed { (x : ℕ) → from ≤ x → x < result → IsNoWay self.now.exits (front_of self.now) (drop x bytes.now) }
+    {
+        let (Some(exit), Some((first, _))) = (self.lone, self.front[..self.len].split_first())
+        else {
+            return from;
+        };
+        let mut at = from;
+        for _ in 0..EXITS {
+            let behind = at.saturating_add(self.skip);
+            if at >= leaps.len() || bytes[at] != exit || !has_other_at(bytes, behind, *first) {
                 return at;
             }
+            at += leaps[at] as usize;
         }
+        at
     }
 
     // Behind so many of the first places there are as many bytes as a way takes to fade.
@@ -168,41 +254,14 @@ impl Way {
 
 /// The byte of the class, where it has one alone.
 pub(crate) fn lone_byte(class: &ByteClass) -> Option<u8>
-    ensures { IfSome result (λ b. (a : ℕ) → Holds class.now a → a ≡ b) }
+    ensures one { IfSome result (λ b. (a : ℕ) → Holds class.now a → a ≡ b) }
+    ensures lone { IsLone class.now result }
 {
     let byte = class.lowest_from(0)?;
     match class.lowest_from(byte as usize + 1) {
         Some(_) => None,
         None => Some(byte),
     }
-}
-
-// The first place of a byte of the class, or the end.
-fn next_exit(exits: &ByteClass, bytes: &[u8]) -> usize
-    ensures within { result ≤ length bytes.now }
-    ensures passed { (x : ℕ) → x < result → ¬ Holds exits.now (slice_index bytes.now x) }
-{
-    if exits.is_empty() {
-        return bytes.len();
-    }
-    next_exit_by(exits, lone_byte(exits), bytes)
-}
-
-// The same, where it is known which byte of the class is the only one.
-fn next_exit_by(exits: &ByteClass, lone: Option<u8>, bytes: &[u8]) -> usize
-    requires { IfSome lone (λ b. (a : ℕ) → Holds exits.now a → a ≡ b) }
-    ensures within { result ≤ length bytes.now }
-    ensures passed { (x : ℕ) → x < result → ¬ Holds exits.now (slice_index bytes.now x) }
-{
-    if let Some(exit) = lone {
-        return memchr(exit, bytes).unwrap_or(bytes.len());
-    }
-    for (at, byte) in bytes.iter().enumerate() {
-        if exits.contains(*byte) {
-            return at;
-        }
-    }
-    bytes.len()
 }
 
 // The first place at which the bytes begin with the front, as far as they go, or their end.
@@ -244,6 +303,16 @@ fn next_run(front: &[u8], bytes: &[u8]) -> usize
         at += 1;
     }
     bytes.len()
+}
+
+// Whether another byte than this one stands at this place.
+fn has_other_at(bytes: &[u8], at: usize, byte: u8) -> bool
+    ensures { IsTrue result → (at < length bytes.now) × (slice_index bytes.now at ≢ byte) }
+{
+    match bytes.get(at) {
+        Some(other) => *other != byte,
+        None => false,
+    }
 }
 
 /// Whether the two agree as far as both go.

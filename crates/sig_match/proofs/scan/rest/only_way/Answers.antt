@@ -6,4 +6,4 @@ pub returns-in-Some : goal.returns-in-Some
 returns-in-Some c = c.in-Some.ensures.step
 
 pub returns : goal.returns
-returns c = only_way_by _ _ _ _ _ _ _ _ _ c.live_bytes-live.ensures.live c.in_ok-byte.ensures c.successors-ways.ensures.members c.in_ok-way.ensures.steps c.next-2.ensures.steps (sym c.if-is_some.ensures)
+returns c = only_way_by _ _ _ _ _ _ _ _ _ c.live_bytes-live.ensures.live c.in_ok-byte.ensures.one c.successors-ways.ensures.members c.in_ok-way.ensures.steps c.next-2.ensures.steps (sym c.if-is_some.ensures)

@@ -1,5 +1,5 @@
-use Rattle.sig_match.proofs.GapLemmas.{IsBytes-from_slice}
+use Rattle.sig_match.proofs.LeapLemmas.{leaps_none}
 use Rattle.sig_match.proofs.scan.piece.Piece.new.Goals as goal
 
-pub invariant_of-result : goal.invariant_of-result
-invariant_of-result c = (IsBytes-from_slice c.args.bytes.now c.type_inv.bytes, c.requires)
+pub with_leaps-requires-clause-leaps : goal.with_leaps-requires-clause-leaps
+with_leaps-requires-clause-leaps c = leaps_none c.args.bytes.now

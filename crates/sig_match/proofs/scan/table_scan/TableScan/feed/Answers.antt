@@ -1,22 +1,17 @@
-use Rattle.std.proofs.Common.{◌≡◌, ◌∙◌, subst, drop, length, vec_len}
-use Rattle.std.specs.List.{AllZip}
-use Rattle.sig_match.specs.Lates.{IsFedBy}
-use Rattle.sig_match.proofs.GapLemmas.{IsBytes-from_slice}
-use Rattle.sig_match.proofs.ScanLemmas.{late_goes_on, scan_goes_on, written}
+use Rattle.std.proofs.Common.{◌++◌, ◌+◌, ◌-◌, ◌∙◌, arith, subst, take}
+use Rattle.sig_match.specs.Lates.{IsLateTableOf}
+use Rattle.sig_match.specs.Scans.{IsTableScanOf}
+use Rattle.sig_match.proofs.LeapLemmas.{joined_windows}
 use Rattle.sig_match.proofs.scan.table_scan.TableScan.feed.Goals as goal
 
-pub returns-clause-goes_on : goal.returns-clause-goes_on
-returns-clause-goes_on c file is =
-    let new = c.feed_each.new.signatures in
-    let long : length new ≡ vec_len c.self.inside.signatures = c.feed_each.auto.signatures ∙ c.deref_mut-2.ensures.len in
-    let back = drop (length new) c.self.inside.signatures.items in
-    let fed : AllZip (IsFedBy c.args.piece.now) c.deref_mut-2.result.now new = subst (λ l. AllZip (IsFedBy l) c.deref_mut-2.result.now new) c.new-piece.ensures c.feed_each.ensures in
-    scan_goes_on file c.args.piece.now _ c.args.self.now c.deref_mut-2.result.now new _ c.self.view_is c.deref_mut-2.ensures.value (written new back (vec_len c.self.inside.signatures) long) (IsBytes-from_slice c.args.piece.now c.type_inv.piece) fed is
-
-pub returns-clause-late : goal.returns-clause-late
-returns-clause-late c front file is =
-    let new = c.feed_each.new.signatures in
-    let long : length new ≡ vec_len c.self.inside.signatures = c.feed_each.auto.signatures ∙ c.deref_mut-2.ensures.len in
-    let back = drop (length new) c.self.inside.signatures.items in
-    let fed : AllZip (IsFedBy c.args.piece.now) c.deref_mut-2.result.now new = subst (λ l. AllZip (IsFedBy l) c.deref_mut-2.result.now new) c.new-piece.ensures c.feed_each.ensures in
-    late_goes_on front file c.args.piece.now _ c.args.self.now c.deref_mut-2.result.now new _ c.self.view_is c.deref_mut-2.ensures.value (written new back (vec_len c.self.inside.signatures) long) (IsBytes-from_slice c.args.piece.now c.type_inv.piece) fed is
+pub loop-at-preserved : goal.loop-at-preserved
+loop-at-preserved c =
+    let at = c.loop-at.at in
+    let end = at + c.min.result in
+    let piece = c.args.piece.now in
+    record {
+      table = c.go_on.ensures.table ∙ c.loop-at.invariant.table;
+      within = omega arith;
+      goes_on = λ file is. subst (λ l. IsTableScanOf c.go_on.new.self l) (joined_windows file piece at (end - at) end (omega arith)) (c.go_on.ensures.goes_on (file ++ take at piece) (c.loop-at.invariant.goes_on file is));
+      late = λ front file is. subst (λ l. IsLateTableOf front l c.go_on.new.self) (joined_windows file piece at (end - at) end (omega arith)) (c.go_on.ensures.late front (file ++ take at piece) (c.loop-at.invariant.late front file is));
+    }

@@ -8,4 +8,5 @@ invariant_of-result-2 c = (
   let ok = c.in_ok-vec.field-0.ok.0 in omega (arith, c.in_ok-vec.ensures.len, c.signature_count.ensures.count),
   omega (arith, c.in_ok-with_capacity.ensures.capacity, c.format_count.ensures.count),
   let ok = c.in_ok-known.known.ok.0 in let same = ap length c.sieve.view_is in omega (arith, c.in_ok-known.ensures.len, c.len.ensures),
+  omega (arith, c.in_ok-leaps.ensures.len),
 )
