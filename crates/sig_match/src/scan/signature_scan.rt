@@ -82,7 +82,10 @@ impl SignatureScan {
 
     // How many of its sequences look for a spaced front.
     pub(crate) fn count_spaced(&self) -> usize {
-        self.sequences.iter().filter(|sequence| sequence.is_spaced()).count()
+        self.sequences
+            .iter()
+            .filter(|sequence| sequence.is_spaced())
+            .count()
     }
 
     // Goes on by the piece.

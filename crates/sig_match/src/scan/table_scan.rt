@@ -100,7 +100,11 @@ impl<'t> TableScan<'t> {
         ensures signatures { IfOk result (λ scan. scan.signatures ≡ signatures.items) }
     {
         let known = vec![in alloc; 0; sieve.len()]?;
-        let window = if count_spaced(&signatures) < SPACED { 0 } else { WINDOW };
+        let window = if count_spaced(&signatures) < SPACED {
+            0
+        } else {
+            WINDOW
+        };
         let leaps = vec![in alloc; 0; window]?;
         Ok(TableScan {
             table,
@@ -119,7 +123,11 @@ impl<'t> TableScan<'t> {
         ensures goes_on { (file : List ℕ) → IsTableScanOf self.old file → IsTableScanOf self.new (file ++ piece.now) }
         ensures late { (front file : List ℕ) → IsLateTableOf front file self.old → IsLateTableOf front (file ++ piece.now) self.new }
     {
-        let most = if self.leaps.is_empty() { piece.len() } else { self.leaps.len() };
+        let most = if self.leaps.is_empty() {
+            piece.len()
+        } else {
+            self.leaps.len()
+        };
         let mut at = 0;
         while at < piece.len() {
             let end = at + most.min(piece.len() - at);
