@@ -4,6 +4,7 @@ mod cuts;
 mod first_piece;
 mod hits;
 mod items;
+mod long_gaps;
 mod plain;
 mod random;
 mod runs;

@@ -9,6 +9,7 @@ mod EndOrNotLemmas
 pub mod Exports
 mod LaterLemmas
 mod LocalLemmas
+mod LongGapLemmas
 mod MoveTreeLemmas
 mod MovesLemmas
 mod NextLemmas

@@ -10,6 +10,7 @@ pub mod Remaining
 pub mod Reaching
 pub mod Moves
 pub mod StateSets
+pub mod LongGaps
 -- These are words of the proofs.
 pub mod Begins
 pub mod Counted

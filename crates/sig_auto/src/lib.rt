@@ -9,6 +9,7 @@ mod behind;
 mod class;
 mod class_word;
 mod laws;
+mod long_gap;
 mod moves;
 mod node;
 mod run;
@@ -24,6 +25,7 @@ pub use laws::{
     accepts_by_an_end, runs_accept_what_stands, runs_are_decided, runs_begin, runs_go_on,
     slots_are_counted, states_are_slots,
 };
+pub use long_gap::LongGap;
 pub use moves::Moves;
 pub use start::{accepts_empty, first_bytes};
 pub use state_set::{FourWords, StateSet};

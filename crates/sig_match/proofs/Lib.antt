@@ -4,6 +4,7 @@ mod FixedLemmas
 mod FrontLemmas
 mod FrontierLemmas
 mod GapLemmas
+mod GappedLemmas
 mod HitLaws
 mod HitLemmas
 mod ItemLemmas

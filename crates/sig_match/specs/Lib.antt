@@ -16,6 +16,7 @@ pub mod FirstHits
 pub mod Fixed
 pub mod Frontiers
 pub mod Fronts
+pub mod Gapped
 pub mod Gaps
 pub mod Lates
 pub mod Leaps

@@ -16,6 +16,7 @@ use std::marker::Model;
 
 mod entry;
 mod fixed;
+mod gapped;
 mod leaps;
 mod narrow;
 mod piece;

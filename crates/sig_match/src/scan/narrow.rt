@@ -75,15 +75,15 @@ fn go_by<S: StateSet>(auto: &Auto, set: &mut [u8], rest: &[u8], bytes: &[u8]) ->
     at
 }
 
-// For each byte the slots that take it.
+/// For each byte the states that take it.
 #[derive(Drop)]
-struct Columns<S> {
-    sets: [S; 256],
+pub(crate) struct Columns<S> {
+    pub(crate) sets: [S; 256],
 }
 
 impl<S: StateSet> Columns<S> {
-    // No slot takes a byte.
-    fn none() -> Columns<S>
+    /// No state takes a byte.
+    pub(crate) fn none() -> Columns<S>
         ensures { (b q : ℕ) → ¬ HasAt S.has result.sets b q }
     {
         Columns {
@@ -102,8 +102,8 @@ impl<S: StateSet> Columns<S> {
         }
     }
 
-    // Adds the slot to the sets of the bytes of its class.
-    fn add_slot(&mut self, class: &ByteClass, q: usize)
+    /// Adds the state to the sets of the bytes of its class.
+    pub(crate) fn add_slot(&mut self, class: &ByteClass, q: usize)
         requires { q < S.room }
         ensures { AddsSlot S.has self.old.sets self.new.sets q (Holds class.now) }
     {
@@ -123,8 +123,8 @@ impl<S: StateSet> Columns<S> {
     }
 }
 
-// The set with this state too, where that is so.
-fn with_if<S: StateSet>(set: S, is_so: bool, q: usize) -> S
+/// The set with this state too, where that is so.
+pub(crate) fn with_if<S: StateSet>(set: S, is_so: bool, q: usize) -> S
     requires { q < S.room }
     ensures { (r : ℕ) → S.has result r ↔ ((IsTrue is_so × (r ≡ q)) ⊎ S.has set r) }
 {

@@ -13,6 +13,7 @@ ghost use Rattle.sig_table.specs.Tables.{IsSequence};
 ghost use Rattle.sig_table.specs.Views.{SequenceView};
 
 use crate::scan::fixed::{run_of, write_behind};
+use crate::scan::gapped::go_by_gap;
 use crate::scan::narrow::go_by_words;
 use crate::scan::piece::Piece;
 use crate::scan::rest::{DEPTH, FEW, all_fade, way_of};
@@ -45,7 +46,8 @@ const SHED: usize = 96;
 const SMALL: usize = 32;
 
 // So many bytes in a row, for each byte of the set, are stepped before the sequence goes on by words, and so
-// many have to be left: to ask the automaton all that follows takes long.
+// many have to be left: to ask the automaton all that follows takes long. So many in all are stepped before a greater
+// one goes on without the slots of its long gap.
 const AWAKE: usize = 128;
 
 // The set, the room of the next one, and a set in which the sequence can rest, with the way out of it:
@@ -220,6 +222,7 @@ impl SequenceScan {
             from = self.step_on(piece, from);
             from = self.go_narrow(piece, from);
             from = self.slide(piece, from);
+            from = self.go_gapped(piece, from);
         }
     }
 
@@ -336,6 +339,33 @@ impl SequenceScan {
         self.resting = same_bytes(&self.set, &self.rest);
         self.awake = 0;
         to
+    }
+
+    // Goes on from this place without the slots of a long gap, if the sequence has one, and has not rested or slid for
+    // long. Answers the place up to which it went.
+    fn go_gapped(&mut self, piece: &Piece<'_>, from: usize) -> usize
+        requires { from ≤ length piece.now }
+        ensures sequence { self.new.sequence ≡ self.old.sequence }
+        ensures after { from ≤ result }
+        ensures within { result ≤ length piece.now }
+        ensures same { LeadsAlike (whole_tree self.old.sequence) self.old.set (drop from piece.now) self.new.set (drop result piece.now) }
+    {
+        if self.resting
+            || self.awake < AWAKE
+            || self.awake % AGAIN != FRONT
+            || self.set.len() <= SMALL
+        {
+            return from;
+        }
+        let behind = &piece.bytes()[from..];
+        let count = go_by_gap(&self.auto, &self.set, &self.rest, behind, &mut self.next);
+        if count == 0 {
+            return from;
+        }
+        mem::swap(&mut self.set, &mut self.next);
+        self.resting = same_bytes(&self.set, &self.rest);
+        self.awake = AWAKE + FRONT - 1;
+        from + count
     }
 
     // Whether the start or slot 1 is in the set. Of a sequence that may begin anywhere, or that stands at the

@@ -71,6 +71,18 @@ pub(crate) fn write_slid(
     ensures { (q : ℕ) → HasBit to.new q ↔ (HasBit rest.now q ⊎ IsSlid (inner + 1) (last + 1) set.now count last q) }
 {
     to.copy_from_slice(rest);
+    slide_in(set, inner, count, last, to);
+}
+
+/// Adds the slots of the set behind the first `inner` and up to the last, each so many places further, as far as
+/// there are slots.
+pub(crate) fn slide_in(set: &[u8], inner: usize, count: usize, last: usize, to: &mut [u8])
+    requires slots { last ≤ 65535 }
+    requires inner { inner ≤ last }
+    requires set_len { last < 8 * length set.now }
+    requires to_len { last < 8 * length to.old }
+    ensures { (q : ℕ) → HasBit to.new q ↔ (HasBit to.old q ⊎ IsSlid (inner + 1) (last + 1) set.now count last q) }
+{
     let mut from = inner + 1;
     while from <= last {
         let end = (from + BLOCK).min(last + 1);

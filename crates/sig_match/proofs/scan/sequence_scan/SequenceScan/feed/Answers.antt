@@ -43,7 +43,7 @@ loop-from-preserved c =
     let set : P settled = subst P (sym c.settle.ensures) c.step.ensures.set in
     let next : ℕ = c.next_place-from-in-loop-from.result in
     record {
-      within = c.slide-from.ensures.within;
+      within = c.go_gapped-from.ensures.within;
       due = λ file s is.
           let stepped = scan_steps_on _ piece from (from + 1) (get_or bytes from 0) s old settled (omega arith) byte sequence set (λ q. (λ r. r, λ r. r)) (c.loop-from.invariant.due file s is) in
           let retreats = scan_changes _ _ _ s settled back c.retreat.ensures.sequence c.retreat.ensures.same stepped in
@@ -51,7 +51,8 @@ loop-from-preserved c =
           let moved = scan_moves _ _ (drop next piece) s new c.next_place-from-in-loop-from.ensures.same sheds in
           let on = scan_changes _ (drop next piece) _ s new c.step_on-from.new.self c.step_on-from.ensures.sequence c.step_on-from.ensures.same moved in
           let narrow = scan_changes _ _ _ s c.step_on-from.new.self c.go_narrow-from.new.self c.go_narrow-from.ensures.sequence c.go_narrow-from.ensures.same on in
-          scan_changes _ _ _ s c.go_narrow-from.new.self c.slide-from.new.self c.slide-from.ensures.sequence c.slide-from.ensures.same narrow;
+          let slid = scan_changes _ _ _ s c.go_narrow-from.new.self c.slide-from.new.self c.slide-from.ensures.sequence c.slide-from.ensures.same narrow in
+          scan_changes _ _ _ s c.slide-from.new.self c.go_gapped-from.new.self c.go_gapped-from.ensures.sequence c.go_gapped-from.ensures.same slid;
     }
 
 pub returns : goal.returns

@@ -1,14 +1,14 @@
 use Rattle.std.proofs.Common.{◌⊎◌, ◌↔◌, ℕ, ◌+◌, ◌-◌, ◌≤◌}
 use Rattle.sig_bits.specs.BitSets.{HasBit}
 use Rattle.sig_match.specs.Slides.{IsSlid}
-use Rattle.sig_match.proofs.scan.slide.write_slid.Given as goal
+use Rattle.sig_match.proofs.scan.slide.slide_in.Given as goal
 
--- the rest is written, and what comes of the first slots behind the inner ones
+-- what comes of the first slots behind the inner ones is added
 abbrev pub invariant-loop-from : goal.invariant-loop-from
 invariant-loop-from l = record {
   low : l.inner + 1 ≤ l.from;
   high : l.from ≤ l.last + 1;
-  slid : (q : ℕ) → HasBit l.to q ↔ (HasBit l.rest q ⊎ IsSlid (l.inner + 1) l.from l.set l.count l.last q);
+  slid : (q : ℕ) → HasBit l.to q ↔ (HasBit l.initial.to q ⊎ IsSlid (l.inner + 1) l.from l.set l.count l.last q);
 }
 
 abbrev pub decreases-loop-from : goal.decreases-loop-from
