@@ -1,4 +1,5 @@
 -- Lemmas of this crate.
+mod ExitLemmas
 pub mod Exports
 mod FixedLemmas
 mod FrontLemmas
@@ -9,7 +10,6 @@ mod HitLaws
 mod HitLemmas
 mod ItemLemmas
 mod LangLemmas
-mod LeapLemmas
 mod LeftLemmas
 mod ListingLemmas
 mod MarkLemmas

@@ -607,19 +607,6 @@ passed_by_later_miss exits front bytes later x deep same misses =
     let second : drop front.skip (drop x bytes) ≡ drop (front.skip + x) bytes = drop_further bytes x front.skip (front.skip + x) (omega arith) in
     passed_by_miss exits front (drop x bytes) (omega arith) (subst (λ l. Misses front.bytes l) (ap (λ l. drop x l) same ∙ first ∙ sym second) misses)
 
--- a place before what is known, or before the next one behind it
-pub passed_in : (exits : ByteClass) (front : FrontAt) (bytes seen : List ℕ) (at n x : ℕ) → seen ≡ bytes → (x < at → (front.depth + x < length bytes) × Misses front.bytes (drop (x + front.skip) bytes)) → ((y : ℕ) → y < n → IsPassed exits front (drop y (take (length seen - at) (drop at seen)))) → x < at + n → IsPassed exits front (drop x bytes)
-passed_in exits front bytes seen at n x same missed passed before =
-    ⊎_elim
-    (λ below. let long = length-drop x bytes in let here = missed below in let deep = here.0 in passed_by_miss exits front (drop x bytes) (omega arith) (subst (λ l. Misses front.bytes l) (sym (drop_further bytes x front.skip (x + front.skip) refl)) here.1))
-    (λ (behind : at ≤ x).
-    let y : ℕ = x - at in
-    let further : drop y (drop at bytes) ≡ drop x bytes = drop_further bytes at y x (omega arith) in
-    let P : List ℕ → Type 0 = λ l. IsPassed exits front (drop y (drop at l)) in
-    let there : P seen = subst (λ l. IsPassed exits front (drop y l)) (take_rest seen at) (passed y (omega arith)) in
-    subst (λ l. IsPassed exits front l) further (subst P same there))
-    (below_or x at)
-
 -- a scan on its way, where another set and what is then left lead to the same
 pub scan_changes : (file left to : List ℕ) (s : SequenceView) (scan new : SequenceScanView) → new.sequence ≡ scan.sequence → ((q : ℕ) → IsReached (whole_tree scan.sequence) scan.set left q ↔ IsReached (whole_tree scan.sequence) new.set to q) → IsDueScan file s scan left → IsDueScan file s new to
 scan_changes file left to s scan new sequence same is =

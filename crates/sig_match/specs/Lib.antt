@@ -12,6 +12,7 @@ pub use Rattle.sig_table.specs.Removal
 pub use Rattle.sig_table.specs.Standing
 pub use Rattle.sig_table.specs.Tables
 -- The vocabulary of proofs: frontiers of offsets, and the first hits of the formats.
+pub mod Exits
 pub mod FirstHits
 pub mod Fixed
 pub mod Frontiers
@@ -19,7 +20,6 @@ pub mod Fronts
 pub mod Gapped
 pub mod Gaps
 pub mod Lates
-pub mod Leaps
 pub mod Narrow
 pub mod Parts
 pub mod Readies

@@ -15,9 +15,9 @@ use std::alloc::{AllocError, Global};
 use std::marker::Model;
 
 mod entry;
+mod exits;
 mod fixed;
 mod gapped;
-mod leaps;
 mod narrow;
 mod piece;
 mod rest;
@@ -41,7 +41,7 @@ const ROOM: usize = 1 << 12;
 ///
 /// All memory is taken at the start: for each sequence that is looked for its automaton with what it
 /// notes, three sets of a bit for each state, and its bytes if it is a long run of them; the sieve of
-/// fronts, and the room of leaps where many sequences go by them; the room of the answer; and that of the
+/// fronts, and the room of the exits that many sequences share; the room of the answer; and that of the
 /// bytes that wait. The bytes of short pieces wait until a piece has no room beside them, and are then gone
 /// through as one.
 #[derive(Debug, Drop)]

@@ -2,34 +2,35 @@
 
 ghost use Rattle.std.specs.Prelude.{◌≡◌, ℕ, ◌+◌, ◌<◌, drop};
 ghost use Rattle.sig_bits.specs.Bytes.{IsBytes};
-ghost use Rattle.sig_match.specs.Leaps.{AreLeaps};
+ghost use Rattle.sig_match.specs.Exits.{AreExits};
 ghost use Rattle.sig_match.specs.Rests.{Misses};
 ghost use Rattle.sig_match.specs.Sieves.{IsKnown, IsSample};
 
+use crate::scan::exits::Exits;
 use crate::scan::sieve::Sieve;
 use std::marker::Model;
 
-/// The bytes, of each front of a sieve a place before which it does not stand in them, and leaps from the first
-/// places, or from none.
+/// The bytes, of each front of a sieve a place before which it does not stand in them, and the exits that many
+/// sequences share.
 #[derive(Debug, Drop)]
 pub(crate) struct Piece<'p> {
     bytes: &'p [u8],
     sieve: &'p Sieve,
     known: &'p [usize],
-    leaps: &'p [u16],
+    exits: Exits<'p>,
 }
 
 impl<'p> Model for Piece<'p> {
     ghost use Rattle.std.specs.Prelude.{List, ℕ};
     ghost use Rattle.sig_bits.specs.Bytes.{IsBytes};
-    ghost use Rattle.sig_match.specs.Leaps.{AreLeaps};
+    ghost use Rattle.sig_match.specs.Exits.{AreExits};
     ghost use Rattle.sig_match.specs.Sieves.{IsKnown};
 
     ghost Value = { List ℕ };
 
     ghost view = { λ p. p.bytes.now };
 
-    ghost invariant = { λ p. IsBytes p.bytes.now × IsKnown p.sieve.now p.bytes.now p.known.now × AreLeaps p.bytes.now p.leaps.now };
+    ghost invariant = { λ p. IsBytes p.bytes.now × IsKnown p.sieve.now p.bytes.now p.known.now × AreExits p.bytes.now p.exits };
 }
 
 impl<'p> Piece<'p> {
@@ -37,24 +38,24 @@ impl<'p> Piece<'p> {
         requires { IsKnown sieve.now bytes.now known.now }
         ensures { result ≡ bytes.now }
     {
-        Piece::with_leaps(bytes, sieve, known, &[])
+        Piece::with_exits(bytes, sieve, known, Exits::none())
     }
 
-    pub(crate) fn with_leaps(
+    pub(crate) fn with_exits(
         bytes: &'p [u8],
         sieve: &'p Sieve,
         known: &'p [usize],
-        leaps: &'p [u16],
+        exits: Exits<'p>,
     ) -> Piece<'p>
         requires known { IsKnown sieve.now bytes.now known.now }
-        requires leaps { AreLeaps bytes.now leaps.now }
+        requires exits { AreExits bytes.now exits }
         ensures { result ≡ bytes.now }
     {
         Piece {
             bytes,
             sieve,
             known,
-            leaps,
+            exits,
         }
     }
 
@@ -65,11 +66,10 @@ impl<'p> Piece<'p> {
         self.bytes
     }
 
-    /// The leaps from this place on.
-    pub(crate) fn leaps_from(&self, from: usize) -> &[u16]
-        ensures { AreLeaps (drop from self.now) result.now }
+    pub(crate) fn exits(&self) -> &Exits<'p>
+        ensures { AreExits self.now result.now }
     {
-        behind(self.leaps, from)
+        &self.exits
     }
 
     /// A place before which the front does not stand: 0, where the sieve does not have it from this number
@@ -96,11 +96,4 @@ impl<'p> Piece<'p> {
             0
         }
     }
-}
-
-// The leaps without the first ones.
-fn behind(leaps: &[u16], from: usize) -> &[u16]
-    ensures { result.now ≡ drop from leaps.now }
-{
-    &leaps[from.min(leaps.len())..]
 }

@@ -197,9 +197,10 @@ impl SequenceScan {
         }
     }
 
-    // Whether the front of its first way out stands behind bytes that may be any.
-    pub(crate) fn is_spaced(&self) -> bool {
-        self.way.is_spaced()
+    // The byte on which alone it leaves its rest, and how far behind that its front is looked for, if bytes that may be
+    // any stand between the two.
+    pub(crate) fn spaced_on(&self) -> Option<(u8, usize)> {
+        self.way.spaced_on()
     }
 
     // Goes on by the piece.

@@ -80,12 +80,24 @@ impl SignatureScan {
         }
     }
 
-    // How many of its sequences look for a spaced front.
-    pub(crate) fn count_spaced(&self) -> usize {
-        self.sequences
-            .iter()
-            .filter(|sequence| sequence.is_spaced())
-            .count()
+    // Counts of each byte the sequences that look for a spaced front behind it.
+    pub(crate) fn count_exits(&self, counts: &mut [usize; 256]) {
+        for sequence in self.sequences.iter() {
+            if let Some((exit, _)) = sequence.spaced_on() {
+                count_one(counts, exit as usize);
+            }
+        }
+    }
+
+    // Counts the sequences that look behind this byte, by how far behind it.
+    pub(crate) fn count_skips(&self, byte: u8, counts: &mut [usize]) {
+        for sequence in self.sequences.iter() {
+            if let Some((exit, skip)) = sequence.spaced_on() {
+                if exit == byte {
+                    count_one(counts, skip);
+                }
+            }
+        }
     }
 
     // Goes on by the piece.
@@ -102,6 +114,13 @@ impl SignatureScan {
         ensures each { self.now.lost ≡ false → TellsAllStand self.now.scans result }
     {
         !self.lost && all_stand(&self.sequences)
+    }
+}
+
+// Counts one more at this place, if there is one.
+fn count_one(counts: &mut [usize], place: usize) {
+    if let Some(count) = counts.get_mut(place) {
+        *count = count.saturating_add(1);
     }
 }
 

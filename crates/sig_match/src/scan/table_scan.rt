@@ -10,7 +10,7 @@
 //! A scan that begins behind a front of the file (`TableScan::behind`) has automata only for the
 //! sequences of which the front leaves open whether they stand. What it says of the file is the same.
 
-ghost use Rattle.std.specs.Prelude.{◌≡◌, ◌++◌, ℕ, [], List, IfOk, length};
+ghost use Rattle.std.specs.Prelude.{◌≡◌, ◌++◌, ℕ, ◌<◌, [], List, IfOk, length};
 ghost use Rattle.std.specs.List.{AllZip};
 ghost use Rattle.sig_match.specs.Hits.{HitFormats};
 ghost use Rattle.sig_match.specs.Lates.{AreLateScansOf, IsFedBy, IsLateTableOf, IsLateTableScanOf, IsMarkOf};
@@ -18,25 +18,30 @@ ghost use Rattle.sig_match.specs.Scans.{IsTableScanOf, IsSignatureScanOf};
 
 use crate::hits::list_hits;
 use crate::results::{Hit, Results};
-use crate::scan::leaps::{WINDOW, write_leaps};
+use crate::scan::exits::{Exits, WINDOW, list_exits};
 use crate::scan::piece::Piece;
 use crate::scan::sieve::Sieve;
 use crate::scan::signature_scan::SignatureScan;
+use crate::scan::way::FRONT;
 use sig_table::{SigId, Table};
 use std::alloc::{AllocError, Global};
 use std::marker::Model;
 
-// So many sequences that look for a spaced front make it worth while to write leaps for all.
+// So many sequences that look for a front as far behind the same byte make it worth while to list that for all.
 const SPACED: usize = 16;
 
-// A file on its way past a table, of which each byte that is fed is seen at once. Where pieces have leaps, there is
-// room for those of one window.
+// A file on its way past a table, of which each byte that is fed is seen at once. Where many sequences share an exit, the
+// bytes are gone through by windows, and there is room to list the exits of one window, and the bytes so far behind
+// them.
 #[derive(Debug, Drop)]
 pub(crate) struct TableScan<'t> {
     table: &'t Table,
     sieve: Sieve,
     known: Vec<usize>,
-    leaps: Vec<u16>,
+    exit: u8,
+    skip: usize,
+    places: Vec<u16>,
+    behind: Vec<u8>,
     signatures: Vec<SignatureScan>,
     marks: Vec<bool>,
     hits: Vec<Hit>,
@@ -57,7 +62,8 @@ impl<'t> Model for TableScan<'t> {
         × (length s.marks.items ≡ length s.table.now.signatures)
         × (length s.table.now.formats ≤ vec_capacity s.hits)
         × (length s.known.items ≡ length s.sieve)
-        × (length s.leaps.items ≤ 65535) };
+        × (length s.places.items ≤ 65535)
+        × (length s.behind.items ≡ length s.places.items) };
 }
 
 impl<'t> TableScan<'t> {
@@ -100,17 +106,18 @@ impl<'t> TableScan<'t> {
         ensures signatures { IfOk result (λ scan. scan.signatures ≡ signatures.items) }
     {
         let known = vec![in alloc; 0; sieve.len()]?;
-        let window = if count_spaced(&signatures) < SPACED {
-            0
-        } else {
-            WINDOW
-        };
-        let leaps = vec![in alloc; 0; window]?;
+        let (exit, skip, count) = most_shared(&signatures);
+        let window = if count < SPACED { 0 } else { WINDOW };
+        let places = vec![in alloc; 0; window]?;
+        let behind = vec![in alloc; 0; window]?;
         Ok(TableScan {
             table,
             sieve,
             known,
-            leaps,
+            exit,
+            skip,
+            places,
+            behind,
             signatures,
             marks: vec![in alloc; false; table.signature_count()]?,
             hits: Vec::with_capacity(alloc, table.format_count())?,
@@ -123,10 +130,10 @@ impl<'t> TableScan<'t> {
         ensures goes_on { (file : List ℕ) → IsTableScanOf self.old file → IsTableScanOf self.new (file ++ piece.now) }
         ensures late { (front file : List ℕ) → IsLateTableOf front file self.old → IsLateTableOf front (file ++ piece.now) self.new }
     {
-        let most = if self.leaps.is_empty() {
+        let most = if self.places.is_empty() {
             piece.len()
         } else {
-            self.leaps.len()
+            self.places.len()
         };
         let mut at = 0;
         while at < piece.len() {
@@ -136,15 +143,28 @@ impl<'t> TableScan<'t> {
         }
     }
 
-    // Goes on by the next bytes, with leaps where there is room for them.
+    // Goes on by the next bytes, with the exits that many sequences share where there is room for them.
     fn go_on(&mut self, window: &[u8])
         ensures table { self.new.table ≡ self.old.table }
         ensures goes_on { (file : List ℕ) → IsTableScanOf self.old file → IsTableScanOf self.new (file ++ window.now) }
         ensures late { (front file : List ℕ) → IsLateTableOf front file self.old → IsLateTableOf front (file ++ window.now) self.new }
     {
         self.sieve.look(window, &mut self.known);
-        let count = write_leaps(window, &mut self.leaps);
-        let piece = Piece::with_leaps(window, &self.sieve, &self.known, &self.leaps[..count]);
+        let (count, end) = list_exits(
+            window,
+            self.exit,
+            self.skip,
+            &mut self.places,
+            &mut self.behind,
+        );
+        let exits = Exits::new(
+            self.exit,
+            self.skip,
+            end,
+            &self.places[..count],
+            &self.behind[..count],
+        );
+        let piece = Piece::with_exits(window, &self.sieve, &self.known, exits);
         feed_each(&mut self.signatures, &piece);
     }
 
@@ -161,7 +181,10 @@ impl<'t> TableScan<'t> {
             mut hits,
             sieve: _,
             known: _,
-            leaps: _,
+            exit: _,
+            skip: _,
+            places: _,
+            behind: _,
         } = self;
         mark_hits(&signatures, &mut marks);
         list_hits(table, &marks, &mut hits).unwrap();
@@ -204,13 +227,34 @@ fn scans_behind(
     Ok(scans)
 }
 
-// How many sequences look for a spaced front at first.
-fn count_spaced(signatures: &[SignatureScan]) -> usize {
-    let mut count = 0usize;
+// The byte on which most sequences that look for a spaced front are left, how far behind it most of these look, and how
+// many these are.
+fn most_shared(signatures: &[SignatureScan]) -> (u8, usize, usize) {
+    let mut exits = [0; 256];
     for signature in signatures {
-        count = count.saturating_add(signature.count_spaced());
+        signature.count_exits(&mut exits);
     }
-    count
+    let exit = place_of_most(&exits) as u8;
+    let mut skips = [0; FRONT + 1];
+    for signature in signatures {
+        signature.count_skips(exit, &mut skips);
+    }
+    let skip = place_of_most(&skips);
+    (exit, skip, skips[skip])
+}
+
+// The first place of the greatest number.
+fn place_of_most(numbers: &[usize]) -> usize
+    requires { 0 < length numbers.now }
+    ensures { result < length numbers.now }
+{
+    let mut most = 0;
+    for at in 1..numbers.len() {
+        if numbers[at] > numbers[most] {
+            most = at;
+        }
+    }
+    most
 }
 
 // Goes on by the piece in each signature.

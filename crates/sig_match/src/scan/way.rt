@@ -9,7 +9,6 @@
 ghost use Rattle.std.specs.Prelude.{◌≡◌, ◌≢◌, ℕ, ◌+◌, ◌<◌, ◌≤◌, false, IfSome, IsTrue, drop, length, slice_index, take};
 ghost use Rattle.sig_bits.specs.ByteClasses.{Holds};
 ghost use Rattle.sig_bits.specs.Bytes.{IsBytes};
-ghost use Rattle.sig_match.specs.Leaps.{AreLeaps};
 ghost use Rattle.sig_match.specs.Rests.{IsLone, IsNoWay, IsPassed, Misses};
 
 use crate::scan::piece::Piece;
@@ -21,8 +20,8 @@ use std::alloc::AllocError;
 // How many bytes of a way out are known at most.
 pub(crate) const FRONT: usize = 8;
 
-// So many exits in a row are gone along, before the next place of the front is searched for: it may be far behind
-// them, where the file is full of exits.
+// So many listed exits with the first byte of the front behind them are asked for the others, before the next place of
+// the front is searched for: it may be far behind them.
 const EXITS: usize = 256;
 
 /// How a set is left.
@@ -105,13 +104,21 @@ impl Way {
     {
         let bytes = piece.bytes();
         let known = piece.known_of(number, &self.front[..self.len]);
-        let at = from.max(known.saturating_sub(self.skip).min(self.places(bytes)));
-        at + self.next(&bytes[at..], piece.leaps_from(at))
+        let places = self.places(bytes);
+        let at = from.max(known.saturating_sub(self.skip).min(places));
+        let along = at.max(self.along_exits(piece, at).min(places));
+        along + self.next(&bytes[along..])
     }
 
-    /// Whether it is left on one byte alone, and its front is looked for behind bytes that may be any.
-    pub(crate) fn is_spaced(&self) -> bool {
-        self.len > 0 && self.skip > 0 && self.lone.is_some()
+    /// The byte on which alone it is left, and how far behind that its front is looked for, if bytes that may be any
+    /// stand between the two.
+    pub(crate) fn spaced_on(&self) -> Option<(u8, usize)> {
+        let exit = self.lone?;
+        if self.len > 0 && self.skip > 0 {
+            Some((exit, self.skip))
+        } else {
+            None
+        }
     }
 
     /// Whether no way out begins at one of the first so many places of the bytes.
@@ -148,8 +155,7 @@ impl Way {
     }
 
     // The first place of the bytes at which a way out may begin, or their end.
-    fn next(&self, bytes: &[u8], leaps: &[u16]) -> usize
-        requires { AreLeaps bytes.now leaps.now }
+    fn next(&self, bytes: &[u8]) -> usize
         ensures within { result ≤ length bytes.now }
         ensures passed { (x : ℕ) → x < result → IsPassed self.now.exits (front_of self.now) (drop x bytes.now) }
     {
@@ -158,7 +164,7 @@ impl Way {
         } else if self.skip == 0 {
             self.next_front(bytes)
         } else {
-            self.next_of_both(bytes, leaps)
+            self.next_of_both(bytes)
         };
         at.min(self.places(bytes))
     }
@@ -191,47 +197,48 @@ impl Way {
         next_front(&self.front[..self.len], self.behind_skip(bytes))
     }
 
-    // The first place of an exit with the front behind it, or the end: from an exit on along the exits, while none has
-    // the front behind it, from there to the next place of the front, and from that to the next exit, until both are
-    // one. So neither bytes that are all exits nor those that are all like the front are gone through one by one.
-    fn next_of_both(&self, bytes: &[u8], leaps: &[u16]) -> usize
-        requires some { 0 < self.now.len }
-        requires leaps { AreLeaps bytes.now leaps.now }
+    // The first place of an exit with the front behind it, or the end: from an exit on to the next place of the front, and
+    // from that to the next exit, until both are one. So neither bytes that are all exits nor those that are all like the
+    // front are gone through one by one.
+    fn next_of_both(&self, bytes: &[u8]) -> usize
+        requires { 0 < self.now.len }
         ensures within { result ≤ length bytes.now }
         ensures passed { (x : ℕ) → x < result → IsNoWay self.now.exits (front_of self.now) (drop x bytes.now) }
     {
         let mut at = 0;
         'searches: loop {
             let exit = at + self.next_exit(&bytes[at..]);
-            let place = self.along_exits(bytes, leaps, exit);
-            let front = place + self.next_front(&bytes[place..]);
-            if front == place {
+            let front = exit + self.next_front(&bytes[exit..]);
+            if front == exit {
                 return front;
             }
             at = front;
         }
     }
 
-    // The place to which the exits can be gone along from this one on, if all are of one byte: that behind which the
-    // front may begin, or the one behind so many.
-    fn along_exits(&self, bytes: &[u8], leaps: &[u16], from: usize) -> usize
-        requires leaps { AreLeaps bytes.now leaps.now }
-        requires from { from ≤ length bytes.now }
+    // The place to which the piece can be passed over from this one on by its exits, where these are the exits of the way:
+    // one at which the front may stand, the end of what is listed, or the one behind so many.
+    fn along_exits(&self, piece: &Piece<'_>, from: usize) -> usize
+        requires { from ≤ length piece.now }
         ensures after { from ≤ result }
-        ensures within { result ≤ length bytes.now }
-        ensures passed { (x : ℕ) → from ≤ x → x < result → IsNoWay self.now.exits (front_of self.now) (drop x bytes.now) }
+        ensures passed { (x : ℕ) → from ≤ x → x < result → IsNoWay self.now.exits (front_of self.now) (drop x piece.now) }
     {
         let (Some(exit), Some((first, _))) = (self.lone, self.front[..self.len].split_first())
         else {
             return from;
         };
+        let exits = piece.exits();
+        if !exits.are_of(exit, self.skip) {
+            return from;
+        }
+        let bytes = piece.bytes();
         let mut at = from;
         for _ in 0..EXITS {
-            let behind = at.saturating_add(self.skip);
-            if at >= leaps.len() || bytes[at] != exit || !has_other_at(bytes, behind, *first) {
-                return at;
+            let place = exits.next(*first, at);
+            if place >= bytes.len() || self.front_may_begin(&bytes[place..]) {
+                return place;
             }
-            at += leaps[at] as usize;
+            at = place + 1;
         }
         at
     }
@@ -276,8 +283,8 @@ fn next_front(front: &[u8], bytes: &[u8]) -> usize
     }
 }
 
-// The same of one byte.
-fn next_byte(byte: u8, bytes: &[u8]) -> usize
+/// The same of one byte.
+pub(crate) fn next_byte(byte: u8, bytes: &[u8]) -> usize
     ensures within { result ≤ length bytes.now }
     ensures passed { (x : ℕ) → x < result → slice_index bytes.now x ≢ byte }
 {
@@ -303,16 +310,6 @@ fn next_run(front: &[u8], bytes: &[u8]) -> usize
         at += 1;
     }
     bytes.len()
-}
-
-// Whether another byte than this one stands at this place.
-fn has_other_at(bytes: &[u8], at: usize, byte: u8) -> bool
-    ensures { IsTrue result → (at < length bytes.now) × (slice_index bytes.now at ≢ byte) }
-{
-    match bytes.get(at) {
-        Some(other) => *other != byte,
-        None => false,
-    }
 }
 
 /// Whether the two agree as far as both go.

@@ -1,5 +1,4 @@
-use Rattle.sig_match.proofs.LeapLemmas.{leaps_none}
 use Rattle.sig_match.proofs.scan.piece.Piece.new.Goals as goal
 
-pub with_leaps-requires-clause-leaps : goal.with_leaps-requires-clause-leaps
-with_leaps-requires-clause-leaps c = leaps_none c.args.bytes.now
+pub with_exits-requires-clause-exits : goal.with_exits-requires-clause-exits
+with_exits-requires-clause-exits c = c.none.ensures c.args.bytes.now

@@ -1,7 +1,7 @@
 use Rattle.std.proofs.Common.{◌++◌, ◌+◌, ◌-◌, ◌∙◌, arith, subst, take}
 use Rattle.sig_match.specs.Lates.{IsLateTableOf}
 use Rattle.sig_match.specs.Scans.{IsTableScanOf}
-use Rattle.sig_match.proofs.LeapLemmas.{joined_windows}
+use Rattle.sig_match.proofs.ExitLemmas.{joined_windows}
 use Rattle.sig_match.proofs.scan.table_scan.TableScan.feed.Goals as goal
 
 pub loop-at-preserved : goal.loop-at-preserved

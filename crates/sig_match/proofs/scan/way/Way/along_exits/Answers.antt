@@ -1,22 +1,40 @@
-use Rattle.std.proofs.Common.{◌≡◌, ℕ, ◌+◌, ◌<◌, arith, drop, get_or, length, refl, subst}
-use Rattle.sig_match.specs.Rests.{Misses}
+use Rattle.std.proofs.Common.{◌≡◌, ℕ, ◌<◌, ◌≤◌, ap, arith, length, subst}
+use Rattle.sig_match.specs.Exits.{IsOtherExit}
 use Rattle.sig_match.specs.Ways.{front_of}
-use Rattle.sig_match.proofs.LeapLemmas.{misses_first, no_way_along, no_way_joined}
+use Rattle.sig_match.proofs.ExitLemmas.{no_way_by_exit, no_way_here, no_way_joined, no_way_with_last}
 use Rattle.sig_match.proofs.scan.way.Way.along_exits.Goals as goal
 
 pub loop-preserved : goal.loop-preserved
 loop-preserved c =
     let exits = c.args.self.now.exits in
     let front = front_of c.args.self.now in
-    let bytes = c.args.bytes.now in
-    let leaps = c.args.leaps.now in
-    let at = c.loop.at in
-    let here : at < length leaps = omega arith in
-    let other = c.if-not-has_other_at.ensures refl in
-    let place : c.saturating_add-behind.result ≡ at + front.skip = omega (arith, other.0) in
-    let misses : Misses front.bytes (drop (at + front.skip) bytes) = subst (λ p. Misses front.bytes (drop p bytes)) place (misses_first front.bytes _ bytes c.in-Some-Some.first.now c.saturating_add-behind.result c.in-Some-Some.ensures.cases.0 other.0 other.1) in
+    let piece = c.args.piece.now in
+    let exit = c.in-Some-Some.exit in
+    let first = c.in-Some-Some.first.now in
+    let listed = c.exits-exits.result.now in
+    let place = c.next-place.result in
+    let long = ap length c.bytes-bytes.ensures.value in
+    let other : (x : ℕ) → c.loop.at ≤ x → x < place → IsOtherExit piece exit front.skip first x =
+    λ x low high. subst (λ b. IsOtherExit piece b front.skip first x) (c.are_of.ensures.byte c.if-not-are_of.false) (subst (λ s. IsOtherExit piece listed.byte s first x) (c.are_of.ensures.skip c.if-not-are_of.false) (c.next-place.ensures.passed piece x c.exits-exits.ensures low high)) in
+    let after = c.next-place.ensures.after in
+    let begun = c.loop.invariant.after in
     record {
       after = omega arith;
-      within = c.requires.leaps.within at here;
-      passed = no_way_joined exits front bytes c.args.from at (at + get_or leaps at 0) c.loop.invariant.passed (λ x low high. no_way_along exits front bytes leaps c.in-Some-Some.exit at x (λ a. c.args.self.now.one c.in-Some-Some.exit a c.in-Some-Some.is-0) c.requires.leaps here c.if-bytes-at.false misses low high);
+      within = omega arith;
+      passed = no_way_with_last exits front piece c.args.from place
+          (no_way_joined exits front piece c.args.from c.loop.at place c.loop.invariant.passed (λ x low high. no_way_by_exit exits front _ piece exit first x (λ a. c.args.self.now.one exit a c.in-Some-Some.is-0) c.in-Some-Some.ensures.cases.0 (other x low high)))
+          (no_way_here exits front piece c.bytes-bytes.result.now place c.bytes-bytes.ensures.value (c.front_may_begin.ensures c.if-front_may_begin.false));
     }
+
+pub returns-then-place-bytes-clause-passed : goal.returns-then-place-bytes-clause-passed
+returns-then-place-bytes-clause-passed c =
+    let exits = c.args.self.now.exits in
+    let front = front_of c.args.self.now in
+    let piece = c.args.piece.now in
+    let exit = c.in-Some-Some.exit in
+    let first = c.in-Some-Some.first.now in
+    let listed = c.exits-exits.result.now in
+    let place = c.next-place.result in
+    let other : (x : ℕ) → c.loop.at ≤ x → x < place → IsOtherExit piece exit front.skip first x =
+    λ x low high. subst (λ b. IsOtherExit piece b front.skip first x) (c.are_of.ensures.byte c.if-not-are_of.false) (subst (λ s. IsOtherExit piece listed.byte s first x) (c.are_of.ensures.skip c.if-not-are_of.false) (c.next-place.ensures.passed piece x c.exits-exits.ensures low high)) in
+    no_way_joined exits front piece c.args.from c.loop.at place c.loop.invariant.passed (λ x low high. no_way_by_exit exits front _ piece exit first x (λ a. c.args.self.now.one exit a c.in-Some-Some.is-0) c.in-Some-Some.ensures.cases.0 (other x low high))

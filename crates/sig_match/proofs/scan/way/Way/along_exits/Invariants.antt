@@ -7,6 +7,6 @@ use Rattle.sig_match.proofs.scan.way.Way.along_exits.Given as goal
 abbrev pub invariant-loop : goal.invariant-loop
 invariant-loop l = record {
   after : l.from ≤ l.at;
-  within : l.at ≤ length l.bytes;
-  passed : (x : ℕ) → l.from ≤ x → x < l.at → IsNoWay l.self.exits (front_of l.self) (drop x l.bytes);
+  within : l.at ≤ length l.piece;
+  passed : (x : ℕ) → l.from ≤ x → x < l.at → IsNoWay l.self.exits (front_of l.self) (drop x l.piece);
 }
