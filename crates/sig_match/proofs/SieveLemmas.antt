@@ -186,6 +186,10 @@ one_of_three (suc x) =
     later)
     (one_of_three x)
 
+-- a place so many strides behind one that is looked at is looked at
+pub sample_on : (x first at : ℕ) → IsSample (x + first) → ((k : ℕ) × (at ≡ first + 3 * k)) → IsSample (x + at)
+sample_on x first at sample strides = (sample.0 + strides.0, (let here = sample.1 in let far = strides.1 in omega arith))
+
 -- four samples in a row
 pub four_samples : (at y : ℕ) → IsSample at → IsSample y → at ≤ y → y < at + 12 → (y ≡ at) ⊎ ((y ≡ at + 3) ⊎ ((y ≡ at + 6) ⊎ (y ≡ at + 9)))
 four_samples at y (i, is_at) (j, is_y) low high =

@@ -7,7 +7,7 @@ ghost use Rattle.sig_match.specs.Rests.{Misses};
 ghost use Rattle.sig_match.specs.Sieves.{IsKnown, IsSample};
 
 use crate::scan::exits::Exits;
-use crate::scan::sieve::Sieve;
+use crate::scan::sieve::{Sieve, pair_place};
 use std::marker::Model;
 
 /// The bytes, of each front of a sieve a place before which it does not stand in them, and the exits that many
@@ -80,9 +80,9 @@ impl<'p> Piece<'p> {
         if number >= self.known.len() {
             return 0;
         }
-        let first = self.known_by(number, 0, front);
-        let second = self.known_by(number + 1, 1, front);
-        let third = self.known_by(number + 2, 2, front);
+        let first = self.known_by(number, pair_place(front, 0), front);
+        let second = self.known_by(number + 1, pair_place(front, 1), front);
+        let third = self.known_by(number + 2, pair_place(front, 2), front);
         first.min(second).min(third)
     }
 

@@ -1,9 +1,10 @@
 //! Where the fronts of many sequences stand in a piece, found in one look for all.
 //!
 //! Every third place of a piece is looked at. A front of four bytes and more that stands in the piece has
-//! one of these places at its first, second or third byte, so it is in the table three times, by the pair
-//! of bytes at each of them. Most pairs of a piece are those of no front, so a table of all pairs passes
-//! over them. At the others the fronts that are found by the pair are compared, one by one.
+//! one of these places at its first, second or third byte, and at each third one behind that. So it is in the
+//! table three times, by a pair of bytes for each of the three: two different ones, if there are such. Most pairs
+//! of a piece are those of no front, so a table of all pairs passes over them. At the others the fronts that are
+//! found by the pair are compared, one by one.
 
 ghost use Rattle.std.specs.Prelude.{◌≡◌, ◌⊎◌, ◌+◌, ◌*◌, ◌^◌, [], ℕ, ◌<◌, ◌≤◌, false, IfOk, IsTrue, Some, drop, get_or, length, slice_get};
 ghost use Rattle.sig_match.specs.Rests.{Misses};
@@ -82,9 +83,9 @@ impl Sieve {
         if place + STRIDE > ENTRIES {
             return Ok(place);
         }
-        self.add_by(front, len, 0)?;
-        self.add_by(front, len, 1)?;
-        self.add_by(front, len, 2)?;
+        self.add_by(front, len, pair_place(&front[..len], 0))?;
+        self.add_by(front, len, pair_place(&front[..len], 1))?;
+        self.add_by(front, len, pair_place(&front[..len], 2))?;
         Ok(place)
     }
 
@@ -116,6 +117,25 @@ impl Sieve {
     {
         look_through(&self.heads, &self.entries, bytes, known);
     }
+}
+
+/// Where in a front the two bytes stand by which it is found, if one of the places that are looked at is this one of
+/// its first three: they are there, or as many strides behind as lead to the last two bytes that differ. In a file
+/// of one byte over and over no front is then asked for that only begins so.
+pub(crate) fn pair_place(front: &[u8], first: usize) -> usize
+    requires { first ≤ 2 }
+    ensures strides { (k : ℕ) × (result ≡ first + 3 * k) }
+    ensures inside { first + 1 < length front.now → result + 1 < length front.now }
+{
+    let mut found = first;
+    let mut at = first + STRIDE;
+    while at + 1 < front.len() {
+        if front[at] != front[at + 1] {
+            found = at;
+        }
+        at += STRIDE;
+    }
+    found
 }
 
 // Finds of each entry a place before which it does not stand.
