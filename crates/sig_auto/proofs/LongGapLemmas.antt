@@ -1,69 +1,21 @@
 -- Slots of a gap that all lead to the same ones behind it, in a tree, by its branches.
-use Rattle.std.proofs.Common.{◌≡◌, ◌⊎◌, ◌↔◌, ⊎_elim, ℕ, ◌+◌, ◌-◌, ◌<◌, ◌≤◌, ◌==◌, ◌++◌, get_or, true, nat_lt, Option, Some, inl, inr, refl, subst, sym, ap, ◌∙◌, arith}
+use Rattle.std.proofs.Common.{◌≡◌, ◌⊎◌, ◌↔◌, ⊎_elim, ℕ, ◌+◌, ◌-◌, ◌<◌, ◌≤◌, ◌++◌, get_or, true, Option, inl, inr, refl, subst, sym, ap, ◌∙◌, arith}
 use Rattle.std.specs.Prelude.{IfSome}
-use Rattle.std.proofs.lemmas.Bool.{and_parts, cases_lt, eqb-true, ne_eqb}
-use Rattle.std.proofs.lemmas.List.{get_or-replicate, get_or_append_left, get_or-append_right}
+use Rattle.std.proofs.lemmas.Bool.{cases_lt, ne_eqb}
+use Rattle.std.proofs.lemmas.List.{get_or_append_left, get_or-append_right}
 use Rattle.sig_auto.specs.Classes.{InClass, any}
-use Rattle.sig_auto.specs.Local.{is_first, is_last, is_nullable, follows}
-use Rattle.sig_auto.specs.LongGaps.{HasLongGap, IsInGap, IsLongGap, IsOutside}
+use Rattle.sig_auto.specs.Local.{is_first, is_last, follows}
+use Rattle.sig_auto.specs.LongGaps.{HasLongGap, IsInGap, IsLongGap}
 use Rattle.sig_auto.specs.Same.{IsSame}
 use Rattle.sig_auto.specs.Tracks.{Follows}
-use Rattle.sig_auto.specs.Trees.{Tree, Gap, Then, Or}
+use Rattle.sig_auto.specs.Trees.{Tree, Then, Or}
 use Rattle.sig_auto.specs.TreeSlots.{class_of, classes_of, slots_of}
 use Rattle.sig_auto.specs.Trim.{IsTrim}
-use Rattle.sig_auto.proofs.LocalLemmas.{first_or, first_then, follows-slots, follows_or, follows_then, gap_ends-from, gap_goes_some, gap_next, is_first-slot, is_last-slot, last_or, last_then}
+use Rattle.sig_auto.proofs.LocalLemmas.{first_or, first_then, follows-slots, follows_or, follows_then, is_first-slot, is_last-slot, last_or, last_then}
 use Rattle.sig_auto.proofs.SameLemmas.{same_takes}
 use Rattle.sig_auto.proofs.SpelledLemmas.{followed}
 use Rattle.sig_auto.proofs.TakenLemmas.{length_classes}
 use Rattle.sig_auto.proofs.TrimLemmas.{follows_slot, follows_start}
-use Rattle.sig_table.specs.Slots.{gap_slots}
-
--- ---- the gap itself, from the first slot on behind which it may be left
-
-gap_only_next : (min max before g n p q : ℕ) → before ≤ g → g + n ≡ before + max → IsInGap g n p → IsOutside g n q → follows (Gap min (Some max)) before p q ≡ true → ⊥
-gap_only_next min max before g n p q low end in_gap out h =
-    let step = gap_goes_some min max before p q h in
-    let first : g < p = in_gap.0 in
-    let below : p < before + max = step.1 in
-    let next : q ≡ p + 1 = step.2 in
-    ⊎_elim (λ (early : q ≤ g). omega arith) (λ (late : g + n < q). omega arith) out
-
-gap_has : (min max before first : ℕ) → 0 < first → min ≤ first → first ≤ max → HasLongGap (Gap min (Some max)) before (before + first - 1) (max - first + 1)
-gap_has min max before first some least most =
-    let g : ℕ = before + first - 1 in
-    let n : ℕ = max - first + 1 in
-    let low : before ≤ g = omega arith in
-    let end : g + n ≡ before + max = omega arith in
-    let last : IsInGap g n (g + n) = (omega arith, omega arith) in
-    let ends : (p : ℕ) → IsInGap g n p → is_last (Gap min (Some max)) before p ≡ true = λ p in_gap. (let early : g < p = in_gap.0 in let late : p ≤ g + n = in_gap.1 in gap_ends-from min (Some max) before p (omega arith) (omega arith) (omega arith)) in
-    record {
-      some = omega arith;
-      low = low;
-      within = omega arith;
-      next = λ p early late. gap_next min (Some max) before p (omega arith) (omega arith);
-      only = λ p q p_in q_in h. (gap_goes_some min max before p q h).2;
-      alike = λ p q p_in out. (
-        λ h. absurd (gap_only_next min max before g n p q low end p_in out h),
-        λ h. absurd (gap_only_next min max before g n (g + n) q low end last out h),
-      );
-      enters = λ p q out q_in h.
-          let step = gap_goes_some min max before p q h in
-          let below : p < before + max = step.1 in
-          let next : q ≡ p + 1 = step.2 in
-          let inside : g < q = q_in.0 in
-          ⊎_elim (λ (early : p ≤ g). omega arith) (λ (late : g + n < p). absurd (omega arith)) out;
-      last = λ p p_in. (λ h. ends (g + n) last, λ h. ends p p_in);
-      first = λ q q_in h.
-          let parts = and_parts (nat_lt 0 (gap_slots min (Some max))) (q == before + 1) h in
-          let is : q ≡ before + 1 = eqb-true q (before + 1) parts.1 in
-          let inside : g < q = q_in.0 in
-          omega arith;
-      takes = λ p p_in. (let early : g < p = p_in.0 in let late : p ≤ g + n = p_in.1 in get_or-replicate max (p - before - 1) any any (omega arith));
-    }
-
--- of a gap as the code finds it
-pub gap_found : (min max before first : ℕ) → 1 ≤ first → min ≤ first → first ≤ max → HasLongGap (Gap min (Some max)) before (before + first - 1) (max - first + 1)
-gap_found min max before first some least most = gap_has min max before first (omega arith) least most
 
 -- ---- what a slot of the first branch follows, or of the second, it follows there
 

@@ -11,7 +11,7 @@ use Rattle.sig_auto.specs.TreeSlots.{Takes, slots_of}
 use Rattle.sig_auto.proofs.Exports.{at_set, followed_is_state, follows_above_the_start, follows_to_a_slot, has_at}
 use Rattle.sig_bits.specs.BitSets.{HasBit}
 use Rattle.sig_match.specs.declared.scan.gapped.Outside.{Outside}
-use Rattle.sig_match.specs.Gapped.{AreOutside, HasOuter, IsAlive, IsBehind, IsNearest, IsNow, IsStepAround, outer}
+use Rattle.sig_match.specs.Gapped.{AreOutside, IsAlive, IsBehind, IsNearest, IsNow, IsStepAround, outer}
 use Rattle.sig_match.specs.Rests.{IsReached, LeadsAlike, Reaches}
 use Rattle.sig_match.specs.Slides.{IsSlid}
 

@@ -150,10 +150,9 @@ fn is_told(
 ) -> Result<bool, Fail> {
     let table = loaded(alloc, row)?;
     let file = file_of(alloc, fill, others)?;
+    let (front, back) = file.split_at(CUT.min(file.len()));
     let whole = scanned(alloc, &table, &[&file])?.hits().len();
-    let cut = scanned(alloc, &table, &[&file[..CUT], &file[CUT..]])?
-        .hits()
-        .len();
+    let cut = scanned(alloc, &table, &[front, back])?.hits().len();
     let wanted = if stands { 1 } else { 0 };
     Ok(whole == wanted && cut == wanted)
 }

@@ -1,4 +1,4 @@
-use Rattle.std.proofs.Common.{◌∙◌, arith, drop, subst, sym}
+use Rattle.std.proofs.Common.{arith, drop, subst, sym}
 use Rattle.std.specs.Prelude.{IfSome}
 use Rattle.std.specs.Box.{box_value}
 use Rattle.sig_auto.specs.Shorts.{IsShort}

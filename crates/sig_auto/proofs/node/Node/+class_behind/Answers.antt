@@ -1,4 +1,4 @@
-use Rattle.std.proofs.Common.{◌≡◌, ◌+◌, ap, sym, ◌∙◌}
+use Rattle.std.proofs.Common.{◌≡◌, ap, sym, ◌∙◌}
 use Rattle.sig_auto.specs.Seen.{seen}
 use Rattle.sig_auto.specs.Trees.{row_tree}
 use Rattle.sig_auto.specs.TreeSlots.{slots_of}

@@ -1,4 +1,4 @@
-use Rattle.std.proofs.Common.{◌≡◌, arith}
+use Rattle.std.proofs.Common.{arith}
 use Rattle.sig_auto.specs.Seen.{seen}
 use Rattle.sig_auto.proofs.MovesLemmas.{some_more}
 use Rattle.sig_auto.proofs.NextLemmas.{steps_alone}

@@ -1,4 +1,4 @@
-use Rattle.std.proofs.Common.{◌≡◌, ◌+◌, ap, arith, get_or, length, refl, subst, sym, ◌∙◌}
+use Rattle.std.proofs.Common.{◌≡◌, arith, subst}
 use Rattle.sig_match.specs.Exits.{ListedTo}
 use Rattle.sig_match.proofs.ExitLemmas.{listed_begin, listed_end, listed_more, listed_past}
 use Rattle.sig_match.proofs.scan.exits.list_exits.Goals as goal

@@ -1,4 +1,3 @@
-use Rattle.std.proofs.Common.{◌≡◌, ◌≤◌, length}
 use Rattle.sig_match.specs.Exits.{ListedTo}
 use Rattle.sig_match.proofs.scan.exits.list_exits.Given as goal
 

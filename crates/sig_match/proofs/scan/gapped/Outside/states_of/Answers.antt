@@ -1,4 +1,4 @@
-use Rattle.std.proofs.Common.{ap, arith, subst, ◌↔◌, ◌≡◌}
+use Rattle.std.proofs.Common.{arith, subst, ◌↔◌}
 use Rattle.std.specs.Prelude.{IsTrue}
 use Rattle.sig_bits.specs.BitSets.{HasBit}
 use Rattle.sig_match.specs.Gapped.{outer}

@@ -1,4 +1,4 @@
-use Rattle.std.proofs.Common.{arith, ◌⊎◌, inl, inr, ⊎_elim, subst, ◌<◌, ◌≡◌, ◌↔◌, ℕ}
+use Rattle.std.proofs.Common.{arith, inl, ⊎_elim}
 use Rattle.sig_match.proofs.GappedLemmas.{outer_below, written_all, written_more}
 use Rattle.sig_match.proofs.scan.gapped.Outside.write.Goals as goal
 

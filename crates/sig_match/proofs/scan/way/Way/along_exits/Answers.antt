@@ -1,4 +1,4 @@
-use Rattle.std.proofs.Common.{◌≡◌, ℕ, ◌<◌, ◌≤◌, ap, arith, length, subst}
+use Rattle.std.proofs.Common.{ℕ, ◌<◌, ◌≤◌, ap, arith, length, subst}
 use Rattle.sig_match.specs.Exits.{IsOtherExit}
 use Rattle.sig_match.specs.Ways.{front_of}
 use Rattle.sig_match.proofs.ExitLemmas.{no_way_by_exit, no_way_here, no_way_joined, no_way_with_last}
