@@ -75,7 +75,7 @@ impl Short {
         write_word(self.stepped(word_of(from), byte), to);
     }
 
-    // Steps the set through the bytes, up to where it is the one to rest in, and at most through so many. Answers
+    // Steps the set through the bytes, up to where it is again the one to rest in, and at most through so many. Answers
     // through how many.
     pub(crate) fn run(&self, set: &mut [u8], rest: &[u8], bytes: &[u8], most: usize) -> usize
         requires set_len { length set.old ≤ 8 }
@@ -89,7 +89,7 @@ impl Short {
         let mut states = word_of(set);
         let end = bytes.len().min(most);
         let mut at = 0;
-        while at < end && states != rest {
+        while at < end && (at == 0 || states != rest) {
             states = self.stepped(states, bytes[at]);
             at += 1;
         }

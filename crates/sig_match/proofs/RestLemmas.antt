@@ -19,7 +19,7 @@ use Rattle.sig_bits.specs.ByteClasses.{Holds}
 use Rattle.sig_bits.specs.declared.byte_class.ByteClass.{ByteClass}
 use Rattle.sig_table.specs.Views.{SequenceView}
 use Rattle.sig_match.specs.Scans.{IsSequenceScanOf, SequenceScanView}
-use Rattle.sig_match.specs.Rests.{AreCutsOf, Fades, FrontAt, GoesBy, GoesLater, IsFollower, IsNoLoss, IsLeftAlike, IsLeftOn, IsLeftTo, IsNoWay, IsOnlyWay, IsPassed, IsReached, IsRest, LeadsOnlyTo, Misses, Opens, OpensLater, Reaches, front_at, no_front}
+use Rattle.sig_match.specs.Rests.{AreCutsOf, Fades, FrontAt, GoesBy, GoesLater, IsFollower, IsNoLoss, IsLeftAlike, IsLeftOn, IsLeftTo, IsNoWay, IsOnlyWay, IsPassed, IsReached, IsRest, LeadsAlike, LeadsOnlyTo, Misses, Opens, OpensLater, Reaches, front_at, no_front}
 
 -- what misses the front is not a way on
 goes_not : (tree : Tree) (front bytes : List ℕ) (p q : ℕ) → IsBytes bytes → GoesBy tree p front → Misses front bytes → Reaches tree p bytes q → ⊥
@@ -606,6 +606,12 @@ passed_by_later_miss exits front bytes later x deep same misses =
     let first : drop x (drop front.skip bytes) ≡ drop (front.skip + x) bytes = drop_further bytes front.skip x (front.skip + x) refl in
     let second : drop front.skip (drop x bytes) ≡ drop (front.skip + x) bytes = drop_further bytes x front.skip (front.skip + x) (omega arith) in
     passed_by_miss exits front (drop x bytes) (omega arith) (subst (λ l. Misses front.bytes l) (ap (λ l. drop x l) same ∙ first ∙ sym second) misses)
+
+-- what leads alike from one set to another, and from that to a third
+pub scan_alike : (old mid new : SequenceScanView) (left middle right : List ℕ) → mid.sequence ≡ old.sequence → LeadsAlike (whole_tree old.sequence) old.set left mid.set middle → LeadsAlike (whole_tree mid.sequence) mid.set middle new.set right → LeadsAlike (whole_tree old.sequence) old.set left new.set right
+scan_alike old mid new left middle right same first second q =
+    let later : LeadsAlike (whole_tree old.sequence) mid.set middle new.set right = subst (λ s. LeadsAlike (whole_tree s) mid.set middle new.set right) same second in
+    (λ h. (later q).0 ((first q).0 h), λ h. (first q).1 ((later q).1 h))
 
 -- a scan on its way, where another set and what is then left lead to the same
 pub scan_changes : (file left to : List ℕ) (s : SequenceView) (scan new : SequenceScanView) → new.sequence ≡ scan.sequence → ((q : ℕ) → IsReached (whole_tree scan.sequence) scan.set left q ↔ IsReached (whole_tree scan.sequence) new.set to q) → IsDueScan file s scan left → IsDueScan file s new to

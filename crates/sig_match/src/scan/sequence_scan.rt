@@ -42,6 +42,10 @@ const AGAIN: usize = 64;
 // fade. They are more than those at the end of a piece that are stepped after each rest.
 const SHED: usize = 96;
 
+// Through so many bytes a sequence is stepped at once from where a way out begins, if its steps are noted. They are one
+// less than a multiple of those behind which it looks back.
+const BRIEF: usize = 2 * FRONT - 1;
+
 // The greatest set, in bytes, of a sequence that looks back or goes by words.
 const SMALL: usize = 32;
 
@@ -213,17 +217,17 @@ impl SequenceScan {
             return;
         }
         from = self.late_begin(piece, from);
-        from = self.next_place(piece, from);
+        from = self.pass_beginnings(piece, from);
         while from < bytes.len() {
             self.step(bytes[from]);
             self.settle();
             self.retreat(piece, from + 1);
             self.shed(piece, from + 1);
-            from = self.next_place(piece, from + 1);
-            from = self.step_on(piece, from);
+            from = self.step_on(piece, from + 1);
             from = self.go_narrow(piece, from);
             from = self.slide(piece, from);
             from = self.go_gapped(piece, from);
+            from = self.pass_beginnings(piece, from);
         }
     }
 
@@ -264,8 +268,30 @@ impl SequenceScan {
         len - slots
     }
 
-    // Goes on from this place, if the steps of the sequence are noted, to where it rests, or to where it looks back
-    // or asks for another set to rest in. Answers that place.
+    // Goes on from one place at which a way out may begin to the next, while the sequence rests and each way comes to
+    // nothing within some bytes. Answers where it is awake then, or where such a place is that is stepped otherwise, or the
+    // end.
+    fn pass_beginnings(&mut self, piece: &Piece<'_>, from: usize) -> usize
+        requires { from ≤ length piece.now }
+        ensures sequence { self.new.sequence ≡ self.old.sequence }
+        ensures after { from ≤ result }
+        ensures within { result ≤ length piece.now }
+        ensures same { LeadsAlike (whole_tree self.old.sequence) self.old.set (drop from piece.now) self.new.set (drop result piece.now) }
+    {
+        let len = piece.bytes().len();
+        let mut at = self.next_place(piece, from);
+        while self.resting && at < len {
+            let behind = self.step_noted(piece, at, BRIEF);
+            if behind == at {
+                return at;
+            }
+            at = self.next_place(piece, behind);
+        }
+        at
+    }
+
+    // Goes on from this place, if the steps of the sequence are noted and it does not rest, to where it rests, or to where
+    // it looks back or asks for another set to rest in. Answers that place.
     fn step_on(&mut self, piece: &Piece<'_>, from: usize) -> usize
         requires { from ≤ length piece.now }
         ensures sequence { self.new.sequence ≡ self.old.sequence }
@@ -273,13 +299,28 @@ impl SequenceScan {
         ensures within { result ≤ length piece.now }
         ensures same { LeadsAlike (whole_tree self.old.sequence) self.old.set (drop from piece.now) self.new.set (drop result piece.now) }
     {
-        if self.resting || self.set.len() > FEW {
+        if self.resting {
+            return from;
+        }
+        self.step_noted(piece, from, FRONT - 1 - self.awake % FRONT)
+    }
+
+    // Goes on from this place, if the steps of the sequence are noted, to where it rests again, and at most through so many
+    // bytes. Answers up to where.
+    fn step_noted(&mut self, piece: &Piece<'_>, from: usize, most: usize) -> usize
+        requires { from ≤ length piece.now }
+        ensures sequence { self.new.sequence ≡ self.old.sequence }
+        ensures after { from ≤ result }
+        ensures within { result ≤ length piece.now }
+        ensures same { LeadsAlike (whole_tree self.old.sequence) self.old.set (drop from piece.now) self.new.set (drop result piece.now) }
+    {
+        if self.set.len() > FEW {
             return from;
         }
         let behind = &piece.bytes()[from..];
-        let most = FRONT - 1 - self.awake % FRONT;
+        let begun = if self.resting { 0 } else { self.awake };
         let count = self.auto.step_to(&mut self.set, &self.rest, behind, most);
-        self.awake = self.awake.saturating_add(count);
+        self.awake = begun.saturating_add(count);
         self.resting = same_bytes(&self.set, &self.rest);
         from + count
     }

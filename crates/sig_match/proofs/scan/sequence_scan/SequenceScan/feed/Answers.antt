@@ -14,12 +14,12 @@ loop-from-init c =
     let on : List ℕ = drop c.next_place-from.result piece in
     let stayed : c.else-from-bytes.self ≡ old = elim c.else-from-bytes.branch [ else-from-bytes-via-then-from-bytes+else-jump w ↦ w.self-is ∙ w.jump.ensures.stays w.if-jump.false | else-from-bytes-via-else-from-bytes w ↦ w.self-is ] in
     record {
-      within = c.next_place-from-2.ensures.within;
+      within = c.pass_beginnings-from.ensures.within;
       due = λ file s is.
           let P : SequenceScanView → Type 0 = λ v. IsDueScan (file ++ piece) s v on in
           let due : P c.else-from-bytes.self = subst P (sym stayed) (scan_moves _ piece on s old c.next_place-from.ensures.same (scan_begins file piece s old is)) in
           let late = scan_changes _ on _ s c.else-from-bytes.self c.late_begin-from.new.self c.late_begin-from.ensures.sequence c.late_begin-from.ensures.same due in
-          scan_moves _ _ _ s c.late_begin-from.new.self c.next_place-from-2.ensures.same late;
+          scan_changes _ _ _ s c.late_begin-from.new.self c.pass_beginnings-from.new.self c.pass_beginnings-from.ensures.sequence c.pass_beginnings-from.ensures.same late;
     }
 
 pub returns-then-jump : goal.returns-then-jump
@@ -41,18 +41,17 @@ loop-from-preserved c =
     let sequence : settled.sequence ≡ old.sequence = ap (λ (v : SequenceScanView). v.sequence) c.settle.ensures ∙ c.step.ensures.sequence in
     let P : SequenceScanView → Type 0 = λ v. (q : ℕ) → HasBit v.set q ↔ IsStepOf (whole_tree old.sequence) old.set (get_or bytes from 0) q in
     let set : P settled = subst P (sym c.settle.ensures) c.step.ensures.set in
-    let next : ℕ = c.next_place-from-in-loop-from.result in
     record {
-      within = c.go_gapped-from.ensures.within;
+      within = c.pass_beginnings-from-in-loop-from.ensures.within;
       due = λ file s is.
           let stepped = scan_steps_on _ piece from (from + 1) (get_or bytes from 0) s old settled (omega arith) byte sequence set (λ q. (λ r. r, λ r. r)) (c.loop-from.invariant.due file s is) in
           let retreats = scan_changes _ _ _ s settled back c.retreat.ensures.sequence c.retreat.ensures.same stepped in
           let sheds = scan_changes _ _ _ s back new c.shed.ensures.sequence c.shed.ensures.same retreats in
-          let moved = scan_moves _ _ (drop next piece) s new c.next_place-from-in-loop-from.ensures.same sheds in
-          let on = scan_changes _ (drop next piece) _ s new c.step_on-from.new.self c.step_on-from.ensures.sequence c.step_on-from.ensures.same moved in
+          let on = scan_changes _ _ _ s new c.step_on-from.new.self c.step_on-from.ensures.sequence c.step_on-from.ensures.same sheds in
           let narrow = scan_changes _ _ _ s c.step_on-from.new.self c.go_narrow-from.new.self c.go_narrow-from.ensures.sequence c.go_narrow-from.ensures.same on in
           let slid = scan_changes _ _ _ s c.go_narrow-from.new.self c.slide-from.new.self c.slide-from.ensures.sequence c.slide-from.ensures.same narrow in
-          scan_changes _ _ _ s c.slide-from.new.self c.go_gapped-from.new.self c.go_gapped-from.ensures.sequence c.go_gapped-from.ensures.same slid;
+          let gapped = scan_changes _ _ _ s c.slide-from.new.self c.go_gapped-from.new.self c.go_gapped-from.ensures.sequence c.go_gapped-from.ensures.same slid in
+          scan_changes _ _ _ s c.go_gapped-from.new.self c.pass_beginnings-from-in-loop-from.new.self c.pass_beginnings-from-in-loop-from.ensures.sequence c.pass_beginnings-from-in-loop-from.ensures.same gapped;
     }
 
 pub returns : goal.returns

@@ -1,7 +1,7 @@
 use Rattle.std.proofs.Common.{◌∙◌}
 use Rattle.sig_match.proofs.NarrowLemmas.{goes_on_by_words}
 use Rattle.sig_match.proofs.ScanLemmas.{written}
-use Rattle.sig_match.proofs.scan.sequence_scan.SequenceScan.step_on.Goals as goal
+use Rattle.sig_match.proofs.scan.sequence_scan.SequenceScan.step_noted.Goals as goal
 
 pub returns-clause-same : goal.returns-clause-same
 returns-clause-same c q =
