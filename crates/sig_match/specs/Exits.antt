@@ -26,3 +26,7 @@ AreExits bytes exits = AreListed bytes exits.places.now exits.behind.now exits.b
 -- at place x another byte stands, or another than the first one so far behind it
 abbrev pub IsOtherExit : List ℕ → ℕ → ℕ → ℕ → ℕ → Type 0
 IsOtherExit bytes byte skip first x = (get_or bytes x 0 ≢ byte) ⊎ ((x + skip < length bytes) × (get_or bytes (x + skip) 0 ≢ first))
+
+-- the place is no way out for one that leaves on this byte and has this first byte so far behind it
+abbrev pub IsPassedExit : List ℕ → Exits → ℕ → ℕ → Type 0
+IsPassedExit bytes exits first x = IsOtherExit bytes exits.byte exits.skip first x

@@ -13,6 +13,10 @@ use Rattle.sig_match.specs.declared.scan.gapped.Outside.{Outside}
 abbrev pub outer : ℕ → ℕ → ℕ → ℕ
 outer g n k = if nat_le k g then k else k + n
 
+-- so numbered, the second state follows the first one
+abbrev pub FollowsOuter : Tree → ℕ → ℕ → ℕ → ℕ → Type 0
+FollowsOuter tree g n k j = Follows tree (outer g n k) (outer g n j)
+
 -- some number of the word is that of the state
 abbrev pub HasOuter : ℕ → ℕ → ℕ → ℕ → Type 0
 HasOuter g n word p = (k : ℕ) × HasBitOf word k × (p ≡ outer g n k)
@@ -37,10 +41,14 @@ pub record AreOutside (tree : Tree) (o : Outside) : Type 0 where
   pub small : slots_of tree ≤ 65535
   pub few : o.count ≤ 64
   pub all : o.count + o.gap.slots ≡ slots_of tree + 1
-  pub rows : (k j : ℕ) → k < o.count → HasAt HasBitOf o.rows k j ↔ ((j < o.count) × Follows tree (outer o.gap.before o.gap.slots k) (outer o.gap.before o.gap.slots j))
+  pub rows : (k j : ℕ) → k < o.count → HasAt HasBitOf o.rows k j ↔ ((j < o.count) × FollowsOuter tree o.gap.before o.gap.slots k j)
   pub columns : (b k : ℕ) → b < 256 → HasAt HasBitOf o.columns.sets b k ↔ ((0 < k) × (k < o.count) × Takes tree (outer o.gap.before o.gap.slots k) b)
   pub enters : (k : ℕ) → HasBitOf o.enters k ↔ ((k < o.count) × Follows tree (outer o.gap.before o.gap.slots k) (o.gap.before + 1))
   pub leaves : (k : ℕ) → HasBitOf o.leaves k ↔ ((k < o.count) × Follows tree (o.gap.before + o.gap.slots) (outer o.gap.before o.gap.slots k))
+
+-- one of the states outside, by the word, is this one
+abbrev pub IsOneOutside : Outside → ℕ → ℕ → Type 0
+IsOneOutside o word p = (k : ℕ) × (k < o.count) × HasBitOf word k × (p ≡ outer o.gap.before o.gap.slots k)
 
 -- the state is led to from the gap, if the set has a slot of it, or from one of the states
 abbrev pub IsBehind : ℕ → List ℕ → ℕ → Bool → ℕ → ℕ → Type 0

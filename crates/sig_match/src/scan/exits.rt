@@ -7,7 +7,7 @@
 
 ghost use Rattle.std.specs.Prelude.{◌≡◌, ℕ, ◌<◌, ◌≤◌, List, IsTrue, get_or, length, take};
 ghost use Rattle.std.specs.List.Sorted.{IsNonDecreasingBy};
-ghost use Rattle.sig_match.specs.Exits.{AreExits, AreListed, IsOtherExit};
+ghost use Rattle.sig_match.specs.Exits.{AreExits, AreListed, IsPassedExit};
 
 use crate::scan::way::next_byte;
 
@@ -63,7 +63,7 @@ impl<'p> Exits<'p> {
     pub(crate) fn next(&self, first: u8, from: usize) -> usize
         ensures after { from ≤ result }
         ensures within { (bytes : List ℕ) → AreExits bytes self.now → from ≤ length bytes → result ≤ length bytes }
-        ensures passed { (bytes : List ℕ) (x : ℕ) → AreExits bytes self.now → from ≤ x → x < result → IsOtherExit bytes self.now.byte self.now.skip first x }
+        ensures passed { (bytes : List ℕ) (x : ℕ) → AreExits bytes self.now → from ≤ x → x < result → IsPassedExit bytes self.now first x }
     {
         let index = count_before(self.places, from).min(self.behind.len());
         let found = index + next_byte(first, &self.behind[index..]);

@@ -19,7 +19,7 @@ ghost use Rattle.sig_auto.specs.Tracks.{Follows};
 ghost use Rattle.sig_auto.specs.Trees.{whole_tree};
 ghost use Rattle.sig_auto.specs.TreeSlots.{Takes, set_len, slots_of};
 ghost use Rattle.sig_bits.specs.BitSets.{HasBit};
-ghost use Rattle.sig_match.specs.Gapped.{AreOutside, IsBehind, IsNearest, IsStepAround, outer};
+ghost use Rattle.sig_match.specs.Gapped.{AreOutside, FollowsOuter, IsBehind, IsNearest, IsOneOutside, IsStepAround, outer};
 ghost use Rattle.sig_match.specs.Rests.{LeadsAlike};
 
 use crate::scan::narrow::{Columns, with_if};
@@ -165,7 +165,7 @@ impl Outside {
         requires few { self.now.count ≤ 64 }
         requires small { self.now.gap.slots ≤ 65535 }
         requires set_len { self.now.count + self.now.gap.slots ≤ 8 * length set.old }
-        ensures { (q : ℕ) → HasBit set.new q ↔ (HasBit set.old q ⊎ ((k : ℕ) × (k < self.now.count) × HasBitOf states k × (q ≡ outer self.now.gap.before self.now.gap.slots k))) }
+        ensures { (q : ℕ) → HasBit set.new q ↔ (HasBit set.old q ⊎ IsOneOutside self.now states q) }
     {
         for k in 0..self.count {
             set_if(
@@ -190,7 +190,7 @@ fn state_of(gap: LongGap, k: u32) -> u32
 fn rows_of(auto: &Auto, gap: LongGap, count: u32) -> [u64; STATES]
     requires few { count ≤ 64 }
     requires small { gap.slots ≤ 65535 }
-    ensures { (k j : ℕ) → k < count → HasAt HasBitOf result k j ↔ ((j < count) × Follows (whole_tree auto.now) (outer gap.before gap.slots k) (outer gap.before gap.slots j)) }
+    ensures { (k j : ℕ) → k < count → HasAt HasBitOf result k j ↔ ((j < count) × FollowsOuter (whole_tree auto.now) gap.before gap.slots k j) }
 {
     let mut rows = [0; STATES];
     for k in 0..count {
