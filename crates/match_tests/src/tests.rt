@@ -1,6 +1,7 @@
 mod agreeing;
 mod awake;
 mod cuts;
+mod ends;
 mod first_piece;
 mod hits;
 mod items;

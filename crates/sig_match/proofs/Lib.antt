@@ -1,4 +1,5 @@
 -- Lemmas of this crate.
+mod EndsLemmas
 mod ExitLemmas
 pub mod Exports
 mod FixedLemmas

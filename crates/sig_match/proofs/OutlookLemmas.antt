@@ -15,6 +15,7 @@ use Rattle.sig_table.specs.Standing.{Cut, Stands, StandsAt}
 use Rattle.sig_table.specs.Tables.{IsSequence}
 use Rattle.sig_table.specs.Views.{SequenceView}
 use Rattle.sig_match.specs.declared.outlook.Outlook.TheVariants as outlook
+use Rattle.sig_match.specs.Ends.{ShortStand, is_short}
 use Rattle.sig_match.specs.Lates.{IsLateSignatureScanOf, IsLeft, IsOutlook}
 use Rattle.sig_match.specs.Runs.{Bounds}
 use Rattle.sig_match.specs.Scans.{IsSequenceScanOf, SequenceScanView, SignatureScanView}
@@ -107,13 +108,17 @@ all_last : {A : Type 0} (P : A → Type 0) (xs : List A) (x : A) → All P (xs +
 all_last P [] x all = All-head P x [] all
 all_last P (y ∷ ys) x all = all_last P ys x (All-tail P y (ys ++ x ∷ []) all)
 
+-- where all stand, the short ones do
+short_from : (file : List ℕ) (ss : List SequenceView) → All (λ t. Stands t file) ss → ShortStand file ss
+short_from file ss all k d within short = all k d within
+
 -- no sequence is left of none
 pub left_none : (front : List ℕ) (scans : List SequenceScanView) → scans ≡ [] → IsLeft front [] [] scans
 left_none front scans none = record {
   left = [];
   are = λ all. all;
   each = subst (λ l. AllZip (IsSequenceScanOf []) [] l) (sym none) tt;
-  same = λ rest. (λ all. all, λ all. all);
+  same = λ rest. (λ both. both.0, λ all. (all, short_from (front ++ rest) [] all));
 }
 
 -- a sequence that stands in each file is not left
@@ -122,10 +127,26 @@ push_always front ss s scans before always = record {
   left = before.left;
   are = λ all. before.are (all_front IsSequence ss s all);
   each = before.each;
-  same = λ rest. (
-    λ all. All-push (λ t. Stands t (front ++ rest)) ss s ((before.same rest).0 all) (always rest),
-    λ all. (before.same rest).1 (all_front (λ t. Stands t (front ++ rest)) ss s all),
-  );
+  same = λ rest.
+      let P : SequenceView → Type 0 = λ t. Stands t (front ++ rest) in
+      let Q : SequenceView → Type 0 = λ t. IsTrue (is_short t) → Stands t (front ++ rest) in (
+        λ both. All-push P ss s ((before.same rest).0 (both.0, all_front Q ss s both.1)) (always rest),
+        λ all. (((before.same rest).1 (all_front P ss s all)).0, short_from (front ++ rest) (ss ++ s ∷ []) all),
+      );
+}
+
+-- nor is a short one
+push_short : (front : List ℕ) (ss : List SequenceView) (s : SequenceView) (scans : List SequenceScanView) → IsLeft front [] ss scans → IsTrue (is_short s) → IsLeft front [] (ss ++ s ∷ []) scans
+push_short front ss s scans before short = record {
+  left = before.left;
+  are = λ all. before.are (all_front IsSequence ss s all);
+  each = before.each;
+  same = λ rest.
+      let P : SequenceView → Type 0 = λ t. Stands t (front ++ rest) in
+      let Q : SequenceView → Type 0 = λ t. IsTrue (is_short t) → Stands t (front ++ rest) in (
+        λ both. All-push P ss s ((before.same rest).0 (both.0, all_front Q ss s both.1)) (all_last Q ss s both.1 short),
+        λ all. (((before.same rest).1 (all_front P ss s all)).0, short_from (front ++ rest) (ss ++ s ∷ []) all),
+      );
 }
 
 -- one that is open is
@@ -135,9 +156,10 @@ push_open front ss s scans scan before is = record {
   are = λ all. All-push IsSequence before.left s (before.are (all_front IsSequence ss s all)) (all_last IsSequence ss s all);
   each = all_zipped_more (IsSequenceScanOf []) before.left scans s scan before.each is;
   same = λ rest.
-      let P : SequenceView → Type 0 = λ t. Stands t (front ++ rest) in (
-        λ all. All-push P ss s ((before.same rest).0 (all_front P before.left s all)) (all_last P before.left s all),
-        λ all. All-push P before.left s ((before.same rest).1 (all_front P ss s all)) (all_last P ss s all),
+      let P : SequenceView → Type 0 = λ t. Stands t (front ++ rest) in
+      let Q : SequenceView → Type 0 = λ t. IsTrue (is_short t) → Stands t (front ++ rest) in (
+        λ both. All-push P ss s ((before.same rest).0 (all_front P before.left s both.0, all_front Q ss s both.1)) (all_last P before.left s both.0),
+        λ all. (All-push P before.left s (((before.same rest).1 (all_front P ss s all)).0) (all_last P ss s all), short_from (front ++ rest) (ss ++ s ∷ []) all),
       );
 }
 
@@ -145,6 +167,11 @@ pub left_always : (front : List ℕ) (ss : List SequenceView) (i : ℕ) (s : Seq
 left_always front ss i s scans within is before always =
     let next : take (i + 1) ss ≡ take i ss ++ s ∷ [] = take_more ss i s within ∙ ap (λ (t : SequenceView). take i ss ++ t ∷ []) (sym is) in
     subst (λ l. IsLeft front [] l scans) (sym next) (push_always front (take i ss) s scans before always)
+
+pub left_short : (front : List ℕ) (ss : List SequenceView) (i : ℕ) (s : SequenceView) (scans : List SequenceScanView) → i < length ss → s ≡ get_or ss i s → IsLeft front [] (take i ss) scans → IsTrue (is_short s) → IsLeft front [] (take (i + 1) ss) scans
+left_short front ss i s scans within is before short =
+    let next : take (i + 1) ss ≡ take i ss ++ s ∷ [] = take_more ss i s within ∙ ap (λ (t : SequenceView). take i ss ++ t ∷ []) (sym is) in
+    subst (λ l. IsLeft front [] l scans) (sym next) (push_short front (take i ss) s scans before short)
 
 pub left_open : (front : List ℕ) (ss : List SequenceView) (i : ℕ) (s : SequenceView) (scans : List SequenceScanView) (scan : SequenceScanView) → i < length ss → s ≡ get_or ss i s → IsLeft front [] (take i ss) scans → IsSequenceScanOf [] s scan → IsLeft front [] (take (i + 1) ss) (scans ++ scan ∷ [])
 left_open front ss i s scans scan within is before one =

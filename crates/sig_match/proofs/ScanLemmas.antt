@@ -1,12 +1,12 @@
 -- Scans that go on byte by byte, and what stands where they end.
 use borrow.Rule.Slice.PartMut.{post_of, put_mid}
-use Rattle.std.proofs.Common.{◌≡◌, ◌⊎◌, ◌↔◌, ⊎_elim, ℕ, zero, suc, ◌+◌, ◌<◌, ◌≤◌, List, [], ◌∷◌, ◌++◌, length, get_or, set, take, inl, inr, append_assoc, take-add, subst, sym, ap, refl, ◌∙◌, arith, Bool, true, false, not, drop, Option, Some, None}
+use Rattle.std.proofs.Common.{◌≡◌, ◌⊎◌, ◌↔◌, ⊎_elim, ℕ, zero, suc, ◌+◌, ◌<◌, ◌≤◌, List, [], ◌∷◌, ◌++◌, length, get_or, set, take, inl, inr, append_assoc, take-add, subst, sym, ap, refl, ◌∙◌, arith, Bool, true, false, cond, not, drop, Option, Some, None}
 use Rattle.std.specs.Prelude.{All, IfSome, IsTrue, IsSomeAnd, slice_get}
 use Rattle.std.specs.List.{AllZip}
 use Rattle.std.proofs.lemmas.Bool.{cases_lt, cases_eq, false≢true}
 use Rattle.std.proofs.Math.Seq.{take-append-add}
 use Rattle.std.proofs.lemmas.List.{get_or-set_same, get_or-set_other, append-nil, get_or_past, length-set, take-append-drop, take-append-le, take_all, take_more, length-take-le}
-use Rattle.std.proofs.lemmas.List.Elements.{All-append, All-cons, All-head, All-nil, All-tail}
+use Rattle.std.proofs.lemmas.List.Elements.{filter_more, All-append, All-cons, All-head, All-nil, All-tail}
 use Rattle.std.proofs.lemmas.Option.{get_or_from_slice_get, slice_get_within}
 use Rattle.sig_auto.specs.Runs.{IsSetOf}
 use Rattle.sig_auto.specs.Tracks.{Accepting, Follows}
@@ -24,8 +24,9 @@ use Rattle.sig_match.specs.Hits.{HitFormats, HitFormatsOfSome}
 use Rattle.sig_match.specs.declared.results.Hit.{Hit}
 use Rattle.std.proofs.lemmas.Slice.Zip.{AllZip-long, all_zipped_more}
 use Rattle.sig_match.proofs.HitLemmas.{HitsOf-within}
+use Rattle.sig_match.specs.Ends.{AreEndsOf, EndsView, ShortStand, is_short, long_of}
 use Rattle.sig_match.specs.Lates.{AreLateScansOf, IsFedBy, IsLateTableOf, IsLateTableScanOf, IsLateSignatureScanOf, IsMarkOf}
-use Rattle.sig_match.specs.Scans.{AreSequenceScansOf, IsTableScanOf, IsSequenceScanOf, IsSignatureScanOf, TableScanView, SequenceScanView, SignatureScanView}
+use Rattle.sig_match.specs.Scans.{AreSequenceScansOf, IsTableScanOf, IsSequenceScanOf, IsSignatureScanOf, TableScanView, SequenceScanView, SignatureScanView, scan_of}
 
 -- the set of the start alone is that of the empty file
 pub set_begins : (tree : Tree) (set : List ℕ) → ((q : ℕ) → HasBit set q ↔ (q ≡ 0)) → IsSetOf tree set []
@@ -191,7 +192,7 @@ zip_on R S F (x ∷ xs) (y ∷ ys) (z ∷ zs) step fed are = (step x y z fed.0 a
 
 -- a signature is fed
 signature_on : (file piece : List ℕ) (s : SignatureView) (old new : SignatureScanView) → IsFedBy piece old new → IsSignatureScanOf file s old → IsSignatureScanOf (file ++ piece) s new
-signature_on file piece s old new fed is = record { kept = fed.lost ∙ is.kept; each = fed.each file s.sequences is.each }
+signature_on file piece s old new fed is = record { kept = fed.lost ∙ is.kept; each = fed.each file (long_of s.sequences) is.each }
 
 -- so is one whose front is known
 late_signature_on : (front file piece : List ℕ) (s : SignatureView) (old new : SignatureScanView) → IsFedBy piece old new → IsLateSignatureScanOf front file s.sequences old → IsLateSignatureScanOf front (file ++ piece) s.sequences new
@@ -203,30 +204,77 @@ late_signature_on front file piece s old new fed is = record {
       );
 }
 
--- all scans of a table are fed
-pub scan_goes_on : (file piece : List ℕ) (view scan : TableScanView) (old new signatures : List SignatureScanView) → view ≡ scan → old ≡ view.signatures → signatures ≡ new → IsBytes piece → AllZip (IsFedBy piece) old new → IsTableScanOf scan file → IsTableScanOf (record { table = view.table; signatures = signatures }) (file ++ piece)
-scan_goes_on file piece view scan old new signatures same old_is new_is bytes fed is =
+-- all scans of a table are fed, and so are its ends
+pub scan_goes_on : (file piece : List ℕ) (view scan : TableScanView) (ends : EndsView) (old new signatures : List SignatureScanView) → view ≡ scan → old ≡ view.signatures → signatures ≡ new → IsBytes piece → (AreEndsOf view.ends file → AreEndsOf ends (file ++ piece)) → AllZip (IsFedBy piece) old new → IsTableScanOf scan file → IsTableScanOf (scan_of view.table ends signatures) (file ++ piece)
+scan_goes_on file piece view scan ends old new signatures same old_is new_is bytes longer fed is =
     let P : TableScanView → Type 0 = λ v. IsTableScanOf v file in
     let at : IsTableScanOf view file = subst P (sym same) is in
     let Q : List SignatureScanView → Type 0 = λ l. AllZip (IsSignatureScanOf file) view.table.signatures l in
     let R : List SignatureScanView → Type 0 = λ l. AllZip (IsSignatureScanOf (file ++ piece)) view.table.signatures l in
     record {
       bytes = All-append (λ b. b < 256) file piece at.bytes bytes;
+      ends = longer at.ends;
       each = subst R (sym new_is) (zip_on (IsSignatureScanOf file) (IsSignatureScanOf (file ++ piece)) (IsFedBy piece) view.table.signatures old new (signature_on file piece) fed (subst Q (sym old_is) at.each));
     }
 
-pub late_goes_on : (front file piece : List ℕ) (view scan : TableScanView) (old new signatures : List SignatureScanView) → view ≡ scan → old ≡ view.signatures → signatures ≡ new → IsBytes piece → AllZip (IsFedBy piece) old new → IsLateTableOf front file scan → IsLateTableOf front (file ++ piece) (record { table = view.table; signatures = signatures })
-late_goes_on front file piece view scan old new signatures same old_is new_is bytes fed is =
+pub late_goes_on : (front file piece : List ℕ) (view scan : TableScanView) (ends : EndsView) (old new signatures : List SignatureScanView) → view ≡ scan → old ≡ view.signatures → signatures ≡ new → IsBytes piece → (AreEndsOf view.ends file → AreEndsOf ends (file ++ piece)) → AllZip (IsFedBy piece) old new → IsLateTableOf front file scan → IsLateTableOf front (file ++ piece) (scan_of view.table ends signatures)
+late_goes_on front file piece view scan ends old new signatures same old_is new_is bytes longer fed is =
     let P : TableScanView → Type 0 = λ v. IsLateTableOf front file v in
     let at : IsLateTableOf front file view = subst P (sym same) is in
     let Q : List SignatureScanView → Type 0 = λ l. AreLateScansOf front file view.table.signatures l in
     let R : List SignatureScanView → Type 0 = λ l. AreLateScansOf front (file ++ piece) view.table.signatures l in
     record {
       bytes = All-append (λ b. b < 256) file piece at.bytes bytes;
+      ends = longer at.ends;
       each = subst R (sym new_is) (zip_on (λ (s : SignatureView). IsLateSignatureScanOf front file s.sequences) (λ (s : SignatureView). IsLateSignatureScanOf front (file ++ piece) s.sequences) (IsFedBy piece) view.table.signatures old new (late_signature_on front file piece) fed (subst Q (sym old_is) at.each));
     }
 
--- a scan of each sequence is one that leaves all of them open
+-- of all sequences there are short ones, and the others
+long_step : (P : SequenceView → Type 0) (s : SequenceView) (ss : List SequenceView) (short : Bool) → is_short s ≡ short → (All P (long_of ss) → All P ss) → All P (cond (not short) (s ∷ long_of ss) (long_of ss)) → (IsTrue (is_short s) → P s) → All P (s ∷ ss)
+long_step P s ss true is rest long one = All-cons P s ss (one is) (rest long)
+long_step P s ss false is rest long one = All-cons P s ss (All-head P s (long_of ss) long) (rest (All-tail P s (long_of ss) long))
+
+short_or_long : (P : SequenceView → Type 0) (ss : List SequenceView) → All P (long_of ss) → All (λ s. IsTrue (is_short s) → P s) ss → All P ss
+short_or_long P [] long short = All-nil P
+short_or_long P (s ∷ ss) long short =
+    let Q : SequenceView → Type 0 = λ t. IsTrue (is_short t) → P t in
+    long_step P s ss (is_short s) refl (λ rest. short_or_long P ss rest (All-tail Q s ss short)) long (All-head Q s ss short)
+
+-- what holds of all holds of the long ones
+all_step : (P : SequenceView → Type 0) (s : SequenceView) (ss : List SequenceView) (short : Bool) → P s → All P (long_of ss) → All P (cond (not short) (s ∷ long_of ss) (long_of ss))
+all_step P s ss true one rest = rest
+all_step P s ss false one rest = All-cons P s (long_of ss) one rest
+
+all_long : (P : SequenceView → Type 0) (ss : List SequenceView) → All P ss → All P (long_of ss)
+all_long P [] all = All-nil P
+all_long P (s ∷ ss) all = all_step P s ss (is_short s) (All-head P s ss all) (all_long P ss (All-tail P s ss all))
+
+-- one more sequence is long or not
+long_more : (ss : List SequenceView) (i : ℕ) (s : SequenceView) → i < length ss → s ≡ get_or ss i s → long_of (take (i + 1) ss) ≡ long_of (take i ss) ++ cond (not (is_short s)) (s ∷ []) []
+long_more ss i s within is =
+    filter_more (λ t. not (is_short t)) ss i s within
+    ∙ ap (λ (t : SequenceView). long_of (take i ss) ++ cond (not (is_short t)) (t ∷ []) []) (sym is)
+
+-- a long one has its scan
+pub long_scanned : (ss : List SequenceView) (scans : List SequenceScanView) (i : ℕ) (s : SequenceView) (scan : SequenceScanView) → i < length ss → s ≡ get_or ss i s → is_short s ≡ false → AreSequenceScansOf [] (long_of (take i ss)) scans → IsSequenceScanOf [] s scan → AreSequenceScansOf [] (long_of (take (i + 1) ss)) (scans ++ scan ∷ [])
+long_scanned ss scans i s scan within is long before one =
+    let next : long_of (take (i + 1) ss) ≡ long_of (take i ss) ++ s ∷ [] = long_more ss i s within is ∙ ap (λ (b : Bool). long_of (take i ss) ++ cond (not b) (s ∷ []) []) long in
+    subst (λ l. AreSequenceScansOf [] l (scans ++ scan ∷ [])) (sym next) (all_zipped_more (IsSequenceScanOf []) (long_of (take i ss)) scans s scan before one)
+
+-- a short one has none
+pub short_passed : (ss : List SequenceView) (scans : List SequenceScanView) (i : ℕ) (s : SequenceView) → i < length ss → s ≡ get_or ss i s → is_short s ≡ true → AreSequenceScansOf [] (long_of (take i ss)) scans → AreSequenceScansOf [] (long_of (take (i + 1) ss)) scans
+short_passed ss scans i s within is short before =
+    let next : long_of (take (i + 1) ss) ≡ long_of (take i ss) = long_more ss i s within is ∙ ap (λ (b : Bool). long_of (take i ss) ++ cond (not b) (s ∷ []) []) short ∙ append-nil (long_of (take i ss)) in
+    subst (λ l. AreSequenceScansOf [] l scans) (sym next) before
+
+-- where all stand, the long ones do, and the short ones
+pub both_stand : (file : List ℕ) (ss : List SequenceView) → (All (λ s. Stands s file) (long_of ss) × ShortStand file ss) ↔ All (λ s. Stands s file) ss
+both_stand file ss = (
+  λ both. short_or_long (λ s. Stands s file) ss both.0 both.1,
+  λ all. (all_long (λ s. Stands s file) ss all, λ k d within short. all k d within),
+)
+
+-- a scan of each long sequence is one that leaves all of them open
 zip_late : (file : List ℕ) (signatures : List SignatureView) (scans : List SignatureScanView) → AllZip (IsSignatureScanOf file) signatures scans → AreLateScansOf [] file signatures scans
 zip_late file [] [] zip = tt
 zip_late file [] (y ∷ ys) zip = absurd zip
@@ -234,7 +282,7 @@ zip_late file (s ∷ ss) [] zip = absurd zip
 zip_late file (s ∷ ss) (y ∷ ys) zip = (
   record {
     lost = λ given_up. absurd (false≢true (sym zip.0.kept ∙ given_up));
-    kept = λ _. record { left = s.sequences; are = λ all. all; each = zip.0.each; same = λ rest. (λ all. all, λ all. all) };
+    kept = λ _. record { left = long_of s.sequences; are = all_long IsSequence s.sequences; each = zip.0.each; same = λ rest. both_stand rest s.sequences };
   },
   zip_late file ss ys zip.1,
 )
@@ -244,7 +292,7 @@ late_from_exact scan file is = record {
   front = [];
   rest = file;
   begins = refl;
-  is = record { bytes = is.bytes; each = zip_late file scan.table.signatures scan.signatures is.each };
+  is = record { bytes = is.bytes; ends = is.ends; each = zip_late file scan.table.signatures scan.signatures is.each };
 }
 
 -- a late scan that is fed
@@ -257,12 +305,12 @@ late_scan_on scan new file piece step late = record {
 }
 
 -- one that is fed its front
-pub late_scan_begins : (scan new : TableScanView) (front : List ℕ) → ((f file : List ℕ) → IsLateTableOf f file scan → IsLateTableOf f (file ++ front) new) → AreLateScansOf front [] scan.table.signatures scan.signatures → IsLateTableScanOf new front
-late_scan_begins scan new front step each = record {
+pub late_scan_begins : (scan new : TableScanView) (front : List ℕ) → ((f file : List ℕ) → IsLateTableOf f file scan → IsLateTableOf f (file ++ front) new) → AreEndsOf scan.ends [] → AreLateScansOf front [] scan.table.signatures scan.signatures → IsLateTableScanOf new front
+late_scan_begins scan new front step ends each = record {
   front = front;
   rest = [];
   begins = sym (append-nil front);
-  is = step front [] (record { bytes = All-nil (λ b. b < 256); each = each });
+  is = step front [] (record { bytes = All-nil (λ b. b < 256); ends = ends; each = each });
 }
 
 -- a place of a list has an item
@@ -272,10 +320,10 @@ item_at (x ∷ xs) zero within = (x, refl, refl)
 item_at (x ∷ xs) (suc i) within = item_at xs i (omega arith)
 
 -- one more signature has its scan
-pub scans_more : (signatures : List SignatureView) (scans : List SignatureScanView) (i : ℕ) (sequences : List SequenceView) (scan : SignatureScanView) → i < length signatures → ((s : SignatureView) → slice_get signatures i ≡ Some s → sequences ≡ s.sequences) → AllZip (IsSignatureScanOf []) (take i signatures) scans → scan.lost ≡ false → AreSequenceScansOf [] sequences scan.scans → AllZip (IsSignatureScanOf []) (take (i + 1) signatures) (scans ++ scan ∷ [])
+pub scans_more : (signatures : List SignatureView) (scans : List SignatureScanView) (i : ℕ) (sequences : List SequenceView) (scan : SignatureScanView) → i < length signatures → ((s : SignatureView) → slice_get signatures i ≡ Some s → sequences ≡ s.sequences) → AllZip (IsSignatureScanOf []) (take i signatures) scans → scan.lost ≡ false → AreSequenceScansOf [] (long_of sequences) scan.scans → AllZip (IsSignatureScanOf []) (take (i + 1) signatures) (scans ++ scan ∷ [])
 scans_more signatures scans i sequences scan within read before kept one =
     let at = item_at signatures i within in
-    let P : List SequenceView → Type 0 = λ l. AreSequenceScansOf [] l scan.scans in
+    let P : List SequenceView → Type 0 = λ l. AreSequenceScansOf [] (long_of l) scan.scans in
     zip_more (IsSignatureScanOf []) signatures scans i at.0 scan within at.2 before (record { kept = kept; each = subst P (read at.0 at.1) one })
 
 -- so behind a front
@@ -338,87 +386,107 @@ mark_not scans x xs one is first fails file sequences all bytes zip = asked sequ
       let front = first file s (All-head IsSequence s ss all) bytes zip.0 in
       (λ t. absurd (false≢true (sym fails ∙ t)), λ each. absurd (false≢true (sym fails ∙ front.1 (All-head (λ s. Stands s file) s ss each))))
 
--- the first signatures are marked
-pub record MarkedBelow (n : ℕ) (scans : List SignatureScanView) (marks : List Bool) : Type 0 where
+-- what is asked of a signature that is not given up
+pub mark_both : (ends : EndsView) (sequences : List SequenceView) (scan : SignatureScanView) (long short : Bool) → scan.lost ≡ false → IsMark scan.scans long → long ≡ true → ((file : List ℕ) → IsBytes file → AreEndsOf ends file → IsTrue short ↔ ShortStand file sequences) → IsMarkOf ends sequences scan short
+mark_both ends sequences scan long short kept is stand short_is = record {
+  lost = λ _. kept;
+  each = λ file left _ all bytes are each. (
+    λ t. ((is file left all bytes each).0 stand, (short_is file bytes are).0 t),
+    λ both. (short_is file bytes are).1 both.1,
+  );
+}
+
+pub mark_none : (ends : EndsView) (sequences : List SequenceView) (scan : SignatureScanView) (long : Bool) → scan.lost ≡ false → IsMark scan.scans long → long ≡ false → IsMarkOf ends sequences scan false
+mark_none ends sequences scan long kept is fail = record {
+  lost = λ _. kept;
+  each = λ file left _ all bytes are each. (
+    λ t. absurd (false≢true t),
+    λ both. absurd (false≢true (sym fail ∙ (is file left all bytes each).1 both.0)),
+  );
+}
+
+pub mark_lost : (ends : EndsView) (sequences : List SequenceView) (scan : SignatureScanView) → scan.lost ≡ true → IsMarkOf ends sequences scan false
+mark_lost ends sequences scan lost = record {
+  lost = λ t. absurd (false≢true t);
+  each = λ file left kept. absurd (false≢true (sym kept ∙ lost));
+}
+
+-- of the first signatures each is marked, by its sequences
+pub record MarkedBelow (n : ℕ) (ends : EndsView) (signatures : List SignatureView) (scans : List SignatureScanView) (marks : List Bool) : Type 0 where
   pub len : length marks ≡ length scans
-  pub each : (k : ℕ) → k < n → IsMarkOf (get_or scans k no_scan) (get_or marks k false)
+  pub each : (k : ℕ) (s : SignatureView) → k < n → slice_get signatures k ≡ Some s → IsMarkOf ends s.sequences (get_or scans k no_scan) (get_or marks k false)
 
 -- none is marked yet
-pub MarkedBelow-none : (scans : List SignatureScanView) (marks : List Bool) → length marks ≡ length scans → MarkedBelow 0 scans marks
-MarkedBelow-none scans marks len = record { len = len; each = λ k below. absurd (omega arith) }
+pub MarkedBelow-none : (ends : EndsView) (signatures : List SignatureView) (scans : List SignatureScanView) (marks : List Bool) → length marks ≡ length scans → MarkedBelow 0 ends signatures scans marks
+MarkedBelow-none ends signatures scans marks len = record { len = len; each = λ k s below. absurd (omega arith) }
 
 -- the next one is marked
-pub MarkedBelow-set : (n : ℕ) (scans : List SignatureScanView) (marks : List Bool) (mark : Bool) → n < length scans → IsMarkOf (get_or scans n no_scan) mark → MarkedBelow n scans marks → MarkedBelow (n + 1) scans (set marks n mark)
-MarkedBelow-set n scans marks mark within is before =
+pub MarkedBelow-set : (n : ℕ) (ends : EndsView) (signatures : List SignatureView) (scans : List SignatureScanView) (marks : List Bool) (mark : Bool) → n < length scans → ((s : SignatureView) → slice_get signatures n ≡ Some s → IsMarkOf ends s.sequences (get_or scans n no_scan) mark) → MarkedBelow n ends signatures scans marks → MarkedBelow (n + 1) ends signatures scans (set marks n mark)
+MarkedBelow-set n ends signatures scans marks mark within is before =
     let here : n < length marks = let e = before.len in omega arith in
     record {
       len = length-set marks n mark ∙ before.len;
-      each = λ k below.
+      each = λ k s below at.
           ⊎_elim
           (λ (same : k ≡ n).
-          let P : ℕ → Type 0 = λ j. IsMarkOf (get_or scans j no_scan) (get_or (set marks n mark) j false) in
-          let Q : Bool → Type 0 = λ b. IsMarkOf (get_or scans n no_scan) b in
-          subst P (sym same) (subst Q (sym (get_or-set_same marks n mark false here)) is))
+          let P : ℕ → Type 0 = λ j. slice_get signatures j ≡ Some s → IsMarkOf ends s.sequences (get_or scans j no_scan) (get_or (set marks n mark) j false) in
+          let Q : Bool → Type 0 = λ b. IsMarkOf ends s.sequences (get_or scans n no_scan) b in
+          subst P (sym same) (λ there. subst Q (sym (get_or-set_same marks n mark false here)) (is s there)) at)
           (λ other.
-          let Q : Bool → Type 0 = λ b. IsMarkOf (get_or scans k no_scan) b in
-          subst Q (sym (get_or-set_other marks n k mark false other)) (before.each k (omega arith)))
+          let Q : Bool → Type 0 = λ b. IsMarkOf ends s.sequences (get_or scans k no_scan) b in
+          subst Q (sym (get_or-set_other marks n k mark false other)) (before.each k s (omega arith) at))
           (cases_eq k n);
     }
 
--- all are
-pub MarkedBelow-all : (n : ℕ) (scans : List SignatureScanView) (marks : List Bool) → length scans ≤ n → MarkedBelow n scans marks → AllZip IsMarkOf scans marks
-MarkedBelow-all n scans marks all marked = zip_from_places IsMarkOf scans marks no_scan false marked.len (λ k within. marked.each k (omega arith))
-
 -- the mark of a late signature says whether it hits
-mark_is : (front rest : List ℕ) (s : SignatureView) (scan : SignatureScanView) (mark : Bool) → All IsSequence s.sequences → IsBytes (front ++ rest) → IsLateSignatureScanOf front (front ++ rest) s.sequences scan → IsMarkOf scan mark → IsTrue mark ↔ Hits s (front ++ rest)
-mark_is front rest s scan mark all bytes late is = (
+mark_is : (front rest : List ℕ) (ends : EndsView) (s : SignatureView) (scan : SignatureScanView) (mark : Bool) → All IsSequence s.sequences → IsBytes (front ++ rest) → AreEndsOf ends (front ++ rest) → IsLateSignatureScanOf front (front ++ rest) s.sequences scan → IsMarkOf ends s.sequences scan mark → IsTrue mark ↔ Hits s (front ++ rest)
+mark_is front rest ends s scan mark all bytes are late is = (
   λ t.
-      let of = late.kept (is.lost t) in
-      (of.same rest).0 ((is.each (is.lost t) (front ++ rest) of.left (of.are all) bytes of.each).0 t),
+      let stays = is.lost t in
+      let of = late.kept stays in
+      (of.same rest).0 ((is.each (front ++ rest) of.left stays (of.are all) bytes are of.each).0 t),
   λ hits.
       ⊎_elim
       (λ (given_up : scan.lost ≡ true). absurd (late.lost given_up rest hits))
-      (λ (stays : scan.lost ≡ false). (let of = late.kept stays in (is.each stays (front ++ rest) of.left (of.are all) bytes of.each).1 ((of.same rest).1 hits)))
+      (λ (stays : scan.lost ≡ false). (let of = late.kept stays in (is.each (front ++ rest) of.left stays (of.are all) bytes are of.each).1 ((of.same rest).1 hits)))
       (true_or_false scan.lost),
 )
 
 -- the signature behind a scan, and its mark
-mark_at : (table : TableView) (front rest : List ℕ) (scans : List SignatureScanView) (marks : List Bool) (k : ℕ) → IsTable table → IsBytes (front ++ rest) → AreLateScansOf front (front ++ rest) table.signatures scans → AllZip IsMarkOf scans marks → k < length scans → (s : SignatureView) × (slice_get table.signatures k ≡ Some s) × (IsTrue (get_or marks k false) ↔ Hits s (front ++ rest))
-mark_at table front rest scans marks k is bytes are marked within =
-    let at = zip_at (λ (s : SignatureView). IsLateSignatureScanOf front (front ++ rest) s.sequences) table.signatures scans k no_scan are within in
-    let mark = zip_places IsMarkOf scans marks k no_scan false marked within in
+mark_at : (scan : TableScanView) (front rest : List ℕ) (marks : List Bool) (k : ℕ) → IsTable scan.table → IsLateTableOf front (front ++ rest) scan → MarkedBelow (length scan.signatures) scan.ends scan.table.signatures scan.signatures marks → k < length scan.signatures → (s : SignatureView) × (slice_get scan.table.signatures k ≡ Some s) × (IsTrue (get_or marks k false) ↔ Hits s (front ++ rest))
+mark_at scan front rest marks k is late marked within =
+    let at = zip_at (λ (s : SignatureView). IsLateSignatureScanOf front (front ++ rest) s.sequences) scan.table.signatures scan.signatures k no_scan late.each within in
     let P : SignatureView → Type 0 = λ s. All IsSequence s.sequences in
-    let each = (is.each k at.0 (slice_get_within table.signatures k at.0 at.1)).sequences in
-    (at.0, at.1, mark_is front rest at.0 (get_or scans k no_scan) (get_or marks k false) (subst P (get_or_from_slice_get table.signatures k at.0 at.0 at.1) each) bytes at.2 mark)
+    let each = (is.each k at.0 (slice_get_within scan.table.signatures k at.0 at.1)).sequences in
+    (at.0, at.1, mark_is front rest scan.ends at.0 (get_or scan.signatures k no_scan) (get_or marks k false) (subst P (get_or_from_slice_get scan.table.signatures k at.0 at.0 at.1) each) late.bytes late.ends at.2 (marked.each k at.0 within at.1))
 
 -- all signatures are marked
-marks_hit : (table : TableView) (front rest : List ℕ) (scans : List SignatureScanView) (marks : List Bool) → IsTable table → IsBytes (front ++ rest) → AreLateScansOf front (front ++ rest) table.signatures scans → AllZip IsMarkOf scans marks → MarksHits table (front ++ rest) marks
-marks_hit table front rest scans marks is bytes are marked =
-    let long_marks = AllZip-long IsMarkOf scans marks marked in
+marks_hit : (scan : TableScanView) (front rest : List ℕ) (marks : List Bool) → IsTable scan.table → IsLateTableOf front (front ++ rest) scan → MarkedBelow (length scan.signatures) scan.ends scan.table.signatures scan.signatures marks → MarksHits scan.table (front ++ rest) marks
+marks_hit scan front rest marks is late marked =
+    let long_marks = marked.len in
     record {
       sound = λ index mark.
           ⊎_elim
           (λ (within : index < length marks).
-          let known = mark_at table front rest scans marks index is bytes are marked (omega arith) in
+          let known = mark_at scan front rest marks index is late marked (omega arith) in
           let P : Option SignatureView → Type 0 = λ o. IsSomeAnd o (λ s. Hits s (front ++ rest)) in
           subst P (sym known.1) (known.2.0 mark))
           (λ past. absurd (false≢true (sym (get_or_past marks index false past) ∙ mark)))
           (cases_lt index (length marks));
       complete = λ index hit. (
-          let within : index < length table.signatures = HitsOf-within table (front ++ rest) index hit in
-          let long = AllZip-long (λ (s : SignatureView). IsLateSignatureScanOf front (front ++ rest) s.sequences) table.signatures scans are in
-          let known = mark_at table front rest scans marks index is bytes are marked (omega arith) in
+          let within : index < length scan.table.signatures = HitsOf-within scan.table (front ++ rest) index hit in
+          let long = AllZip-long (λ (s : SignatureView). IsLateSignatureScanOf front (front ++ rest) s.sequences) scan.table.signatures scan.signatures late.each in
+          let known = mark_at scan front rest marks index is late marked (omega arith) in
           let P : Option SignatureView → Type 0 = λ o. IsSomeAnd o (λ s. Hits s (front ++ rest)) in
           known.2.1 (subst P known.1 hit)
           );
     }
 
-pub MarksHits-from_late : (scan : TableScanView) (file : List ℕ) (marks : List Bool) → IsTable scan.table → AllZip IsMarkOf scan.signatures marks → IsLateTableScanOf scan file → MarksHits scan.table file marks
-MarksHits-from_late scan file marks is marked late =
-    let P : List ℕ → Type 0 = λ l. IsBytes l in
-    let Q : List ℕ → Type 0 = λ l. AreLateScansOf late.front l scan.table.signatures scan.signatures in
+pub MarksHits-from_late : (scan : TableScanView) (file : List ℕ) (n : ℕ) (marks : List Bool) → IsTable scan.table → length scan.signatures ≤ n → MarkedBelow n scan.ends scan.table.signatures scan.signatures marks → IsLateTableScanOf scan file → MarksHits scan.table file marks
+MarksHits-from_late scan file n marks is all marked late =
+    let P : List ℕ → Type 0 = λ l. IsLateTableOf late.front l scan in
     let R : List ℕ → Type 0 = λ l. MarksHits scan.table l marks in
-    subst R (sym late.begins) (marks_hit scan.table late.front late.rest scan.signatures marks is (subst P late.begins late.is.bytes) (subst Q late.begins late.is.each) marked)
+    subst R (sym late.begins) (marks_hit scan late.front late.rest marks is (subst P late.begins late.is) (record { len = marked.len; each = λ k s within. marked.each k s (omega arith) }))
 
 -- what is fed so far is what the input has given
 pub record IsFed (scan : TableScanView) (table : TableView) (before after : Option (List ℕ)) : Type 0 where

@@ -7,6 +7,7 @@ use Rattle.sig_table.specs.Tables.{IsSequence}
 use Rattle.sig_table.specs.Views.{SequenceView, SignatureView}
 use Rattle.sig_match.specs.declared.outlook.Outlook.{Outlook}
 use Rattle.sig_match.specs.declared.outlook.Outlook.TheVariants as outlook
+use Rattle.sig_match.specs.Ends.{AreEndsOf, EndsView, ShortStand}
 use Rattle.sig_match.specs.Scans.{AreSequenceScansOf, IsSequenceScanOf, TableScanView, SequenceScanView, SignatureScanView}
 
 -- the sequence stands in no file that begins with the front, or in each
@@ -19,12 +20,12 @@ IsOutlook front sequence outlook.Open = ⊤
 abbrev pub AllStand : List ℕ → List SequenceView → Type 0
 AllStand file sequences = All (λ s. Stands s file) sequences
 
--- of the files that begin with the front, all of the sequences stand exactly in those in which the ones stand that these scans are of
+-- of the files that begin with the front, all of the sequences stand exactly in those in which the ones stand that these scans are of, and the short ones
 pub record IsLeft (front file : List ℕ) (sequences : List SequenceView) (scans : List SequenceScanView) : Type 0 where
   pub left : List SequenceView
   pub are : All IsSequence sequences → All IsSequence left
   pub each : AllZip (IsSequenceScanOf file) left scans
-  pub same : (rest : List ℕ) → AllStand (front ++ rest) left ↔ AllStand (front ++ rest) sequences
+  pub same : (rest : List ℕ) → (AllStand (front ++ rest) left × ShortStand (front ++ rest) sequences) ↔ AllStand (front ++ rest) sequences
 
 -- the signature is given up, and hits no file that begins with the front; or what is left of it is scanned
 pub record IsLateSignatureScanOf (front file : List ℕ) (sequences : List SequenceView) (scan : SignatureScanView) : Type 0 where
@@ -38,6 +39,7 @@ AreLateScansOf front file signatures scans = AllZip (λ (s : SignatureView). IsL
 -- the scan is of the file, as far as the front leaves anything open
 pub record IsLateTableOf (front file : List ℕ) (scan : TableScanView) : Type 0 where
   pub bytes : IsBytes file
+  pub ends : AreEndsOf scan.ends file
   pub each : AreLateScansOf front file scan.table.signatures scan.signatures
 
 -- some front of the file settles what the scan no longer looks for, and for the rest it is of the file
@@ -61,7 +63,7 @@ abbrev pub TellsAllStand : List SequenceScanView → Bool → Type 0
 TellsAllStand scans answer =
     (file : List ℕ) (sequences : List SequenceView) → All IsSequence sequences → IsBytes file → AreSequenceScansOf file sequences scans → (IsTrue answer ↔ AllStand file sequences)
 
--- of a signature that is not given up the mark says so; of one that is given up it is not set
-pub record IsMarkOf (scan : SignatureScanView) (mark : Bool) : Type 0 where
+-- where the signature is not given up, the mark says of each file with these ends whether the sequences stand in it that are scanned, and the short ones; else it is not set
+pub record IsMarkOf (ends : EndsView) (sequences : List SequenceView) (scan : SignatureScanView) (mark : Bool) : Type 0 where
   pub lost : IsTrue mark → scan.lost ≡ false
-  pub each : scan.lost ≡ false → TellsAllStand scan.scans mark
+  pub each : (file : List ℕ) (left : List SequenceView) → scan.lost ≡ false → All IsSequence left → IsBytes file → AreEndsOf ends file → AreSequenceScansOf file left scan.scans → (IsTrue mark ↔ (AllStand file left × ShortStand file sequences))

@@ -1,6 +1,7 @@
 -- What a reader must trust: which signatures hit a file, which formats are hit, and which are left.
 pub mod Hits
 pub mod Scans
+pub mod Ends
 pub use Rattle.sig_auto.specs.Runs as AutomatonRuns
 pub use Rattle.sig_auto.specs.Trees
 pub use Rattle.sig_bits.specs.Bytes

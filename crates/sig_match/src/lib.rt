@@ -4,7 +4,7 @@
 //! shares stands at the top: the list of hits (`hits`), what priorities take out of it (`removal`)
 //! and what a matcher is (`droid_core`). `outlook` tells from the first bytes of a file which sequences
 //! can still come. `whole` is the matcher that keeps the file in memory. `scan` passes over a file once
-//! and keeps at most 4 KiB of it, and `stream` is the matcher that reads a file so, piece by piece.
+//! and keeps some 4 KiB of either end, and `stream` is the matcher that reads a file so, piece by piece.
 #![tactic(auto)]
 
 mod droid_core;

@@ -1,7 +1,7 @@
 //! One pass over a file, piece by piece.
 //!
 //! What a byte does is in `table_scan`: it leads each sequence of a table from one set of states to the
-//! next, and no byte is kept for it. A `Scan` also takes pieces of any length at one cost a byte: to go
+//! next, and no byte is kept for it but those at the ends of the file. A `Scan` also takes pieces of any length at one cost a byte: to go
 //! through a piece takes a look at each sequence, however short it is, so short ones wait until there is
 //! some length of them.
 
@@ -14,6 +14,7 @@ use sig_table::Table;
 use std::alloc::{AllocError, Global};
 use std::marker::Model;
 
+mod ends;
 mod entry;
 mod exits;
 mod fixed;
@@ -39,10 +40,10 @@ const ROOM: usize = 1 << 12;
 
 /// A file on its way past a table.
 ///
-/// All memory is taken at the start: for each sequence that is looked for its automaton with what it
-/// notes, three sets of a bit for each state, and its bytes if it is a long run of them; the sieve of
-/// fronts, and the room of the exits that many sequences share; the room of the answer; and that of the
-/// bytes that wait. The bytes of short pieces wait until a piece has no room beside them, and are then gone
+/// All memory is taken at the start: the room of the first and the last bytes of the file; for each sequence of
+/// which these do not tell its automaton with what it notes, three sets of a bit for each state, and its bytes
+/// if it is a long run of them; the sieve of fronts, and the room of the exits that many sequences share; the
+/// room of the answer; and that of the bytes that wait. The bytes of short pieces wait until a piece has no room beside them, and are then gone
 /// through as one.
 #[derive(Debug, Drop)]
 pub struct Scan<'t> {

@@ -1,4 +1,4 @@
-//! The matcher that reads a file once, piece by piece, and keeps no more of it than one piece.
+//! The matcher that reads a file once, piece by piece, and keeps no more of it than one piece and its ends.
 
 ghost use Rattle.std.specs.Prelude.{◌≡◌, ◌+◌, ◌<◌, ◌≤◌, false, true, IfErr, IfOk, IfSome, IsErrOf, OnOk, is_err, length, take};
 ghost use Rattle.sig_bits.specs.Bytes.{IsBytes};
@@ -24,8 +24,8 @@ const PIECE: usize = 1 << 18;
 ///
 /// A file shorter than a piece of 256 KiB is searched where it lies, as `WholeCore` does: that takes less
 /// time than a scan takes to begin. The first piece of a longer one settles most sequences that begin at
-/// the start of a file, and the rest is scanned for the others. No byte is kept behind its piece, and the
-/// memory is that of a scan and of one piece, however long the file is.
+/// the start of a file, and the rest is scanned for the others. But for its first and its last bytes no byte
+/// is kept behind its piece, and the memory is that of a scan and of one piece, however long the file is.
 #[derive(Debug, Drop)]
 pub struct StreamCore {
     table: Table,

@@ -36,6 +36,7 @@ mod search;
 
 pub(crate) use anchored::stands;
 pub(crate) use longest::longest_of;
+pub(crate) use part::is_part_word;
 pub(crate) use ready::Ready;
 use search::{is_hit, which_hit};
 

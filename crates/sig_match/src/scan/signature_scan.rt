@@ -1,10 +1,12 @@
 //! The sequences of one signature of a scan.
 
 ghost use Rattle.std.specs.Prelude.{◌≡◌, true, false, [], IfOk, IsTrue};
-ghost use Rattle.sig_match.specs.Lates.{AreFedBy, IsLateSignatureScanOf, TellsAllStand};
+ghost use Rattle.sig_match.specs.Ends.{long_of};
+ghost use Rattle.sig_match.specs.Lates.{AreFedBy, IsLateSignatureScanOf, IsMarkOf, TellsAllStand};
 ghost use Rattle.sig_match.specs.Scans.{AreSequenceScansOf};
 
 use crate::outlook::{Outlook, outlook_of};
+use crate::scan::ends::{Ends, short_len_of};
 use crate::scan::piece::Piece;
 use crate::scan::sequence_scan::SequenceScan;
 use crate::scan::sieve::Sieve;
@@ -12,7 +14,8 @@ use sig_table::Sequence;
 use std::alloc::{AllocError, Global};
 use std::marker::Model;
 
-// The sequences that are looked for. A signature is lost where one of its sequences can't come any more.
+// The sequences that are looked for: those that are not short, and that are left open behind a front. A signature is lost
+// where one of its sequences can't come any more.
 #[derive(Debug, Drop)]
 pub(crate) struct SignatureScan {
     lost: bool,
@@ -35,11 +38,13 @@ impl SignatureScan {
         sieve: &mut Sieve,
     ) -> Result<SignatureScan, AllocError>
         ensures kept { IfOk result (λ s. s.lost ≡ false) }
-        ensures each { IfOk result (λ s. AreSequenceScansOf [] sequences.now s.scans) }
+        ensures each { IfOk result (λ s. AreSequenceScansOf [] (long_of sequences.now) s.scans) }
     {
-        let mut scans = Vec::with_capacity(alloc, sequences.len())?;
+        let mut scans = Vec::new(alloc);
         for sequence in sequences {
-            scans.push(SequenceScan::of(alloc, sequence, sieve)?)?;
+            if short_len_of(sequence).is_none() {
+                scans.push(SequenceScan::of(alloc, sequence, sieve)?)?;
+            }
         }
         Ok(SignatureScan {
             lost: false,
@@ -61,7 +66,11 @@ impl SignatureScan {
             match outlook_of(alloc, front, sequence)? {
                 Outlook::Never => return Ok(SignatureScan::lost(alloc)),
                 Outlook::Always => {}
-                Outlook::Open => scans.push(SequenceScan::of(alloc, sequence, sieve)?)?,
+                Outlook::Open => {
+                    if short_len_of(sequence).is_none() {
+                        scans.push(SequenceScan::of(alloc, sequence, sieve)?)?;
+                    }
+                }
             }
         }
         Ok(SignatureScan {
@@ -108,12 +117,14 @@ impl SignatureScan {
         feed_each(&mut self.sequences, piece);
     }
 
-    // Whether the signature hits the file, if it ends here.
-    pub(crate) fn hits(&self) -> bool
-        ensures lost { IsTrue result → self.now.lost ≡ false }
-        ensures each { self.now.lost ≡ false → TellsAllStand self.now.scans result }
+    // Whether the signature, which has these sequences, hits the file of these ends, if it ends here.
+    pub(crate) fn hits(&self, sequences: &[Sequence], ends: &Ends) -> bool
+        ensures { IsMarkOf ends.now sequences.now self.now result }
     {
-        !self.lost && all_stand(&self.sequences)
+        if self.lost {
+            return false;
+        }
+        all_stand(&self.sequences) && ends.have(sequences)
     }
 }
 

@@ -19,11 +19,10 @@ pub(crate) fn climbs(sequence: &Sequence) -> bool
     }
 }
 
-/// Whether a sequence can rest before it is complete: it may begin anywhere, stands at the end of the file, or has an
-/// open gap.
+/// Whether a sequence can rest before any of it was met: it may begin anywhere, or stands at the end of the file.
 pub(crate) fn may_rest(sequence: &Sequence) -> bool {
     match sequence.position() {
-        Position::Bof { .. } => !has_no_open_gap(sequence.expr().items()),
+        Position::Bof { .. } => false,
         Position::Eof { .. } | Position::Variable => true,
     }
 }

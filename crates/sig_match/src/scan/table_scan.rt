@@ -1,7 +1,7 @@
 //! The states of each sequence of a table, piece by piece.
 //!
-//! For each sequence of the table there is an automaton and its current set: the states in which
-//! the runs of the bytes so far end. A byte leads from each set to the next, so it makes no
+//! For each sequence of the table there is an automaton and its current set, unless the ends of a file tell
+//! whether it stands: the states in which the runs of the bytes so far end. A byte leads from each set to the next, so it makes no
 //! difference where a file is cut. A set that loses its last state stays empty, and its sequence is
 //! passed over from there. A file ends where no more is fed, and each sequence then stands in
 //! it exactly where some state of its set accepts. Of `41{1-2}42` at the start of a file the bytes
@@ -12,12 +12,15 @@
 
 ghost use Rattle.std.specs.Prelude.{◌≡◌, ◌++◌, ℕ, ◌<◌, [], List, IfOk, length};
 ghost use Rattle.std.specs.List.{AllZip};
+ghost use Rattle.sig_match.specs.Ends.{AreEndsOf};
+ghost use Rattle.sig_match.specs.FirstHits.{MarksHits};
 ghost use Rattle.sig_match.specs.Hits.{HitFormats};
-ghost use Rattle.sig_match.specs.Lates.{AreLateScansOf, IsFedBy, IsLateTableOf, IsLateTableScanOf, IsMarkOf};
-ghost use Rattle.sig_match.specs.Scans.{IsTableScanOf, IsSignatureScanOf};
+ghost use Rattle.sig_match.specs.Lates.{AreLateScansOf, IsFedBy, IsLateTableOf, IsLateTableScanOf};
+ghost use Rattle.sig_match.specs.Scans.{IsTableScanOf, IsSignatureScanOf, scan_of};
 
 use crate::hits::list_hits;
 use crate::results::{Hit, Results};
+use crate::scan::ends::Ends;
 use crate::scan::exits::{Exits, WINDOW, list_exits};
 use crate::scan::piece::Piece;
 use crate::scan::sieve::Sieve;
@@ -36,6 +39,7 @@ const SPACED: usize = 16;
 #[derive(Debug, Drop)]
 pub(crate) struct TableScan<'t> {
     table: &'t Table,
+    ends: Ends,
     sieve: Sieve,
     known: Vec<usize>,
     exit: u8,
@@ -55,7 +59,7 @@ impl<'t> Model for TableScan<'t> {
 
     ghost Value = { TableScanView };
 
-    ghost view = { λ s. record { table = s.table.now; signatures = s.signatures.items } };
+    ghost view = { λ s. record { table = s.table.now; ends = s.ends; signatures = s.signatures.items } };
 
     ghost invariant = { λ s. IsTable s.table.now
         × (length s.signatures.items ≡ length s.table.now.signatures)
@@ -103,6 +107,7 @@ impl<'t> TableScan<'t> {
     ) -> Result<TableScan<'t>, AllocError>
         requires { length signatures.items ≡ length table.now.signatures }
         ensures table { IfOk result (λ scan. scan.table ≡ table.now) }
+        ensures ends { IfOk result (λ scan. AreEndsOf scan.ends []) }
         ensures signatures { IfOk result (λ scan. scan.signatures ≡ signatures.items) }
     {
         let known = vec![in alloc; 0; sieve.len()]?;
@@ -112,6 +117,7 @@ impl<'t> TableScan<'t> {
         let behind = vec![in alloc; 0; window]?;
         Ok(TableScan {
             table,
+            ends: Ends::new(alloc)?,
             sieve,
             known,
             exit,
@@ -166,6 +172,7 @@ impl<'t> TableScan<'t> {
         );
         let piece = Piece::with_exits(window, &self.sieve, &self.known, exits);
         feed_each(&mut self.signatures, &piece);
+        self.ends.feed(window);
     }
 
     // Answers which formats the file hits, each with its first signature that hits. It takes no
@@ -176,6 +183,7 @@ impl<'t> TableScan<'t> {
     {
         let TableScan {
             table,
+            ends,
             signatures,
             mut marks,
             mut hits,
@@ -186,7 +194,7 @@ impl<'t> TableScan<'t> {
             places: _,
             behind: _,
         } = self;
-        mark_hits(&signatures, &mut marks);
+        mark_hits(table, &ends, &signatures, &mut marks);
         list_hits(table, &marks, &mut hits).unwrap();
         Results::new(hits)
     }
@@ -266,12 +274,15 @@ fn feed_each(signatures: &mut [SignatureScan], piece: &Piece<'_>)
     }
 }
 
-// Marks each signature that hits the file, if it ends here.
-fn mark_hits(signatures: &[SignatureScan], marks: &mut [bool])
-    requires { length marks.old ≡ length signatures.now }
-    ensures { AllZip IsMarkOf signatures.now marks.new }
+// Marks each signature that hits the file of these ends, if it ends here.
+fn mark_hits(table: &Table, ends: &Ends, signatures: &[SignatureScan], marks: &mut [bool])
+    requires signatures { length signatures.now ≡ length table.now.signatures }
+    requires marks { length marks.old ≡ length signatures.now }
+    ensures { (file : List ℕ) → IsLateTableScanOf (scan_of table.now ends.now signatures.now) file → MarksHits table.now file marks.new }
 {
-    for (index, signature) in signatures.iter().enumerate() {
-        marks[index] = signature.hits();
+    let count = table.signature_count();
+    for index in 0..count {
+        let sequences = table.sequences_of(SigId(index as u16));
+        marks[index] = signatures[index].hits(sequences, ends);
     }
 }

@@ -13,6 +13,6 @@ pub returns-clause-late : goal.returns-clause-late
 returns-clause-late c =
     let front = c.args.front.now in
     let scan = c.in_ok-scan.scan in
-    late_scan_begins scan c.feed.new.self front c.feed.ensures.late
+    late_scan_begins scan c.feed.new.self front c.feed.ensures.late c.in_ok-scan.ensures.ends
     (subst (λ (t : TableView). AreLateScansOf front [] t.signatures scan.signatures) (sym c.in_ok-scan.ensures.table)
     (subst (λ (l : List SignatureScanView). AreLateScansOf front [] c.args.table.now.signatures l) (sym c.in_ok-scan.ensures.signatures) c.in_ok-signatures.ensures))

@@ -1,20 +1,18 @@
 use Rattle.std.proofs.Common.{◌≡◌, ◌∙◌, drop, length, subst, sym, vec_len}
 use Rattle.std.specs.Prelude.{OnOk}
-use Rattle.std.specs.List.{AllZip}
 use Rattle.sig_match.specs.FirstHits.{MarksHits}
 use Rattle.sig_match.specs.Hits.{HitFormats}
-use Rattle.sig_match.specs.Lates.{IsLateTableScanOf, IsMarkOf}
-use Rattle.sig_match.specs.Scans.{TableScanView}
-use Rattle.sig_match.proofs.ScanLemmas.{MarksHits-from_late, late_from_exact, written}
+use Rattle.sig_match.specs.Lates.{IsLateTableScanOf}
+use Rattle.sig_match.specs.Scans.{TableScanView, scan_of}
+use Rattle.sig_match.proofs.ScanLemmas.{late_from_exact, written}
 use Rattle.sig_match.proofs.scan.table_scan.TableScan.finish.Goals as goal
 
 pub returns-clause-late : goal.returns-clause-late
 returns-clause-late c file late =
-    let v : TableScanView = record { table = c.self.inside.table.now; signatures = c.self.inside.signatures.items } in
+    let v : TableScanView = scan_of c.self.inside.table.now c.self.inside.ends c.self.inside.signatures.items in
     let marks = c.mark_hits.new.marks in
     let at : IsLateTableScanOf v file = subst (λ (w : TableScanView). IsLateTableScanOf w file) (sym c.self.view_is) late in
-    let marked : AllZip IsMarkOf v.signatures marks = subst (λ l. AllZip IsMarkOf l marks) c.deref.ensures.value c.mark_hits.ensures in
-    let hit : MarksHits v.table file marks = MarksHits-from_late v file marks c.self.invariant.0 marked at in
+    let hit : MarksHits v.table file marks = c.mark_hits.ensures file (subst (λ l. IsLateTableScanOf (scan_of v.table v.ends l) file) (sym c.deref.ensures.value) at) in
     let long : length marks ≡ vec_len c.self.inside.marks = c.mark_hits.auto.marks ∙ c.deref_mut.ensures.len in
     let same : c.deref-2.result.now ≡ marks = c.deref-2.ensures.value ∙ written marks (drop (length marks) c.self.inside.marks.items) (vec_len c.self.inside.marks) long in
     let listed = c.list_hits.ensures.lists file (subst (λ l. MarksHits v.table file l) (sym same) hit) in

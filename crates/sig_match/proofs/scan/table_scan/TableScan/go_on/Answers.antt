@@ -11,7 +11,7 @@ returns-clause-goes_on c file is =
     let long : length new ≡ vec_len c.self.inside.signatures = c.feed_each.auto.signatures ∙ c.deref_mut-4.ensures.len in
     let back = drop (length new) c.self.inside.signatures.items in
     let fed : AllZip (IsFedBy c.args.window.now) c.deref_mut-4.result.now new = subst (λ l. AllZip (IsFedBy l) c.deref_mut-4.result.now new) c.with_exits-piece.ensures c.feed_each.ensures in
-    scan_goes_on file c.args.window.now _ c.args.self.now c.deref_mut-4.result.now new _ c.self.view_is c.deref_mut-4.ensures.value (written new back (vec_len c.self.inside.signatures) long) (IsBytes-from_slice c.args.window.now c.type_inv.window) fed is
+    scan_goes_on file c.args.window.now _ c.args.self.now c.feed.new.self c.deref_mut-4.result.now new _ c.self.view_is c.deref_mut-4.ensures.value (written new back (vec_len c.self.inside.signatures) long) (IsBytes-from_slice c.args.window.now c.type_inv.window) (c.feed.ensures file) fed is
 
 pub returns-clause-late : goal.returns-clause-late
 returns-clause-late c front file is =
@@ -19,4 +19,4 @@ returns-clause-late c front file is =
     let long : length new ≡ vec_len c.self.inside.signatures = c.feed_each.auto.signatures ∙ c.deref_mut-4.ensures.len in
     let back = drop (length new) c.self.inside.signatures.items in
     let fed : AllZip (IsFedBy c.args.window.now) c.deref_mut-4.result.now new = subst (λ l. AllZip (IsFedBy l) c.deref_mut-4.result.now new) c.with_exits-piece.ensures c.feed_each.ensures in
-    late_goes_on front file c.args.window.now _ c.args.self.now c.deref_mut-4.result.now new _ c.self.view_is c.deref_mut-4.ensures.value (written new back (vec_len c.self.inside.signatures) long) (IsBytes-from_slice c.args.window.now c.type_inv.window) fed is
+    late_goes_on front file c.args.window.now _ c.args.self.now c.feed.new.self c.deref_mut-4.result.now new _ c.self.view_is c.deref_mut-4.ensures.value (written new back (vec_len c.self.inside.signatures) long) (IsBytes-from_slice c.args.window.now c.type_inv.window) (c.feed.ensures file) fed is
