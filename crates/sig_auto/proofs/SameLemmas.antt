@@ -1,11 +1,11 @@
 -- Branches may be grouped otherwise.
-use Rattle.std.proofs.Common.{◌≡◌, ◌↔◌, ℕ, zero, suc, ◌+◌, ◌<◌, ◌≤◌, drop, length, take, get_or, ◌-◌, List, [], ◌∷◌, ◌++◌, append_assoc, map, subst, sym, ap, ◌∙◌, refl, inl, inr, arith}
+use Rattle.std.proofs.Common.{◌≡◌, ◌↔◌, ℕ, zero, suc, ◌+◌, ◌<◌, ◌≤◌, drop, length, take, get_or, ◌-◌, List, [], ◌∷◌, ◌++◌, append_assoc, map, Some, subst, sym, ap, ◌∙◌, refl, inl, inr, arith}
 use Rattle.std.proofs.lemmas.List.{append-nil, map_more, map_push, take-append-drop, take_all}
 use Rattle.sig_auto.specs.declared.class.Class.{Class}
 use Rattle.sig_auto.specs.Classes.{InClass, any}
 use Rattle.sig_auto.specs.Same.{IsSame, ors, thens}
-use Rattle.sig_auto.specs.Tracks.{Accepting, Follows, Track}
-use Rattle.sig_auto.specs.Trees.{Tree, Never, Empty, Slot, Then, Or, alternatives_tree, atom_tree, atoms_tree, item_tree, items_tree, row_tree, rows_tree}
+use Rattle.sig_auto.specs.Tracks.{Accepting, Follows, GapTrack, Track}
+use Rattle.sig_auto.specs.Trees.{Tree, Never, Empty, Gap, Slot, Then, Or, alternatives_tree, atom_tree, atoms_tree, item_tree, items_tree, row_tree, rows_tree}
 use Rattle.sig_auto.specs.TreeSlots.{Takes, classes_of, class_of, slots_of}
 use Rattle.sig_expr.specs.declared.item.Atom.{Atom}
 use Rattle.sig_expr.specs.declared.item.Item.{Item}
@@ -274,6 +274,34 @@ whole_same front items last node f l list one three two is =
     (same_trans (Then f (Then items l)) (Then f (Then (thens item_tree list) l)) (Then f (items_tree list l))
     (same_then f (Then items l) f (Then (thens item_tree list) l) (same_refl f) (same_then items l (thens item_tree list) l two (same_refl l)))
     (whole_cut f l list))
+
+-- no byte before it
+same_front : (x : Tree) → IsSame x (Then (Gap 0 (Some 0)) x)
+same_front x = record {
+  slots = omega arith;
+  classes = refl;
+  tracks = λ before t.
+      let at : before + 0 ≡ before = omega arith in (
+        λ h. ([], t, refl, (0, omega arith, omega arith, refl), subst (λ n. Track x n t) (sym at) h),
+        λ h. (
+            let none : h.0 ≡ [] = no_slots before h.0 h.3 in
+            let all : t ≡ h.1 = h.2 ∙ ap (λ l. l ++ h.1) none in
+            subst (λ l. Track x before l) (sym all) (subst (λ n. Track x n h.1) at h.4)
+            ),
+      );
+  has_track = (λ h. (omega arith, h), λ h. h.1);
+  trim = λ h. h.1;
+} where
+  no_slots : (before : ℕ) (u : List ℕ) → GapTrack 0 (Some 0) before u → u ≡ []
+  no_slots before u (zero, low, high, is) = is
+  no_slots before u (suc k, low, high, is) = absurd (omega arith)
+
+-- the whole file, where nothing stands before the expression
+pub whole_at_start : (items last node : Tree) (l : Tree) (list : List Item) → last ≡ l → IsSame items (thens item_tree list) → node ≡ Then items last → IsSame node (Then (Gap 0 (Some 0)) (items_tree list l))
+whole_at_start items last node l list three two is =
+    same_trans node (Then (Gap 0 (Some 0)) node) (Then (Gap 0 (Some 0)) (items_tree list l))
+    (same_front node)
+    (whole_same (Gap 0 (Some 0)) items last (Then (Gap 0 (Some 0)) node) (Gap 0 (Some 0)) l list refl three two (ap (Then (Gap 0 (Some 0))) is))
 
 -- what is so of a tree is so of the other
 pub same_follows : (a b : Tree) (p q : ℕ) → IsSame a b → Follows a p q ↔ Follows b p q

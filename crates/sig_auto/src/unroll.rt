@@ -6,7 +6,7 @@
 //!
 //! `[4142:4241]` has the rows `41 42`, `41 43-FF`, `42 00-40` and `42 41`.
 
-ghost use Rattle.std.specs.Prelude.{◌≡◌, ◌<◌, ◌≤◌, IfOk, IfSome, None, Some, length, map};
+ghost use Rattle.std.specs.Prelude.{◌≡◌, ◌<◌, ◌≤◌, IfOk, IfSome, IsTrue, None, Some, length, map};
 ghost use Rattle.sig_auto.specs.Counted.{IsCounted};
 ghost use Rattle.sig_auto.specs.Same.{IsSame, ors, thens};
 ghost use Rattle.sig_auto.specs.Seen.{seen};
@@ -30,7 +30,20 @@ pub(crate) fn whole_node(
 {
     let items = items_node(alloc, items)?;
     let later = Node::then(alloc, items, back(position))?;
+    if is_at_start(position) {
+        return Ok(later);
+    }
     Node::then(alloc, front(position), later)
+}
+
+// Whether nothing may stand before the expression.
+fn is_at_start(position: Position) -> bool
+    ensures { IsTrue result → front_tree position ≡ Gap 0 (Some 0) }
+{
+    match position {
+        Position::Bof { min, max } => min == 0 && max == 0,
+        Position::Eof { .. } | Position::Variable => false,
+    }
 }
 
 // What may stand before the expression.
@@ -98,7 +111,10 @@ fn items_node(alloc: Global, items: &[Item]) -> Result<Node, AllocError>
 fn run_of_items(alloc: Global, items: &[Item]) -> Result<Option<ClassWord>, AllocError>
     ensures { IfOk result (λ found. IfSome found (λ run. thens item_tree items.now ≡ row_tree run.items)) }
 {
-    let mut run = Vec::new(alloc);
+    if !are_slots(items) {
+        return Ok(None);
+    }
+    let mut run = Vec::with_capacity(alloc, items.len())?;
     for item in items {
         let Some(class) = class_of_item(item) else {
             return Ok(None);
@@ -106,6 +122,16 @@ fn run_of_items(alloc: Global, items: &[Item]) -> Result<Option<ClassWord>, Allo
         run.push(class)?;
     }
     Ok(Some(run))
+}
+
+// Whether each of the items is one slot, so that no room is made for a run that comes to nothing.
+fn are_slots(items: &[Item]) -> bool {
+    for item in items {
+        if class_of_item(item).is_none() {
+            return false;
+        }
+    }
+    true
 }
 
 // Where to cut the items in two: at the first place behind the middle that does not part two items of

@@ -1,8 +1,8 @@
 -- Sequences of fixed bytes alone: their automaton, and its states behind a piece.
-use Rattle.std.proofs.Common.{◌≡◌, ◌↔◌, ◌⊎◌, ⊎_elim, ℕ, zero, suc, ◌+◌, ◌-◌, ◌<◌, ◌≤◌, min, ◌*◌, Bool, false, Option, Some, Decides, List, [], ◌∷◌, ◌++◌, length, get_or, map, take, drop, replicate, None, subst, sym, ap, refl, ◌∙◌, arith, inl, inr, length-drop, add-one, drop-cons}
+use Rattle.std.proofs.Common.{◌≡◌, ◌↔◌, ◌⊎◌, ⊎_elim, ℕ, zero, suc, ◌+◌, ◌-◌, ◌<◌, ◌≤◌, min, ◌*◌, Bool, false, Option, Some, Decides, List, [], ◌∷◌, ◌++◌, length, get_or, map, take, drop, replicate, None, set, subst, sym, ap, refl, ◌∙◌, arith, inl, inr, length-drop, add-one, drop-cons}
 use Rattle.std.specs.Prelude.{IsTrue, is_some, ◌==◌}
 use Rattle.std.proofs.lemmas.Bool.{cases_lt, cases_eq, false≢true}
-use Rattle.std.proofs.lemmas.List.{get_or-drop, get_or-take, length-take-le}
+use Rattle.std.proofs.lemmas.List.{get_or-drop, get_or-take, length-take-le, length-append, length-set, map-append, take-append-le, take_all, take_more, take_more_set}
 use Rattle.std.proofs.lemmas.List.Elements.{All-head, All-tail}
 use Rattle.memchr.specs.Find.{FindsNeedle, OccursAt}
 use Rattle.sig_auto.specs.Tracks.{Follows, Track, slots_from}
@@ -12,10 +12,14 @@ use Rattle.sig_auto.specs.Classes.{InClass, any, only}
 use Rattle.sig_bits.specs.BitSets.{HasBit}
 use Rattle.sig_bits.proofs.Exports.{zeros_have_no_bit}
 use Rattle.sig_bits.specs.Bytes.{IsBytes}
+use Rattle.sig_expr.specs.declared.item.Item.{Item}
 use Rattle.sig_expr.specs.declared.item.Item.TheVariants as item
+use Rattle.sig_table.specs.declared.position.Position.TheVariants as position
 use Rattle.sig_table.specs.Views.{SequenceView}
-use Rattle.sig_match.specs.Fixed.{Agrees, IsBehind, IsCarried, IsCut, IsFixed, IsInside, IsPast}
-use Rattle.sig_match.specs.Rests.{IsReached, Reaches}
+use Rattle.sig_bits.specs.ByteClasses.{Holds}
+use Rattle.sig_bits.specs.declared.byte_class.ByteClass.{ByteClass}
+use Rattle.sig_match.specs.Fixed.{Agrees, IsBehind, IsCarried, IsCut, IsFixed, IsFixedFront, IsInside, IsPast}
+use Rattle.sig_match.specs.Rests.{GoesBy, IsReached, IsRest, Opens, Reaches, front_at}
 use Rattle.sig_match.specs.Scans.{IsSequenceScanOf, SequenceScanView}
 use Rattle.sig_match.proofs.RestLemmas.{drop_all, due_begins}
 
@@ -211,6 +215,74 @@ takes_behind run k b past small =
     let class : class_of (fixed_tree run) (k + 2) ≡ any = class_at run k ∙ class_behind run k past in
     let there : InClass any b = (omega arith, omega arith) in
     subst (λ c. InClass c b) (sym class) there
+
+-- the run from a place on
+run_from : (run : List ℕ) (k n f : ℕ) (front : List ℕ) → f ∷ front ≡ take (suc n) (drop k run) → (k < length run) × (f ≡ get_or run k 0) × (front ≡ take n (drop (k + 1) run))
+run_from run k n f front is =
+    ⊎_elim
+    (λ (within : k < length run).
+    let head : drop k run ≡ get_or run k 0 ∷ drop (k + 1) run = rw add-one (drop-cons run k 0 within) in
+    let both : f ∷ front ≡ get_or run k 0 ∷ take n (drop (k + 1) run) = is ∙ ap (take (suc n)) head in
+    (within, (let first : f ≡ get_or run k 0 = (cc) in first), (let rest : front ≡ take n (drop (k + 1) run) = (cc) in rest)))
+    (λ (past : length run ≤ k). (let none : f ∷ front ≡ [] = is ∙ ap (take (suc n)) (drop_all run k past) in absurd (cc)))
+    (cases_lt k (length run))
+
+-- from a slot of the run its bytes alone lead on
+goes_by : (run front : List ℕ) (k n : ℕ) → 0 < length run → 0 < k → front ≡ take n (drop k run) → GoesBy (fixed_tree run) (k + 1) front
+goes_by run [] k n some first is = tt
+goes_by run (f ∷ front) k zero some first is = absurd (cc)
+goes_by run (f ∷ front) k (suc n) some first is =
+    let from = run_from run k n f front is in
+    let within = from.0 in
+    let later : GoesBy (fixed_tree run) ((k + 1) + 1) front = goes_by run front (k + 1) n some (omega arith) from.2 in
+    λ q b small follows takes.
+    let next : q ≡ k + 2 = ⊎_elim (λ low. absurd (omega (arith, low.0))) (λ high. omega (arith, high.2)) (next_of run (k + 1) q some follows) in
+    let place : q ≡ (k + 1) + 1 = omega arith in
+    ((takes_in run k b within).0 (subst (λ r. Takes (fixed_tree run) r b) next takes) ∙ sym from.1, subst (λ r. GoesBy (fixed_tree run) r front) (sym place) later)
+
+-- and its first slot comes on its first byte
+opens_by : (run front : List ℕ) (b : ℕ) → 0 < length run → front ≡ take 8 run → b ≡ get_or run 0 0 → Opens (fixed_tree run) 2 b front
+opens_by run [] b some is byte = tt
+opens_by run (f ∷ front) b some is byte =
+    let from = run_from run 0 7 f front is in
+    (byte ∙ sym from.1, goes_by run front 1 7 some (omega arith) from.2)
+
+first_of_front : (run front : List ℕ) → 0 < length run → front ≡ take 8 run → get_or front 0 0 ≡ get_or run 0 0
+first_of_front [] front some is = absurd (omega arith)
+first_of_front (r ∷ run) front some is = ap (λ l. get_or l 0 0) is
+
+-- its first bytes are some
+pub front_some : (s : SequenceView) (len : ℕ) (bytes : List ℕ) → IsFixedFront s (take len bytes) → 0 < len
+front_some s zero bytes of = none of.run of.some of.begins where
+  none : (run : List ℕ) → 0 < length run → [] ≡ take 8 run → 0 < zero
+  none [] some begins = absurd (omega arith)
+  none (r ∷ run) some begins = absurd (cc)
+front_some s (suc len) bytes of = omega arith
+
+-- a sequence of fixed bytes rests in the slot of the bytes before it, and is left by its first bytes
+pub fixed_rests : (s : SequenceView) (front set : List ℕ) (exits : ByteClass) → IsFixedFront s front → ((q : ℕ) → HasBit set q ↔ (q ≡ 1)) → ((b : ℕ) → Holds exits b ↔ (b ≡ get_or front 0 0)) → IsRest (whole_tree s) set exits (front_at 0 0 front)
+fixed_rests s front set exits of one byte =
+    let run = of.run in
+    let some = of.some in
+    let tree = fixed_tree run in
+    let gap : HasBit set 1 = (one 1).1 refl in
+    subst (λ (t : Tree). IsRest t set exits (front_at 0 0 front)) (sym (fixed_is s run of.is)) (record {
+      stays = λ q b small bit.
+          let is = (one q).0 bit in
+          (1, gap, subst (λ r. Follows tree 1 r) (sym is) (follows_gap run 1 (omega arith)), subst (λ r. Takes tree r b) (sym is) (takes_gap run b small));
+      leaves = λ p q b small bit follows takes.
+          let is = (one p).0 bit in
+          ⊎_elim
+          (λ low.
+          ⊎_elim
+          (λ (stays : q ≡ 1). inl (inl ((one q).1 stays)))
+          (λ (goes : q ≡ 2).
+          let there : b ≡ get_or run 0 0 = (takes_in run 0 b some).0 (subst (λ r. Takes tree r b) goes takes) in
+          inr ((byte b).1 (there ∙ sym (first_of_front run front some of.begins)), subst (λ r. Opens tree r b front) (sym goes) (opens_by run front b some of.begins there)))
+          low.1)
+          (λ high. absurd (omega (arith, high.0)))
+          (next_of run p q some follows);
+    })
 
 agrees_none : (run : List ℕ) → Agrees run []
 agrees_none [] = tt
@@ -512,3 +584,56 @@ near_alone run set piece near never near_is q = (
 pub some_left : (n m : ℕ) (empty : Bool) → empty ≡ (n == 0) → empty ≡ false → n ≡ m → 0 < m
 some_left zero m empty is none same = absurd (false≢true (sym none ∙ is))
 some_left (suc n) m empty is none same = omega arith
+
+-- one more of the items is a byte
+more_bytes : (items : List Item) (i : ℕ) (x : Item) (b : ℕ) (run : List ℕ) → i < length items → x ≡ get_or items i x → x ≡ item.Byte b → take i items ≡ map item.Byte run → take (i + 1) items ≡ map item.Byte (run ++ b ∷ [])
+more_bytes items i x b run within is byte before =
+    take_more items i x within
+    ∙ ap (λ (y : Item). take i items ++ y ∷ []) (sym is ∙ byte)
+    ∙ ap (λ (l : List Item). l ++ item.Byte b ∷ []) before
+    ∙ sym (map-append item.Byte run (b ∷ []))
+
+-- the items are bytes, of which the first eight stand in the front
+pub record FrontSoFar (items : List Item) (front : List ℕ) (len : ℕ) : Type 0 where
+  pub run : List ℕ
+  pub items_are : items ≡ map item.Byte run
+  pub room : length front ≡ 8
+  pub front_is : take len front ≡ take 8 run
+  pub len_is : len ≡ min (length run) 8
+
+-- no item yet
+pub front_none : (items : List Item) (front : List ℕ) → length front ≡ 8 → FrontSoFar (take 0 items) front 0
+front_none items front room = record { run = []; items_are = refl; room = room; front_is = refl; len_is = refl }
+
+-- one more byte, for which there is room
+pub front_byte : (items : List Item) (i : ℕ) (x : Item) (b len : ℕ) (front : List ℕ) → i < length items → x ≡ get_or items i x → x ≡ item.Byte b → len < 8 → FrontSoFar (take i items) front len → FrontSoFar (take (i + 1) items) (set front len b) (len + 1)
+front_byte items i x b len front within is byte few before =
+    let short : length before.run ≡ len = let l = before.len_is in omega arith in
+    record {
+      run = before.run ++ b ∷ [];
+      items_are = more_bytes items i x b before.run within is byte before.items_are;
+      room = length-set front len b ∙ before.room;
+      front_is = take_more_set front len b (let room = before.room in omega arith) ∙ ap (λ l. l ++ b ∷ []) (before.front_is ∙ take_all 8 before.run (omega arith)) ∙ sym (take_all 8 (before.run ++ b ∷ []) (let long = length-append before.run (b ∷ []) in omega arith));
+      len_is = let long = length-append before.run (b ∷ []) in omega arith;
+    }
+
+-- one more, for which there is none
+pub front_full : (items : List Item) (i : ℕ) (x : Item) (b len : ℕ) (front : List ℕ) → i < length items → x ≡ get_or items i x → x ≡ item.Byte b → 8 ≤ len → FrontSoFar (take i items) front len → FrontSoFar (take (i + 1) items) front len
+front_full items i x b len front within is byte many before =
+    let long : 8 ≤ length before.run = let l = before.len_is in omega arith in
+    record {
+      run = before.run ++ b ∷ [];
+      items_are = more_bytes items i x b before.run within is byte before.items_are;
+      room = before.room;
+      front_is = before.front_is ∙ sym (take-append-le 8 before.run (b ∷ []) long);
+      len_is = let more = length-append before.run (b ∷ []) in let l = before.len_is in omega arith;
+    }
+
+-- all items are bytes
+pub front_whole : (s : SequenceView) (items : List Item) (i : ℕ) (front : List ℕ) (len : ℕ) → s.position ≡ position.Variable → s.items ≡ items → length items ≤ i → 0 < len → FrontSoFar (take i items) front len → IsFixedFront s (take len front)
+front_whole s items i front len anywhere same all some before = record {
+  run = before.run;
+  is = record { anywhere = anywhere; items = same ∙ sym (take_all i items all) ∙ before.items_are };
+  some = let l = before.len_is in omega arith;
+  begins = before.front_is;
+}

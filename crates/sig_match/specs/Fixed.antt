@@ -1,5 +1,5 @@
 -- Sequences of fixed bytes alone: the states behind a piece of a file.
-use Rattle.std.specs.Prelude.{◌≡◌, ◌⊎◌, ℕ, ◌+◌, ◌-◌, ◌<◌, List, [], ◌∷◌, drop, length, map, min, ⊤}
+use Rattle.std.specs.Prelude.{◌≡◌, ◌⊎◌, ℕ, ◌+◌, ◌-◌, ◌<◌, List, [], ◌∷◌, drop, length, map, min, take, ⊤}
 use Rattle.sig_bits.specs.BitSets.{HasBit}
 use Rattle.sig_expr.specs.declared.item.Item.TheVariants as item
 use Rattle.sig_table.specs.declared.position.Position.TheVariants as position
@@ -9,6 +9,13 @@ use Rattle.sig_table.specs.Views.{SequenceView}
 pub record IsFixed (sequence : SequenceView) (run : List ℕ) : Type 0 where
   pub anywhere : sequence.position ≡ position.Variable
   pub items : sequence.items ≡ map item.Byte run
+
+-- the sequence is of that kind, with one byte and more, and these are its first ones, at most eight
+pub record IsFixedFront (sequence : SequenceView) (front : List ℕ) : Type 0 where
+  pub run : List ℕ
+  pub is : IsFixed sequence run
+  pub some : 0 < length run
+  pub begins : front ≡ take 8 run
 
 -- the bytes are those of the run, as far as both go
 abbrev pub Agrees : List ℕ → List ℕ → Type 0

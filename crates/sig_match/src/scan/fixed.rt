@@ -7,10 +7,11 @@
 //! Of a sequence of n bytes slot 1 is that of the bytes before it, slot k + 1 that of its k-th byte, and
 //! slot n + 2 that of the bytes behind it.
 
-ghost use Rattle.std.specs.Prelude.{◌≡◌, ◌⊎◌, ◌↔◌, ℕ, ◌+◌, ◌*◌, ◌<◌, IfOk, IsTrue, length, min};
+ghost use Rattle.std.specs.Prelude.{◌≡◌, ◌⊎◌, ◌↔◌, ℕ, ◌+◌, ◌*◌, ◌<◌, ◌≤◌, IfOk, IsTrue, length, min, take};
 ghost use Rattle.sig_bits.specs.BitSets.{HasBit};
-ghost use Rattle.sig_match.specs.Fixed.{Agrees, IsBehind, IsCarried, IsCut, IsFixed, IsInside};
+ghost use Rattle.sig_match.specs.Fixed.{Agrees, IsBehind, IsCarried, IsCut, IsFixed, IsFixedFront, IsInside};
 
+use crate::scan::way::FRONT;
 use memchr::memmem;
 use sig_bits::{clear, get_bit, set_bit};
 use sig_expr::Item;
@@ -37,6 +38,30 @@ pub(crate) fn run_of(alloc: Global, sequence: &Sequence) -> Result<Vec<u8>, Allo
         run.push(*byte)?;
     }
     Ok(run)
+}
+
+/// The first bytes, at most eight, of a sequence of fixed bytes alone that may begin anywhere, and how many they are.
+/// Of any other sequence none.
+pub(crate) fn fixed_front(sequence: &Sequence) -> ([u8; FRONT], usize)
+    ensures within { result.1 ≤ 8 }
+    ensures front { 0 < result.1 → IsFixedFront sequence.now (take result.1 result.0) }
+{
+    let mut front = [0; FRONT];
+    if !matches!(sequence.position(), Position::Variable) {
+        return (front, 0);
+    }
+    let items = sequence.expr().items();
+    let mut len = 0;
+    for item in items {
+        let Item::Byte(byte) = item else {
+            return (front, 0);
+        };
+        if len < FRONT {
+            front[len] = *byte;
+            len += 1;
+        }
+    }
+    (front, len)
 }
 
 /// Makes `to` the set behind the piece of a sequence of these bytes, which is at this set before it.

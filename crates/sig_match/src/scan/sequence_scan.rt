@@ -1,18 +1,19 @@
 //! One sequence of a scan: its automaton, and the states that it can be in.
 
-ghost use Rattle.std.specs.Prelude.{◌≡◌, ◌⊎◌, ◌↔◌, ◌++◌, ℕ, ◌≤◌, [], List, IfOk, IsTrue, drop, false, length};
+ghost use Rattle.std.specs.Prelude.{◌≡◌, ◌⊎◌, ◌↔◌, ◌++◌, ℕ, ◌*◌, ◌<◌, ◌≤◌, [], List, IfOk, IsTrue, drop, false, length, take};
 ghost use Rattle.sig_auto.specs.Runs.{IsStepOf};
 ghost use Rattle.sig_auto.specs.Trees.{whole_tree};
 ghost use Rattle.sig_auto.specs.TreeSlots.{set_len};
 ghost use Rattle.sig_bits.specs.BitSets.{HasBit};
 ghost use Rattle.sig_bits.specs.Bytes.{IsBytes};
+ghost use Rattle.sig_match.specs.Fixed.{IsFixedFront};
 ghost use Rattle.sig_match.specs.Rests.{IsReached, IsShedTo, LeadsAlike};
 ghost use Rattle.sig_match.specs.Scans.{IsSequenceScanOf};
 ghost use Rattle.sig_table.specs.Standing.{Stands};
 ghost use Rattle.sig_table.specs.Tables.{IsSequence};
 ghost use Rattle.sig_table.specs.Views.{SequenceView};
 
-use crate::scan::fixed::{run_of, write_behind};
+use crate::scan::fixed::{fixed_front, run_of, write_behind};
 use crate::scan::gapped::go_by_gap;
 use crate::scan::narrow::go_by_words;
 use crate::scan::piece::Piece;
@@ -22,7 +23,7 @@ use crate::scan::slide::{is_beside, slots_before_end, write_slid};
 use crate::scan::span::{climbs, may_rest};
 use crate::scan::way::{FRONT, Way, same_bytes};
 use sig_auto::Auto;
-use sig_bits::{and_any, clear, get_bit, set_bit, subset};
+use sig_bits::{ByteClass, and_any, clear, get_bit, set_bit, subset};
 use sig_expr::Item;
 use sig_table::Sequence;
 use std::alloc::{AllocError, Global};
@@ -147,15 +148,21 @@ impl SequenceScan {
         sequence: &Sequence,
         sieve: &mut Sieve,
     ) -> Result<(), AllocError>
+        requires { self.old.sequence ≡ sequence.now }
         ensures { self.new ≡ self.old }
     {
         if !may_rest(sequence) {
             return Ok(());
         }
-        let mut ahead = empty_set(alloc, &self.auto)?;
-        self.rest_behind(0x00, &mut ahead);
-        if self.way.len == 0 {
-            self.rest_behind(0xFF, &mut ahead);
+        let (front, len) = fixed_front(sequence);
+        if len > 0 {
+            self.rest_before(front, len);
+        } else {
+            let mut ahead = empty_set(alloc, &self.auto)?;
+            self.rest_behind(0x00, &mut ahead);
+            if self.way.len == 0 {
+                self.rest_behind(0xFF, &mut ahead);
+            }
         }
         if self.climbs {
             return Ok(());
@@ -178,6 +185,17 @@ impl SequenceScan {
             self.later = sieve.add(front, len)?;
         }
         Ok(())
+    }
+
+    // Remembers the set of the bytes before these, with which the sequence begins, and that it is left by them.
+    fn rest_before(&mut self, front: [u8; FRONT], len: usize)
+        requires within { len ≤ 8 }
+        requires front { IsFixedFront self.old.sequence (take len front) }
+        ensures { self.new ≡ self.old }
+    {
+        make_one(&mut self.rest, 1);
+        self.way = Way::by(ByteClass::of_byte(front[0]), front, len, 0, 0);
+        self.resting = false;
     }
 
     // Remembers the set behind two of these bytes and the way out of it, if the sequence can rest in it
@@ -612,6 +630,16 @@ fn bytes_behind_gap(items: &[Item]) -> ([u8; FRONT], usize)
         }
     }
     (front, len)
+}
+
+// Makes the set that of this state alone.
+fn make_one(set: &mut [u8], state: usize)
+    requires { state < 8 * length set.old }
+    ensures len { length set.new ≡ length set.old }
+    ensures one { (q : ℕ) → HasBit set.new q ↔ (q ≡ state) }
+{
+    clear(set);
+    set_bit(set, state);
 }
 
 // A set of no state.
