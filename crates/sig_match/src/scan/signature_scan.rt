@@ -43,6 +43,7 @@ impl SignatureScan {
         let mut scans = Vec::new(alloc);
         for sequence in sequences {
             if short_len_of(sequence).is_none() {
+                scans.reserve_exact(1)?;
                 scans.push(SequenceScan::of(alloc, sequence, sieve)?)?;
             }
         }
@@ -68,6 +69,7 @@ impl SignatureScan {
                 Outlook::Always => {}
                 Outlook::Open => {
                     if short_len_of(sequence).is_none() {
+                        scans.reserve_exact(1)?;
                         scans.push(SequenceScan::of(alloc, sequence, sieve)?)?;
                     }
                 }
