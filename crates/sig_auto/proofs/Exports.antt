@@ -3,3 +3,5 @@ pub use Rattle.sig_auto.proofs.RunLaws.{accepts_by_an_end, ends_in_a_slot, follo
 pub use Rattle.sig_auto.proofs.EndOrNotLemmas.{followed_is_state}
 pub use Rattle.sig_auto.proofs.MovesLemmas.{at_set, has_at, none_at}
 pub use Rattle.sig_auto.proofs.TakenLemmas.{length_classes}
+pub use Rattle.sig_auto.proofs.PassingLemmas.{Passes, runs_pass}
+pub use Rattle.sig_auto.proofs.WholeLemmas.{Long, Long-append, long_above, long_below, long_between}

@@ -13,6 +13,7 @@ mod LongGapLemmas
 mod MoveTreeLemmas
 mod MovesLemmas
 mod NextLemmas
+mod PassingLemmas
 mod PruneLemmas
 mod RowLemmas
 mod RowPushLemmas

@@ -89,7 +89,7 @@ reach (Or a b) before p trim slot =
     ]
 
 -- some slots come behind p, up to an end
-goes_on : (tree : Tree) (before p : ℕ) → IsTrim tree → IsSlot tree before p → (v : List ℕ) × Chain tree before p v
+pub goes_on : (tree : Tree) (before p : ℕ) → IsTrim tree → IsSlot tree before p → (v : List ℕ) × Chain tree before p v
 goes_on Never before p trim slot = absurd (omega arith)
 goes_on Empty before p trim slot = absurd (omega arith)
 goes_on (Slot c) before p trim slot = ([], eq-eqb p (before + 1) (omega arith))

@@ -11,7 +11,7 @@ use Rattle.sig_table.specs.declared.position.Position.{Position}
 use Rattle.sig_table.specs.declared.position.Position.TheVariants as position
 use Rattle.sig_table.specs.Standing.{Cut, Stands, StandsAt}
 use Rattle.sig_table.specs.Views.{SequenceView}
-use Rattle.sig_match.specs.Ends.{AreEndsOf, EndsView, HasWordIn, IsHeadOf, IsTailOf, ShortStand, is_short, item_len, left_behind, room_of, short_len}
+use Rattle.sig_match.specs.Ends.{AreEndsOf, EndsView, HasWordIn, IsHeadOf, IsTailOf, ShortStand, end_at, is_short, item_len, left_behind, room_of, short_len}
 use Rattle.sig_match.specs.Runs.{Bounds}
 use Rattle.sig_match.proofs.OutlookLemmas.{settled_by_bound}
 
@@ -102,13 +102,13 @@ left_exact n m (i ∷ items) h =
     left_step (n - m) k i items parts.1 (omega arith) ∙ ap (λ j. left_behind j items) order ∙ left_exact (n - k) m items parts.3
 
 -- how long the words of a short sequence are, and how far they reach
-record ShortWords (p : Position) (items : List Item) (len : ℕ) : Type 0 where
+pub record ShortWords (p : Position) (items : List Item) (len : ℕ) : Type 0 where
   pub room : ℕ
   pub room_is : room_of p ≡ Some room
   pub words : left_behind len items ≡ Some 0
   pub within : len ≤ room
 
-short_words : (p : Position) (items : List Item) (len : ℕ) → short_len (record { position = p; items = items }) ≡ Some len → ShortWords p items len
+pub short_words : (p : Position) (items : List Item) (len : ℕ) → short_len (record { position = p; items = items }) ≡ Some len → ShortWords p items len
 short_words p items len = by_room (room_of p) refl where
   by_left : (room : ℕ) → room_of p ≡ Some room → (left : Option ℕ) → left_behind room items ≡ left → option_map (λ l. room - l) left ≡ Some len → ShortWords p items len
   by_left room room_is None is h = absurd (cc)
@@ -133,10 +133,10 @@ short_exact s len short = (short_words s.position s.items len short).words
 pub short_bounds : (s : SequenceView) (len : ℕ) → short_len s ≡ Some len → Bounds (Lang s.items) len
 short_bounds s len short w word = let exact = Lang-length len 0 s.items w (short_exact s len short) word in omega arith
 
-room_max : (max room : ℕ) → (if nat_le max 4096 then Some (4096 - max) else None) ≡ Some room → room + max ≡ 4096
-room_max max room h = elim (cases_Bool (nat_le max 4096)) [
-  | inl fits ↦ (let is : Some (4096 - max) ≡ Some room = sym (ap (λ (b : Bool). if b then Some (4096 - max) else None) fits) ∙ h in let same : 4096 - max ≡ room = (cc) in let le = leb-true max 4096 fits in omega arith)
-  | inr over ↦ (let none : None ≡ Some room = sym (ap (λ (b : Bool). if b then Some (4096 - max) else None) over) ∙ h in absurd (cc))
+pub room_max : (most max room : ℕ) → (if nat_le max most then Some (most - max) else None) ≡ Some room → room + max ≡ most
+room_max most max room h = elim (cases_Bool (nat_le max most)) [
+  | inl fits ↦ (let is : Some (most - max) ≡ Some room = sym (ap (λ (b : Bool). if b then Some (most - max) else None) fits) ∙ h in let same : most - max ≡ room = (cc) in let le = leb-true max most fits in omega arith)
+  | inr over ↦ (let none : None ≡ Some room = sym (ap (λ (b : Bool). if b then Some (most - max) else None) over) ∙ h in absurd (cc))
 ]
 
 -- a part of a file that is a word cuts it
@@ -274,12 +274,6 @@ tail_tells min max len items tail file bounds reach is =
       )
     ]
 
--- which of the ends tells of a sequence
-abbrev pub end_at : Position → EndsView → List ℕ
-end_at (position.Bof min max) ends = ends.head
-end_at (position.Eof min max) ends = ends.tail
-end_at position.Variable ends = ends.tail
-
 -- it stands at the start or at the end of a file
 pub short_not_anywhere : (s : SequenceView) (len : ℕ) → short_len s ≡ Some len → s.position ≡ position.Variable → ⊥
 short_not_anywhere s len short anywhere =
@@ -291,8 +285,8 @@ short_not_anywhere s len short anywhere =
 pub ends_tell : (s : SequenceView) (len : ℕ) (ends : EndsView) (file : List ℕ) → short_len s ≡ Some len → AreEndsOf ends file → Stands s (end_at s.position ends) ↔ Stands s file
 ends_tell s len ends file short are = at (s.position) (short_words s.position s.items len short) where
   at : (p : Position) → ShortWords p s.items len → StandsAt p s.items (end_at p ends) ↔ StandsAt p s.items file
-  at (position.Bof min max) of = let room = room_max max of.room of.room_is in let within = of.within in head_tells min max len s.items ends.head file (short_bounds s len short) (omega arith) are.head
-  at (position.Eof min max) of = let room = room_max max of.room of.room_is in let within = of.within in tail_tells min max len s.items ends.tail file (short_bounds s len short) (omega arith) are.tail
+  at (position.Bof min max) of = let room = room_max 4095 max of.room of.room_is in let within = of.within in head_tells min max len s.items ends.head file (short_bounds s len short) (omega arith) are.head
+  at (position.Eof min max) of = let room = room_max 4096 max of.room of.room_is in let within = of.within in tail_tells min max len s.items ends.tail file (short_bounds s len short) (omega arith) are.tail
   at position.Variable of = let none : None ≡ Some of.room = of.room_is in absurd (cc)
 
 -- what is not within is past

@@ -10,6 +10,7 @@ mod GappedLemmas
 mod HitLaws
 mod HitLemmas
 mod ItemLemmas
+mod KeptLemmas
 mod LangLemmas
 mod LeftLemmas
 mod ListingLemmas

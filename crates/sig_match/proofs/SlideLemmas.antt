@@ -46,11 +46,11 @@ track_within (Or a b) before t track =
     track
 
 -- how many slots the items have
-abbrev slots_before : List Item → ℕ
+abbrev pub slots_before : List Item → ℕ
 slots_before [] = 0
 slots_before (i ∷ items) = slots_of (item_tree i) + slots_before items
 
-items_slots : (items : List Item) (last : Tree) → slots_of (items_tree items last) ≡ slots_before items + slots_of last
+pub items_slots : (items : List Item) (last : Tree) → slots_of (items_tree items last) ≡ slots_before items + slots_of last
 items_slots [] last = omega arith
 items_slots (i ∷ items) last = let later = items_slots items last in omega arith
 
@@ -183,7 +183,7 @@ module _ (items : List Item) (min max : ℕ) where
       }
 
 -- all slots of a gap take any byte
-any_there : (n j : ℕ) → get_or (replicate n any) j any ≡ any
+pub any_there : (n j : ℕ) → get_or (replicate n any) j any ≡ any
 any_there zero j = refl
 any_there (suc n) zero = refl
 any_there (suc n) (suc j) = any_there n j

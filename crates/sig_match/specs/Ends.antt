@@ -46,9 +46,9 @@ abbrev pub left_behind : ℕ → List Item → Option ℕ
 left_behind n [] = Some n
 left_behind n (i ∷ items) = option_and_then (λ len. if nat_le len n then left_behind (n - len) items else None) (item_len i)
 
--- how many of the bytes at the end at which it stands are those of a word, wherever it is within the offsets
+-- how many of the bytes at the end at which it stands are those of a word, wherever it is within the offsets; behind a word at the start there is one byte more
 abbrev pub room_of : Position → Option ℕ
-room_of (position.Bof min max) = if nat_le max 4096 then Some (4096 - max) else None
+room_of (position.Bof min max) = if nat_le max 4095 then Some (4095 - max) else None
 room_of (position.Eof min max) = if nat_le max 4096 then Some (4096 - max) else None
 room_of position.Variable = None
 
@@ -67,6 +67,12 @@ long_of sequences = filter (λ s. not (is_short s)) sequences
 -- each short one of the sequences stands in the file
 abbrev pub ShortStand : List ℕ → List SequenceView → Type 0
 ShortStand file sequences = All (λ s. IsTrue (is_short s) → Stands s file) sequences
+
+-- which of the ends tells of a sequence
+abbrev pub end_at : Position → EndsView → List ℕ
+end_at (position.Bof min max) ends = ends.head
+end_at (position.Eof min max) ends = ends.tail
+end_at position.Variable ends = ends.tail
 
 -- a word of the items, of so many bytes, stands at one of these places of the file
 abbrev pub HasWordIn : ℕ → ℕ → ℕ → List Item → List ℕ → Type 0

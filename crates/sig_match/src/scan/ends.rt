@@ -150,12 +150,14 @@ pub(crate) fn short_len_of(sequence: &Sequence) -> Option<usize>
     Some(room - left)
 }
 
-// How many of the bytes of an end are those of a word, wherever it stands within the offsets.
+// How many of the bytes of an end are those of a word, wherever it stands within the offsets. At the start of a file one
+// byte more is kept: so the states in which runs of the file end are those of its head.
 fn room_at(position: Position) -> Option<usize>
     ensures { result ≡ room_of position }
 {
     match position {
-        Position::Bof { max, .. } | Position::Eof { max, .. } => ENDS.checked_sub(max as usize),
+        Position::Bof { max, .. } => (ENDS - 1).checked_sub(max as usize),
+        Position::Eof { max, .. } => ENDS.checked_sub(max as usize),
         Position::Variable => None,
     }
 }

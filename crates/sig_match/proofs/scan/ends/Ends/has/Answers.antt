@@ -3,8 +3,8 @@ use Rattle.std.specs.Prelude.{IsTrue}
 use Rattle.sig_table.specs.declared.position.Position.{Position}
 use Rattle.sig_table.specs.declared.position.Position.TheVariants as position
 use Rattle.sig_table.specs.Standing.{Stands}
-use Rattle.sig_match.specs.Ends.{EndsView}
-use Rattle.sig_match.proofs.EndsLemmas.{end_at, ends_tell, short_not_anywhere}
+use Rattle.sig_match.specs.Ends.{EndsView, end_at}
+use Rattle.sig_match.proofs.EndsLemmas.{ends_tell, short_not_anywhere}
 use Rattle.sig_match.proofs.scan.ends.Ends.has.Goals as goal
 
 pub returns-in-Variable : goal.returns-in-Variable
