@@ -194,7 +194,7 @@ impl SequenceScan {
         ensures { self.new ≡ self.old }
     {
         make_one(&mut self.rest, 1);
-        self.way = Way::by(ByteClass::of_byte(front[0]), front, len, 0, 0);
+        self.way = Way::by_byte(front[0], front, len);
         self.resting = false;
     }
 

@@ -6,7 +6,7 @@
 //! begin anywhere the front is `42 43`, and it skips one byte; of `41??42` it is `42`, and skips two. So the
 //! file is searched for a front, with an exit before it, and not stepped through.
 
-ghost use Rattle.std.specs.Prelude.{◌≡◌, ◌≢◌, ℕ, ◌+◌, ◌<◌, ◌≤◌, false, IfSome, IsTrue, drop, length, slice_index, take};
+ghost use Rattle.std.specs.Prelude.{◌≡◌, ◌≢◌, ◌↔◌, ℕ, ◌+◌, ◌<◌, ◌≤◌, false, IfSome, IsTrue, drop, length, slice_index, take};
 ghost use Rattle.sig_bits.specs.ByteClasses.{Holds};
 ghost use Rattle.sig_bits.specs.Bytes.{IsBytes};
 ghost use Rattle.sig_match.specs.Rests.{IsLone, IsNoWay, IsPassed, Misses};
@@ -50,7 +50,31 @@ impl Way {
         ensures exits { (b : ℕ) → ¬ Holds result.exits b }
         ensures len { result.len ≡ 0 }
     {
-        Way::on(ByteClass::none(), 0)
+        Way {
+            exits: ByteClass::none(),
+            lone: None,
+            front: [0; FRONT],
+            len: 0,
+            skip: 0,
+            depth: 0,
+        }
+    }
+
+    /// On this byte alone, with so many of these bytes from it on.
+    pub(crate) fn by_byte(byte: u8, front: [u8; FRONT], len: usize) -> Way
+        requires { len ≤ 8 }
+        ensures exits { (b : ℕ) → Holds result.exits b ↔ (b ≡ byte) }
+        ensures front { front_of result ≡ front_at 0 0 (take len front) }
+        ensures len { result.len ≡ len }
+    {
+        Way {
+            exits: ByteClass::of_byte(byte),
+            lone: Some(byte),
+            front,
+            len,
+            skip: 0,
+            depth: 0,
+        }
     }
 
     /// On these exits, with no known bytes.

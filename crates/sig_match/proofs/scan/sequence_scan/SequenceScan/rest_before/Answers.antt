@@ -20,18 +20,17 @@ invariant_of-self c =
     let s : SequenceView = c.self.inside.auto in
     let tree : Tree = whole_tree s in
     let front : List ℕ = take c.args.len c.args.front in
-    let exits : ByteClass = c.of_byte.result in
+    let exits : ByteClass = c.by_byte-self-inside.result.exits in
     let long : length set ≡ vec_len c.self.inside.rest = c.make_one.ensures.len ∙ c.deref_mut.ensures.len in
     let same = written set (drop (length set) c.self.inside.rest.items) (vec_len c.self.inside.rest) long in
     let of : IsFixedFront s front = subst (λ (t : SequenceView). IsFixedFront t front) (sym (ap (λ (v : SequenceScanView). v.sequence) c.self.view_is)) c.requires.front in
     let begins : get_or front 0 0 ≡ get_or c.args.front 0 0 = get_or-take c.args.len c.args.front 0 0 (front_some s c.args.len c.args.front of) in
-    let first : (b : ℕ) → Holds exits b ↔ (b ≡ get_or front 0 0) = rw begins c.of_byte.ensures in
-    let rests : IsRest tree set exits (front_at 0 0 front) = fixed_rests s front set exits of c.make_one.ensures.one first in
-    let by : IsRest tree set c.by-self-inside.result.exits (front_at 0 0 front) = subst (λ (e : ByteClass). IsRest tree set e (front_at 0 0 front)) (sym c.by-self-inside.ensures.exits) rests in (
+    let first : (b : ℕ) → Holds exits b ↔ (b ≡ get_or front 0 0) = rw begins c.by_byte-self-inside.ensures.exits in
+    let rests : IsRest tree set exits (front_at 0 0 front) = fixed_rests s front set exits of c.make_one.ensures.one first in (
       inv.0,
       inv.1,
       ap length same ∙ c.make_one.ensures.len ∙ ap length c.deref_mut.ensures.value ∙ inv.2,
-      subst (λ (l : List ℕ). IsRest tree l c.by-self-inside.result.exits (front_of c.by-self-inside.result)) (sym same) (subst (λ (f : FrontAt). IsRest tree set c.by-self-inside.result.exits f) (sym c.by-self-inside.ensures.front) by),
+      subst (λ (l : List ℕ). IsRest tree l exits (front_of c.by_byte-self-inside.result)) (sym same) (subst (λ (f : FrontAt). IsRest tree set exits f) (sym c.by_byte-self-inside.ensures.front) rests),
       λ t. absurd (false≢true t),
       inv.5,
       inv.6,
