@@ -21,8 +21,8 @@ IsCounted node.Empty = ⊤
 IsCounted (node.Slot c) = ⊤
 IsCounted (node.Run run) = ⊤
 IsCounted (node.Gap least most) = ⊤
-IsCounted (node.Then' p a q b s) = IsCounted a × IsCounted b × Counts s (Then (seen a) (seen b))
-IsCounted (node.Or' p a q b s) = IsCounted a × IsCounted b × Counts s (Or (seen a) (seen b))
+IsCounted (node.Then' p a b s) = IsCounted a × IsCounted b × Counts s (Then (seen a) (seen b))
+IsCounted (node.Or' p a b s) = IsCounted a × IsCounted b × Counts s (Or (seen a) (seen b))
 
 pub IsCounted-prop : (node : Node) → IsProp (IsCounted node)
 IsCounted-prop node.Never = Unit-prop
@@ -30,5 +30,5 @@ IsCounted-prop node.Empty = Unit-prop
 IsCounted-prop (node.Slot c) = Unit-prop
 IsCounted-prop (node.Run run) = Unit-prop
 IsCounted-prop (node.Gap least most) = Unit-prop
-IsCounted-prop (node.Then' p a q b s) = hlevel (props, IsCounted-prop a, IsCounted-prop b)
-IsCounted-prop (node.Or' p a q b s) = hlevel (props, IsCounted-prop a, IsCounted-prop b)
+IsCounted-prop (node.Then' p a b s) = hlevel (props, IsCounted-prop a, IsCounted-prop b)
+IsCounted-prop (node.Or' p a b s) = hlevel (props, IsCounted-prop a, IsCounted-prop b)

@@ -9,5 +9,5 @@ seen node.Empty = Empty
 seen (node.Slot c) = Slot c
 seen (node.Run run) = row_tree run.items
 seen (node.Gap min max) = Gap min max
-seen (node.Then' p a q b s) = Then (seen a) (seen b)
-seen (node.Or' p a q b s) = Or (seen a) (seen b)
+seen (node.Then' p a b s) = Then (seen a) (seen b)
+seen (node.Or' p a b s) = Or (seen a) (seen b)

@@ -32,24 +32,24 @@ impl Node {
                 !goes_in_run(before, slots, p) && !goes_in_run(before, slots, q)
             }
             Node::Gap { .. } => false,
-            Node::Then(a, b, _) => {
-                let has_p = a.has_slot(before, p);
-                let has_q = a.has_slot(before, q);
+            Node::Then(both, _) => {
+                let has_p = both.first.has_slot(before, p);
+                let has_q = both.first.has_slot(before, q);
                 if !has_p && !has_q {
-                    return b.go_on_alike(before + a.slots(), p, q);
+                    return both.second.go_on_alike(before + both.first.slots(), p, q);
                 }
-                if b.slots() == 0 {
-                    return a.go_on_alike(before, p, q);
+                if both.second.slots() == 0 {
+                    return both.first.go_on_alike(before, p, q);
                 }
                 if !has_p || !has_q {
                     return false;
                 }
-                let within = a.go_on_alike(before, p, q);
-                within && a.is_last(before, p) == a.is_last(before, q)
+                let within = both.first.go_on_alike(before, p, q);
+                within && both.first.is_last(before, p) == both.first.is_last(before, q)
             }
-            Node::Or(a, b, _) => {
-                let first = a.go_on_alike(before, p, q);
-                first && b.go_on_alike(before + a.slots(), p, q)
+            Node::Or(both, _) => {
+                let first = both.first.go_on_alike(before, p, q);
+                first && both.second.go_on_alike(before + both.first.slots(), p, q)
             }
         }
     }

@@ -30,9 +30,9 @@ impl Node {
             Node::Never | Node::Empty | Node::Gap { .. } => {}
             Node::Slot(class) => class.add_cuts(cuts),
             Node::Run(classes) => add_all_cuts(classes.as_slice(), cuts),
-            Node::Then(x, y, _) | Node::Or(x, y, _) => {
-                x.add_cuts(cuts);
-                y.add_cuts(cuts);
+            Node::Then(both, _) | Node::Or(both, _) => {
+                both.first.add_cuts(cuts);
+                both.second.add_cuts(cuts);
             }
         }
     }
@@ -45,9 +45,9 @@ impl Node {
             Node::Never | Node::Empty | Node::Gap { .. } => {}
             Node::Slot(class) => class.add_alone(alone),
             Node::Run(classes) => add_all_alone(classes.as_slice(), alone),
-            Node::Then(x, y, _) | Node::Or(x, y, _) => {
-                x.add_alone(alone);
-                y.add_alone(alone);
+            Node::Then(both, _) | Node::Or(both, _) => {
+                both.first.add_alone(alone);
+                both.second.add_alone(alone);
             }
         }
     }
@@ -92,20 +92,20 @@ impl Node {
         match self {
             Node::Never | Node::Empty | Node::Slot(_) | Node::Gap { .. } => None,
             Node::Run(classes) => class_behind(classes.as_slice(), before, p),
-            Node::Then(a, b, _) => {
-                let between = before + a.slots();
+            Node::Then(both, _) => {
+                let between = before + both.first.slots();
                 if between < p {
-                    b.class_behind(between, p)
+                    both.second.class_behind(between, p)
                 } else {
-                    a.class_behind(before, p)
+                    both.first.class_behind(before, p)
                 }
             }
-            Node::Or(a, b, _) => {
-                let between = before + a.slots();
+            Node::Or(both, _) => {
+                let between = before + both.first.slots();
                 if between < p {
-                    b.class_behind(between, p)
+                    both.second.class_behind(between, p)
                 } else {
-                    a.class_behind(before, p)
+                    both.first.class_behind(before, p)
                 }
             }
         }
@@ -130,15 +130,15 @@ impl Node {
                     *live = ByteClass::all();
                 }
             }
-            Node::Then(a, b, _) => {
-                a.add_begin(live, cuts);
-                if a.is_nullable() {
-                    b.add_begin(live, cuts);
+            Node::Then(both, _) => {
+                both.first.add_begin(live, cuts);
+                if both.first.is_nullable() {
+                    both.second.add_begin(live, cuts);
                 }
             }
-            Node::Or(a, b, _) => {
-                a.add_begin(live, cuts);
-                b.add_begin(live, cuts);
+            Node::Or(both, _) => {
+                both.first.add_begin(live, cuts);
+                both.second.add_begin(live, cuts);
             }
         }
     }
@@ -175,23 +175,23 @@ impl Node {
                 }
                 ends_gap(before, *min, end, p)
             }
-            Node::Then(a, b, _) => {
-                let between = before + a.slots();
+            Node::Then(both, _) => {
+                let between = before + both.first.slots();
                 if between < p {
-                    return b.add_behind(between, p, live, cuts);
+                    return both.second.add_behind(between, p, live, cuts);
                 }
-                if !a.add_behind(before, p, live, cuts) {
+                if !both.first.add_behind(before, p, live, cuts) {
                     return false;
                 }
-                b.add_begin(live, cuts);
-                b.is_nullable()
+                both.second.add_begin(live, cuts);
+                both.second.is_nullable()
             }
-            Node::Or(a, b, _) => {
-                let between = before + a.slots();
+            Node::Or(both, _) => {
+                let between = before + both.first.slots();
                 if between < p {
-                    b.add_behind(between, p, live, cuts)
+                    both.second.add_behind(between, p, live, cuts)
                 } else {
-                    a.add_behind(before, p, live, cuts)
+                    both.first.add_behind(before, p, live, cuts)
                 }
             }
         }

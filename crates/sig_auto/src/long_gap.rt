@@ -34,9 +34,9 @@ impl Node {
             Node::Never | Node::Empty | Node::Slot(_) | Node::Run(_) => None,
             Node::Gap { max: None, .. } => None,
             Node::Gap { min, max: Some(_) } => gap_behind(before, *min, self.slots()),
-            Node::Then(a, b, _) | Node::Or(a, b, _) => {
-                let first = a.long_gap(before);
-                longer(first, b.long_gap(before + a.slots()))
+            Node::Then(both, _) | Node::Or(both, _) => {
+                let first = both.first.long_gap(before);
+                longer(first, both.second.long_gap(before + both.first.slots()))
             }
         }
     }

@@ -280,15 +280,15 @@ impl Node {
                 *min,
                 max.is_none(),
             )),
-            Node::Then(a, b, _) => {
-                let x = a.add_moves(before, moves)?;
-                let y = b.add_moves(before + a.slots(), moves)?;
+            Node::Then(both, _) => {
+                let x = both.first.add_moves(before, moves)?;
+                let y = both.second.add_moves(before + both.first.slots(), moves)?;
                 moves.link(x.last, y.first, y.lone)?;
-                Some(x.then(a.is_nullable(), y, b.is_nullable()))
+                Some(x.then(both.first.is_nullable(), y, both.second.is_nullable()))
             }
-            Node::Or(a, b, _) => {
-                let x = a.add_moves(before, moves)?;
-                let y = b.add_moves(before + a.slots(), moves)?;
+            Node::Or(both, _) => {
+                let x = both.first.add_moves(before, moves)?;
+                let y = both.second.add_moves(before + both.first.slots(), moves)?;
                 Some(Ends {
                     first: x.first.union(y.first),
                     last: x.last.union(y.last),

@@ -17,6 +17,7 @@ use crate::run::{all_same_side, ends_run};
 use std::alloc::{AllocError, Global};
 
 // A tree over slots. Those of the left branch stand before those of the right.
+#[cycle(node)]
 #[derive(Debug, Drop)]
 pub(crate) enum Node {
     // No word.
@@ -30,9 +31,17 @@ pub(crate) enum Node {
     // Any bytes, at least `min` and, where there is a `max`, at most so many.
     Gap { min: u32, max: Option<u32> },
     // A word of the first, and then one of the second.
-    Then(Box<Node>, Box<Node>, Summary),
+    Then(Box<Branches>, Summary),
     // A word of one of the two.
-    Or(Box<Node>, Box<Node>, Summary),
+    Or(Box<Branches>, Summary),
+}
+
+// The two branches of a tree. They lie side by side, so a node has one box.
+#[cycle(node)]
+#[derive(Debug, Drop)]
+pub(crate) struct Branches {
+    pub(crate) first: Node,
+    pub(crate) second: Node,
 }
 
 // What is known of a tree without a walk over it: how many slots it has, up to one past the limit,
@@ -55,7 +64,11 @@ impl Node {
             slots: (a.count() + b.count()).min(65536),
             nullable: a.is_nullable() && b.is_nullable(),
         };
-        Ok(Node::Then(Box::new(alloc, a)?, Box::new(alloc, b)?, summary))
+        let both = Branches {
+            first: a,
+            second: b,
+        };
+        Ok(Node::Then(Box::new(alloc, both)?, summary))
     }
 
     // The node of one of the two.
@@ -69,7 +82,11 @@ impl Node {
             slots: (a.count() + b.count()).min(65536),
             nullable: a.is_nullable() || b.is_nullable(),
         };
-        Ok(Node::Or(Box::new(alloc, a)?, Box::new(alloc, b)?, summary))
+        let both = Branches {
+            first: a,
+            second: b,
+        };
+        Ok(Node::Or(Box::new(alloc, both)?, summary))
     }
 
     // How many slots it has, up to one past the limit.
@@ -83,7 +100,7 @@ impl Node {
             Node::Run(classes) => classes.len().min(65536) as u32,
             Node::Gap { min, max: None } => (*min).min(65535) + 1,
             Node::Gap { max: Some(max), .. } => (*max).min(65536),
-            Node::Then(_, _, summary) | Node::Or(_, _, summary) => summary.slots,
+            Node::Then(_, summary) | Node::Or(_, summary) => summary.slots,
         }
     }
 
@@ -106,7 +123,7 @@ impl Node {
             Node::Empty => true,
             Node::Run(classes) => classes.is_empty(),
             Node::Gap { min, .. } => *min == 0,
-            Node::Then(_, _, summary) | Node::Or(_, _, summary) => summary.nullable,
+            Node::Then(_, summary) | Node::Or(_, summary) => summary.nullable,
         }
     }
 
@@ -133,10 +150,13 @@ impl Node {
             Node::Slot(_) => q == before + 1,
             Node::Run(_) => q == before + 1,
             Node::Gap { .. } => self.slots() > 0 && q == before + 1,
-            Node::Then(a, b, _) => {
-                a.is_first(before, q) || (a.is_nullable() && b.is_first(before + a.slots(), q))
+            Node::Then(both, _) => {
+                both.first.is_first(before, q)
+                    || (both.first.is_nullable()
+                        && both.second.is_first(before + both.first.slots(), q))
             }
-            Node::Or(a, b, _) => a.is_first(before, q) || b.is_first(before + a.slots(), q),
+            Node::Or(both, _) => both.first.is_first(before, q)
+                || both.second.is_first(before + both.first.slots(), q),
         }
     }
 
@@ -151,20 +171,20 @@ impl Node {
             Node::Slot(_) => p == before + 1,
             Node::Run(_) => ends_run(before, self.slots(), p),
             Node::Gap { min, .. } => ends_gap(before, *min, before + self.slots(), p),
-            Node::Then(a, b, _) => {
-                let between = before + a.slots();
+            Node::Then(both, _) => {
+                let between = before + both.first.slots();
                 if p <= between {
-                    b.is_nullable() && a.is_last(before, p)
+                    both.second.is_nullable() && both.first.is_last(before, p)
                 } else {
-                    b.is_last(between, p)
+                    both.second.is_last(between, p)
                 }
             }
-            Node::Or(a, b, _) => {
-                let between = before + a.slots();
+            Node::Or(both, _) => {
+                let between = before + both.first.slots();
                 if p <= between {
-                    a.is_last(before, p)
+                    both.first.is_last(before, p)
                 } else {
-                    b.is_last(between, p)
+                    both.second.is_last(between, p)
                 }
             }
         }
@@ -186,13 +206,14 @@ impl Node {
                 let last = before + self.slots();
                 (before < p && p < last && q == p + 1) || (max.is_none() && p == last && q == p)
             }
-            Node::Then(a, b, _) => {
-                let between = before + a.slots();
-                a.follows(before, p, q)
-                    || b.follows(between, p, q)
-                    || (a.is_last(before, p) && b.is_first(between, q))
+            Node::Then(both, _) => {
+                let between = before + both.first.slots();
+                both.first.follows(before, p, q)
+                    || both.second.follows(between, p, q)
+                    || (both.first.is_last(before, p) && both.second.is_first(between, q))
             }
-            Node::Or(a, b, _) => a.follows(before, p, q) || b.follows(before + a.slots(), p, q),
+            Node::Or(both, _) => both.first.follows(before, p, q)
+                || both.second.follows(before + both.first.slots(), p, q),
         }
     }
 
@@ -208,12 +229,12 @@ impl Node {
             Node::Never | Node::Empty | Node::Gap { .. } => Class::ANY,
             Node::Slot(class) => *class,
             Node::Run(classes) => classes[q - before - 1],
-            Node::Then(a, b, _) | Node::Or(a, b, _) => {
-                let between = before + a.slots();
+            Node::Then(both, _) | Node::Or(both, _) => {
+                let between = before + both.first.slots();
                 if q <= between {
-                    a.class(before, q)
+                    both.first.class(before, q)
                 } else {
-                    b.class(between, q)
+                    both.second.class(between, q)
                 }
             }
         }
@@ -227,7 +248,8 @@ impl Node {
             Node::Never | Node::Empty | Node::Gap { .. } => true,
             Node::Slot(class) => class.same_side(a, b),
             Node::Run(classes) => all_same_side(classes.as_slice(), a, b),
-            Node::Then(x, y, _) | Node::Or(x, y, _) => x.same_side(a, b) && y.same_side(a, b),
+            Node::Then(both, _) | Node::Or(both, _) => both.first.same_side(a, b)
+                && both.second.same_side(a, b),
         }
     }
 }

@@ -158,9 +158,9 @@ impl Node {
             }
             Node::Run(run) => classes.extend_from_slice(run.as_slice()),
             Node::Gap { .. } => push_any(classes, self.slots()),
-            Node::Then(a, b, _) | Node::Or(a, b, _) => {
-                a.push_classes(classes)?;
-                b.push_classes(classes)
+            Node::Then(both, _) | Node::Or(both, _) => {
+                both.first.push_classes(classes)?;
+                both.second.push_classes(classes)
             }
         }
     }

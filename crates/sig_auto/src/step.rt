@@ -68,13 +68,16 @@ impl Node {
                 step_gap(before, self.slots(), *max, enter, from, to);
                 gap_leads(before, self.slots(), *min, enter, from)
             }
-            Node::Then(a, b, _) => {
-                let led = a.step(before, enter, byte, from, to);
-                b.step(before + a.slots(), led, byte, from, to)
+            Node::Then(both, _) => {
+                let led = both.first.step(before, enter, byte, from, to);
+                both.second
+                    .step(before + both.first.slots(), led, byte, from, to)
             }
-            Node::Or(a, b, _) => {
-                let first = a.step(before, enter, byte, from, to);
-                let second = b.step(before + a.slots(), enter, byte, from, to);
+            Node::Or(both, _) => {
+                let first = both.first.step(before, enter, byte, from, to);
+                let second = both
+                    .second
+                    .step(before + both.first.slots(), enter, byte, from, to);
                 first || second
             }
         }
@@ -99,12 +102,15 @@ impl Node {
                 }
             }
             Node::Gap { min, .. } => gap_leads(before, self.slots(), *min, enter, from),
-            Node::Then(a, b, _) => {
-                let led = a.goes_on(before, enter, from);
-                b.goes_on(before + a.slots(), led, from)
+            Node::Then(both, _) => {
+                let led = both.first.goes_on(before, enter, from);
+                both.second.goes_on(before + both.first.slots(), led, from)
             }
-            Node::Or(a, b, _) => {
-                a.goes_on(before, enter, from) || b.goes_on(before + a.slots(), enter, from)
+            Node::Or(both, _) => {
+                both.first.goes_on(before, enter, from)
+                    || both
+                        .second
+                        .goes_on(before + both.first.slots(), enter, from)
             }
         }
     }

@@ -160,34 +160,34 @@ impl Node {
                     Next::none()
                 }
             }
-            Node::Then(a, b, _) => {
-                let between = before + a.slots();
+            Node::Then(both, _) => {
+                let between = before + both.first.slots();
                 if above < between {
-                    let next = a.next_begin(before, byte, above);
+                    let next = both.first.next_begin(before, byte, above);
                     if let Some(q) = next.slot {
                         return Next {
                             slot: Some(q),
-                            last: next.last & !a.is_nullable(),
+                            last: next.last & !both.first.is_nullable(),
                         };
                     }
                 }
-                if a.is_nullable() {
-                    b.next_begin(between, byte, above)
+                if both.first.is_nullable() {
+                    both.second.next_begin(between, byte, above)
                 } else {
                     Next::none()
                 }
             }
-            Node::Or(a, b, _) => {
-                let between = before + a.slots();
+            Node::Or(both, _) => {
+                let between = before + both.first.slots();
                 if above < between {
-                    if let Some(q) = a.next_begin(before, byte, above).slot {
+                    if let Some(q) = both.first.next_begin(before, byte, above).slot {
                         return Next {
                             slot: Some(q),
                             last: false,
                         };
                     }
                 }
-                b.next_begin(between, byte, above)
+                both.second.next_begin(between, byte, above)
             }
         }
     }
@@ -220,12 +220,12 @@ impl Node {
                     (Next::none(), ended)
                 }
             }
-            Node::Then(a, b, _) => {
-                let between = before + a.slots();
+            Node::Then(both, _) => {
+                let between = before + both.first.slots();
                 if between < p {
-                    return b.next_gone(between, p, byte, above);
+                    return both.second.next_gone(between, p, byte, above);
                 }
-                let (next, ended) = a.next_gone(before, p, byte, above);
+                let (next, ended) = both.first.next_gone(before, p, byte, above);
                 if !ended {
                     return (next, false);
                 }
@@ -235,17 +235,20 @@ impl Node {
                             slot: Some(q),
                             last: false,
                         },
-                        b.is_nullable(),
+                        both.second.is_nullable(),
                     ),
-                    None => (b.next_begin(between, byte, above), b.is_nullable()),
+                    None => (
+                        both.second.next_begin(between, byte, above),
+                        both.second.is_nullable(),
+                    ),
                 }
             }
-            Node::Or(a, b, _) => {
-                let between = before + a.slots();
+            Node::Or(both, _) => {
+                let between = before + both.first.slots();
                 if between < p {
-                    b.next_gone(between, p, byte, above)
+                    both.second.next_gone(between, p, byte, above)
                 } else {
-                    a.next_gone(before, p, byte, above)
+                    both.first.next_gone(before, p, byte, above)
                 }
             }
         }

@@ -1,4 +1,5 @@
 use Rattle.std.proofs.Common.{◌≡◌, ◌+◌, ap, subst, sym, ◌∙◌, arith}
+use Rattle.sig_auto.specs.declared.node.Branches.{Branches}
 use Rattle.sig_auto.specs.Cuts.{AddsCuts, AddsLive}
 use Rattle.sig_auto.specs.Local.{is_nullable}
 use Rattle.sig_auto.specs.Seen.{seen}
@@ -22,53 +23,53 @@ returns-then-slots-gt0-clause-live t c before =
 
 pub returns-then-is_nullable-clause-live : goal.returns-then-is_nullable-clause-live
 returns-then-is_nullable-clause-live t c before =
-    let one : seen c.deref.result.now ≡ seen c.in-Then.a.value = ap seen c.deref.ensures in
-    let two : seen c.deref-then-is_nullable.result.now ≡ seen c.in-Then.b.value = ap seen c.deref-then-is_nullable.ensures in
-    let skipped = sym (c.is_nullable.ensures ∙ ap (λ node. is_nullable (seen node)) (c.deref-in-Then.ensures ∙ sym c.deref.ensures)) ∙ c.if-is_nullable.true in
-    live_both c.args.live.now c.add_begin.new.live c.add_begin-then-is_nullable.new.live (BeginsOn (seen c.args.self.now) before) (BeginsOn (seen c.deref.result.now) before) (BeginsOn (seen c.deref-then-is_nullable.result.now) (before + slots_of (seen c.deref.result.now)))
-    (λ b q. begins_after (seen c.args.self.now) (seen c.in-Then.a.value) (seen c.in-Then.b.value) (seen c.deref.result.now) (seen c.deref-then-is_nullable.result.now) before b q (ap seen c.in-Then.is) one two skipped)
-    (c.add_begin.ensures.live before) (c.add_begin-then-is_nullable.ensures.live (before + slots_of (seen c.deref.result.now)))
+    let one : seen c.deref.result.now.first ≡ seen c.in-Then.both.value.first = ap (λ (both : Branches). seen both.first) c.deref.ensures in
+    let two : seen c.deref-then-is_nullable.result.now.second ≡ seen c.in-Then.both.value.second = ap (λ (both : Branches). seen both.second) c.deref-then-is_nullable.ensures in
+    let skipped = sym (c.is_nullable.ensures ∙ ap (λ (both : Branches). is_nullable (seen both.first)) (c.deref-in-Then.ensures ∙ sym c.deref.ensures)) ∙ c.if-is_nullable.true in
+    live_both c.args.live.now c.add_begin.new.live c.add_begin-then-is_nullable.new.live (BeginsOn (seen c.args.self.now) before) (BeginsOn (seen c.deref.result.now.first) before) (BeginsOn (seen c.deref-then-is_nullable.result.now.second) (before + slots_of (seen c.deref.result.now.first)))
+    (λ b q. begins_after (seen c.args.self.now) (seen c.in-Then.both.value.first) (seen c.in-Then.both.value.second) (seen c.deref.result.now.first) (seen c.deref-then-is_nullable.result.now.second) before b q (ap seen c.in-Then.is) one two skipped)
+    (c.add_begin.ensures.live before) (c.add_begin-then-is_nullable.ensures.live (before + slots_of (seen c.deref.result.now.first)))
 
 pub returns-then-is_nullable-clause-cuts : goal.returns-then-is_nullable-clause-cuts
 returns-then-is_nullable-clause-cuts t c before =
-    let one : seen c.deref.result.now ≡ seen c.in-Then.a.value = ap seen c.deref.ensures in
-    let two : seen c.deref-then-is_nullable.result.now ≡ seen c.in-Then.b.value = ap seen c.deref-then-is_nullable.ensures in
-    let skipped = sym (c.is_nullable.ensures ∙ ap (λ node. is_nullable (seen node)) (c.deref-in-Then.ensures ∙ sym c.deref.ensures)) ∙ c.if-is_nullable.true in
-    cuts_both c.args.cuts.now c.add_begin.new.cuts c.add_begin-then-is_nullable.new.cuts (BeginsOn (seen c.args.self.now) before) (BeginsOn (seen c.deref.result.now) before) (BeginsOn (seen c.deref-then-is_nullable.result.now) (before + slots_of (seen c.deref.result.now)))
-    (λ b q. begins_after (seen c.args.self.now) (seen c.in-Then.a.value) (seen c.in-Then.b.value) (seen c.deref.result.now) (seen c.deref-then-is_nullable.result.now) before b q (ap seen c.in-Then.is) one two skipped)
-    (c.add_begin.ensures.cuts before) (c.add_begin-then-is_nullable.ensures.cuts (before + slots_of (seen c.deref.result.now)))
+    let one : seen c.deref.result.now.first ≡ seen c.in-Then.both.value.first = ap (λ (both : Branches). seen both.first) c.deref.ensures in
+    let two : seen c.deref-then-is_nullable.result.now.second ≡ seen c.in-Then.both.value.second = ap (λ (both : Branches). seen both.second) c.deref-then-is_nullable.ensures in
+    let skipped = sym (c.is_nullable.ensures ∙ ap (λ (both : Branches). is_nullable (seen both.first)) (c.deref-in-Then.ensures ∙ sym c.deref.ensures)) ∙ c.if-is_nullable.true in
+    cuts_both c.args.cuts.now c.add_begin.new.cuts c.add_begin-then-is_nullable.new.cuts (BeginsOn (seen c.args.self.now) before) (BeginsOn (seen c.deref.result.now.first) before) (BeginsOn (seen c.deref-then-is_nullable.result.now.second) (before + slots_of (seen c.deref.result.now.first)))
+    (λ b q. begins_after (seen c.args.self.now) (seen c.in-Then.both.value.first) (seen c.in-Then.both.value.second) (seen c.deref.result.now.first) (seen c.deref-then-is_nullable.result.now.second) before b q (ap seen c.in-Then.is) one two skipped)
+    (c.add_begin.ensures.cuts before) (c.add_begin-then-is_nullable.ensures.cuts (before + slots_of (seen c.deref.result.now.first)))
 
 pub returns-else-is_nullable-clause-live : goal.returns-else-is_nullable-clause-live
 returns-else-is_nullable-clause-live t c before =
-    let one : seen c.deref.result.now ≡ seen c.in-Then.a.value = ap seen c.deref.ensures in
-    let needed = sym (c.is_nullable.ensures ∙ ap (λ node. is_nullable (seen node)) (c.deref-in-Then.ensures ∙ sym c.deref.ensures)) ∙ c.if-is_nullable.false in
-    live_as c.args.live.now c.add_begin.new.live (BeginsOn (seen c.args.self.now) before) (BeginsOn (seen c.deref.result.now) before)
-    (λ b q. begins_first (seen c.args.self.now) (seen c.in-Then.a.value) (seen c.in-Then.b.value) (seen c.deref.result.now) before b q (ap seen c.in-Then.is) one needed)
+    let one : seen c.deref.result.now.first ≡ seen c.in-Then.both.value.first = ap (λ (both : Branches). seen both.first) c.deref.ensures in
+    let needed = sym (c.is_nullable.ensures ∙ ap (λ (both : Branches). is_nullable (seen both.first)) (c.deref-in-Then.ensures ∙ sym c.deref.ensures)) ∙ c.if-is_nullable.false in
+    live_as c.args.live.now c.add_begin.new.live (BeginsOn (seen c.args.self.now) before) (BeginsOn (seen c.deref.result.now.first) before)
+    (λ b q. begins_first (seen c.args.self.now) (seen c.in-Then.both.value.first) (seen c.in-Then.both.value.second) (seen c.deref.result.now.first) before b q (ap seen c.in-Then.is) one needed)
     (c.add_begin.ensures.live before)
 
 pub returns-else-is_nullable-clause-cuts : goal.returns-else-is_nullable-clause-cuts
 returns-else-is_nullable-clause-cuts t c before =
-    let one : seen c.deref.result.now ≡ seen c.in-Then.a.value = ap seen c.deref.ensures in
-    let needed = sym (c.is_nullable.ensures ∙ ap (λ node. is_nullable (seen node)) (c.deref-in-Then.ensures ∙ sym c.deref.ensures)) ∙ c.if-is_nullable.false in
-    cuts_as c.args.cuts.now c.add_begin.new.cuts (BeginsOn (seen c.args.self.now) before) (BeginsOn (seen c.deref.result.now) before)
-    (λ b q. begins_first (seen c.args.self.now) (seen c.in-Then.a.value) (seen c.in-Then.b.value) (seen c.deref.result.now) before b q (ap seen c.in-Then.is) one needed)
+    let one : seen c.deref.result.now.first ≡ seen c.in-Then.both.value.first = ap (λ (both : Branches). seen both.first) c.deref.ensures in
+    let needed = sym (c.is_nullable.ensures ∙ ap (λ (both : Branches). is_nullable (seen both.first)) (c.deref-in-Then.ensures ∙ sym c.deref.ensures)) ∙ c.if-is_nullable.false in
+    cuts_as c.args.cuts.now c.add_begin.new.cuts (BeginsOn (seen c.args.self.now) before) (BeginsOn (seen c.deref.result.now.first) before)
+    (λ b q. begins_first (seen c.args.self.now) (seen c.in-Then.both.value.first) (seen c.in-Then.both.value.second) (seen c.deref.result.now.first) before b q (ap seen c.in-Then.is) one needed)
     (c.add_begin.ensures.cuts before)
 
 pub returns-in-Or-clause-live : goal.returns-in-Or-clause-live
 returns-in-Or-clause-live t c before =
-    let one : seen c.deref-in-Or.result.now ≡ seen c.in-Or.a.value = ap seen c.deref-in-Or.ensures in
-    let two : seen c.deref-in-Or-2.result.now ≡ seen c.in-Or.b.value = ap seen c.deref-in-Or-2.ensures in
-    live_both c.args.live.now c.add_begin-in-Or.new.live c.add_begin-in-Or-2.new.live (BeginsOn (seen c.args.self.now) before) (BeginsOn (seen c.deref-in-Or.result.now) before) (BeginsOn (seen c.deref-in-Or-2.result.now) (before + slots_of (seen c.deref-in-Or.result.now)))
-    (λ b q. begins_either (seen c.args.self.now) (seen c.in-Or.a.value) (seen c.in-Or.b.value) (seen c.deref-in-Or.result.now) (seen c.deref-in-Or-2.result.now) before b q (ap seen c.in-Or.is) one two)
-    (c.add_begin-in-Or.ensures.live before) (c.add_begin-in-Or-2.ensures.live (before + slots_of (seen c.deref-in-Or.result.now)))
+    let one : seen c.deref-in-Or.result.now.first ≡ seen c.in-Or.both.value.first = ap (λ (both : Branches). seen both.first) c.deref-in-Or.ensures in
+    let two : seen c.deref-in-Or-2.result.now.second ≡ seen c.in-Or.both.value.second = ap (λ (both : Branches). seen both.second) c.deref-in-Or-2.ensures in
+    live_both c.args.live.now c.add_begin-in-Or.new.live c.add_begin-in-Or-2.new.live (BeginsOn (seen c.args.self.now) before) (BeginsOn (seen c.deref-in-Or.result.now.first) before) (BeginsOn (seen c.deref-in-Or-2.result.now.second) (before + slots_of (seen c.deref-in-Or.result.now.first)))
+    (λ b q. begins_either (seen c.args.self.now) (seen c.in-Or.both.value.first) (seen c.in-Or.both.value.second) (seen c.deref-in-Or.result.now.first) (seen c.deref-in-Or-2.result.now.second) before b q (ap seen c.in-Or.is) one two)
+    (c.add_begin-in-Or.ensures.live before) (c.add_begin-in-Or-2.ensures.live (before + slots_of (seen c.deref-in-Or.result.now.first)))
 
 pub returns-in-Or-clause-cuts : goal.returns-in-Or-clause-cuts
 returns-in-Or-clause-cuts t c before =
-    let one : seen c.deref-in-Or.result.now ≡ seen c.in-Or.a.value = ap seen c.deref-in-Or.ensures in
-    let two : seen c.deref-in-Or-2.result.now ≡ seen c.in-Or.b.value = ap seen c.deref-in-Or-2.ensures in
-    cuts_both c.args.cuts.now c.add_begin-in-Or.new.cuts c.add_begin-in-Or-2.new.cuts (BeginsOn (seen c.args.self.now) before) (BeginsOn (seen c.deref-in-Or.result.now) before) (BeginsOn (seen c.deref-in-Or-2.result.now) (before + slots_of (seen c.deref-in-Or.result.now)))
-    (λ b q. begins_either (seen c.args.self.now) (seen c.in-Or.a.value) (seen c.in-Or.b.value) (seen c.deref-in-Or.result.now) (seen c.deref-in-Or-2.result.now) before b q (ap seen c.in-Or.is) one two)
-    (c.add_begin-in-Or.ensures.cuts before) (c.add_begin-in-Or-2.ensures.cuts (before + slots_of (seen c.deref-in-Or.result.now)))
+    let one : seen c.deref-in-Or.result.now.first ≡ seen c.in-Or.both.value.first = ap (λ (both : Branches). seen both.first) c.deref-in-Or.ensures in
+    let two : seen c.deref-in-Or-2.result.now.second ≡ seen c.in-Or.both.value.second = ap (λ (both : Branches). seen both.second) c.deref-in-Or-2.ensures in
+    cuts_both c.args.cuts.now c.add_begin-in-Or.new.cuts c.add_begin-in-Or-2.new.cuts (BeginsOn (seen c.args.self.now) before) (BeginsOn (seen c.deref-in-Or.result.now.first) before) (BeginsOn (seen c.deref-in-Or-2.result.now.second) (before + slots_of (seen c.deref-in-Or.result.now.first)))
+    (λ b q. begins_either (seen c.args.self.now) (seen c.in-Or.both.value.first) (seen c.in-Or.both.value.second) (seen c.deref-in-Or.result.now.first) (seen c.deref-in-Or-2.result.now.second) before b q (ap seen c.in-Or.is) one two)
+    (c.add_begin-in-Or.ensures.cuts before) (c.add_begin-in-Or-2.ensures.cuts (before + slots_of (seen c.deref-in-Or.result.now.first)))
 
 pub returns-in-Run-clause-live : goal.returns-in-Run-clause-live
 returns-in-Run-clause-live t c before =

@@ -1,5 +1,6 @@
 use Rattle.std.proofs.Common.{◌≡◌, ◌+◌, ◌&&◌, true, false, not, inl, inr, subst, sym, ap, ◌∙◌}
 use Rattle.std.proofs.lemmas.Bool.{false≢true}
+use Rattle.sig_auto.specs.declared.node.Branches.{Branches}
 use Rattle.sig_auto.specs.Cuts.{AddsLive}
 use Rattle.sig_auto.specs.Local.{is_last, is_nullable}
 use Rattle.sig_auto.specs.Seen.{seen}
@@ -43,107 +44,107 @@ returns-after-p-end-clause-live t c =
 
 pub returns-then-between-p-clause-live : goal.returns-then-between-p-clause-live
 returns-then-between-p-clause-live t c =
-    let many : c.slots-in-Then.result ≡ slots_of (seen c.in-Then.a.value) = c.slots-in-Then.ensures ∙ ap (λ node. slots_of (seen node)) c.deref.ensures in
-    live_as c.args.live.now c.add_behind.new.live (GoesOn (seen c.args.self.now) c.args.before c.args.p) (GoesOn (seen c.deref-then-between-p.result.now) (c.args.before + c.slots-in-Then.result) c.args.p)
-    (λ b q. goes_past (seen c.args.self.now) (seen c.in-Then.a.value) (seen c.in-Then.b.value) (seen c.deref-then-between-p.result.now) c.slots-in-Then.result c.args.before c.args.p b q (ap seen c.in-Then.is) (ap seen c.deref-then-between-p.ensures) many c.if-between-p.true)
+    let many : c.slots-in-Then.result ≡ slots_of (seen c.in-Then.both.value.first) = c.slots-in-Then.ensures ∙ ap (λ (both : Branches). slots_of (seen both.first)) c.deref.ensures in
+    live_as c.args.live.now c.add_behind.new.live (GoesOn (seen c.args.self.now) c.args.before c.args.p) (GoesOn (seen c.deref-then-between-p.result.now.second) (c.args.before + c.slots-in-Then.result) c.args.p)
+    (λ b q. goes_past (seen c.args.self.now) (seen c.in-Then.both.value.first) (seen c.in-Then.both.value.second) (seen c.deref-then-between-p.result.now.second) c.slots-in-Then.result c.args.before c.args.p b q (ap seen c.in-Then.is) (ap (λ (both : Branches). seen both.second) c.deref-then-between-p.ensures) many c.if-between-p.true)
     c.add_behind.ensures.live
 
 pub returns-then-between-p-clause-cuts : goal.returns-then-between-p-clause-cuts
 returns-then-between-p-clause-cuts t c =
-    let many : c.slots-in-Then.result ≡ slots_of (seen c.in-Then.a.value) = c.slots-in-Then.ensures ∙ ap (λ node. slots_of (seen node)) c.deref.ensures in
-    cuts_as c.args.cuts.now c.add_behind.new.cuts (GoesOn (seen c.args.self.now) c.args.before c.args.p) (GoesOn (seen c.deref-then-between-p.result.now) (c.args.before + c.slots-in-Then.result) c.args.p)
-    (λ b q. goes_past (seen c.args.self.now) (seen c.in-Then.a.value) (seen c.in-Then.b.value) (seen c.deref-then-between-p.result.now) c.slots-in-Then.result c.args.before c.args.p b q (ap seen c.in-Then.is) (ap seen c.deref-then-between-p.ensures) many c.if-between-p.true)
+    let many : c.slots-in-Then.result ≡ slots_of (seen c.in-Then.both.value.first) = c.slots-in-Then.ensures ∙ ap (λ (both : Branches). slots_of (seen both.first)) c.deref.ensures in
+    cuts_as c.args.cuts.now c.add_behind.new.cuts (GoesOn (seen c.args.self.now) c.args.before c.args.p) (GoesOn (seen c.deref-then-between-p.result.now.second) (c.args.before + c.slots-in-Then.result) c.args.p)
+    (λ b q. goes_past (seen c.args.self.now) (seen c.in-Then.both.value.first) (seen c.in-Then.both.value.second) (seen c.deref-then-between-p.result.now.second) c.slots-in-Then.result c.args.before c.args.p b q (ap seen c.in-Then.is) (ap (λ (both : Branches). seen both.second) c.deref-then-between-p.ensures) many c.if-between-p.true)
     c.add_behind.ensures.cuts
 
 pub returns-then-between-p-clause-last : goal.returns-then-between-p-clause-last
 returns-then-between-p-clause-last t c =
-    let many : c.slots-in-Then.result ≡ slots_of (seen c.in-Then.a.value) = c.slots-in-Then.ensures ∙ ap (λ node. slots_of (seen node)) c.deref.ensures in
-    c.add_behind.ensures.last ∙ ap (λ node. is_last (seen node) (c.args.before + c.slots-in-Then.result) c.args.p) c.deref-then-between-p.ensures
-    ∙ then_ends_second (seen c.args.self.now) (seen c.in-Then.a.value) (seen c.in-Then.b.value) c.args.before c.slots-in-Then.result c.args.p (ap seen c.in-Then.is) many c.if-between-p.true
+    let many : c.slots-in-Then.result ≡ slots_of (seen c.in-Then.both.value.first) = c.slots-in-Then.ensures ∙ ap (λ (both : Branches). slots_of (seen both.first)) c.deref.ensures in
+    c.add_behind.ensures.last ∙ ap (λ (both : Branches). is_last (seen both.second) (c.args.before + c.slots-in-Then.result) c.args.p) c.deref-then-between-p.ensures
+    ∙ then_ends_second (seen c.args.self.now) (seen c.in-Then.both.value.first) (seen c.in-Then.both.value.second) c.args.before c.slots-in-Then.result c.args.p (ap seen c.in-Then.is) many c.if-between-p.true
 
 pub returns-then-not-add_behind-clause-live : goal.returns-then-not-add_behind-clause-live
 returns-then-not-add_behind-clause-live t c =
-    let many : c.slots-in-Then.result ≡ slots_of (seen c.in-Then.a.value) = c.slots-in-Then.ensures ∙ ap (λ node. slots_of (seen node)) c.deref.ensures in
-    live_as c.args.live.now c.add_behind-in-Then.new.live (GoesOn (seen c.args.self.now) c.args.before c.args.p) (GoesOn (seen c.deref-in-Then.result.now) c.args.before c.args.p)
-    (λ b q. goes_inside (seen c.args.self.now) (seen c.in-Then.a.value) (seen c.in-Then.b.value) (seen c.deref-in-Then.result.now) c.slots-in-Then.result c.args.before c.args.p b q (ap seen c.in-Then.is) (ap seen c.deref-in-Then.ensures) many c.if-between-p.false (sym c.add_behind-in-Then.ensures.last ∙ c.if-not-add_behind.true))
+    let many : c.slots-in-Then.result ≡ slots_of (seen c.in-Then.both.value.first) = c.slots-in-Then.ensures ∙ ap (λ (both : Branches). slots_of (seen both.first)) c.deref.ensures in
+    live_as c.args.live.now c.add_behind-in-Then.new.live (GoesOn (seen c.args.self.now) c.args.before c.args.p) (GoesOn (seen c.deref-in-Then.result.now.first) c.args.before c.args.p)
+    (λ b q. goes_inside (seen c.args.self.now) (seen c.in-Then.both.value.first) (seen c.in-Then.both.value.second) (seen c.deref-in-Then.result.now.first) c.slots-in-Then.result c.args.before c.args.p b q (ap seen c.in-Then.is) (ap (λ (both : Branches). seen both.first) c.deref-in-Then.ensures) many c.if-between-p.false (sym c.add_behind-in-Then.ensures.last ∙ c.if-not-add_behind.true))
     c.add_behind-in-Then.ensures.live
 
 pub returns-then-not-add_behind-clause-cuts : goal.returns-then-not-add_behind-clause-cuts
 returns-then-not-add_behind-clause-cuts t c =
-    let many : c.slots-in-Then.result ≡ slots_of (seen c.in-Then.a.value) = c.slots-in-Then.ensures ∙ ap (λ node. slots_of (seen node)) c.deref.ensures in
-    cuts_as c.args.cuts.now c.add_behind-in-Then.new.cuts (GoesOn (seen c.args.self.now) c.args.before c.args.p) (GoesOn (seen c.deref-in-Then.result.now) c.args.before c.args.p)
-    (λ b q. goes_inside (seen c.args.self.now) (seen c.in-Then.a.value) (seen c.in-Then.b.value) (seen c.deref-in-Then.result.now) c.slots-in-Then.result c.args.before c.args.p b q (ap seen c.in-Then.is) (ap seen c.deref-in-Then.ensures) many c.if-between-p.false (sym c.add_behind-in-Then.ensures.last ∙ c.if-not-add_behind.true))
+    let many : c.slots-in-Then.result ≡ slots_of (seen c.in-Then.both.value.first) = c.slots-in-Then.ensures ∙ ap (λ (both : Branches). slots_of (seen both.first)) c.deref.ensures in
+    cuts_as c.args.cuts.now c.add_behind-in-Then.new.cuts (GoesOn (seen c.args.self.now) c.args.before c.args.p) (GoesOn (seen c.deref-in-Then.result.now.first) c.args.before c.args.p)
+    (λ b q. goes_inside (seen c.args.self.now) (seen c.in-Then.both.value.first) (seen c.in-Then.both.value.second) (seen c.deref-in-Then.result.now.first) c.slots-in-Then.result c.args.before c.args.p b q (ap seen c.in-Then.is) (ap (λ (both : Branches). seen both.first) c.deref-in-Then.ensures) many c.if-between-p.false (sym c.add_behind-in-Then.ensures.last ∙ c.if-not-add_behind.true))
     c.add_behind-in-Then.ensures.cuts
 
 pub returns-then-not-add_behind-clause-last : goal.returns-then-not-add_behind-clause-last
 returns-then-not-add_behind-clause-last t c =
-    let many : c.slots-in-Then.result ≡ slots_of (seen c.in-Then.a.value) = c.slots-in-Then.ensures ∙ ap (λ node. slots_of (seen node)) c.deref.ensures in
-    let more : false ≡ is_last (seen c.in-Then.a.value) c.args.before c.args.p = sym c.if-not-add_behind.true ∙ c.add_behind-in-Then.ensures.last ∙ ap (λ node. is_last (seen node) c.args.before c.args.p) c.deref-in-Then.ensures in
-    ap (λ x. x && is_nullable (seen c.in-Then.b.value)) more
-    ∙ then_ends_first (seen c.args.self.now) (seen c.in-Then.a.value) (seen c.in-Then.b.value) c.args.before c.slots-in-Then.result c.args.p (ap seen c.in-Then.is) many c.if-between-p.false
+    let many : c.slots-in-Then.result ≡ slots_of (seen c.in-Then.both.value.first) = c.slots-in-Then.ensures ∙ ap (λ (both : Branches). slots_of (seen both.first)) c.deref.ensures in
+    let more : false ≡ is_last (seen c.in-Then.both.value.first) c.args.before c.args.p = sym c.if-not-add_behind.true ∙ c.add_behind-in-Then.ensures.last ∙ ap (λ (both : Branches). is_last (seen both.first) c.args.before c.args.p) c.deref-in-Then.ensures in
+    ap (λ x. x && is_nullable (seen c.in-Then.both.value.second)) more
+    ∙ then_ends_first (seen c.args.self.now) (seen c.in-Then.both.value.first) (seen c.in-Then.both.value.second) c.args.before c.slots-in-Then.result c.args.p (ap seen c.in-Then.is) many c.if-between-p.false
 
 pub returns-else-not-add_behind-clause-live : goal.returns-else-not-add_behind-clause-live
 returns-else-not-add_behind-clause-live t c =
-    let one : seen c.deref-in-Then.result.now ≡ seen c.in-Then.a.value = ap seen c.deref-in-Then.ensures in
-    let two : seen c.deref-in-Then-2.result.now ≡ seen c.in-Then.b.value = ap seen c.deref-in-Then-2.ensures in
-    live_both c.args.live.now c.add_behind-in-Then.new.live c.add_begin.new.live (GoesOn (seen c.args.self.now) c.args.before c.args.p) (GoesOn (seen c.deref-in-Then.result.now) c.args.before c.args.p) (BeginsOn (seen c.deref-in-Then-2.result.now) (c.args.before + slots_of (seen c.deref-in-Then.result.now)))
-    (λ b q. goes_over (seen c.args.self.now) (seen c.in-Then.a.value) (seen c.in-Then.b.value) (seen c.deref-in-Then.result.now) (seen c.deref-in-Then-2.result.now) c.args.before c.args.p b q (ap seen c.in-Then.is) one two (sym c.add_behind-in-Then.ensures.last ∙ c.if-not-add_behind.false))
-    c.add_behind-in-Then.ensures.live (c.add_begin.ensures.live (c.args.before + slots_of (seen c.deref-in-Then.result.now)))
+    let one : seen c.deref-in-Then.result.now.first ≡ seen c.in-Then.both.value.first = ap (λ (both : Branches). seen both.first) c.deref-in-Then.ensures in
+    let two : seen c.deref-in-Then-2.result.now.second ≡ seen c.in-Then.both.value.second = ap (λ (both : Branches). seen both.second) c.deref-in-Then-2.ensures in
+    live_both c.args.live.now c.add_behind-in-Then.new.live c.add_begin.new.live (GoesOn (seen c.args.self.now) c.args.before c.args.p) (GoesOn (seen c.deref-in-Then.result.now.first) c.args.before c.args.p) (BeginsOn (seen c.deref-in-Then-2.result.now.second) (c.args.before + slots_of (seen c.deref-in-Then.result.now.first)))
+    (λ b q. goes_over (seen c.args.self.now) (seen c.in-Then.both.value.first) (seen c.in-Then.both.value.second) (seen c.deref-in-Then.result.now.first) (seen c.deref-in-Then-2.result.now.second) c.args.before c.args.p b q (ap seen c.in-Then.is) one two (sym c.add_behind-in-Then.ensures.last ∙ c.if-not-add_behind.false))
+    c.add_behind-in-Then.ensures.live (c.add_begin.ensures.live (c.args.before + slots_of (seen c.deref-in-Then.result.now.first)))
 
 pub returns-else-not-add_behind-clause-cuts : goal.returns-else-not-add_behind-clause-cuts
 returns-else-not-add_behind-clause-cuts t c =
-    let one : seen c.deref-in-Then.result.now ≡ seen c.in-Then.a.value = ap seen c.deref-in-Then.ensures in
-    let two : seen c.deref-in-Then-2.result.now ≡ seen c.in-Then.b.value = ap seen c.deref-in-Then-2.ensures in
-    cuts_both c.args.cuts.now c.add_behind-in-Then.new.cuts c.add_begin.new.cuts (GoesOn (seen c.args.self.now) c.args.before c.args.p) (GoesOn (seen c.deref-in-Then.result.now) c.args.before c.args.p) (BeginsOn (seen c.deref-in-Then-2.result.now) (c.args.before + slots_of (seen c.deref-in-Then.result.now)))
-    (λ b q. goes_over (seen c.args.self.now) (seen c.in-Then.a.value) (seen c.in-Then.b.value) (seen c.deref-in-Then.result.now) (seen c.deref-in-Then-2.result.now) c.args.before c.args.p b q (ap seen c.in-Then.is) one two (sym c.add_behind-in-Then.ensures.last ∙ c.if-not-add_behind.false))
-    c.add_behind-in-Then.ensures.cuts (c.add_begin.ensures.cuts (c.args.before + slots_of (seen c.deref-in-Then.result.now)))
+    let one : seen c.deref-in-Then.result.now.first ≡ seen c.in-Then.both.value.first = ap (λ (both : Branches). seen both.first) c.deref-in-Then.ensures in
+    let two : seen c.deref-in-Then-2.result.now.second ≡ seen c.in-Then.both.value.second = ap (λ (both : Branches). seen both.second) c.deref-in-Then-2.ensures in
+    cuts_both c.args.cuts.now c.add_behind-in-Then.new.cuts c.add_begin.new.cuts (GoesOn (seen c.args.self.now) c.args.before c.args.p) (GoesOn (seen c.deref-in-Then.result.now.first) c.args.before c.args.p) (BeginsOn (seen c.deref-in-Then-2.result.now.second) (c.args.before + slots_of (seen c.deref-in-Then.result.now.first)))
+    (λ b q. goes_over (seen c.args.self.now) (seen c.in-Then.both.value.first) (seen c.in-Then.both.value.second) (seen c.deref-in-Then.result.now.first) (seen c.deref-in-Then-2.result.now.second) c.args.before c.args.p b q (ap seen c.in-Then.is) one two (sym c.add_behind-in-Then.ensures.last ∙ c.if-not-add_behind.false))
+    c.add_behind-in-Then.ensures.cuts (c.add_begin.ensures.cuts (c.args.before + slots_of (seen c.deref-in-Then.result.now.first)))
 
 pub returns-else-not-add_behind-clause-last : goal.returns-else-not-add_behind-clause-last
 returns-else-not-add_behind-clause-last t c =
-    let many : c.slots-in-Then.result ≡ slots_of (seen c.in-Then.a.value) = c.slots-in-Then.ensures ∙ ap (λ node. slots_of (seen node)) c.deref.ensures in
-    let ended : true ≡ is_last (seen c.in-Then.a.value) c.args.before c.args.p = sym c.if-not-add_behind.false ∙ c.add_behind-in-Then.ensures.last ∙ ap (λ node. is_last (seen node) c.args.before c.args.p) c.deref-in-Then.ensures in
-    c.is_nullable.ensures ∙ ap (λ node. is_nullable (seen node)) c.deref-in-Then-3.ensures ∙ ap (λ x. x && is_nullable (seen c.in-Then.b.value)) ended
-    ∙ then_ends_first (seen c.args.self.now) (seen c.in-Then.a.value) (seen c.in-Then.b.value) c.args.before c.slots-in-Then.result c.args.p (ap seen c.in-Then.is) many c.if-between-p.false
+    let many : c.slots-in-Then.result ≡ slots_of (seen c.in-Then.both.value.first) = c.slots-in-Then.ensures ∙ ap (λ (both : Branches). slots_of (seen both.first)) c.deref.ensures in
+    let ended : true ≡ is_last (seen c.in-Then.both.value.first) c.args.before c.args.p = sym c.if-not-add_behind.false ∙ c.add_behind-in-Then.ensures.last ∙ ap (λ (both : Branches). is_last (seen both.first) c.args.before c.args.p) c.deref-in-Then.ensures in
+    c.is_nullable.ensures ∙ ap (λ (both : Branches). is_nullable (seen both.second)) c.deref-in-Then-3.ensures ∙ ap (λ x. x && is_nullable (seen c.in-Then.both.value.second)) ended
+    ∙ then_ends_first (seen c.args.self.now) (seen c.in-Then.both.value.first) (seen c.in-Then.both.value.second) c.args.before c.slots-in-Then.result c.args.p (ap seen c.in-Then.is) many c.if-between-p.false
 
 pub returns-then-between-p-2-clause-live : goal.returns-then-between-p-2-clause-live
 returns-then-between-p-2-clause-live t c =
-    let many : c.slots-in-Or.result ≡ slots_of (seen c.in-Or.a.value) = c.slots-in-Or.ensures ∙ ap (λ node. slots_of (seen node)) c.deref-in-Or.ensures in
-    live_as c.args.live.now c.add_behind-then-between-p-2.new.live (GoesOn (seen c.args.self.now) c.args.before c.args.p) (GoesOn (seen c.deref-then-between-p-2.result.now) (c.args.before + c.slots-in-Or.result) c.args.p)
-    (λ b q. goes_past_one (seen c.args.self.now) (seen c.in-Or.a.value) (seen c.in-Or.b.value) (seen c.deref-then-between-p-2.result.now) c.slots-in-Or.result c.args.before c.args.p b q (ap seen c.in-Or.is) (ap seen c.deref-then-between-p-2.ensures) many c.if-between-p-2.true)
+    let many : c.slots-in-Or.result ≡ slots_of (seen c.in-Or.both.value.first) = c.slots-in-Or.ensures ∙ ap (λ (both : Branches). slots_of (seen both.first)) c.deref-in-Or.ensures in
+    live_as c.args.live.now c.add_behind-then-between-p-2.new.live (GoesOn (seen c.args.self.now) c.args.before c.args.p) (GoesOn (seen c.deref-then-between-p-2.result.now.second) (c.args.before + c.slots-in-Or.result) c.args.p)
+    (λ b q. goes_past_one (seen c.args.self.now) (seen c.in-Or.both.value.first) (seen c.in-Or.both.value.second) (seen c.deref-then-between-p-2.result.now.second) c.slots-in-Or.result c.args.before c.args.p b q (ap seen c.in-Or.is) (ap (λ (both : Branches). seen both.second) c.deref-then-between-p-2.ensures) many c.if-between-p-2.true)
     c.add_behind-then-between-p-2.ensures.live
 
 pub returns-else-between-p-2-clause-live : goal.returns-else-between-p-2-clause-live
 returns-else-between-p-2-clause-live t c =
-    let many : c.slots-in-Or.result ≡ slots_of (seen c.in-Or.a.value) = c.slots-in-Or.ensures ∙ ap (λ node. slots_of (seen node)) c.deref-in-Or.ensures in
-    live_as c.args.live.now c.add_behind-else-between-p-2.new.live (GoesOn (seen c.args.self.now) c.args.before c.args.p) (GoesOn (seen c.deref-else-between-p-2.result.now) c.args.before c.args.p)
-    (λ b q. goes_inside_one (seen c.args.self.now) (seen c.in-Or.a.value) (seen c.in-Or.b.value) (seen c.deref-else-between-p-2.result.now) c.slots-in-Or.result c.args.before c.args.p b q (ap seen c.in-Or.is) (ap seen c.deref-else-between-p-2.ensures) many c.if-between-p-2.false)
+    let many : c.slots-in-Or.result ≡ slots_of (seen c.in-Or.both.value.first) = c.slots-in-Or.ensures ∙ ap (λ (both : Branches). slots_of (seen both.first)) c.deref-in-Or.ensures in
+    live_as c.args.live.now c.add_behind-else-between-p-2.new.live (GoesOn (seen c.args.self.now) c.args.before c.args.p) (GoesOn (seen c.deref-else-between-p-2.result.now.first) c.args.before c.args.p)
+    (λ b q. goes_inside_one (seen c.args.self.now) (seen c.in-Or.both.value.first) (seen c.in-Or.both.value.second) (seen c.deref-else-between-p-2.result.now.first) c.slots-in-Or.result c.args.before c.args.p b q (ap seen c.in-Or.is) (ap (λ (both : Branches). seen both.first) c.deref-else-between-p-2.ensures) many c.if-between-p-2.false)
     c.add_behind-else-between-p-2.ensures.live
 
 pub returns-then-between-p-2-clause-cuts : goal.returns-then-between-p-2-clause-cuts
 returns-then-between-p-2-clause-cuts t c =
-    let many : c.slots-in-Or.result ≡ slots_of (seen c.in-Or.a.value) = c.slots-in-Or.ensures ∙ ap (λ node. slots_of (seen node)) c.deref-in-Or.ensures in
-    cuts_as c.args.cuts.now c.add_behind-then-between-p-2.new.cuts (GoesOn (seen c.args.self.now) c.args.before c.args.p) (GoesOn (seen c.deref-then-between-p-2.result.now) (c.args.before + c.slots-in-Or.result) c.args.p)
-    (λ b q. goes_past_one (seen c.args.self.now) (seen c.in-Or.a.value) (seen c.in-Or.b.value) (seen c.deref-then-between-p-2.result.now) c.slots-in-Or.result c.args.before c.args.p b q (ap seen c.in-Or.is) (ap seen c.deref-then-between-p-2.ensures) many c.if-between-p-2.true)
+    let many : c.slots-in-Or.result ≡ slots_of (seen c.in-Or.both.value.first) = c.slots-in-Or.ensures ∙ ap (λ (both : Branches). slots_of (seen both.first)) c.deref-in-Or.ensures in
+    cuts_as c.args.cuts.now c.add_behind-then-between-p-2.new.cuts (GoesOn (seen c.args.self.now) c.args.before c.args.p) (GoesOn (seen c.deref-then-between-p-2.result.now.second) (c.args.before + c.slots-in-Or.result) c.args.p)
+    (λ b q. goes_past_one (seen c.args.self.now) (seen c.in-Or.both.value.first) (seen c.in-Or.both.value.second) (seen c.deref-then-between-p-2.result.now.second) c.slots-in-Or.result c.args.before c.args.p b q (ap seen c.in-Or.is) (ap (λ (both : Branches). seen both.second) c.deref-then-between-p-2.ensures) many c.if-between-p-2.true)
     c.add_behind-then-between-p-2.ensures.cuts
 
 pub returns-else-between-p-2-clause-cuts : goal.returns-else-between-p-2-clause-cuts
 returns-else-between-p-2-clause-cuts t c =
-    let many : c.slots-in-Or.result ≡ slots_of (seen c.in-Or.a.value) = c.slots-in-Or.ensures ∙ ap (λ node. slots_of (seen node)) c.deref-in-Or.ensures in
-    cuts_as c.args.cuts.now c.add_behind-else-between-p-2.new.cuts (GoesOn (seen c.args.self.now) c.args.before c.args.p) (GoesOn (seen c.deref-else-between-p-2.result.now) c.args.before c.args.p)
-    (λ b q. goes_inside_one (seen c.args.self.now) (seen c.in-Or.a.value) (seen c.in-Or.b.value) (seen c.deref-else-between-p-2.result.now) c.slots-in-Or.result c.args.before c.args.p b q (ap seen c.in-Or.is) (ap seen c.deref-else-between-p-2.ensures) many c.if-between-p-2.false)
+    let many : c.slots-in-Or.result ≡ slots_of (seen c.in-Or.both.value.first) = c.slots-in-Or.ensures ∙ ap (λ (both : Branches). slots_of (seen both.first)) c.deref-in-Or.ensures in
+    cuts_as c.args.cuts.now c.add_behind-else-between-p-2.new.cuts (GoesOn (seen c.args.self.now) c.args.before c.args.p) (GoesOn (seen c.deref-else-between-p-2.result.now.first) c.args.before c.args.p)
+    (λ b q. goes_inside_one (seen c.args.self.now) (seen c.in-Or.both.value.first) (seen c.in-Or.both.value.second) (seen c.deref-else-between-p-2.result.now.first) c.slots-in-Or.result c.args.before c.args.p b q (ap seen c.in-Or.is) (ap (λ (both : Branches). seen both.first) c.deref-else-between-p-2.ensures) many c.if-between-p-2.false)
     c.add_behind-else-between-p-2.ensures.cuts
 
 pub returns-then-between-p-2-clause-last : goal.returns-then-between-p-2-clause-last
 returns-then-between-p-2-clause-last t c =
-    let many : c.slots-in-Or.result ≡ slots_of (seen c.in-Or.a.value) = c.slots-in-Or.ensures ∙ ap (λ node. slots_of (seen node)) c.deref-in-Or.ensures in
-    c.add_behind-then-between-p-2.ensures.last ∙ ap (λ node. is_last (seen node) (c.args.before + c.slots-in-Or.result) c.args.p) c.deref-then-between-p-2.ensures
-    ∙ or_ends_second (seen c.args.self.now) (seen c.in-Or.a.value) (seen c.in-Or.b.value) c.args.before c.slots-in-Or.result c.args.p (ap seen c.in-Or.is) many c.if-between-p-2.true
+    let many : c.slots-in-Or.result ≡ slots_of (seen c.in-Or.both.value.first) = c.slots-in-Or.ensures ∙ ap (λ (both : Branches). slots_of (seen both.first)) c.deref-in-Or.ensures in
+    c.add_behind-then-between-p-2.ensures.last ∙ ap (λ (both : Branches). is_last (seen both.second) (c.args.before + c.slots-in-Or.result) c.args.p) c.deref-then-between-p-2.ensures
+    ∙ or_ends_second (seen c.args.self.now) (seen c.in-Or.both.value.first) (seen c.in-Or.both.value.second) c.args.before c.slots-in-Or.result c.args.p (ap seen c.in-Or.is) many c.if-between-p-2.true
 
 pub returns-else-between-p-2-clause-last : goal.returns-else-between-p-2-clause-last
 returns-else-between-p-2-clause-last t c =
-    let many : c.slots-in-Or.result ≡ slots_of (seen c.in-Or.a.value) = c.slots-in-Or.ensures ∙ ap (λ node. slots_of (seen node)) c.deref-in-Or.ensures in
-    c.add_behind-else-between-p-2.ensures.last ∙ ap (λ node. is_last (seen node) c.args.before c.args.p) c.deref-else-between-p-2.ensures
-    ∙ or_ends_first (seen c.args.self.now) (seen c.in-Or.a.value) (seen c.in-Or.b.value) c.args.before c.slots-in-Or.result c.args.p (ap seen c.in-Or.is) many c.if-between-p-2.false
+    let many : c.slots-in-Or.result ≡ slots_of (seen c.in-Or.both.value.first) = c.slots-in-Or.ensures ∙ ap (λ (both : Branches). slots_of (seen both.first)) c.deref-in-Or.ensures in
+    c.add_behind-else-between-p-2.ensures.last ∙ ap (λ (both : Branches). is_last (seen both.first) c.args.before c.args.p) c.deref-else-between-p-2.ensures
+    ∙ or_ends_first (seen c.args.self.now) (seen c.in-Or.both.value.first) (seen c.in-Or.both.value.second) c.args.before c.slots-in-Or.result c.args.p (ap seen c.in-Or.is) many c.if-between-p-2.false
 
 pub returns-in-Run-clause-last : goal.returns-in-Run-clause-last
 returns-in-Run-clause-last t c = run_ends (seen c.args.self.now) c.in-Run.classes.items c.args.before c.slots.result c.args.p c.ends_run.result (ap seen c.in-Run.is) c.slots.ensures c.ends_run.ensures

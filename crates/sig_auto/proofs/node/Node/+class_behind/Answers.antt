@@ -1,4 +1,5 @@
 use Rattle.std.proofs.Common.{◌≡◌, ap, sym, ◌∙◌}
+use Rattle.sig_auto.specs.declared.node.Branches.{Branches}
 use Rattle.sig_auto.specs.Seen.{seen}
 use Rattle.sig_auto.specs.Trees.{row_tree}
 use Rattle.sig_auto.specs.TreeSlots.{slots_of}
@@ -14,28 +15,28 @@ returns-in-Run t c =
 
 pub returns-then-between-p : goal.returns-then-between-p
 returns-then-between-p t c =
-    let many : c.slots.result ≡ slots_of (seen c.in-Then.a.value) = c.slots.ensures ∙ ap (λ node. slots_of (seen node)) c.deref.ensures in
+    let many : c.slots.result ≡ slots_of (seen c.in-Then.both.value.first) = c.slots.ensures ∙ ap (λ (both : Branches). slots_of (seen both.first)) c.deref.ensures in
     some_more c.class_behind-then-between-p.result _ _
-    (λ class next. next_past (seen c.args.self.now) (seen c.in-Then.a.value) (seen c.in-Then.b.value) (seen c.deref-then-between-p.result.now) c.slots.result c.args.before c.args.p class (ap seen c.in-Then.is) (ap seen c.deref-then-between-p.ensures) many c.if-between-p.true next)
+    (λ class next. next_past (seen c.args.self.now) (seen c.in-Then.both.value.first) (seen c.in-Then.both.value.second) (seen c.deref-then-between-p.result.now.second) c.slots.result c.args.before c.args.p class (ap seen c.in-Then.is) (ap (λ (both : Branches). seen both.second) c.deref-then-between-p.ensures) many c.if-between-p.true next)
     c.class_behind-then-between-p.ensures
 
 pub returns-else-between-p : goal.returns-else-between-p
 returns-else-between-p t c =
-    let many : c.slots.result ≡ slots_of (seen c.in-Then.a.value) = c.slots.ensures ∙ ap (λ node. slots_of (seen node)) c.deref.ensures in
+    let many : c.slots.result ≡ slots_of (seen c.in-Then.both.value.first) = c.slots.ensures ∙ ap (λ (both : Branches). slots_of (seen both.first)) c.deref.ensures in
     some_more c.class_behind-else-between-p.result _ _
-    (λ class next. next_inside (seen c.args.self.now) (seen c.in-Then.a.value) (seen c.in-Then.b.value) (seen c.deref-else-between-p.result.now) c.slots.result c.args.before c.args.p class (ap seen c.in-Then.is) (ap seen c.deref-else-between-p.ensures) many c.if-between-p.false next)
+    (λ class next. next_inside (seen c.args.self.now) (seen c.in-Then.both.value.first) (seen c.in-Then.both.value.second) (seen c.deref-else-between-p.result.now.first) c.slots.result c.args.before c.args.p class (ap seen c.in-Then.is) (ap (λ (both : Branches). seen both.first) c.deref-else-between-p.ensures) many c.if-between-p.false next)
     c.class_behind-else-between-p.ensures
 
 pub returns-then-between-p-2 : goal.returns-then-between-p-2
 returns-then-between-p-2 t c =
-    let many : c.slots-in-Or.result ≡ slots_of (seen c.in-Or.a.value) = c.slots-in-Or.ensures ∙ ap (λ node. slots_of (seen node)) c.deref-in-Or.ensures in
+    let many : c.slots-in-Or.result ≡ slots_of (seen c.in-Or.both.value.first) = c.slots-in-Or.ensures ∙ ap (λ (both : Branches). slots_of (seen both.first)) c.deref-in-Or.ensures in
     some_more c.class_behind-then-between-p-2.result _ _
-    (λ class next. next_past_one (seen c.args.self.now) (seen c.in-Or.a.value) (seen c.in-Or.b.value) (seen c.deref-then-between-p-2.result.now) c.slots-in-Or.result c.args.before c.args.p class (ap seen c.in-Or.is) (ap seen c.deref-then-between-p-2.ensures) many c.if-between-p-2.true next)
+    (λ class next. next_past_one (seen c.args.self.now) (seen c.in-Or.both.value.first) (seen c.in-Or.both.value.second) (seen c.deref-then-between-p-2.result.now.second) c.slots-in-Or.result c.args.before c.args.p class (ap seen c.in-Or.is) (ap (λ (both : Branches). seen both.second) c.deref-then-between-p-2.ensures) many c.if-between-p-2.true next)
     c.class_behind-then-between-p-2.ensures
 
 pub returns-else-between-p-2 : goal.returns-else-between-p-2
 returns-else-between-p-2 t c =
-    let many : c.slots-in-Or.result ≡ slots_of (seen c.in-Or.a.value) = c.slots-in-Or.ensures ∙ ap (λ node. slots_of (seen node)) c.deref-in-Or.ensures in
+    let many : c.slots-in-Or.result ≡ slots_of (seen c.in-Or.both.value.first) = c.slots-in-Or.ensures ∙ ap (λ (both : Branches). slots_of (seen both.first)) c.deref-in-Or.ensures in
     some_more c.class_behind-else-between-p-2.result _ _
-    (λ class next. next_inside_one (seen c.args.self.now) (seen c.in-Or.a.value) (seen c.in-Or.b.value) (seen c.deref-else-between-p-2.result.now) c.slots-in-Or.result c.args.before c.args.p class (ap seen c.in-Or.is) (ap seen c.deref-else-between-p-2.ensures) many c.if-between-p-2.false next)
+    (λ class next. next_inside_one (seen c.args.self.now) (seen c.in-Or.both.value.first) (seen c.in-Or.both.value.second) (seen c.deref-else-between-p-2.result.now.first) c.slots-in-Or.result c.args.before c.args.p class (ap seen c.in-Or.is) (ap (λ (both : Branches). seen both.first) c.deref-else-between-p-2.ensures) many c.if-between-p-2.false next)
     c.class_behind-else-between-p-2.ensures
