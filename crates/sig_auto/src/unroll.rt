@@ -127,7 +127,7 @@ fn run_of_items(alloc: Global, items: &[Item]) -> Result<Option<ClassWord>, Allo
 // Whether each of the items is one slot, so that no room is made for a run that comes to nothing.
 fn are_slots(items: &[Item]) -> bool {
     for item in items {
-        if class_of_item(item).is_none() {
+        if !is_slot(item) {
             return false;
         }
     }
@@ -159,7 +159,16 @@ fn cut(items: &[Item]) -> usize
 
 // Whether a cut between the two parts two slots of a run.
 fn parts_slots(item: &Item, next: &Item) -> bool {
-    class_of_item(item).is_some() && class_of_item(next).is_some()
+    is_slot(item) && is_slot(next)
+}
+
+// Whether the item is one slot.
+fn is_slot(item: &Item) -> bool {
+    match item {
+        Item::Byte(_) | Item::Any => true,
+        Item::Gap { .. } | Item::Alt(_) => false,
+        Item::Range(a, _) | Item::Not(a) | Item::NotRange(a, _) => a.as_bytes().len() == 1,
+    }
 }
 
 // The class of an item that is one slot.

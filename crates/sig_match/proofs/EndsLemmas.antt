@@ -35,6 +35,38 @@ left_over n k i items len over =
 pub left_unknown : (n : ℕ) (i : Item) (items : List Item) → item_len i ≡ None → left_behind n (i ∷ items) ≡ None
 left_unknown n i items len = ap (option_and_then (λ l. if nat_le l n then left_behind (n - l) items else None)) len
 
+-- so many items in front are fixed bytes
+pub record AreFixed (k : ℕ) (items : List Item) : Type 0 where
+  pub within : k ≤ length items
+  pub fits : (n : ℕ) → k ≤ n → left_behind n items ≡ left_behind (n - k) (drop k items)
+  pub over : (n : ℕ) → n < k → left_behind n items ≡ None
+
+pub none_fixed : (items : List Item) → AreFixed 0 items
+none_fixed items = record {
+  within = omega arith;
+  fits = λ n few. ap (λ m. left_behind m items) (let same : n ≡ n - 0 = omega arith in same);
+  over = λ n few. absurd (omega arith);
+}
+
+pub one_more_fixed : (k b : ℕ) (x : Item) (items : List Item) → k < length items → x ≡ get_or items k x → x ≡ item.Byte b → AreFixed k items → AreFixed (k + 1) items
+one_more_fixed k b x items within at is so =
+    let rest = rest_at items k x within at in
+    let one : item_len x ≡ Some 1 = ap item_len is in
+    record {
+      within = omega arith;
+      fits = λ n few.
+          let order : (n - k) - 1 ≡ n - (k + 1) = omega arith in
+          so.fits n (omega arith)
+          ∙ ap (left_behind (n - k)) rest
+          ∙ left_step (n - k) 1 x (drop (k + 1) items) one (omega arith)
+          ∙ ap (λ m. left_behind m (drop (k + 1) items)) order;
+      over = λ n few.
+          elim (cases_lt n k) [
+            | inl less ↦ so.over n less
+            | inr more ↦ so.fits n (omega arith) ∙ ap (left_behind (n - k)) rest ∙ left_over (n - k) 1 x (drop (k + 1) items) one (omega arith)
+          ];
+    }
+
 -- what the items leave tells what the first and the others leave
 pub left_parts : (n m : ℕ) (i : Item) (items : List Item) → left_behind n (i ∷ items) ≡ Some m → (k : ℕ) × (item_len i ≡ Some k) × (k ≤ n) × (left_behind (n - k) items ≡ Some m)
 left_parts n m i items h = by_len (item_len i) refl h where

@@ -21,7 +21,8 @@ mod whole;
 pub use droid_core::DroidCore;
 pub use error::CoreError;
 pub use laws::{
-    hit_formats_are_one_list, left_is_not_outranked, left_is_one_list, some_hit_is_left,
+    ends_tell_runs, hit_formats_are_one_list, left_is_not_outranked, left_is_one_list,
+    some_hit_is_left,
 };
 pub use results::{Hit, Results};
 pub use scan::Scan;

@@ -5,7 +5,7 @@
 //! scan keeps these bytes, and makes no automaton for it: `41??42` with offsets 0 to 4 is looked for at five places
 //! once the file has come to its end.
 
-ghost use Rattle.std.specs.Prelude.{◌≡◌, ◌+◌, ◌-◌, ◌↔◌, ◌≤◌, ℕ, Some, List, [], ◌++◌, IfOk, IsTrue, drop, length, take};
+ghost use Rattle.std.specs.Prelude.{◌≡◌, ◌+◌, ◌-◌, ◌↔◌, ◌<◌, ◌≤◌, ℕ, None, Some, List, [], ◌++◌, IfOk, IsTrue, drop, length, take};
 ghost use Rattle.std.specs.Vec.{vec_capacity};
 ghost use Rattle.sig_bits.specs.Bytes.{IsBytes};
 ghost use Rattle.sig_expr.specs.Words.{Lang, Word};
@@ -166,12 +166,36 @@ fn room_at(position: Position) -> Option<usize>
 fn left_of(bytes: usize, items: &[Item]) -> Option<usize>
     ensures { result ≡ left_behind bytes items.now }
 {
+    let fixed = fixed_before(items);
+    left_by_each(bytes.checked_sub(fixed)?, &items[fixed..])
+}
+
+// The same, item by item.
+fn left_by_each(bytes: usize, items: &[Item]) -> Option<usize>
+    ensures { result ≡ left_behind bytes items.now }
+{
     let mut left = bytes;
     for item in items {
         let len = len_of(item)?;
         left = left.checked_sub(len)?;
     }
     Some(left)
+}
+
+// How many items in front are fixed bytes: mostly all, and then no item is asked for its length.
+fn fixed_before(items: &[Item]) -> usize
+    ensures within { result ≤ length items.now }
+    ensures fits { (n : ℕ) → result ≤ n → left_behind n items.now ≡ left_behind (n - result) (drop result items.now) }
+    ensures over { (n : ℕ) → n < result → left_behind n items.now ≡ None }
+{
+    let mut count = 0;
+    for item in items {
+        if !matches!(item, Item::Byte(_)) {
+            return count;
+        }
+        count += 1;
+    }
+    count
 }
 
 // How many bytes each word of the item has.

@@ -516,11 +516,12 @@ impl SequenceScan {
         ensures sequence { self.new.sequence ≡ self.old.sequence }
         ensures same { LeadsAlike (whole_tree self.old.sequence) self.old.set (drop at piece.now) self.new.set (drop at piece.now) }
     {
-        if self.resting || self.awake % AGAIN != FRONT || self.set.len() > SMALL {
+        let count = looked_back(self.awake, at);
+        if self.resting || count == 0 || self.set.len() > SMALL {
             return;
         }
         let bytes = piece.bytes();
-        let from = at.saturating_sub(FRONT);
+        let from = at.saturating_sub(count);
         if self.way.passes(&bytes[from..], at - from)
             && leads_to(&self.auto, &self.rest, &bytes[from..at], &self.set)
         {
@@ -588,6 +589,19 @@ impl SequenceScan {
         ensures { (file : List ℕ) (s : SequenceView) → IsSequence s → IsBytes file → IsSequenceScanOf file s self.now → (IsTrue result ↔ Stands s file) }
     {
         self.auto.any_accepting(&self.set)
+    }
+}
+
+// Over how many bytes a sequence looks back at this place of a piece that was awake through so many: over one behind the
+// first byte, since what was begun before it mostly ends there; over as many as a front has behind so many, and then now
+// and again. Else over none.
+fn looked_back(awake: usize, at: usize) -> usize {
+    if awake == 1 || at == 1 {
+        1
+    } else if awake % AGAIN == FRONT {
+        FRONT
+    } else {
+        0
     }
 }
 

@@ -1,6 +1,6 @@
 use Rattle.std.proofs.Common.{◌≡◌, drop}
 use Rattle.sig_match.specs.Ends.{left_behind}
-use Rattle.sig_match.proofs.scan.ends.left_of.Given as goal
+use Rattle.sig_match.proofs.scan.ends.left_by_each.Given as goal
 
 -- behind the items so far, so many are left for the others
 abbrev pub invariant-loop-item : goal.invariant-loop-item
