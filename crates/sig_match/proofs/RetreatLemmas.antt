@@ -1,6 +1,7 @@
 -- Sequences that rest again behind bytes that came to nothing.
 use Rattle.std.proofs.Common.{⊎_elim, ◌≡◌, ◌↔◌, ℕ, zero, suc, ◌-◌, ◌<◌, ◌≤◌, List, [], ◌∷◌, ◌++◌, length, take, drop, subst, sym, ap, refl, ◌∙◌, arith}
 use Rattle.std.proofs.lemmas.List.{take-append-drop, take_rest}
+use Rattle.std.proofs.lemmas.List.Elements.{All-cons}
 use Rattle.sig_auto.specs.Runs.{IsStepOf}
 use Rattle.sig_auto.specs.Trees.{Tree, whole_tree}
 use Rattle.sig_auto.specs.TreeSlots.{slots_of}
@@ -72,6 +73,22 @@ retreats view scan rest new exits front bytes piece from at same new_is piece_is
     let Alike : SequenceScanView → List ℕ → Type 0 = λ v l. LeadsAlike (whole_tree v.sequence) v.set (drop at piece) l (drop at piece) in
     let passes : Passes (drop from piece) = subst (λ l. Passes (drop from l)) piece_is (subst Passes (take_rest bytes from) passed) in
     let alike : Alike view rest = leads_as_rest tree view.set rest exits front piece from at is are order passes (subst Leads piece_is leads) in
+    subst (λ v. Alike v new) same (subst (λ l. Alike view l) (sym new_is) alike)
+
+-- one place at which no way out begins is the first
+passed_once : (exits : ByteClass) (front : FrontAt) (bytes : List ℕ) (x : ℕ) → x < 1 → IsPassed exits front bytes → IsPassed exits front (drop x bytes)
+passed_once exits front bytes zero below first = first
+passed_once exits front bytes (suc x) below first = absurd (omega arith)
+
+-- the set to which one byte leads from that of the rest, where no way out begins with it and the bytes behind it
+pub lets_go : (view scan : SequenceScanView) (rest new : List ℕ) (exits : ByteClass) (front : FrontAt) (b : ℕ) (bytes piece : List ℕ) (at : ℕ) → view ≡ scan → new ≡ rest → bytes ≡ piece → IsRest (whole_tree view.sequence) rest exits front → b < 256 → IsBytes piece → IsPassed exits front (b ∷ take (length bytes - at) (drop at bytes)) → ((q : ℕ) → HasBit view.set q ↔ IsReached (whole_tree view.sequence) rest (b ∷ []) q) → LeadsAlike (whole_tree scan.sequence) scan.set (drop at piece) new (drop at piece)
+lets_go view scan rest new exits front b bytes piece at same new_is piece_is is byte are passed leads =
+    let tree : Tree = whole_tree view.sequence in
+    let left : List ℕ = drop at piece in
+    let Alike : SequenceScanView → List ℕ → Type 0 = λ v l. LeadsAlike (whole_tree v.sequence) v.set left l left in
+    let first : IsPassed exits front (b ∷ left) = subst (λ l. IsPassed exits front (b ∷ drop at l)) piece_is (subst (λ l. IsPassed exits front (b ∷ l)) (take_rest bytes at) passed) in
+    let here : (x : ℕ) → x < 1 → IsPassed exits front (drop x (b ∷ left)) = λ x below. passed_once exits front (b ∷ left) x below first in
+    let alike : Alike view rest = leads_as_rest tree view.set rest exits front (b ∷ left) 0 1 is (All-cons (λ x. x < 256) b left byte (bytes_behind at piece are)) (omega arith) here leads in
     subst (λ v. Alike v new) same (subst (λ l. Alike view l) (sym new_is) alike)
 
 -- one place more at which no way out begins

@@ -20,12 +20,18 @@ use std::marker::Model;
 // How many bytes a read has room for.
 const PIECE: usize = 1 << 18;
 
+// So many steps, one for each item of a sequence and each byte, are taken at most to search a short file for
+// the sequences one by one.
+const STEPS: usize = 1 << 26;
+
 /// A matcher that scans a file while it reads it.
 ///
 /// A file shorter than a piece of 256 KiB is searched where it lies, as `WholeCore` does: that takes less
-/// time than a scan takes to begin. The first piece of a longer one settles most sequences that begin at
-/// the start of a file, and the rest is scanned for the others. But for its first and its last bytes no byte
-/// is kept behind its piece, and the memory is that of a scan and of one piece, however long the file is.
+/// time than a scan takes to begin. Where it may take much more, since many sequences are left that each had
+/// to be searched for by themselves, such a file is scanned too. The first piece of a longer one settles most
+/// sequences that begin at the start of a file, and the rest is scanned for the others. But for its first and
+/// its last bytes no byte is kept behind its piece, and the memory is that of a scan and of one piece, however
+/// long the file is.
 #[derive(Debug, Drop)]
 pub struct StreamCore {
     table: Table,
@@ -143,8 +149,8 @@ fn hits_of(
     ensures hits { IfOk result (λ hits. HitFormats table.now file.now hits) }
 {
     match ready {
-        Some(ready) => hits_by(alloc, table, ready, file),
-        None => hits_in(alloc, table, file),
+        Some(ready) => hits_by(alloc, table, ready, file, STEPS),
+        None => hits_in(alloc, table, file, STEPS),
     }
 }
 

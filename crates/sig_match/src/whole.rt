@@ -19,6 +19,7 @@ use crate::droid_core::DroidCore;
 use crate::error::CoreError;
 use crate::hits::list_hits;
 use crate::results::Results;
+use crate::scan::TableScan;
 use sig_bits::{Input, ReadWholeError, read_whole};
 use sig_table::{Puid, SigId, Table};
 use std::alloc::{AllocError, Global};
@@ -99,7 +100,7 @@ pub fn left_in(alloc: Global, table: &Table, file: &[u8]) -> Result<Results, Cor
     ensures left { IfOk result (λ left. Left table.now file.now left) }
     ensures memory { IfErr result (λ e. e ≡ CoreError.OutOfMemory) }
 {
-    let mut results = hits_in(alloc, table, file).map_err(|_| CoreError::OutOfMemory)?;
+    let mut results = hits_in(alloc, table, file, usize::MAX).map_err(|_| CoreError::OutOfMemory)?;
     results.remove_outranked(table);
     Ok(results)
 }
@@ -125,15 +126,21 @@ fn hits_read(alloc: Global, table: &Table, file: &[u8]) -> Result<Results, CoreE
     ensures hits { IfOk result (λ hits. HitFormats table.now file.now hits) }
     ensures memory { IfErr result (λ e. e ≡ CoreError.OutOfMemory) }
 {
-    hits_in(alloc, table, file).map_err(|_| CoreError::OutOfMemory)
+    hits_in(alloc, table, file, usize::MAX).map_err(|_| CoreError::OutOfMemory)
 }
 
-/// The formats that a file hits.
-pub(crate) fn hits_in(alloc: Global, table: &Table, file: &[u8]) -> Result<Results, AllocError>
+/// The formats that a file hits. Where to search for each sequence by itself may take more than so many steps,
+/// one for each item of a sequence and each byte, the file is scanned.
+pub(crate) fn hits_in(
+    alloc: Global,
+    table: &Table,
+    file: &[u8],
+    steps: usize,
+) -> Result<Results, AllocError>
     ensures { IfOk result (λ hits. HitFormats table.now file.now hits) }
 {
     let ready = Ready::of(alloc, table)?;
-    hits_by(alloc, table, &ready, file)
+    hits_by(alloc, table, &ready, file, steps)
 }
 
 /// The same, with what was made of the table before.
@@ -142,12 +149,23 @@ pub(crate) fn hits_by(
     table: &Table,
     ready: &Ready,
     file: &[u8],
+    steps: usize,
 ) -> Result<Results, AllocError>
     requires { AreBegins table.now ready.now.begins.items }
     ensures { IfOk result (λ hits. HitFormats table.now file.now hits) }
 {
-    let marks = which_hit(alloc, table, ready, file)?;
+    let Some(marks) = which_hit(alloc, table, ready, file, steps)? else {
+        return hits_by_scan(alloc, table, file);
+    };
     let mut hits = Vec::new(alloc);
     list_hits(table, &marks, &mut hits)?;
     Ok(Results::new(hits))
+}
+
+// The same, by a scan.
+fn hits_by_scan(alloc: Global, table: &Table, file: &[u8]) -> Result<Results, AllocError>
+    ensures { IfOk result (λ hits. HitFormats table.now file.now hits) }
+{
+    let scan = TableScan::behind(alloc, table, file)?;
+    Ok(scan.finish())
 }

@@ -61,7 +61,7 @@ const AWAKE: usize = 128;
 // sequence of fixed bytes alone that may begin anywhere, and none of any other. `inner` is how many slots stand before
 // those of the gap at the end of the file. `resting` tells that it is in that set now, and `pause` how many bytes are
 // stepped before that is asked again. `awake` is how many bytes were stepped since it last rested, went by words or
-// slid.
+// slid, and `last` the byte that was stepped last by itself.
 #[derive(Debug, Drop)]
 pub(crate) struct SequenceScan {
     auto: Auto,
@@ -77,6 +77,7 @@ pub(crate) struct SequenceScan {
     resting: bool,
     pause: usize,
     awake: usize,
+    last: u8,
 }
 
 impl Model for SequenceScan {
@@ -134,6 +135,7 @@ impl SequenceScan {
             resting: false,
             pause: 0,
             awake: 0,
+            last: 0,
         };
         scan.look_ahead(alloc, sequence, sieve)?;
         scan.look_further(sequence, sieve)?;
@@ -235,6 +237,7 @@ impl SequenceScan {
             return;
         }
         from = self.late_begin(piece, from);
+        self.let_go(piece, from);
         from = self.pass_beginnings(piece, from);
         while from < bytes.len() {
             self.step(bytes[from]);
@@ -284,6 +287,25 @@ impl SequenceScan {
         set_bit(&mut self.set, 1);
         self.resting = same_bytes(&self.set, &self.rest);
         len - slots
+    }
+
+    // Rests again, where the last byte of the piece before led to the set from the one in which the sequence rests, and
+    // began no way out with which this piece goes on.
+    fn let_go(&mut self, piece: &Piece<'_>, from: usize)
+        requires { from ≤ length piece.now }
+        ensures sequence { self.new.sequence ≡ self.old.sequence }
+        ensures same { LeadsAlike (whole_tree self.old.sequence) self.old.set (drop from piece.now) self.new.set (drop from piece.now) }
+    {
+        if self.resting || self.awake != 1 || self.set.len() > SMALL {
+            return;
+        }
+        let bytes = piece.bytes();
+        if self.way.passes_before(self.last, &bytes[from..])
+            && leads_to(&self.auto, &self.rest, &[self.last], &self.set)
+        {
+            self.set.copy_from_slice(&self.rest);
+            self.resting = true;
+        }
     }
 
     // Goes on from one place at which a way out may begin to the next, while the sequence rests and each way comes to
@@ -476,6 +498,7 @@ impl SequenceScan {
         self.auto.step_set(&self.set, byte, &mut self.next);
         mem::swap(&mut self.set, &mut self.next);
         self.awake = one_more(self.resting, self.awake);
+        self.last = byte;
         self.resting = false;
     }
 
@@ -593,10 +616,10 @@ impl SequenceScan {
 }
 
 // Over how many bytes a sequence looks back at this place of a piece that was awake through so many: over one behind the
-// first byte, since what was begun before it mostly ends there; over as many as a front has behind so many, and then now
-// and again. Else over none.
+// first byte of the piece, since what was begun before it mostly ends there; over as many as a front has behind so many,
+// and then now and again. Else over none.
 fn looked_back(awake: usize, at: usize) -> usize {
-    if awake == 1 || at == 1 {
+    if at == 1 {
         1
     } else if awake % AGAIN == FRONT {
         FRONT

@@ -6,7 +6,7 @@
 //! begin anywhere the front is `42 43`, and it skips one byte; of `41??42` it is `42`, and skips two. So the
 //! file is searched for a front, with an exit before it, and not stepped through.
 
-ghost use Rattle.std.specs.Prelude.{◌≡◌, ◌≢◌, ◌↔◌, ℕ, ◌+◌, ◌<◌, ◌≤◌, false, IfSome, IsTrue, drop, length, slice_index, take};
+ghost use Rattle.std.specs.Prelude.{◌≡◌, ◌≢◌, ◌↔◌, ℕ, ◌+◌, ◌<◌, ◌≤◌, ◌∷◌, false, IfSome, IsTrue, drop, length, slice_index, take};
 ghost use Rattle.sig_bits.specs.ByteClasses.{Holds};
 ghost use Rattle.sig_bits.specs.Bytes.{IsBytes};
 ghost use Rattle.sig_match.specs.Rests.{IsLone, IsNoWay, IsPassed, Misses};
@@ -156,6 +156,28 @@ impl Way {
             return true;
         }
         !self.may_leave(bytes) && self.passes(later, count - 1)
+    }
+
+    /// Whether no way out begins at a byte that stands right before these.
+    pub(crate) fn passes_before(&self, byte: u8, bytes: &[u8]) -> bool
+        ensures { IsTrue result → IsPassed self.now.exits (front_of self.now) (byte ∷ bytes.now) }
+    {
+        bytes.len() >= self.depth
+            && !(self.exits.contains(byte) && self.front_may_begin_before(byte, bytes))
+    }
+
+    // Whether the byte and those behind it agree with the front behind those that it skips.
+    fn front_may_begin_before(&self, byte: u8, bytes: &[u8]) -> bool
+        ensures { result ≡ false → Misses (take self.now.len self.now.front) (drop self.now.skip (byte ∷ bytes.now)) }
+    {
+        let front = &self.front[..self.len];
+        if self.skip > 0 {
+            return may_begin(front, &bytes[(self.skip - 1).min(bytes.len())..]);
+        }
+        match front.split_first() {
+            Some((first, later)) => *first == byte && may_begin(later, bytes),
+            None => true,
+        }
     }
 
     // Whether a way out may begin with the bytes.

@@ -1,5 +1,5 @@
-//! Fronts of sequences that may begin at several offsets: one look at the file finds for all of them which
-//! ones are nowhere in it.
+//! Fronts of sequences that may begin at several offsets, the first fixed bytes of each that stand in a row: one look at
+//! the file finds for all of them which ones are nowhere in it.
 //!
 //! Each front has a number in the sieve. The numbers rise in the order of the table, so that of the first front of
 //! a signature tells those of its others.
@@ -17,7 +17,10 @@ use std::alloc::{AllocError, Global};
 // A front that is shorter is in no sieve.
 const LEAST: usize = 4;
 
-/// The first bytes of each word of a sequence, as many as `len` says.
+// Behind so many items a front is looked for at most: that takes time for each file.
+const AHEAD: usize = 16;
+
+/// Bytes that each word of a sequence has in it, as many as `len` says.
 #[derive(Debug, Drop)]
 pub(crate) struct Front {
     bytes: [u8; FRONT],
@@ -80,17 +83,28 @@ fn is_missing(file: &Piece<'_>, front: &Front, number: usize) -> bool
 // The front of the sequence, if it has enough such bytes. None of one that begins at one offset of a file:
 // mostly one byte tells that it does not stand.
 fn front_of(sequence: &Sequence) -> Option<Front>
-    ensures { IfSome result (IsFrontOf sequence.now) }
+    ensures { IfSome result (IsFrontOf sequence.now.items) }
 {
     if begins_at_one_offset(sequence.position()) {
         return None;
     }
+    front_within(sequence.expr().items(), AHEAD)
+}
+
+// The first front of the items, behind at most so many.
+fn front_within(items: &[Item], most: usize) -> Option<Front>
+    ensures { IfSome result (IsFrontOf items.now) }
+{
     let mut bytes = [0; FRONT];
-    let len = copy_run(sequence.expr().items(), &mut bytes);
-    if len < LEAST {
+    let len = copy_run(items, &mut bytes);
+    if len >= LEAST {
+        return Some(Front { bytes, len });
+    }
+    let (_, later) = items.split_first()?;
+    if most == 0 {
         return None;
     }
-    Some(Front { bytes, len })
+    front_within(later, most - 1)
 }
 
 // Whether each file has one offset alone at which a sequence of this position may begin, counted from its start.

@@ -1,4 +1,5 @@
-use Rattle.std.proofs.Common.{◌≡◌, arith, length}
+use Rattle.std.proofs.Common.{◌≡◌, ◌↔◌, IfSome, IsTrue, arith, length, subst}
+use Rattle.sig_match.specs.Hits.{HitsOf}
 use Rattle.sig_match.proofs.MarkLemmas.{MarksBelow-none, MarksBelow-push, MarksHits-from_below}
 use Rattle.sig_match.proofs.whole.search.sieved.Goals as goal
 
@@ -9,9 +10,10 @@ pub loop-index-preserved : goal.loop-index-preserved
 loop-index-preserved c =
     let inv = c.loop-index.invariant in
     let len : length c.loop-index.marks.items ≡ c.loop-index.index = let ok = c.loop-index.marks.ok.0 in omega arith in
+    let hit = subst (λ o. IfSome o (λ b. IsTrue b ↔ HitsOf c.args.table.now c.loop-index.index c.args.file.now)) c.in-Some.is c.in_ok-hit.ensures in
     record {
       len = omega (arith, c.in_ok-push.ensures.len);
-      marks = rw c.in_ok-push.ensures.items (MarksBelow-push c.args.table.now c.args.file.now c.loop-index.index c.loop-index.marks.items c.in_ok-hit.hit len c.in_ok-hit.ensures.0 c.in_ok-hit.ensures.1 inv.marks);
+      marks = rw c.in_ok-push.ensures.items (MarksBelow-push c.args.table.now c.args.file.now c.loop-index.index c.loop-index.marks.items c.in-Some.hit len hit.0 hit.1 inv.marks);
     }
 
 pub returns-clause-marks : goal.returns-clause-marks

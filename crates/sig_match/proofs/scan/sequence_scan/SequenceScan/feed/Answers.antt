@@ -19,7 +19,8 @@ loop-from-init c =
           let P : SequenceScanView → Type 0 = λ v. IsDueScan (file ++ piece) s v on in
           let due : P c.else-from-bytes.self = subst P (sym stayed) (scan_moves _ piece on s old c.next_place-from.ensures.same (scan_begins file piece s old is)) in
           let late = scan_changes _ on _ s c.else-from-bytes.self c.late_begin-from.new.self c.late_begin-from.ensures.sequence c.late_begin-from.ensures.same due in
-          scan_changes _ _ _ s c.late_begin-from.new.self c.pass_beginnings-from.new.self c.pass_beginnings-from.ensures.sequence c.pass_beginnings-from.ensures.same late;
+          let awake = scan_changes _ _ _ s c.late_begin-from.new.self c.let_go.new.self c.let_go.ensures.sequence c.let_go.ensures.same late in
+          scan_changes _ _ _ s c.let_go.new.self c.pass_beginnings-from.new.self c.pass_beginnings-from.ensures.sequence c.pass_beginnings-from.ensures.same awake;
     }
 
 pub returns-then-jump : goal.returns-then-jump
