@@ -1,6 +1,7 @@
 -- Sequences with one long gap: steps of the states outside of it, and of its slots.
-use Rattle.std.proofs.Common.{◌≡◌, ◌≢◌, ◌↔◌, ◌⊎◌, inl, inr, ⊎_elim, ℕ, ◌+◌, ◌-◌, ◌<◌, ◌≤◌, ◌∷◌, not, Bool, true, false, nat_le, List, [], length, drop, get_or, set, min, refl, sym, ap, subst, ◌∙◌, arith, add-one, drop-cons}
+use Rattle.std.proofs.Common.{◌≡◌, ◌≢◌, ◌↔◌, ◌⊎◌, inl, inr, ⊎_elim, ℕ, ◌+◌, ◌-◌, ◌<◌, ◌≤◌, ◌∷◌, not, Bool, true, false, nat_le, List, [], length, drop, get_or, set, min, refl, sym, ap, subst, ◌∙◌, arith, add-one, drop-cons, take}
 use Rattle.std.specs.Prelude.{IsTrue}
+use Rattle.std.proofs.lemmas.List.{take_rest}
 use Rattle.std.proofs.lemmas.Bool.{cases_eq, cases_lt, false≢true, le-leb, leb-true, lt-leb}
 use Rattle.sig_auto.specs.LongGaps.{IsInGap, IsLongGap, IsOutside}
 use Rattle.sig_auto.specs.Moves.{HasAt}
@@ -14,6 +15,7 @@ use Rattle.sig_match.specs.declared.scan.gapped.Outside.{Outside}
 use Rattle.sig_match.specs.Gapped.{AreOutside, IsAlive, IsBehind, IsNearest, IsNow, IsStepAround, outer}
 use Rattle.sig_match.specs.Rests.{IsReached, LeadsAlike, Reaches}
 use Rattle.sig_match.specs.Slides.{IsSlid}
+use Rattle.sig_match.proofs.RestLemmas.{drop_further}
 
 true_or_false : (b : Bool) → (b ≡ true) ⊎ (b ≡ false)
 true_or_false true = inl refl
@@ -519,6 +521,15 @@ GoesAround-out tree o set noted new bytes count at near word within few out writ
           (λ found. (goes.same q).1 (p, inl (found.0, found.2, found.3), h.2))
           ((writes p).0 h.1),
     )
+
+-- what leads alike to one set, and from that to another
+pub alike_further : (tree : Tree) (old mid new bytes : List ℕ) (at count : ℕ) → LeadsAlike tree old bytes mid (drop at bytes) → LeadsAlike tree mid (take (length bytes - at) (drop at bytes)) new (drop count (take (length bytes - at) (drop at bytes))) → LeadsAlike tree old bytes new (drop (at + count) bytes)
+alike_further tree old mid new bytes at count first second q =
+    let P : List ℕ → Type 0 = λ l. IsReached tree mid l q ↔ IsReached tree new (drop count l) q in
+    let Q : List ℕ → Type 0 = λ l. IsReached tree mid (drop at bytes) q ↔ IsReached tree new l q in
+    let behind : P (drop at bytes) = subst P (take_rest bytes at) (second q) in
+    let later : Q (drop (at + count) bytes) = subst Q (drop_further bytes at count (at + count) refl) behind in
+    (λ h. later.0 ((first q).0 h), λ h. (first q).1 (later.1 h))
 
 -- ---- the nearest slot
 

@@ -185,3 +185,10 @@ goes_on_by_words view scan old new written bytes piece from count q same set_is 
     let there : P old new (drop from piece) (drop (from + count) piece) = subst (λ l. P old new (drop from l) (drop (from + count) l)) piece_is further in
     let before : P view.set new (drop from piece) (drop (from + count) piece) = subst (λ s. P s new (drop from piece) (drop (from + count) piece)) set_is there in
     subst Q same (subst (λ t. P view.set t (drop from piece) (drop (from + count) piece)) (sym new_is) before)
+
+-- the same through no byte
+pub stays_by_none : (view scan : SequenceScanView) (old new written bytes piece : List ℕ) (from count q : ℕ) → count ≡ 0 → view ≡ scan → old ≡ view.set → written ≡ new → bytes ≡ piece → ((r : ℕ) → IsReached (whole_tree view.sequence) old (take (length bytes - from) (drop from bytes)) r ↔ IsReached (whole_tree view.sequence) new (drop count (take (length bytes - from) (drop from bytes))) r) → IsReached (whole_tree scan.sequence) scan.set (drop from piece) q ↔ IsReached (whole_tree scan.sequence) written (drop from piece) q
+stays_by_none view scan old new written bytes piece from count q none same set_is new_is piece_is goes =
+    let there : from + count ≡ from = omega arith in
+    let P : ℕ → Type 0 = λ n. IsReached (whole_tree scan.sequence) scan.set (drop from piece) q ↔ IsReached (whole_tree scan.sequence) written (drop n piece) q in
+    subst P there (goes_on_by_words view scan old new written bytes piece from count q same set_is new_is piece_is goes)

@@ -22,7 +22,7 @@ const PIECE: usize = 1 << 18;
 
 // So many steps, one for each item of a sequence and each byte, are taken at most to search a short file for
 // the sequences one by one.
-const STEPS: usize = 1 << 26;
+const STEPS: usize = 1 << 23;
 
 /// A matcher that scans a file while it reads it.
 ///

@@ -16,7 +16,7 @@ ghost use Rattle.std.specs.Prelude.{◌≡◌, ◌⊎◌, ◌↔◌, ℕ, ◌+�
 ghost use Rattle.sig_auto.specs.Moves.{HasAt};
 ghost use Rattle.sig_auto.specs.StateSets.{HasBitOf};
 ghost use Rattle.sig_auto.specs.Tracks.{Follows};
-ghost use Rattle.sig_auto.specs.Trees.{whole_tree};
+ghost use Rattle.sig_auto.specs.Trees.{Tree, whole_tree};
 ghost use Rattle.sig_auto.specs.TreeSlots.{Takes, set_len, slots_of};
 ghost use Rattle.sig_bits.specs.BitSets.{HasBit};
 ghost use Rattle.sig_match.specs.Gapped.{AreOutside, FollowsOuter, IsBehind, IsNearest, IsOneOutside, IsStepAround, outer};
@@ -30,25 +30,23 @@ use sig_bits::{clear, get_bit, set_bit};
 // How many states a number has room for.
 const STATES: usize = 64;
 
-// So many bytes for each state outside have to be left, and so many slots in the gap: to ask the automaton all that
-// follows takes long.
+// So many bytes for each state outside have to be left: to ask the automaton all that follows takes long.
 const LONG: usize = 256;
 
-/// Steps the set through bytes, if the sequence has one long gap and few states outside of it: to the end, to where no slot
-/// of the gap is in the set and it is the one to rest in, or through as many bytes as the gap has slots. Writes it,
-/// and answers through how many. If through none, nothing is written that means anything.
+/// Steps the set through bytes, if the sequence has one long gap and few states outside of it: to the end, or to
+/// where no slot of the gap is in the set and it is the one to rest in. Answers through how many.
 pub(crate) fn go_by_gap(
     auto: &Auto,
-    set: &[u8],
+    set: &mut [u8],
     rest: &[u8],
     bytes: &[u8],
     next: &mut [u8],
 ) -> usize
-    requires set_len { length set.now ≡ set_len (whole_tree auto.now) }
+    requires set_len { length set.old ≡ set_len (whole_tree auto.now) }
     requires rest_len { length rest.now ≡ set_len (whole_tree auto.now) }
     requires next_len { length next.old ≡ set_len (whole_tree auto.now) }
     ensures within { result ≤ length bytes.now }
-    ensures same { 0 < result → LeadsAlike (whole_tree auto.now) set.now bytes.now next.new (drop result bytes.now) }
+    ensures same { LeadsAlike (whole_tree auto.now) set.old bytes.now set.new (drop result bytes.now) }
 {
     if !is_worth_it(auto, bytes.len()) {
         return 0;
@@ -56,37 +54,25 @@ pub(crate) fn go_by_gap(
     let Some(outside) = Outside::of(auto) else {
         return 0;
     };
-    let first = outside.gap.before as usize;
-    let slots = outside.gap.slots as usize;
-    let count = slots.min(bytes.len());
-    let resting = outside.states_of(rest);
-    let mut states = outside.states_of(set);
-    let mut near = nearest(set, first, slots);
-    clear(next);
     let mut at = 0;
-    while at < count && is_awake(near, slots, states, resting) {
-        let enters = outside.enters(states);
-        states = outside.step(states, near <= slots, bytes[at]);
-        set_if(next, first + count - at, enters);
-        near = one_further(near, slots, enters);
-        at += 1;
+    while at < bytes.len() {
+        let count = outside.go_through(set, rest, &bytes[at..], next);
+        if count == 0 {
+            return at;
+        }
+        set.copy_from_slice(next);
+        at += count;
     }
-    if near <= slots {
-        slide_in(set, first, count, first + slots, next);
-    }
-    outside.write(states, next);
     at
 }
 
 // Whether there is a long gap, and so many bytes are worth what is asked of the automaton.
-fn is_worth_it(auto: &Auto, len: usize) -> bool
-    ensures { IsTrue result → 0 < len }
-{
+fn is_worth_it(auto: &Auto, len: usize) -> bool {
     let Some(gap) = auto.long_gap() else {
         return false;
     };
     let count = auto.slots() + 1 - gap.slots;
-    len.min(gap.slots as usize) >= LONG * count as usize
+    len >= LONG * count as usize
 }
 
 // The states outside of a gap, by numbers from 0 on.
@@ -123,6 +109,41 @@ impl Outside {
             enters: leaders(auto, gap, count, gap.before + 1),
             leaves: followers(auto, gap, count, gap.before + gap.slots),
         })
+    }
+
+    // Steps the set through as many bytes as the gap has slots, or to the end, or to where no slot of the gap is in it and
+    // it is the one to rest in. Writes the set behind them, and answers how many they are.
+    fn go_through(&self, set: &[u8], rest: &[u8], bytes: &[u8], next: &mut [u8]) -> usize
+        requires few { self.now.count ≤ 64 }
+        requires small { self.now.gap.before + self.now.gap.slots ≤ 65535 }
+        requires slots { self.now.gap.before < self.now.count }
+        requires set_len { self.now.count + self.now.gap.slots ≤ 8 * length set.now }
+        requires rest_len { length rest.now ≡ length set.now }
+        requires next_len { length next.old ≡ length set.now }
+        requires bytes { 0 < length bytes.now }
+        ensures within { result ≤ length bytes.now }
+        ensures same { (tree : Tree) → AreOutside tree self.now → 0 < result → LeadsAlike tree set.now bytes.now next.new (drop result bytes.now) }
+    {
+        let first = self.gap.before as usize;
+        let slots = self.gap.slots as usize;
+        let count = slots.min(bytes.len());
+        let resting = self.states_of(rest);
+        let mut states = self.states_of(set);
+        let mut near = nearest(set, first, slots);
+        clear(next);
+        let mut at = 0;
+        while at < count && is_awake(near, slots, states, resting) {
+            let enters = self.enters(states);
+            states = self.step(states, near <= slots, bytes[at]);
+            set_if(next, first + count - at, enters);
+            near = one_further(near, slots, enters);
+            at += 1;
+        }
+        if near <= slots {
+            slide_in(set, first, count, first + slots, next);
+        }
+        self.write(states, next);
+        at
     }
 
     // Those that are in the set.

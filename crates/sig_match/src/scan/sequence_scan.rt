@@ -440,11 +440,16 @@ impl SequenceScan {
             return from;
         }
         let behind = &piece.bytes()[from..];
-        let count = go_by_gap(&self.auto, &self.set, &self.rest, behind, &mut self.next);
+        let count = go_by_gap(
+            &self.auto,
+            &mut self.set,
+            &self.rest,
+            behind,
+            &mut self.next,
+        );
         if count == 0 {
             return from;
         }
-        mem::swap(&mut self.set, &mut self.next);
         self.resting = same_bytes(&self.set, &self.rest);
         self.awake = AWAKE + FRONT - 1;
         from + count

@@ -1,55 +1,19 @@
-use Rattle.std.proofs.Common.{arith, refl, length, subst, List, ◌≡◌, ◌⊎◌, ◌↔◌, ◌<◌, ◌≤◌, ℕ}
+use Rattle.std.proofs.Common.{arith, drop, length, subst, sym, take, List, ◌-◌, ℕ}
 use Rattle.sig_auto.specs.Trees.{whole_tree}
-use Rattle.sig_auto.specs.StateSets.{HasBitOf}
-use Rattle.sig_bits.specs.BitSets.{HasBit}
-use Rattle.sig_bits.proofs.Exports.{zeros_have_no_bit}
-use Rattle.sig_match.specs.Gapped.{outer}
-use Rattle.sig_match.proofs.GappedLemmas.{GoesAround-all, GoesAround-more, GoesAround-none, GoesAround-out}
+use Rattle.sig_match.specs.Rests.{LeadsAlike}
+use Rattle.sig_match.proofs.GappedLemmas.{alike_further}
 use Rattle.sig_match.proofs.scan.gapped.go_by_gap.Goals as goal
-use Rattle.sig_match.proofs.scan.gapped.go_by_gap.Goals.{then-loop-at-test+else-is_awake, then-near-slots, else-near-slots, else-loop-at-test}
-
-pub loop-at-init : goal.loop-at-init
-loop-at-init c = record {
-  within = omega arith;
-  near = c.nearest-near.ensures.within;
-  goes = GoesAround-none (whole_tree c.args.auto.now) c.in-Some.outside c.args.set.now c.clear.new.bits c.args.bytes.now c.min-count.result c.nearest-near.result c.states_of-states.result c.in-Some.ensures (omega arith)
-      (λ r bit. zeros_have_no_bit (length c.args.next.now) r (subst (λ l. HasBit l r) c.clear.ensures bit)) c.nearest-near.ensures.near c.states_of-states.ensures;
-}
-
-pub states_of-resting-requires-clause-small : goal.states_of-resting-requires-clause-small
-states_of-resting-requires-clause-small c = omega (arith, c.in-Some.ensures.small, c.in-Some.ensures.gap.within)
-
-pub states_of-states-requires-clause-small : goal.states_of-states-requires-clause-small
-states_of-states-requires-clause-small c = omega (arith, c.in-Some.ensures.small, c.in-Some.ensures.gap.within)
-
-pub nearest-near-requires-clause-small : goal.nearest-near-requires-clause-small
-nearest-near-requires-clause-small c = omega (arith, c.in-Some.ensures.small, c.in-Some.ensures.gap.within)
-
-pub one_further-near-requires-clause-small : goal.one_further-near-requires-clause-small
-one_further-near-requires-clause-small c = omega (arith, c.in-Some.ensures.small, c.in-Some.ensures.gap.within)
-
-pub slide_in-requires-clause-slots : goal.slide_in-requires-clause-slots
-slide_in-requires-clause-slots c = omega (arith, c.in-Some.ensures.small, c.in-Some.ensures.gap.within)
-
-pub write-requires-clause-small : goal.write-requires-clause-small
-write-requires-clause-small c = omega (arith, c.in-Some.ensures.small, c.in-Some.ensures.gap.within)
 
 pub loop-at-preserved : goal.loop-at-preserved
-loop-at-preserved c = record {
-  within = omega arith;
-  near = c.one_further-near.ensures.within;
-  goes = GoesAround-more (whole_tree c.args.auto.now) c.in-Some.outside c.args.set.now c.loop-at.next c.set_if.new.set c.args.bytes.now c.min-count.result c.loop-at.at c.loop-at.near c.one_further-near.result c.loop-at.states c.step-states.result c.enters-enters.result _ c.in-Some.ensures (omega arith) (omega arith) (omega arith) refl (c.type_inv.bytes c.loop-at.at).fits c.step-states.ensures c.enters-enters.ensures.some c.enters-enters.ensures.none c.set_if.ensures c.one_further-near.ensures.entered c.one_further-near.ensures.further c.loop-at.invariant.goes;
-}
-
-pub returns-clause-same : goal.returns-clause-same
-returns-clause-same c some =
+loop-at-preserved c =
     let tree = whole_tree c.args.auto.now in
-    let o = c.in-Some.outside in
-    let Wrote : List ℕ → Type 0 = λ before. (q : ℕ) → HasBit c.write.new.set q ↔ (HasBit before q ⊎ ((k : ℕ) × (k < o.count) × HasBitOf c.loop-at.states k × (q ≡ outer o.gap.before o.gap.slots k))) in
-    elim c.if-near-slots.branch [
-      | then-near-slots w ↦
-          let past : c.min-count.result ≤ c.loop-at.at = elim c.loop-at-test.branch [ then-loop-at-test+else-is_awake v ↦ absurd (let far = v.is_awake.ensures v.if-is_awake.false in omega arith) | else-loop-at-test v ↦ omega arith ] in
-          GoesAround-all tree o c.args.set.now c.loop-at.next w.slide_in.new.to c.write.new.set c.args.bytes.now c.min-count.result c.loop-at.at c.loop-at.near c.loop-at.states (omega arith) (omega arith) past w.slide_in.ensures (subst Wrote w.next-is c.write.ensures) c.loop-at.invariant.goes
-      | else-near-slots w ↦
-          GoesAround-out tree o c.args.set.now c.loop-at.next c.write.new.set c.args.bytes.now c.min-count.result c.loop-at.at c.loop-at.near c.loop-at.states (omega arith) (omega arith) (omega arith) (subst Wrote w.next-is c.write.ensures) c.loop-at.invariant.goes
-    ]
+    let bytes : List ℕ = c.args.bytes.now in
+    let at : ℕ = c.loop-at.at in
+    let count : ℕ = c.go_through-count.result in
+    let left : List ℕ = take (length bytes - at) (drop at bytes) in
+    let P : List ℕ → Type 0 = λ l. LeadsAlike tree c.loop-at.set left l (drop count left) in
+    let behind : P c.copy_from_slice.new.self = subst P (sym c.copy_from_slice.ensures.after) (c.go_through-count.ensures.same tree c.in-Some.ensures (omega arith)) in
+    record {
+      within = omega arith;
+      same = alike_further tree c.args.set.now c.loop-at.set c.copy_from_slice.new.self bytes at count c.loop-at.invariant.same behind;
+    }

@@ -1,15 +1,14 @@
-use Rattle.std.proofs.Common.{◌+◌, ◌-◌, ◌≤◌}
+use Rattle.std.proofs.Common.{◌-◌, ◌≤◌, drop, length}
 use Rattle.sig_auto.specs.Trees.{whole_tree}
-use Rattle.sig_match.proofs.GappedLemmas.{GoesAround}
+use Rattle.sig_match.specs.Rests.{LeadsAlike}
 use Rattle.sig_match.proofs.scan.gapped.go_by_gap.Given as goal
 
--- the bytes so far lead to the states and the slots of the gap that are noted
+-- the set leads on from here to what it led to at first
 abbrev pub invariant-loop-at : goal.invariant-loop-at
 invariant-loop-at l = record {
-  within : l.at ≤ l.count;
-  near : l.near ≤ l.slots + 1;
-  goes : GoesAround (whole_tree l.auto') l.outside l.set l.next l.bytes l.count l.at l.near l.states;
+  within : l.at ≤ length l.bytes;
+  same : LeadsAlike (whole_tree l.auto') l.fn.set l.bytes l.set (drop l.at l.bytes);
 }
 
 abbrev pub decreases-loop-at : goal.decreases-loop-at
-decreases-loop-at l = l.count - l.at
+decreases-loop-at l = length l.bytes - l.at
