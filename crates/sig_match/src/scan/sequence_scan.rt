@@ -26,6 +26,7 @@ use sig_auto::Auto;
 use sig_bits::{ByteClass, and_any, clear, get_bit, set_bit, subset};
 use sig_expr::Item;
 use sig_table::Sequence;
+use smallvec::{SmallVec, smallvec};
 use std::alloc::{AllocError, Global};
 use std::marker::Model;
 use std::mem;
@@ -55,6 +56,9 @@ const SMALL: usize = 32;
 // one goes on without the slots of its long gap.
 const AWAKE: usize = 128;
 
+// A set of states. Most automata have few states, and theirs lie in the scan itself.
+type Bits = SmallVec<u8, FEW>;
+
 // The set, the room of the next one, and a set in which the sequence can rest, with the way out of it:
 // at first the one in which most files leave it, then the one in which it rested last. `number` is the
 // place of its front in the sieve, and `later` that of the front behind an open gap. `run` has the bytes of a long
@@ -66,9 +70,9 @@ const AWAKE: usize = 128;
 pub(crate) struct SequenceScan {
     auto: Auto,
     run: Vec<u8>,
-    set: Vec<u8>,
-    next: Vec<u8>,
-    rest: Vec<u8>,
+    set: Bits,
+    next: Bits,
+    rest: Bits,
     way: Way,
     number: usize,
     later: usize,
@@ -685,10 +689,10 @@ fn make_one(set: &mut [u8], state: usize)
 }
 
 // A set of no state.
-fn empty_set(alloc: Global, auto: &Auto) -> Result<Vec<u8>, AllocError>
+fn empty_set(alloc: Global, auto: &Auto) -> Result<Bits, AllocError>
     ensures len { IfOk result (λ set. length set.items ≡ set_len (whole_tree auto.now)) }
     ensures none { IfOk result (λ set. (q : ℕ) → ¬ HasBit set.items q) }
 {
-    let bits = vec![in alloc; 0; auto.set_len()]?;
+    let bits = smallvec![in alloc; 0; auto.set_len()]?;
     Ok(bits)
 }

@@ -1,4 +1,4 @@
-use Rattle.std.proofs.Common.{◌∙◌}
+use Rattle.std.proofs.Common.{ap, length, ◌∙◌}
 use Rattle.sig_match.proofs.NarrowLemmas.{goes_on_by_words, stays_by_none}
 use Rattle.sig_match.proofs.ScanLemmas.{written}
 use Rattle.sig_match.proofs.scan.sequence_scan.SequenceScan.go_gapped.Goals as goal
@@ -6,9 +6,9 @@ use Rattle.sig_match.proofs.scan.sequence_scan.SequenceScan.go_gapped.Goals as g
 pub returns-then-count-eq0-clause-same : goal.returns-then-count-eq0-clause-same
 returns-then-count-eq0-clause-same c q =
     let inside = c.self.inside in
-    stays_by_none (record { sequence = inside.auto; set = inside.set.items }) c.args.self.now c.deref_mut.result.now c.go_by_gap-count.new.set _ c.bytes.result.now c.args.piece.now c.args.from c.go_by_gap-count.result q c.if-count-eq0.true c.self.view_is c.deref_mut.ensures.value (written _ _ _ (c.go_by_gap-count.auto.set ∙ c.deref_mut.ensures.len)) c.bytes.ensures.value c.go_by_gap-count.ensures.same
+    stays_by_none (record { sequence = inside.auto; set = inside.set.items }) c.args.self.now c.deref_mut.result.now c.go_by_gap-count.new.set _ c.bytes.result.now c.args.piece.now c.args.from c.go_by_gap-count.result q c.if-count-eq0.true c.self.view_is c.deref_mut.ensures.value (written _ _ _ (c.go_by_gap-count.auto.set ∙ ap length c.deref_mut.ensures.value)) c.bytes.ensures.value c.go_by_gap-count.ensures.same
 
 pub returns-clause-same : goal.returns-clause-same
 returns-clause-same c q =
     let inside = c.self.inside in
-    goes_on_by_words (record { sequence = inside.auto; set = inside.set.items }) c.args.self.now c.deref_mut.result.now c.go_by_gap-count.new.set _ c.bytes.result.now c.args.piece.now c.args.from c.go_by_gap-count.result q c.self.view_is c.deref_mut.ensures.value (written _ _ _ (c.go_by_gap-count.auto.set ∙ c.deref_mut.ensures.len)) c.bytes.ensures.value c.go_by_gap-count.ensures.same
+    goes_on_by_words (record { sequence = inside.auto; set = inside.set.items }) c.args.self.now c.deref_mut.result.now c.go_by_gap-count.new.set _ c.bytes.result.now c.args.piece.now c.args.from c.go_by_gap-count.result q c.self.view_is c.deref_mut.ensures.value (written _ _ _ (c.go_by_gap-count.auto.set ∙ ap length c.deref_mut.ensures.value)) c.bytes.ensures.value c.go_by_gap-count.ensures.same

@@ -19,8 +19,8 @@ returns-clause-same c q =
     let same : inside.auto ≡ old.sequence = ap (λ (v : SequenceScanView). v.sequence) c.self.view_is in
     let slots = c.slots-slots.ensures.slots ∙ ap (λ t. slots_of (whole_tree t)) same in
     let climb : Climbs (whole_tree old.sequence) = subst (λ t. Climbs (whole_tree t)) same (c.self.invariant.5 c.if-not-self.false) in
-    let none = c.deref_mut-2.ensures.value ∙ written _ _ _ (c.clear.auto.bits ∙ c.deref_mut.ensures.len) ∙ c.clear.ensures in
-    let bits = written _ _ _ (c.set_bit.auto.bits ∙ c.deref_mut-2.ensures.len) in
+    let none = c.deref_mut-2.ensures.value ∙ written _ _ _ (c.clear.auto.bits ∙ ap length c.deref_mut.ensures.value) ∙ c.clear.ensures in
+    let bits = written _ _ _ (c.set_bit.auto.bits ∙ ap length c.deref_mut-2.ensures.value) in
     let wrote : (r : ℕ) → HasBit c.set_bit.new.bits r ↔ (r ≡ 1) = λ r. (
       λ bit. ⊎_elim (λ is. is) (λ zero. absurd (zeros_have_no_bit _ r (subst (λ l. HasBit l r) none zero))) ((c.set_bit.ensures r).0 bit),
       λ is. (c.set_bit.ensures r).1 (inl is),

@@ -11,7 +11,7 @@ use Rattle.sig_match.proofs.scan.sequence_scan.SequenceScan.of.Goals as goal
 
 pub invariant_of-scan : goal.invariant_of-scan
 invariant_of-scan c =
-    let long : length c.start_set.new.set ≡ c.in_ok-set.set.len = c.start_set.auto.set ∙ c.deref_mut.ensures.len in (
+    let long : length c.start_set.new.set ≡ length c.in_ok-set.set.items = c.start_set.auto.set ∙ ap length c.deref_mut.ensures.value in (
       ap length (written _ _ _ long) ∙ c.start_set.auto.set ∙ ap length c.deref_mut.ensures.value ∙ c.in_ok-set.ensures.len,
       c.in_ok-next.ensures.len,
       c.in_ok-rest.ensures.len,
@@ -24,6 +24,6 @@ invariant_of-scan c =
 
 pub returns : goal.returns
 returns c =
-    let long : length c.start_set.new.set ≡ c.in_ok-set.set.len = c.start_set.auto.set ∙ c.deref_mut.ensures.len in
+    let long : length c.start_set.new.set ≡ length c.in_ok-set.set.items = c.start_set.auto.set ∙ ap length c.deref_mut.ensures.value in
     subst (IsSequenceScanOf [] c.args.sequence.now) (sym (c.look_further.ensures ∙ c.look_ahead.ensures))
     (subst (λ l. IsSequenceScanOf [] c.args.sequence.now (record { sequence = c.in_ok-auto.auto; set = l })) (sym (written _ _ _ long)) (record { sequence_is = c.in_ok-auto.ensures; set_is = set_begins (whole_tree c.args.sequence.now) c.start_set.new.set c.start_set.ensures }))
