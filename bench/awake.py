@@ -29,9 +29,11 @@ TABLES = {
     "seven-41": ("Variable,,,", "41414141414141<2>"),
     "class-first": ("Variable,,,", "[41:5A]414141414141<2>"),
     "gap": ("Variable,,,", "41{0-9}<1>??<1>"),
+    "mid-gap": ("Variable,,,", "41{0-300}<1>??<1>"),
     "long-gap": ("Variable,,,", "41{0-60000}<4>"),
     "dense": ("Variable,,,", "41" * 200 + "??<1>"),
     "end": ("EOF,0,60000,", "41<1>"),
+    "end-spaced": ("EOF,0,65000,", "41??<1>??<1>"),
 }
 
 OTHERS = [byte for byte in range(256) if byte != 0x41]
