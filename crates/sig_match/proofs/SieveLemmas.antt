@@ -1,13 +1,13 @@
 -- Tables of fronts, and what is known of where they stand.
-use Rattle.std.proofs.Common.{◌≡◌, ◌≢◌, ◌⊎◌, ⊎_elim, ℕ, zero, suc, ◌+◌, ◌*◌, ◌<◌, ◌≤◌, List, [], ◌∷◌, ◌++◌, length, get_or, take, drop, Some, None, subst, sym, ap, refl, ◌∙◌, arith, inl, inr, length-drop, length-take, length-append, length-set, replicate, set}
-use Rattle.std.specs.Prelude.{slice_get}
+use Rattle.std.proofs.Common.{◌≡◌, ◌≢◌, ◌⊎◌, Bool, true, false, ⊎_elim, ℕ, zero, suc, ◌+◌, ◌*◌, ◌<◌, ◌≤◌, List, [], ◌∷◌, ◌++◌, length, get_or, take, drop, Some, None, subst, sym, ap, refl, ◌∙◌, arith, inl, inr, length-drop, length-take, length-append, length-set, replicate, set}
+use Rattle.std.specs.Prelude.{◌%◌, slice_get}
 use Rattle.std.proofs.lemmas.Bool.{cases_eq}
 use Rattle.std.proofs.lemmas.List.{get_or-drop, get_or-replicate, get_or_past, get_or-set_same, get_or-set_other, get_or-take}
 use Rattle.std.proofs.Math.ListN.{length-replicate}
 use Rattle.std.proofs.lemmas.Option.{slice_get_within}
 use Rattle.sig_match.specs.Rests.{Misses}
 use Rattle.sig_match.proofs.RestLemmas.{misses_or_fits}
-use Rattle.sig_match.specs.Sieves.{IsKnown, IsKnownAt, IsKnownBelow, IsSample, IsSieve, IsWithinPiece, pair_at, pair_of, text_of}
+use Rattle.sig_match.specs.Sieves.{AreMarksOf, IsKnown, IsKnownAt, IsKnownBelow, IsSample, IsSieve, IsWithinPiece, list_of, pair_at, pair_of, text_of}
 use Rattle.sig_match.specs.declared.scan.entry.Entry.{Entry}
 
 -- a front that has another pair there does not stand
@@ -41,7 +41,7 @@ more_at (x ∷ xs) f g zero at = inl at
 more_at (x ∷ xs) f g (suc e) at = ⊎_elim (λ old. inl old) (λ new. inr (omega arith, new.1)) (more_at xs f g e at)
 
 -- no front at all
-pub IsSieve-none : (heads : List ℕ) → length heads ≡ 65536 → ((k : ℕ) → get_or heads k 0 ≡ 0) → IsSieve heads []
+pub IsSieve-none : (heads : List ℕ) → length heads ≡ 16381 → ((k : ℕ) → get_or heads k 0 ≡ 0) → IsSieve heads []
 IsSieve-none heads long none = record {
   long = long;
   inside = λ e f at. (let no : None ≡ Some f = at in (cc));
@@ -55,23 +55,23 @@ IsSieve-none heads long none = record {
   skips = λ e d f g at. (let no : None ≡ Some f = at in (cc));
 }
 
--- on the way along the entries that are found by the pair at place y
+-- on the way along the entries in the list of the pair at place y
 pub record Visited (entries : List Entry) (bytes first known : List ℕ) (y at : ℕ) : Type 0 where
   pub long : length known ≡ length entries
   pub within : at ≤ length entries
   pub less : (e : ℕ) → get_or known e 0 ≤ get_or first e 0
-  pub at_is : (e : ℕ) (f : Entry) → e + 1 ≡ at → slice_get entries e ≡ Some f → pair_of f ≡ pair_at bytes y
-  pub done : (e x : ℕ) (f : Entry) → slice_get entries e ≡ Some f → at ≤ e → pair_of f ≡ pair_at bytes y → x + f.at ≡ y → x < get_or known e 0 → Misses (text_of f) (drop x bytes)
+  pub at_is : (e : ℕ) (f : Entry) → e + 1 ≡ at → slice_get entries e ≡ Some f → list_of f ≡ pair_at bytes y % 16381
+  pub done : (e x : ℕ) (f : Entry) → slice_get entries e ≡ Some f → at ≤ e → list_of f ≡ pair_at bytes y % 16381 → x + f.at ≡ y → x < get_or known e 0 → Misses (text_of f) (drop x bytes)
 
-pub visit_begins : (heads : List ℕ) (entries : List Entry) (bytes known : List ℕ) (y : ℕ) → IsSieve heads entries → length known ≡ length entries → Visited entries bytes known known y (get_or heads (pair_at bytes y) 0)
+pub visit_begins : (heads : List ℕ) (entries : List Entry) (bytes known : List ℕ) (y : ℕ) → IsSieve heads entries → length known ≡ length entries → Visited entries bytes known known y (get_or heads (pair_at bytes y % 16381) 0)
 visit_begins heads entries bytes known y is long = record {
   long = long;
-  within = is.within (pair_at bytes y);
+  within = is.within (pair_at bytes y % 16381);
   less = λ e. omega arith;
-  at_is = λ e f end at. is.heads_are (pair_at bytes y) e f end at;
+  at_is = λ e f end at. is.heads_are (pair_at bytes y % 16381) e f end at;
   done = λ e x f at behind same place below.
       let head = is.headed e f at in
-      let there : e < get_or heads (pair_at bytes y) 0 = subst (λ k. e < get_or heads k 0) same head in
+      let there : e < get_or heads (pair_at bytes y % 16381) 0 = subst (λ k. e < get_or heads k 0) same head in
       absurd (omega arith);
 }
 
@@ -101,7 +101,7 @@ visit_goes_on heads entries bytes first known new y at e f is before end here lo
 pub visit_ends : (heads : List ℕ) (entries : List Entry) (bytes first known : List ℕ) (y at : ℕ) → IsSieve heads entries → y + 1 < length bytes → at ≡ 0 → Visited entries bytes first known y at → IsKnownAt entries bytes known y
 visit_ends heads entries bytes first known y at is within none visited e x f there place below =
     ⊎_elim
-    (λ (same : pair_of f ≡ pair_at bytes y). visited.done e x f there (omega arith) same place below)
+    (λ (same : pair_of f ≡ pair_at bytes y). visited.done e x f there (omega arith) (ap (λ p. p % 16381) same) place below)
     (λ differs. misses_by_pair f bytes x y (is.inside e f there) (is.few e f there) (is.wide e f there) place within differs)
     (cases_eq (pair_of f) (pair_at bytes y))
 
@@ -123,8 +123,8 @@ look_begins entries bytes known long ends = record {
 }
 
 -- behind places at which no entry is found
-pub look_passes : (heads : List ℕ) (entries : List Entry) (bytes known : List ℕ) (at to : ℕ) → IsSieve heads entries → to ≤ length bytes + 2 → IsSample to → ((y : ℕ) → at ≤ y → y < to → IsSample y → y + 1 < length bytes → get_or heads (pair_at bytes y) 0 ≡ 0) → Looked entries bytes known at → Looked entries bytes known to
-look_passes heads entries bytes known at to is within sample none looked = record {
+pub look_passes : (marks : List Bool) (heads : List ℕ) (entries : List Entry) (bytes known : List ℕ) (at to : ℕ) → AreMarksOf marks entries → IsSieve heads entries → to ≤ length bytes + 2 → IsSample to → ((y : ℕ) → at ≤ y → y < to → IsSample y → y + 1 < length bytes → get_or marks (pair_at bytes y) false ≡ false) → Looked entries bytes known at → Looked entries bytes known to
+look_passes marks heads entries bytes known at to marked is within sample none looked = record {
   long = looked.long;
   at_most = within;
   sample = sample;
@@ -137,8 +137,7 @@ look_passes heads entries bytes known at to is within sample none looked = recor
       let end = looked.ends e f there in
       let far : x + f.at + 1 < length bytes = omega arith in
       let empty = none (x + f.at) new before here far in
-      let head = is.headed e f there in
-      misses_by_pair f bytes x (x + f.at) inside (is.few e f there) (is.wide e f there) refl far (λ same. (let at_y : e < get_or heads (pair_at bytes (x + f.at)) 0 = subst (λ k. e < get_or heads k 0) same head in absurd (omega arith))))
+      misses_by_pair f bytes x (x + f.at) inside (is.few e f there) (is.wide e f there) refl far (λ same. (let there_is : true ≡ false = sym (marked.1 e f there) ∙ ap (λ k. get_or marks k false) same ∙ empty in (cc))))
       (below_or (x + f.at) at);
 }
 
@@ -207,7 +206,7 @@ four_samples at y (i, is_at) (j, is_y) low high =
     (below_or j (i + 1))
 
 -- one more front
-pub IsSieve-more : (heads : List ℕ) (entries : List Entry) (f : Entry) (k : ℕ) → IsSieve heads entries → k ≡ pair_of f → k < 65536 → f.next ≡ get_or heads k 0 → f.at + 1 < f.len → f.len ≤ 8 → length f.front ≡ 8 → IsSieve (set heads k (length entries + 1)) (entries ++ f ∷ [])
+pub IsSieve-more : (heads : List ℕ) (entries : List Entry) (f : Entry) (k : ℕ) → IsSieve heads entries → k ≡ list_of f → k < 16381 → f.next ≡ get_or heads k 0 → f.at + 1 < f.len → f.len ≤ 8 → length f.front ≡ 8 → IsSieve (set heads k (length entries + 1)) (entries ++ f ∷ [])
 IsSieve-more heads entries f k is pair few_pairs next inside few wide =
     let more = more_at entries f in
     let here : get_or (set heads k (length entries + 1)) k 0 ≡ length entries + 1 = get_or-set_same heads k (length entries + 1) 0 (omega (arith, is.long)) in
@@ -225,22 +224,22 @@ IsSieve-more heads entries f k is pair few_pairs next inside few wide =
           (cases_eq j k);
       headed = λ e g at.
           ⊎_elim
-          (λ (same : pair_of g ≡ k).
-          let at_k : get_or (set heads k (length entries + 1)) (pair_of g) 0 ≡ length entries + 1 = ap (λ i. get_or (set heads k (length entries + 1)) i 0) same ∙ here in
+          (λ (same : list_of g ≡ k).
+          let at_k : get_or (set heads k (length entries + 1)) (list_of g) 0 ≡ length entries + 1 = ap (λ i. get_or (set heads k (length entries + 1)) i 0) same ∙ here in
           ⊎_elim (λ old. (let in_list = slice_get_within entries e g old in omega arith)) (λ new. omega (arith, new.0)) (more g e at))
           (λ other.
           ⊎_elim
-          (λ old. omega (arith, there (pair_of g) other, is.headed e g old))
-          (λ new. absurd (other (sym (ap pair_of new.1) ∙ sym pair)))
+          (λ old. omega (arith, there (list_of g) other, is.headed e g old))
+          (λ new. absurd (other (sym (ap list_of new.1) ∙ sym pair)))
           (more g e at))
-          (cases_eq (pair_of g) k);
+          (cases_eq (list_of g) k);
       heads_are = λ j e g end at.
           ⊎_elim
           (λ (same : j ≡ k).
           let at_j : get_or (set heads k (length entries + 1)) j 0 ≡ length entries + 1 = ap (λ i. get_or (set heads k (length entries + 1)) i 0) same ∙ here in
           ⊎_elim
           (λ old. (let in_list = slice_get_within entries e g old in absurd (omega arith)))
-          (λ new. sym (ap pair_of new.1) ∙ sym pair ∙ sym same)
+          (λ new. sym (ap list_of new.1) ∙ sym pair ∙ sym same)
           (more g e at))
           (λ other.
           let old_head : e + 1 ≡ get_or heads j 0 = end ∙ there j other in
@@ -264,8 +263,8 @@ IsSieve-more heads entries f k is pair few_pairs next inside few wide =
           (λ new.
           let next_of : d + 1 ≡ get_or heads k 0 = end ∙ ap (λ (i : Entry). i.next) (sym new.1) ∙ next in
           ⊎_elim
-          (λ old_d. is.heads_are k d h next_of old_d ∙ pair ∙ ap pair_of new.1)
-          (λ new_d. ap pair_of (sym new_d.1 ∙ new.1))
+          (λ old_d. is.heads_are k d h next_of old_d ∙ pair ∙ ap list_of new.1)
+          (λ new_d. ap list_of (sym new_d.1 ∙ new.1))
           (more h d at_d))
           (more g e at_e);
       skips = λ e d g h at_e at_d after before same.
@@ -280,7 +279,7 @@ IsSieve-more heads entries f k is pair few_pairs next inside few wide =
           (λ old_d.
           let next_of : get_or heads k 0 ≤ d = subst (λ n. n ≤ d) next (subst (λ (i : Entry). i.next ≤ d) (sym new.1) after) in
           let head = is.headed d h old_d in
-          let to_k : pair_of h ≡ k = same ∙ sym (ap pair_of new.1) ∙ sym pair in
+          let to_k : list_of h ≡ k = same ∙ sym (ap list_of new.1) ∙ sym pair in
           let under : d < get_or heads k 0 = subst (λ i. d < get_or heads i 0) to_k head in
           absurd (omega arith))
           (λ new_d. absurd (omega (arith, new.0, new_d.0)))
@@ -307,12 +306,34 @@ set_less xs i n less = (
 zeros_read : (n k z : ℕ) → z ≡ 0 → get_or (replicate n z) k 0 ≡ 0
 zeros_read n k z none = ⊎_elim (λ below. get_or-replicate n k z 0 below ∙ none) (λ past. get_or_past (replicate n z) k 0 (let long = length-replicate n z in omega arith)) (below_or k n)
 
-no_heads_by : (heads : List ℕ) (n z : ℕ) → n ≡ 65536 → z ≡ 0 → heads ≡ replicate n z → IsSieve heads []
+no_heads_by : (heads : List ℕ) (n z : ℕ) → n ≡ 16381 → z ≡ 0 → heads ≡ replicate n z → IsSieve heads []
 no_heads_by heads n z many none zeros =
     IsSieve-none heads (ap length zeros ∙ length-replicate n z ∙ many) (λ k. ap (λ l. get_or l k 0) zeros ∙ zeros_read n k z none)
 
-pub no_heads : (heads : List ℕ) (entries : List Entry) → heads ≡ replicate 65536 0 → entries ≡ [] → IsSieve heads entries
-no_heads heads entries zeros none = rw none (no_heads_by heads 65536 0 refl refl zeros)
+pub no_heads : (heads : List ℕ) (entries : List Entry) → heads ≡ replicate 16381 0 → entries ≡ [] → IsSieve heads entries
+no_heads heads entries zeros none = rw none (no_heads_by heads 16381 0 refl refl zeros)
 
-pub added : (heads : List ℕ) (entries new : List Entry) (f : Entry) (k n : ℕ) → IsSieve heads entries → new ≡ entries ++ f ∷ [] → n ≡ length entries + 1 → k ≡ pair_of f → k < 65536 → f.next ≡ get_or heads k 0 → f.at + 1 < f.len → f.len ≤ 8 → length f.front ≡ 8 → IsSieve (set heads k n) new
+pub added : (heads : List ℕ) (entries new : List Entry) (f : Entry) (k n : ℕ) → IsSieve heads entries → new ≡ entries ++ f ∷ [] → n ≡ length entries + 1 → k ≡ list_of f → k < 16381 → f.next ≡ get_or heads k 0 → f.at + 1 < f.len → f.len ≤ 8 → length f.front ≡ 8 → IsSieve (set heads k n) new
 added heads entries new f k n is more count pair few_pairs next inside few wide = rw (more, count) (IsSieve-more heads entries f k is pair few_pairs next inside few wide)
+
+-- one more pair
+pub AreMarksOf-more : (marks : List Bool) (entries new : List Entry) (f : Entry) (k : ℕ) → AreMarksOf marks entries → new ≡ entries ++ f ∷ [] → k ≡ pair_of f → k < 65536 → AreMarksOf (set marks k true) new
+AreMarksOf-more marks entries new f k are is pair few = (
+  length-set marks k true ∙ are.0,
+  λ e g at.
+      ⊎_elim
+      (λ (same : pair_of g ≡ k). ap (λ j. get_or (set marks k true) j false) same ∙ get_or-set_same marks k true false (omega (arith, are.0)))
+      (λ (other : pair_of g ≢ k).
+      ⊎_elim
+      (λ old. get_or-set_other marks k (pair_of g) true false other ∙ are.1 e g old)
+      (λ added. absurd (other (ap pair_of (sym added.1) ∙ sym pair)))
+      (more_at entries f g e (subst (λ xs. slice_get xs e ≡ Some g) is at)))
+      (cases_eq (pair_of g) k),
+)
+
+-- no pair at all
+pub no_marks : (marks : List Bool) (entries : List Entry) → marks ≡ replicate 65536 false → entries ≡ [] → AreMarksOf marks entries
+no_marks marks entries zeros none = (
+  ap length zeros ∙ length-replicate 65536 false,
+  λ e f at. (let no : slice_get [] e ≡ Some f = subst (λ xs. slice_get xs e ≡ Some f) none at in let never : None ≡ Some f = no in (cc)),
+)

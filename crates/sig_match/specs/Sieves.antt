@@ -1,5 +1,5 @@
 -- Tables of fronts, and the places of a piece before which none of them stands.
-use Rattle.std.specs.Prelude.{◌≡◌, ◌≢◌, ℕ, ◌+◌, ◌-◌, ◌*◌, ◌<◌, ◌≤◌, List, Some, drop, get_or, length, slice_get, take}
+use Rattle.std.specs.Prelude.{◌≡◌, ◌≢◌, ℕ, ◌+◌, ◌-◌, ◌*◌, ◌%◌, ◌<◌, ◌≤◌, Bool, List, Some, true, false, drop, get_or, length, slice_get, take}
 use Rattle.sig_match.specs.declared.scan.entry.Entry.{Entry}
 use Rattle.sig_match.specs.Rests.{Misses}
 
@@ -15,22 +15,30 @@ pair_of f = get_or f.front f.at 0 + 256 * get_or f.front (f.at + 1) 0
 abbrev pub pair_at : List ℕ → ℕ → ℕ
 pair_at bytes y = get_or bytes y 0 + 256 * get_or bytes (y + 1) 0
 
+-- the list that an entry is in
+abbrev pub list_of : Entry → ℕ
+list_of f = pair_of f % 16381
+
 -- the places that are looked at
 abbrev pub IsSample : ℕ → Type 0
 IsSample y = (k : ℕ) × (y ≡ 3 * k)
 
--- of each pair, the head is one more than the place of the last entry that is found by it, and each entry tells so of the one before; where there is none, it is 0
+-- the pair of each entry is marked
+abbrev pub AreMarksOf : List Bool → List Entry → Type 0
+AreMarksOf marks entries = (length marks ≡ 65536) × ((e : ℕ) (f : Entry) → slice_get entries e ≡ Some f → get_or marks (pair_of f) false ≡ true)
+
+-- of each list, the head is one more than the place of the last entry in it, and each entry tells so of the one before; where there is none, it is 0
 pub record IsSieve (heads : List ℕ) (entries : List Entry) : Type 0 where
-  pub long : length heads ≡ 65536
+  pub long : length heads ≡ 16381
   pub inside : (e : ℕ) (f : Entry) → slice_get entries e ≡ Some f → f.at + 1 < f.len
   pub few : (e : ℕ) (f : Entry) → slice_get entries e ≡ Some f → f.len ≤ 8
   pub wide : (e : ℕ) (f : Entry) → slice_get entries e ≡ Some f → length f.front ≡ 8
   pub within : (k : ℕ) → get_or heads k 0 ≤ length entries
-  pub headed : (e : ℕ) (f : Entry) → slice_get entries e ≡ Some f → e < get_or heads (pair_of f) 0
-  pub heads_are : (k e : ℕ) (f : Entry) → e + 1 ≡ get_or heads k 0 → slice_get entries e ≡ Some f → pair_of f ≡ k
+  pub headed : (e : ℕ) (f : Entry) → slice_get entries e ≡ Some f → e < get_or heads (list_of f) 0
+  pub heads_are : (k e : ℕ) (f : Entry) → e + 1 ≡ get_or heads k 0 → slice_get entries e ≡ Some f → list_of f ≡ k
   pub falls : (e : ℕ) (f : Entry) → slice_get entries e ≡ Some f → f.next ≤ e
-  pub next_is : (e d : ℕ) (f g : Entry) → slice_get entries e ≡ Some f → slice_get entries d ≡ Some g → d + 1 ≡ f.next → pair_of g ≡ pair_of f
-  pub skips : (e d : ℕ) (f g : Entry) → slice_get entries e ≡ Some f → slice_get entries d ≡ Some g → f.next ≤ d → d < e → pair_of g ≢ pair_of f
+  pub next_is : (e d : ℕ) (f g : Entry) → slice_get entries e ≡ Some f → slice_get entries d ≡ Some g → d + 1 ≡ f.next → list_of g ≡ list_of f
+  pub skips : (e d : ℕ) (f g : Entry) → slice_get entries e ≡ Some f → slice_get entries d ≡ Some g → f.next ≤ d → d < e → list_of g ≢ list_of f
 
 -- before the place that is known of an entry, its front stands at none of the places that the entry is for
 abbrev pub IsKnown : List Entry → List ℕ → List ℕ → Type 0

@@ -35,6 +35,7 @@ const LONG: usize = 256;
 
 /// Steps the set through bytes, if the sequence has one long gap and few states outside of it: to the end, or to
 /// where no slot of the gap is in the set and it is the one to rest in. Answers through how many.
+#[inline(never)]
 pub(crate) fn go_by_gap(
     auto: &Auto,
     set: &mut [u8],

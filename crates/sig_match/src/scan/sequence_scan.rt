@@ -26,7 +26,7 @@ use sig_auto::Auto;
 use sig_bits::{ByteClass, and_any, clear, get_bit, set_bit, subset};
 use sig_expr::Item;
 use sig_table::Sequence;
-use smallvec::{SmallVec, smallvec};
+use smallvec::SmallVec;
 use std::alloc::{AllocError, Global};
 use std::marker::Model;
 use std::mem;
@@ -693,6 +693,10 @@ fn empty_set(alloc: Global, auto: &Auto) -> Result<Bits, AllocError>
     ensures len { IfOk result (λ set. length set.items ≡ set_len (whole_tree auto.now)) }
     ensures none { IfOk result (λ set. (q : ℕ) → ¬ HasBit set.items q) }
 {
-    let bits = smallvec![in alloc; 0; auto.set_len()]?;
-    Ok(bits)
+    let len = auto.set_len();
+    if len <= FEW {
+        return Ok(Bits::from_buf_and_len(alloc, [0; FEW], len));
+    }
+    let bits = vec![in alloc; 0; len]?;
+    Ok(Bits::from_vec(bits))
 }

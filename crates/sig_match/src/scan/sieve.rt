@@ -3,12 +3,12 @@
 //! Every third place of a piece is looked at. A front of four bytes and more that stands in the piece has
 //! one of these places at its first, second or third byte, and at each third one behind that. So it is in the
 //! table three times, by a pair of bytes for each of the three: two different ones, if there are such. Most pairs
-//! of a piece are those of no front, so a table of all pairs passes over them. At the others the fronts that are
-//! found by the pair are compared, one by one.
+//! of a piece are those of no front, so a table of marks passes over them: one byte for each pair. At the others the
+//! fronts in the list of the pair are compared, one by one. Some pairs share a list: the marks take most of the room.
 
 ghost use Rattle.std.specs.Prelude.{◌≡◌, ◌⊎◌, ◌+◌, ◌*◌, ◌^◌, [], ℕ, ◌<◌, ◌≤◌, false, IfOk, IsTrue, Some, drop, get_or, length, slice_get};
 ghost use Rattle.sig_match.specs.Rests.{Misses};
-ghost use Rattle.sig_match.specs.Sieves.{IsKnown, IsKnownAt, IsSample, IsSieve, IsWithinPiece, pair_at, text_of};
+ghost use Rattle.sig_match.specs.Sieves.{AreMarksOf, IsKnown, IsKnownAt, IsSample, IsSieve, IsWithinPiece, pair_at, text_of};
 
 use crate::scan::entry::Entry;
 use crate::scan::way::{FRONT, may_begin, same_bytes};
@@ -17,6 +17,9 @@ use std::marker::Model;
 
 // How many pairs of bytes there are.
 const PAIRS: usize = 65_536;
+
+// How many lists the entries are in. It is a prime, so pairs that have one byte in common have lists of their own.
+const LISTS: usize = 16_381;
 
 // How many entries a sieve has at most.
 const ENTRIES: usize = 65_535;
@@ -27,21 +30,23 @@ pub(crate) const STRIDE: usize = 3;
 /// Fronts of four bytes and more, each with three entries.
 #[derive(Debug, Drop)]
 pub(crate) struct Sieve {
-    // Of each two bytes, one more than the place of the last entry that is found by them, or 0.
+    // Of each two bytes, whether an entry is found by them.
+    marks: Vec<bool>,
+    // Of each list, one more than the place of its last entry, or 0.
     heads: Vec<u16>,
     entries: Vec<Entry>,
 }
 
 impl Model for Sieve {
     ghost use Rattle.std.specs.Prelude.{List};
-    ghost use Rattle.sig_match.specs.Sieves.{IsSieve};
+    ghost use Rattle.sig_match.specs.Sieves.{AreMarksOf, IsSieve};
     ghost use Rattle.sig_match.specs.declared.scan.entry.Entry.{Entry};
 
     ghost Value = { List Entry };
 
     ghost view = { λ s. s.entries.items };
 
-    ghost invariant = { λ s. IsSieve s.heads.items s.entries.items };
+    ghost invariant = { λ s. IsSieve s.heads.items s.entries.items × AreMarksOf s.marks.items s.entries.items };
 }
 
 impl Sieve {
@@ -52,7 +57,8 @@ impl Sieve {
         ensures { IfOk result (λ s. s ≡ []) }
     {
         Ok(Sieve {
-            heads: vec![in alloc; 0; PAIRS]?,
+            marks: vec![in alloc; false; PAIRS]?,
+            heads: vec![in alloc; 0; LISTS]?,
             entries: Vec::new(alloc),
         })
     }
@@ -69,7 +75,8 @@ impl Sieve {
         ensures { IsTrue result → (f : Entry) × (slice_get self.now place ≡ Some f) × (text_of f ≡ front.now) × (f.at ≡ at) }
     {
         match self.entries.get(place) {
-            Some(entry) => entry.at == at && same_bytes(&entry.front[..entry.len], front),
+            Some(entry) => entry.at as usize == at
+                && same_bytes(&entry.front[..entry.len as usize], front),
             None => false,
         }
     }
@@ -98,14 +105,15 @@ impl Sieve {
     {
         let place = self.entries.len();
         let pair = pair(front[at], front[at + 1]);
-        let next = self.heads[pair] as usize;
+        let list = pair % LISTS;
         self.entries.push(Entry {
             front,
-            len,
-            at,
-            next,
+            len: len as u8,
+            at: at as u8,
+            next: self.heads[list],
         })?;
-        self.heads[pair] = place as u16 + 1;
+        self.heads[list] = place as u16 + 1;
+        self.marks[pair] = true;
         Ok(())
     }
 
@@ -115,7 +123,7 @@ impl Sieve {
         requires { length known.old ≡ length self.now }
         ensures { IsKnown self.now bytes.now known.new }
     {
-        look_through(&self.heads, &self.entries, bytes, known);
+        look_through(&self.marks, &self.heads, &self.entries, bytes, known);
     }
 }
 
@@ -139,16 +147,18 @@ pub(crate) fn pair_place(front: &[u8], first: usize) -> usize
 }
 
 // Finds of each entry a place before which it does not stand.
-fn look_through(heads: &[u16], entries: &[Entry], bytes: &[u8], known: &mut [usize])
+#[inline(never)]
+fn look_through(marks: &[bool], heads: &[u16], entries: &[Entry], bytes: &[u8], known: &mut [usize])
+    requires marks { AreMarksOf marks.now entries.now }
     requires sieve { IsSieve heads.now entries.now }
     requires known { length known.old ≡ length entries.now }
     ensures { IsKnown entries.now bytes.now known.new }
 {
     begin(entries, bytes.len(), known);
-    let mut at = next_marked(heads, bytes, 0);
+    let mut at = next_marked(marks, bytes, 0);
     while at + 1 < bytes.len() {
         visit(heads, entries, bytes, at, known);
-        at = next_marked(heads, bytes, at + STRIDE);
+        at = next_marked(marks, bytes, at + STRIDE);
     }
 }
 
@@ -167,46 +177,46 @@ fn begin(entries: &[Entry], len: usize, known: &mut [usize])
     ensures { IsWithinPiece entries.now known.new len }
 {
     for (place, entry) in entries.iter().enumerate() {
-        known[place] = (len + 1).saturating_sub(entry.len);
+        known[place] = (len + 1).saturating_sub(entry.len as usize);
     }
 }
 
 // The next place to be looked at by whose pair an entry is found, or one near the end.
-fn next_marked(heads: &[u16], bytes: &[u8], from: usize) -> usize
-    requires heads { length heads.now ≡ 65536 }
+fn next_marked(marks: &[bool], bytes: &[u8], from: usize) -> usize
+    requires marks { length marks.now ≡ 65536 }
     requires from { from ≤ length bytes.now + 2 }
     requires sample { IsSample from }
     ensures from { from ≤ result }
     ensures sample { IsSample result }
     ensures within { result ≤ length bytes.now + 2 }
-    ensures none { (y : ℕ) → from ≤ y → y < result → IsSample y → y + 1 < length bytes.now → get_or heads.now (pair_at bytes.now y) 0 ≡ 0 }
+    ensures none { (y : ℕ) → from ≤ y → y < result → IsSample y → y + 1 < length bytes.now → get_or marks.now (pair_at bytes.now y) false ≡ false }
 {
     let mut at = from;
     while at + 3 * STRIDE + 1 < bytes.len() {
-        let near = head(heads, bytes, at) + head(heads, bytes, at + STRIDE);
-        let far = head(heads, bytes, at + 2 * STRIDE) + head(heads, bytes, at + 3 * STRIDE);
+        let near = mark(marks, bytes, at) + mark(marks, bytes, at + STRIDE);
+        let far = mark(marks, bytes, at + 2 * STRIDE) + mark(marks, bytes, at + 3 * STRIDE);
         if near + far > 0 {
             break;
         }
         at += 4 * STRIDE;
     }
-    while at + 1 < bytes.len() && head(heads, bytes, at) == 0 {
+    while at + 1 < bytes.len() && mark(marks, bytes, at) == 0 {
         at += STRIDE;
     }
     at
 }
 
-// The head of the pair at this place.
-fn head(heads: &[u16], bytes: &[u8], at: usize) -> u32
-    requires heads { length heads.now ≡ 65536 }
+// 1 if an entry is found by the pair at this place, or 0.
+fn mark(marks: &[bool], bytes: &[u8], at: usize) -> u32
+    requires marks { length marks.now ≡ 65536 }
     requires place { at + 1 < length bytes.now }
-    ensures head { result ≡ get_or heads.now (pair_at bytes.now at) 0 }
-    ensures few { result < 65536 }
+    ensures none { result ≡ 0 → get_or marks.now (pair_at bytes.now at) false ≡ false }
+    ensures few { result ≤ 1 }
 {
-    heads[pair(bytes[at], bytes[at + 1])] as u32
+    marks[pair(bytes[at], bytes[at + 1])] as u32
 }
 
-// Compares the entries that are found by the two bytes at this place.
+// Compares the entries in the list of the two bytes at this place.
 fn visit(heads: &[u16], entries: &[Entry], bytes: &[u8], y: usize, known: &mut [usize])
     requires sieve { IsSieve heads.now entries.now }
     requires known { length known.old ≡ length entries.now }
@@ -214,12 +224,12 @@ fn visit(heads: &[u16], entries: &[Entry], bytes: &[u8], y: usize, known: &mut [
     ensures less { (e : ℕ) → get_or known.new e 0 ≤ get_or known.old e 0 }
     ensures here { IsKnownAt entries.now bytes.now known.new y }
 {
-    let mut at = heads[pair(bytes[y], bytes[y + 1])] as usize;
+    let mut at = heads[pair(bytes[y], bytes[y + 1]) % LISTS] as usize;
     while at > 0 {
         let place = at - 1;
         let entry = &entries[place];
         known[place] = known_of(entry, bytes, y, known[place]);
-        at = entry.next;
+        at = entry.next as usize;
     }
 }
 
@@ -230,11 +240,12 @@ fn known_of(entry: &Entry, bytes: &[u8], y: usize, known: usize) -> usize
     ensures less { result ≤ known }
     ensures here { (x : ℕ) → x + entry.now.at ≡ y → x < result → Misses (text_of entry.now) (drop x bytes.now) }
 {
-    if y < entry.at {
+    let at = entry.at as usize;
+    if y < at {
         return known;
     }
-    let x = y - entry.at;
-    if known > x && may_stand(&entry.front[..entry.len], &bytes[x..]) {
+    let x = y - at;
+    if known > x && may_stand(&entry.front[..entry.len as usize], &bytes[x..]) {
         x
     } else {
         known

@@ -1,4 +1,4 @@
-use Rattle.std.proofs.Common.{◌≡◌, ◌+◌, ◌<◌, ◌≤◌, ⊎_elim, ap, arith, get_or, sym, ◌∙◌}
+use Rattle.std.proofs.Common.{◌≡◌, ◌+◌, ◌<◌, ◌≤◌, ⊎_elim, arith, false, get_or, subst, sym}
 use Rattle.sig_match.specs.Sieves.{pair_at}
 use Rattle.sig_match.proofs.SieveLemmas.{below_or, four_samples, next_sample, sample_below}
 use Rattle.sig_match.proofs.scan.sieve.next_marked.Goals as goal
@@ -13,14 +13,14 @@ loop-at-preserved c = record {
       (λ (old : y < c.loop-at.at). c.loop-at.invariant.none y after old sample inside)
       (λ (new : c.loop-at.at ≤ y).
       ⊎_elim
-      (λ (first : y ≡ c.loop-at.at). ap (λ k. get_or c.args.heads.now (pair_at c.args.bytes.now k) 0) first ∙ sym c.head.ensures.head ∙ (let none = c.if-near-far-gt0.false in omega arith))
+      (λ (first : y ≡ c.loop-at.at). subst (λ k. get_or c.args.marks.now (pair_at c.args.bytes.now k) false ≡ false) (sym first) (c.mark.ensures.none (let none = c.if-near-far-gt0.false in omega arith)))
       (λ later.
       ⊎_elim
-      (λ (second : y ≡ c.loop-at.at + 3). ap (λ k. get_or c.args.heads.now (pair_at c.args.bytes.now k) 0) second ∙ sym c.head-in-loop-at.ensures.head ∙ (let none = c.if-near-far-gt0.false in omega arith))
+      (λ (second : y ≡ c.loop-at.at + 3). subst (λ k. get_or c.args.marks.now (pair_at c.args.bytes.now k) false ≡ false) (sym second) (c.mark-in-loop-at.ensures.none (let none = c.if-near-far-gt0.false in omega arith)))
       (λ others.
       ⊎_elim
-      (λ (third : y ≡ c.loop-at.at + 6). ap (λ k. get_or c.args.heads.now (pair_at c.args.bytes.now k) 0) third ∙ sym c.head-in-loop-at-2.ensures.head ∙ (let none = c.if-near-far-gt0.false in omega arith))
-      (λ (fourth : y ≡ c.loop-at.at + 9). ap (λ k. get_or c.args.heads.now (pair_at c.args.bytes.now k) 0) fourth ∙ sym c.head-in-loop-at-3.ensures.head ∙ (let none = c.if-near-far-gt0.false in omega arith))
+      (λ (third : y ≡ c.loop-at.at + 6). subst (λ k. get_or c.args.marks.now (pair_at c.args.bytes.now k) false ≡ false) (sym third) (c.mark-in-loop-at-2.ensures.none (let none = c.if-near-far-gt0.false in omega arith)))
+      (λ (fourth : y ≡ c.loop-at.at + 9). subst (λ k. get_or c.args.marks.now (pair_at c.args.bytes.now k) false ≡ false) (sym fourth) (c.mark-in-loop-at-3.ensures.none (let none = c.if-near-far-gt0.false in omega arith)))
       others)
       later)
       (four_samples c.loop-at.at y c.loop-at.invariant.sample sample new before))
@@ -38,6 +38,6 @@ loop-at-2-preserved c = record {
       (λ (new : c.loop-at-2.at ≤ y).
       let low = sample_below c.loop-at-2.at y c.loop-at-2.invariant.sample sample before in
       let here : y ≡ c.loop-at-2.at = omega arith in
-      ap (λ k. get_or c.args.heads.now (pair_at c.args.bytes.now k) 0) here ∙ sym c.head-in-loop-at-2-2.ensures.head ∙ c.if-head-eq0.true)
+      subst (λ k. get_or c.args.marks.now (pair_at c.args.bytes.now k) false ≡ false) (sym here) (c.mark-in-loop-at-2-2.ensures.none c.if-mark-eq0.true))
       (below_or y c.loop-at-2.at);
 }

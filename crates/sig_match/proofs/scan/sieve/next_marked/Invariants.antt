@@ -1,4 +1,4 @@
-use Rattle.std.proofs.Common.{◌≡◌, ℕ, ◌+◌, ◌-◌, ◌<◌, ◌≤◌, get_or, length}
+use Rattle.std.proofs.Common.{◌≡◌, ℕ, ◌+◌, ◌-◌, ◌<◌, ◌≤◌, false, get_or, length}
 use Rattle.sig_match.specs.Sieves.{IsSample, pair_at}
 use Rattle.sig_match.proofs.scan.sieve.next_marked.Given as goal
 
@@ -8,7 +8,7 @@ invariant-loop-at l = record {
   from : l.from ≤ l.at;
   within : l.at ≤ length l.bytes + 2;
   sample : IsSample l.at;
-  none : (y : ℕ) → l.from ≤ y → y < l.at → IsSample y → y + 1 < length l.bytes → get_or l.heads (pair_at l.bytes y) 0 ≡ 0;
+  none : (y : ℕ) → l.from ≤ y → y < l.at → IsSample y → y + 1 < length l.bytes → get_or l.marks (pair_at l.bytes y) false ≡ false;
 }
 
 abbrev pub decreases-loop-at : goal.decreases-loop-at
@@ -20,7 +20,7 @@ invariant-loop-at-2 l = record {
   from : l.from ≤ l.at;
   within : l.at ≤ length l.bytes + 2;
   sample : IsSample l.at;
-  none : (y : ℕ) → l.from ≤ y → y < l.at → IsSample y → y + 1 < length l.bytes → get_or l.heads (pair_at l.bytes y) 0 ≡ 0;
+  none : (y : ℕ) → l.from ≤ y → y < l.at → IsSample y → y + 1 < length l.bytes → get_or l.marks (pair_at l.bytes y) false ≡ false;
 }
 
 abbrev pub decreases-loop-at-2 : goal.decreases-loop-at-2

@@ -1,4 +1,4 @@
-use Rattle.std.proofs.Common.{◌≡◌, ◌↔◌, ◌∙◌, get_or, List, ℕ, ap, drop, length, subst, sym, take, vec_len}
+use Rattle.std.proofs.Common.{◌≡◌, ◌↔◌, ◌∙◌, get_or, List, ℕ, ap, drop, length, subst, sym, take}
 use Rattle.std.proofs.lemmas.Bool.{false≢true}
 use Rattle.std.proofs.lemmas.List.{get_or-take}
 use Rattle.sig_auto.specs.Trees.{Tree, whole_tree}
