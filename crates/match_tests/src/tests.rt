@@ -6,6 +6,7 @@ mod first_piece;
 mod hits;
 mod items;
 mod long_gaps;
+mod offsets;
 mod plain;
 mod random;
 mod runs;

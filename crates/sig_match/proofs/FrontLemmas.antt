@@ -1,5 +1,5 @@
 -- Fronts of sequences.
-use Rattle.std.proofs.Common.{◌≡◌, ⊎_elim, ℕ, zero, suc, ◌+◌, ◌<◌, List, [], ◌∷◌, ◌++◌, length, take, drop, subst, sym, ap, ap₂, refl, ◌∙◌, arith, append_assoc, length-append}
+use Rattle.std.proofs.Common.{◌≡◌, ◌↔◌, ⊎_elim, ℕ, zero, suc, ◌+◌, ◌<◌, List, [], ◌∷◌, ◌++◌, length, take, drop, subst, sym, ap, ap₂, refl, ◌∙◌, arith, append_assoc, length-append}
 use Rattle.std.specs.Prelude.{get_or}
 use Rattle.std.proofs.lemmas.List.{drop_at}
 use Rattle.sig_expr.specs.declared.item.Item.{Item}
@@ -77,3 +77,8 @@ front_behind i items later front cut is = record {
   few = is.few;
   wide = is.wide;
 }
+
+-- nor do they in any file that begins so, where as many bytes settle that for the one whose front is nowhere
+pub one_out : (ss : List SequenceView) (s : SequenceView) (i : ℕ) (front : Front) (piece rest : List ℕ) → i < length ss → s ≡ get_or ss i s → ((f r : List ℕ) → length f ≡ length piece → Stands s f ↔ Stands s (f ++ r)) → IsFrontOf s.items front → IsNowhere (take front.len front.bytes) piece → AllStand (piece ++ rest) ss → ⊥
+one_out ss s i front piece rest within is settled of nowhere all =
+    front_missing s front piece of nowhere ((settled piece rest refl).1 (subst (λ (t : SequenceView). Stands t (piece ++ rest)) (sym is) (all i s within)))

@@ -12,6 +12,7 @@ mod HitLemmas
 mod ItemLemmas
 mod KeptLemmas
 mod LangLemmas
+mod LeadLemmas
 mod LeftLemmas
 mod ListingLemmas
 mod MarkLemmas

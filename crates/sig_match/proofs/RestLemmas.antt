@@ -22,7 +22,7 @@ use Rattle.sig_match.specs.Scans.{IsSequenceScanOf, SequenceScanView}
 use Rattle.sig_match.specs.Rests.{AreCutsOf, Fades, FrontAt, GoesBy, GoesLater, IsFollower, IsNoLoss, IsLeftAlike, IsLeftOn, IsLeftTo, IsNoWay, IsOnlyWay, IsPassed, IsReached, IsRest, LeadsAlike, LeadsOnlyTo, Misses, Opens, OpensLater, Reaches, front_at, no_front}
 
 -- what misses the front is not a way on
-goes_not : (tree : Tree) (front bytes : List ℕ) (p q : ℕ) → IsBytes bytes → GoesBy tree p front → Misses front bytes → Reaches tree p bytes q → ⊥
+pub goes_not : (tree : Tree) (front bytes : List ℕ) (p q : ℕ) → IsBytes bytes → GoesBy tree p front → Misses front bytes → Reaches tree p bytes q → ⊥
 goes_not tree [] bytes p q are goes misses reaches = misses
 goes_not tree (f ∷ front) [] p q are goes misses reaches = misses
 goes_not tree (f ∷ front) (b ∷ bytes) p q are goes misses reaches =
@@ -39,7 +39,7 @@ opens_not tree (f ∷ front) bytes b r q are opens misses reaches =
     ⊎_elim (λ differs. differs opens.0) (λ later. goes_not tree front bytes r q are opens.1 later reaches) misses
 
 -- nothing of the front is in no bytes
-misses_none : (front : List ℕ) → Misses front [] → ⊥
+pub misses_none : (front : List ℕ) → Misses front [] → ⊥
 misses_none [] misses = misses
 misses_none (f ∷ front) misses = misses
 
@@ -612,6 +612,18 @@ pub scan_alike : (old mid new : SequenceScanView) (left middle right : List ℕ)
 scan_alike old mid new left middle right same first second q =
     let later : LeadsAlike (whole_tree old.sequence) mid.set middle new.set right = subst (λ s. LeadsAlike (whole_tree s) mid.set middle new.set right) same second in
     (λ h. (later q).0 ((first q).0 h), λ h. (first q).1 ((later q).1 h))
+
+-- a set, and that behind one byte more of the piece
+pub steps_alike : (tree : Tree) (set next piece : List ℕ) (from b : ℕ) → from < length piece → b ≡ get_or piece from 0 → ((q : ℕ) → HasBit next q ↔ IsStepOf tree set b q) → LeadsAlike tree set (drop from piece) next (drop (from + 1) piece)
+steps_alike tree set next piece from b within byte step q =
+    let left : List ℕ = drop (from + 1) piece in
+    let head : drop from piece ≡ get_or piece from 0 ∷ left = rw add-one (drop-cons piece from 0 within) in
+    let first : drop from piece ≡ b ∷ left = head ∙ ap (λ k. k ∷ left) (sym byte) in
+    let Alike : List ℕ → Type 0 = λ l. IsReached tree set l q ↔ IsReached tree next left q in
+    subst Alike (sym first) (
+      λ h. let on = h.2 in (on.0, (step on.0).1 (h.0, h.1, on.1, on.2), on.3),
+      λ h. let before = (step h.0).0 h.1 in (before.0, before.1, (h.0, before.2, before.3, h.2)),
+    )
 
 -- a scan on its way, where another set and what is then left lead to the same
 pub scan_changes : (file left to : List ℕ) (s : SequenceView) (scan new : SequenceScanView) → new.sequence ≡ scan.sequence → ((q : ℕ) → IsReached (whole_tree scan.sequence) scan.set left q ↔ IsReached (whole_tree scan.sequence) new.set to q) → IsDueScan file s scan left → IsDueScan file s new to

@@ -6,7 +6,7 @@ use Rattle.std.proofs.lemmas.List.{get_or-drop, get_or-replicate, get_or_past, g
 use Rattle.std.proofs.Math.ListN.{length-replicate}
 use Rattle.std.proofs.lemmas.Option.{slice_get_within}
 use Rattle.sig_match.specs.Rests.{Misses}
-use Rattle.sig_match.proofs.RestLemmas.{misses_or_fits}
+use Rattle.sig_match.proofs.RestLemmas.{misses_none, misses_or_fits}
 use Rattle.sig_match.specs.Sieves.{AreMarksOf, IsKnown, IsKnownAt, IsKnownBelow, IsSample, IsSieve, IsWithinPiece, list_of, pair_at, pair_of, text_of}
 use Rattle.sig_match.specs.declared.scan.entry.Entry.{Entry}
 
@@ -337,3 +337,22 @@ no_marks marks entries zeros none = (
   ap length zeros ∙ length-replicate 65536 false,
   λ e f at. (let no : slice_get [] e ≡ Some f = subst (λ xs. slice_get xs e ≡ Some f) none at in let never : None ≡ Some f = no in (cc)),
 )
+
+-- what differs from the first bytes differs from all
+misses_longer : (front bytes : List ℕ) (n : ℕ) → Misses front (take n bytes) → Misses front bytes
+misses_longer [] bytes n misses = misses
+misses_longer (f ∷ front) [] zero misses = misses
+misses_longer (f ∷ front) [] (suc n) misses = misses
+misses_longer (f ∷ front) (b ∷ bytes) zero misses = absurd misses
+misses_longer (f ∷ front) (b ∷ bytes) (suc n) misses = ⊎_elim (λ here. inl here) (λ later. inr (misses_longer front bytes n later)) misses
+
+misses_behind : (x n : ℕ) (front bytes : List ℕ) → Misses front (drop x (take n bytes)) → Misses front (drop x bytes)
+misses_behind zero n front bytes misses = misses_longer front bytes n misses
+misses_behind (suc x) zero front [] misses = misses
+misses_behind (suc x) (suc n) front [] misses = misses
+misses_behind (suc x) zero front (b ∷ bytes) misses = absurd (misses_none front misses)
+misses_behind (suc x) (suc n) front (b ∷ bytes) misses = misses_behind x n front bytes misses
+
+-- so what is known of the first bytes is known of all
+pub known_within : (entries : List Entry) (bytes known : List ℕ) (n : ℕ) → IsKnown entries (take n bytes) known → IsKnown entries bytes known
+known_within entries bytes known n is e x f at sample below = misses_behind x n (text_of f) bytes (is e x f at sample below)

@@ -115,7 +115,7 @@ slots_next (suc k) first (f ∷ front) back p q is =
     slots_next k (first + 1) front back p q tail
 
 -- each of them but the last stands before the next
-slots_pair : (k first p : ℕ) → first ≤ p → p + 1 < first + k → (u w : List ℕ) × (slots_from first k ≡ u ++ p ∷ (p + 1) ∷ w)
+pub slots_pair : (k first p : ℕ) → first ≤ p → p + 1 < first + k → (u w : List ℕ) × (slots_from first k ≡ u ++ p ∷ (p + 1) ∷ w)
 slots_pair zero first p low high = absurd (omega arith)
 slots_pair (suc zero) first p low high = absurd (omega arith)
 slots_pair (suc (suc k)) first p low high =

@@ -21,6 +21,7 @@ pub mod Fronts
 pub mod Gapped
 pub mod Gaps
 pub mod Lates
+pub mod Leads
 pub mod Narrow
 pub mod Parts
 pub mod Readies

@@ -59,8 +59,8 @@ pub(crate) fn is_never(front: &[u8], sequence: &Sequence) -> bool
     }
 }
 
-// Whether a front of so many bytes tells whether the sequence stands.
-fn is_settled(len: usize, sequence: &Sequence) -> bool
+/// Whether a front of so many bytes tells whether the sequence stands.
+pub(crate) fn is_settled(len: usize, sequence: &Sequence) -> bool
     ensures { IsTrue result → (front rest : List ℕ) → length front ≡ len → Stands sequence.now front ↔ Stands sequence.now (front ++ rest) }
 {
     let Position::Bof { max, .. } = sequence.position() else {

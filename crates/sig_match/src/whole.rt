@@ -36,6 +36,7 @@ mod run;
 mod search;
 
 pub(crate) use anchored::stands;
+pub(crate) use fronts::{fronts_of_offsets, number_behind, some_front_is_out};
 pub(crate) use longest::longest_of;
 pub(crate) use part::is_part_word;
 pub(crate) use ready::Ready;

@@ -1,6 +1,6 @@
 //! A piece of a file, and what one look at it tells of many sequences.
 
-ghost use Rattle.std.specs.Prelude.{◌≡◌, ℕ, ◌+◌, ◌<◌, drop};
+ghost use Rattle.std.specs.Prelude.{◌≡◌, ℕ, ◌+◌, ◌<◌, ◌≤◌, drop, length, slice_range};
 ghost use Rattle.sig_bits.specs.Bytes.{IsBytes};
 ghost use Rattle.sig_match.specs.Exits.{AreExits};
 ghost use Rattle.sig_match.specs.Rests.{Misses};
@@ -64,6 +64,15 @@ impl<'p> Piece<'p> {
         ensures bytes { IsBytes self.now }
     {
         self.bytes
+    }
+
+    /// The bytes between these places, of which nothing else is told.
+    pub(crate) fn part(&self, from: usize, end: usize) -> Piece<'_>
+        requires order { from ≤ end }
+        requires within { end ≤ length self.now }
+        ensures { result ≡ slice_range self.now from end }
+    {
+        Piece::new(&self.bytes[from..end], self.sieve, &[])
     }
 
     pub(crate) fn exits(&self) -> &Exits<'p>

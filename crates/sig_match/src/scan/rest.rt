@@ -318,8 +318,8 @@ fn spell(auto: &Auto, byte: u8, state: u32, room: &mut [u8]) -> usize
     }
 }
 
-// Writes the bytes that are then the only way on from the state, as far as there is room.
-fn spell_on(auto: &Auto, state: u32, room: &mut [u8]) -> usize
+/// Writes the bytes that are then the only way on from the state, as far as there is room.
+pub(crate) fn spell_on(auto: &Auto, state: u32, room: &mut [u8]) -> usize
     ensures goes { GoesBy (whole_tree auto.now) state (take result room.new) }
     ensures within { result ≤ length room.new }
 {

@@ -2,11 +2,13 @@
 
 ghost use Rattle.std.specs.Prelude.{◌≡◌, ◌⊎◌, ◌↔◌, ◌++◌, ℕ, ◌*◌, ◌<◌, ◌≤◌, [], List, IfOk, IsTrue, drop, false, length, take};
 ghost use Rattle.sig_auto.specs.Runs.{IsStepOf};
+ghost use Rattle.sig_auto.specs.Tracks.{Accepting};
 ghost use Rattle.sig_auto.specs.Trees.{whole_tree};
-ghost use Rattle.sig_auto.specs.TreeSlots.{set_len};
+ghost use Rattle.sig_auto.specs.TreeSlots.{set_len, slots_of};
 ghost use Rattle.sig_bits.specs.BitSets.{HasBit};
 ghost use Rattle.sig_bits.specs.Bytes.{IsBytes};
 ghost use Rattle.sig_match.specs.Fixed.{IsFixedFront};
+ghost use Rattle.sig_match.specs.Leads.{IsPlace, IsWithin};
 ghost use Rattle.sig_match.specs.Rests.{IsReached, IsShedTo, LeadsAlike};
 ghost use Rattle.sig_match.specs.Scans.{IsSequenceScanOf};
 ghost use Rattle.sig_table.specs.Standing.{Stands};
@@ -17,6 +19,7 @@ use crate::scan::fixed::{fixed_front, run_of, write_behind};
 use crate::scan::gapped::go_by_gap;
 use crate::scan::narrow::go_by_words;
 use crate::scan::piece::Piece;
+use crate::scan::place::{Place, place_of};
 use crate::scan::rest::{DEPTH, FEW, all_fade, way_of};
 use crate::scan::sieve::Sieve;
 use crate::scan::slide::{is_beside, slots_before_end, write_slid};
@@ -231,16 +234,31 @@ impl SequenceScan {
         self.way.spaced_on()
     }
 
+    // Whether a front of it is in the sieve.
+    pub(crate) fn asks(&self) -> bool {
+        self.number != usize::MAX || self.later != usize::MAX
+    }
+
     // Goes on by the piece.
     pub(crate) fn feed(&mut self, piece: &Piece<'_>)
-        ensures { (file : List ℕ) (s : SequenceView) → IsSequenceScanOf file s self.old → IsSequenceScanOf (file ++ piece.now) s self.new }
+        ensures sequence { self.new.sequence ≡ self.old.sequence }
+        ensures goes_on { (file : List ℕ) (s : SequenceView) → IsSequenceScanOf file s self.old → IsSequenceScanOf (file ++ piece.now) s self.new }
     {
-        let bytes = piece.bytes();
-        let mut from = self.next_place(piece, 0);
-        if from < bytes.len() && self.jump(piece) {
+        let from = self.next_place(piece, 0);
+        if from < piece.bytes().len() && self.jump(piece) {
             return;
         }
-        from = self.late_begin(piece, from);
+        self.go_on(piece, from);
+    }
+
+    // Goes on by the bytes of the piece from this place on, byte by byte where they are not passed over.
+    pub(crate) fn go_on(&mut self, piece: &Piece<'_>, from: usize)
+        requires { from ≤ length piece.now }
+        ensures sequence { self.new.sequence ≡ self.old.sequence }
+        ensures same { LeadsAlike (whole_tree self.old.sequence) self.old.set (drop from piece.now) self.new.set [] }
+    {
+        let bytes = piece.bytes();
+        let mut from = self.late_begin(piece, from);
         self.let_go(piece, from);
         from = self.pass_beginnings(piece, from);
         while from < bytes.len() {
@@ -258,6 +276,7 @@ impl SequenceScan {
 
     // Goes on by the whole piece at once, if the sequence has a run. Answers whether it did.
     fn jump(&mut self, piece: &Piece<'_>) -> bool
+        ensures sequence { self.new.sequence ≡ self.old.sequence }
         ensures jumps { IsTrue result → (file : List ℕ) (s : SequenceView) → IsSequenceScanOf file s self.old → IsSequenceScanOf (file ++ piece.now) s self.new }
         ensures stays { result ≡ false → self.new ≡ self.old }
     {
@@ -457,6 +476,54 @@ impl SequenceScan {
         self.resting = same_bytes(&self.set, &self.rest);
         self.awake = AWAKE + FRONT - 1;
         from + count
+    }
+
+    /// Its automaton.
+    pub(crate) fn auto(&self) -> &Auto
+        ensures { result.now ≡ self.now.sequence }
+    {
+        &self.auto
+    }
+
+    /// Whether the set is known to be the one in which it rests.
+    pub(crate) fn is_resting(&self) -> bool {
+        self.resting
+    }
+
+    /// The place of its set.
+    pub(crate) fn place(&self) -> Place
+        ensures place { IsPlace self.now.set result }
+        ensures within { IsWithin (slots_of (whole_tree self.now.sequence)) result }
+    {
+        place_of(&self.set, self.auto.slots() as usize)
+    }
+
+    /// Makes its set that of the place, if it is known.
+    pub(crate) fn stand_at(&mut self, place: Place)
+        requires { IsWithin (slots_of (whole_tree self.old.sequence)) place }
+        ensures sequence { self.new.sequence ≡ self.old.sequence }
+        ensures place { IsPlace self.new.set place }
+        ensures unknown { place ≡ Place.Unknown → self.new ≡ self.old }
+    {
+        match place {
+            Place::At(state) => {
+                make_one(&mut self.set, state);
+                self.resting = false;
+            }
+            Place::Gone => {
+                clear(&mut self.set);
+                self.resting = false;
+            }
+            Place::Unknown => {}
+        }
+    }
+
+    /// Whether the sequence stands in the file where its set is that of this state alone, if the file ends here.
+    pub(crate) fn stands_at(&self, state: usize) -> bool
+        requires { state ≤ slots_of (whole_tree self.now.sequence) }
+        ensures { IsTrue result ↔ Accepting (whole_tree self.now.sequence) state }
+    {
+        state <= self.auto.slots() as usize && self.auto.accepting(state as u32)
     }
 
     // Whether the start or slot 1 is in the set. Of a sequence that may begin anywhere, or that stands at the

@@ -18,7 +18,7 @@ use std::marker::Model;
 // How many pairs of bytes there are.
 const PAIRS: usize = 65_536;
 
-// How many lists the entries are in. It is a prime, so pairs that have one byte in common have lists of their own.
+// How many lists the entries are in. It is a prime, so pairs that have the same byte at the same place have lists of their own.
 const LISTS: usize = 16_381;
 
 // How many entries a sieve has at most.
@@ -124,6 +124,14 @@ impl Sieve {
         ensures { IsKnown self.now bytes.now known.new }
     {
         look_through(&self.marks, &self.heads, &self.entries, bytes, known);
+    }
+
+    /// The same, from the first so many bytes alone.
+    pub(crate) fn look_within(&self, count: usize, bytes: &[u8], known: &mut [usize])
+        requires { length known.old ≡ length self.now }
+        ensures { IsKnown self.now bytes.now known.new }
+    {
+        self.look(&bytes[..count.min(bytes.len())], known);
     }
 }
 

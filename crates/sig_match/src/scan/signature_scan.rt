@@ -7,9 +7,10 @@ ghost use Rattle.sig_match.specs.Scans.{AreSequenceScansOf};
 
 use crate::outlook::{Outlook, outlook_of};
 use crate::scan::ends::{Ends, short_len_of};
+use crate::scan::lead::LedScan;
 use crate::scan::piece::Piece;
-use crate::scan::sequence_scan::SequenceScan;
 use crate::scan::sieve::Sieve;
+use crate::whole::some_front_is_out;
 use sig_table::Sequence;
 use std::alloc::{AllocError, Global};
 use std::marker::Model;
@@ -19,7 +20,7 @@ use std::marker::Model;
 #[derive(Debug, Drop)]
 pub(crate) struct SignatureScan {
     lost: bool,
-    sequences: Vec<SequenceScan>,
+    sequences: Vec<LedScan>,
 }
 
 impl Model for SignatureScan {
@@ -44,7 +45,7 @@ impl SignatureScan {
         for sequence in sequences {
             if short_len_of(sequence).is_none() {
                 scans.reserve_exact(1)?;
-                scans.push(SequenceScan::of(alloc, sequence, sieve)?)?;
+                scans.push(LedScan::of(alloc, sequence, sieve)?)?;
             }
         }
         Ok(SignatureScan {
@@ -70,7 +71,7 @@ impl SignatureScan {
                 Outlook::Open => {
                     if short_len_of(sequence).is_none() {
                         scans.reserve_exact(1)?;
-                        scans.push(SequenceScan::of(alloc, sequence, sieve)?)?;
+                        scans.push(LedScan::of(alloc, sequence, sieve)?)?;
                     }
                 }
             }
@@ -79,6 +80,23 @@ impl SignatureScan {
             lost: false,
             sequences: scans,
         })
+    }
+
+    // The same, where the front has been looked through for sequences that may begin at many offsets. `number` is that of the
+    // first front of these.
+    pub(crate) fn behind_look(
+        alloc: Global,
+        front: &Piece<'_>,
+        sequences: &[Sequence],
+        number: usize,
+        sieve: &mut Sieve,
+    ) -> Result<SignatureScan, AllocError>
+        ensures { IfOk result (IsLateSignatureScanOf front.now [] sequences.now) }
+    {
+        if some_front_is_out(front, sequences, number) {
+            return Ok(SignatureScan::lost(alloc));
+        }
+        SignatureScan::behind(alloc, front.bytes(), sequences, sieve)
     }
 
     // One that is given up.
@@ -111,12 +129,21 @@ impl SignatureScan {
         }
     }
 
-    // Goes on by the piece.
-    pub(crate) fn feed(&mut self, piece: &Piece<'_>)
+    // In how many bytes of the next piece some of the sequences may ask for its front.
+    pub(crate) fn reach(&self) -> usize {
+        let mut reach = 0;
+        for sequence in self.sequences.iter() {
+            reach = sequence.reach().max(reach);
+        }
+        reach
+    }
+
+    // Goes on by the piece. Answers its reach behind it.
+    pub(crate) fn feed(&mut self, piece: &Piece<'_>) -> usize
         ensures lost { self.new.lost ≡ self.old.lost }
         ensures each { AreFedBy piece.now self.old.scans self.new.scans }
     {
-        feed_each(&mut self.sequences, piece);
+        feed_each(&mut self.sequences, piece)
     }
 
     // Whether the signature, which has these sequences, hits the file of these ends, if it ends here.
@@ -138,17 +165,18 @@ fn count_one(counts: &mut [usize], place: usize) {
 }
 
 // A signature has at most eight sequences, so this is not deep.
-fn feed_each(scans: &mut [SequenceScan], piece: &Piece<'_>)
+fn feed_each(scans: &mut [LedScan], piece: &Piece<'_>) -> usize
     ensures { AreFedBy piece.now scans.old scans.new }
 {
     let Some((first, later)) = scans.split_first_mut() else {
-        return;
+        return 0;
     };
     first.feed(piece);
-    feed_each(later, piece);
+    let reach = first.reach();
+    feed_each(later, piece).max(reach)
 }
 
-fn all_stand(scans: &[SequenceScan]) -> bool
+fn all_stand(scans: &[LedScan]) -> bool
     ensures { TellsAllStand scans.now result }
 {
     let Some((first, later)) = scans.split_first() else {

@@ -26,6 +26,7 @@ use crate::scan::piece::Piece;
 use crate::scan::sieve::Sieve;
 use crate::scan::signature_scan::SignatureScan;
 use crate::scan::way::FRONT;
+use crate::whole::{fronts_of_offsets, number_behind};
 use sig_table::{SigId, Table};
 use std::alloc::{AllocError, Global};
 use std::marker::Model;
@@ -35,13 +36,15 @@ const SPACED: usize = 16;
 
 // A file on its way past a table, of which each byte that is fed is seen at once. Where many sequences share an exit, the
 // bytes are gone through by windows, and there is room to list the exits of one window, and the bytes so far behind
-// them.
+// them. In the first `reach` bytes of the next piece alone some sequence asks for its front: before the
+// first piece that is not asked yet.
 #[derive(Debug, Drop)]
 pub(crate) struct TableScan<'t> {
     table: &'t Table,
     ends: Ends,
     sieve: Sieve,
     known: Vec<usize>,
+    reach: Option<usize>,
     exit: u8,
     skip: usize,
     places: Vec<u16>,
@@ -120,6 +123,7 @@ impl<'t> TableScan<'t> {
             ends: Ends::new(alloc)?,
             sieve,
             known,
+            reach: None,
             exit,
             skip,
             places,
@@ -155,7 +159,8 @@ impl<'t> TableScan<'t> {
         ensures goes_on { (file : List ℕ) → IsTableScanOf self.old file → IsTableScanOf self.new (file ++ window.now) }
         ensures late { (front file : List ℕ) → IsLateTableOf front file self.old → IsLateTableOf front (file ++ window.now) self.new }
     {
-        self.sieve.look(window, &mut self.known);
+        let reach = self.reach_now();
+        self.sieve.look_within(reach, window, &mut self.known);
         let (count, end) = list_exits(
             window,
             self.exit,
@@ -171,8 +176,16 @@ impl<'t> TableScan<'t> {
             &self.behind[..count],
         );
         let piece = Piece::with_exits(window, &self.sieve, &self.known, exits);
-        feed_each(&mut self.signatures, &piece);
+        self.reach = Some(feed_each(&mut self.signatures, &piece));
         self.ends.feed(window);
+    }
+
+    // In how many bytes of the next piece some sequence may ask for its front.
+    fn reach_now(&self) -> usize {
+        match self.reach {
+            Some(reach) => reach,
+            None => reach_of(&self.signatures),
+        }
     }
 
     // Answers which formats the file hits, each with its first signature that hits. It takes no
@@ -189,6 +202,7 @@ impl<'t> TableScan<'t> {
             mut hits,
             sieve: _,
             known: _,
+            reach: _,
             exit: _,
             skip: _,
             places: _,
@@ -217,8 +231,27 @@ fn scans_of(
     Ok(scans)
 }
 
-// A scan of each signature, at the start of a file that begins with the front.
+// A scan of each signature, at the start of a file that begins with the front. What one look at it tells of many is not
+// searched for.
 fn scans_behind(
+    alloc: Global,
+    table: &Table,
+    front: &[u8],
+    sieve: &mut Sieve,
+) -> Result<Vec<SignatureScan>, AllocError>
+    ensures { IfOk result (λ scans. AreLateScansOf front.now [] table.now.signatures scans.items) }
+{
+    let Some(fronts) = fronts_of_offsets(alloc, table)? else {
+        return scans_by_search(alloc, table, front, sieve);
+    };
+    let mut known = vec![in alloc; 0; fronts.len()]?;
+    fronts.look(front, &mut known);
+    let piece = Piece::new(front, &fronts, &known);
+    scans_by_look(alloc, table, &piece, sieve)
+}
+
+// The same, where each sequence is searched for by itself.
+fn scans_by_search(
     alloc: Global,
     table: &Table,
     front: &[u8],
@@ -231,6 +264,26 @@ fn scans_behind(
     for index in 0..count {
         let sequences = table.sequences_of(SigId(index as u16));
         scans.push(SignatureScan::behind(alloc, front, sequences, sieve)?)?;
+    }
+    Ok(scans)
+}
+
+// The same, where the front has been looked through for those that may begin at many offsets.
+fn scans_by_look(
+    alloc: Global,
+    table: &Table,
+    front: &Piece<'_>,
+    sieve: &mut Sieve,
+) -> Result<Vec<SignatureScan>, AllocError>
+    ensures { IfOk result (λ scans. AreLateScansOf front.now [] table.now.signatures scans.items) }
+{
+    let count = table.signature_count();
+    let mut scans = Vec::with_capacity(alloc, count)?;
+    let mut number: usize = 0;
+    for index in 0..count {
+        let sequences = table.sequences_of(SigId(index as u16));
+        scans.push(SignatureScan::behind_look(alloc, front, sequences, number, sieve)?)?;
+        number = number_behind(sequences, number);
     }
     Ok(scans)
 }
@@ -251,6 +304,15 @@ fn most_shared(signatures: &[SignatureScan]) -> (u8, usize, usize) {
     (exit, skip, skips[skip])
 }
 
+// In how many bytes of the next piece some sequence may ask for its front.
+fn reach_of(signatures: &[SignatureScan]) -> usize {
+    let mut reach = 0;
+    for signature in signatures {
+        reach = signature.reach().max(reach);
+    }
+    reach
+}
+
 // The first place of the greatest number.
 fn place_of_most(numbers: &[usize]) -> usize
     requires { 0 < length numbers.now }
@@ -265,13 +327,15 @@ fn place_of_most(numbers: &[usize]) -> usize
     most
 }
 
-// Goes on by the piece in each signature.
-fn feed_each(signatures: &mut [SignatureScan], piece: &Piece<'_>)
+// Goes on by the piece in each signature. Answers in how many bytes of the next one some sequence may ask for its front.
+fn feed_each(signatures: &mut [SignatureScan], piece: &Piece<'_>) -> usize
     ensures { AllZip (IsFedBy piece.now) signatures.old signatures.new }
 {
+    let mut reach = 0;
     for signature in signatures.iter_mut() {
-        signature.feed(piece);
+        reach = signature.feed(piece).max(reach);
     }
+    reach
 }
 
 // Marks each signature that hits the file of these ends, if it ends here.

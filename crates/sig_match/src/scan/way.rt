@@ -317,8 +317,8 @@ pub(crate) fn lone_byte(class: &ByteClass) -> Option<u8>
     }
 }
 
-// The first place at which the bytes begin with the front, as far as they go, or their end.
-fn next_front(front: &[u8], bytes: &[u8]) -> usize
+/// The first place at which the bytes begin with the front, as far as they go, or their end.
+pub(crate) fn next_front(front: &[u8], bytes: &[u8]) -> usize
     requires { 0 < length front.now }
     ensures within { result ≤ length bytes.now }
     ensures passed { (x : ℕ) → x < result → Misses front.now (drop x bytes.now) }

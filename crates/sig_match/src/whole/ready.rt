@@ -12,7 +12,7 @@ ghost use Rattle.sig_table.specs.Standing.{Stands};
 ghost use Rattle.sig_table.specs.Views.{TableView};
 
 use crate::scan::{STRIDE, Sieve};
-use crate::whole::fronts::{count_fronts, sieve_of};
+use crate::whole::fronts::{Sought, count_fronts, sieve_of};
 use sig_expr::Item;
 use sig_table::{Position, Sequence, SigId, Table};
 use std::alloc::{AllocError, Global};
@@ -46,12 +46,14 @@ impl Ready {
             let sequences = table.sequences_of(SigId(index as u16));
             let first = first_of(sequences);
             begins.push(Begin { first, number })?;
-            number = number.saturating_add(count_fronts(sequences).saturating_mul(STRIDE));
+            number = number.saturating_add(count_fronts(sequences, Sought::Several).saturating_mul(
+                STRIDE,
+            ));
         }
         let fronts = if number < STRIDE * MANY_FRONTS {
             None
         } else {
-            Some(sieve_of(alloc, table)?)
+            Some(sieve_of(alloc, table, Sought::Several)?)
         };
         Ok(Ready { begins, fronts })
     }

@@ -1,6 +1,6 @@
 use Rattle.std.proofs.Common.{[], take}
 use Rattle.sig_match.specs.Lates.{AreLateScansOf}
-use Rattle.sig_match.proofs.scan.table_scan.scans_behind.Given as goal
+use Rattle.sig_match.proofs.scan.table_scan.scans_by_look.Given as goal
 
 -- each signature so far has its scan
 abbrev pub invariant-loop-index : goal.invariant-loop-index

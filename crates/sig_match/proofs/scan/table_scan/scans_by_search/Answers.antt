@@ -1,6 +1,6 @@
 use Rattle.std.proofs.Common.{◌<◌, arith, length}
 use Rattle.sig_match.proofs.ScanLemmas.{late_scans_more}
-use Rattle.sig_match.proofs.scan.table_scan.scans_behind.Goals as goal
+use Rattle.sig_match.proofs.scan.table_scan.scans_by_search.Goals as goal
 
 pub loop-index-preserved : goal.loop-index-preserved
 loop-index-preserved c =
