@@ -12,7 +12,7 @@ pub record HasTold {E : Type 0} (failed : E → Bool) (written : E → Option (L
   pub sound : failed after.err.now ≡ false → failed before.err.now ≡ false
   pub adds : failed after.err.now ≡ false → (things : Things) → before.things ≡ things → (start : Option (List ℕ)) → AddsReports things start (written before.err.now) → AddsReports things start (written after.err.now)
 
--- it has shown that so many of so many are done, if as many as it waited for are; it waits for no more than all
+-- it has shown that so many of so many are done, if as many as it waited for are; until all are done it waits for no more than all
 pub record ShowsReport {E : Type 0} (failed : E → Bool) (written : E → Option (List ℕ)) (before after : Meter E) (done all : ℕ) : Type 0 where
   pub shows : before.next ≤ done → failed after.err.now ≡ false → Adds (written before.err.now) (report_text before.things (done, all)) (written after.err.now)
   pub waits : done < before.next → after.err.now ≡ before.err.now

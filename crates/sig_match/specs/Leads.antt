@@ -38,7 +38,7 @@ IsOffset max p (place.At q) = (q ≡ p) × (p ≤ max)
 IsOffset max p place.Gone = max < p
 IsOffset max p place.Unknown = ⊥
 
--- each of the states from 0 up to `max` leads to the next one, whatever the byte is; those from `min` on lead beside that to what the last of them leads to, and nothing else is led to
+-- each of the states from 0 up to `max` but that leads to the next one, whatever the byte is; those from `min` on may lead beside that to what the last of them leads to, and nothing else is led to
 pub record IsLeadTo (tree : Tree) (min max : ℕ) : Type 0 where
   pub within : max ≤ slots_of tree
   pub next : (p : ℕ) → p < max → Follows tree p (p + 1)

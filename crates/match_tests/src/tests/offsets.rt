@@ -47,6 +47,7 @@ const FILES: &[(&str, &[u8], &[(usize, &[u8])], bool)] = &[
     ("BOF,0,9000,41424344", b"\x00", &[(9_001, b"ABCD")], false),
     ("BOF,0,9000,41424344", b"\x00", &[], false),
     // Over the cut, on either side of it, and twice.
+    ("BOF,0,9000,41424344", b"\x00", &[(4_496, b"ABCD")], true),
     ("BOF,0,9000,41424344", b"\x00", &[(4_497, b"ABCD")], true),
     ("BOF,0,9000,41424344", b"\x00", &[(4_499, b"ABCD")], true),
     ("BOF,0,9000,41424344", b"\x00", &[(4_500, b"ABCD")], true),

@@ -51,12 +51,12 @@ impl<'p> Exits<'p> {
         }
     }
 
-    /// Whether they are those of this byte, with the bytes so many places behind them.
+    /// Whether any place was looked at, and they are those of this byte, with the bytes so many places behind them.
     pub(crate) fn are_of(&self, byte: u8, skip: usize) -> bool
         ensures byte { IsTrue result → self.now.byte ≡ byte }
         ensures skip { IsTrue result → self.now.skip ≡ skip }
     {
-        self.byte == byte && self.skip == skip
+        self.end > 0 && self.byte == byte && self.skip == skip
     }
 
     /// The first place, from this one on, that has this byte behind it, or else the first that is not listed.

@@ -1,9 +1,9 @@
 //! Sequences that may begin at many offsets from the start of a file.
 //!
 //! Of `504B0304`, BOF 0 to 65,000, the slots 1 to 65,000 stand for the bytes before it. Whatever a byte is, it leads
-//! from each of them to the next one; and from each of them 50 leads to slot 65,001. So where a set is that of one of
-//! these states alone, nothing is stepped before the next place at which the bytes `50 4B 03 04` may stand: up to it
-//! the set goes on by as many slots as there are bytes, and behind the last offset no state is left.
+//! from each of them but the last to the next one; and from the start and each of them 50 leads to slot 65,001. So where
+//! a set is that of one of these states alone, nothing is stepped before the next place at which the bytes `50 4B 03 04`
+//! may stand: up to it the set goes on by as many slots as there are bytes, and behind the last offset no state is left.
 
 ghost use Rattle.std.specs.Prelude.{◌≡◌, ◌↔◌, ◌++◌, ℕ, ◌+◌, ◌-◌, ◌<◌, ◌≤◌, [], List, IfOk, IfSome, IsTrue, drop, length, take};
 ghost use Rattle.sig_auto.specs.Trees.{whole_tree};
@@ -30,7 +30,7 @@ use std::marker::Model;
 // A shorter front is in no sieve.
 const LEAST: usize = 4;
 
-// Fewer offsets are stepped through.
+// Where the greatest offset is smaller, the bytes before the sequence are stepped through.
 const MANY: u16 = 1 << 10;
 
 // A place at which the sequence may begin that is not so far behind the one before it tells that there are many: the rest
@@ -129,6 +129,11 @@ impl Lead {
         at + next_front(front, &bytes[at..])
     }
 
+    // In how many bytes behind this offset it may be asked where the front stands.
+    fn reach_from(&self, offset: usize) -> usize {
+        (self.max as usize).saturating_sub(offset) + 2 * FRONT
+    }
+
     // The place behind so many bytes more, from this offset on.
     fn place_behind(&self, offset: usize, count: usize) -> Place
         requires { offset ≤ self.now.max }
@@ -166,13 +171,13 @@ impl LedScan {
         self.scan.spaced_on()
     }
 
-    // In how many bytes of the next piece it may ask for its front.
+    // In how many bytes of the next piece it may ask for its front. Where its set is that of no one offset and does not
+    // rest, it may come to one within the piece.
     pub(crate) fn reach(&self) -> usize {
         match (self.place, &self.lead) {
-            (Place::At(offset), Some(lead)) => {
-                (lead.max as usize).saturating_sub(offset) + 2 * FRONT
-            }
+            (Place::At(offset), Some(lead)) => lead.reach_from(offset),
             (Place::Unknown, _) if self.scan.asks() => usize::MAX,
+            (Place::Unknown, Some(lead)) if !self.scan.is_resting() => lead.reach_from(0),
             _ => 0,
         }
     }

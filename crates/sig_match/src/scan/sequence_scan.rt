@@ -234,7 +234,7 @@ impl SequenceScan {
         self.way.spaced_on()
     }
 
-    // Whether a front of it is in the sieve.
+    // Whether a front of it is in the sieve, other than that behind many offsets.
     pub(crate) fn asks(&self) -> bool {
         self.number != usize::MAX || self.later != usize::MAX
     }

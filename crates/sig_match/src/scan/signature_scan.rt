@@ -1,9 +1,9 @@
 //! The sequences of one signature of a scan.
 
-ghost use Rattle.std.specs.Prelude.{◌≡◌, true, false, [], IfOk, IsTrue};
+ghost use Rattle.std.specs.Prelude.{◌≡◌, ◌++◌, ◌∷◌, true, false, [], IfOk, IsTrue, OnOk};
 ghost use Rattle.sig_match.specs.Ends.{long_of};
 ghost use Rattle.sig_match.specs.Lates.{AreFedBy, IsLateSignatureScanOf, IsMarkOf, TellsAllStand};
-ghost use Rattle.sig_match.specs.Scans.{AreSequenceScansOf};
+ghost use Rattle.sig_match.specs.Scans.{AreSequenceScansOf, IsSequenceScanOf, SequenceScanView};
 
 use crate::outlook::{Outlook, outlook_of};
 use crate::scan::ends::{Ends, short_len_of};
@@ -44,8 +44,7 @@ impl SignatureScan {
         let mut scans = Vec::new(alloc);
         for sequence in sequences {
             if short_len_of(sequence).is_none() {
-                scans.reserve_exact(1)?;
-                scans.push(LedScan::of(alloc, sequence, sieve)?)?;
+                add_scan(alloc, sequence, sieve, &mut scans)?;
             }
         }
         Ok(SignatureScan {
@@ -70,8 +69,7 @@ impl SignatureScan {
                 Outlook::Always => {}
                 Outlook::Open => {
                     if short_len_of(sequence).is_none() {
-                        scans.reserve_exact(1)?;
-                        scans.push(LedScan::of(alloc, sequence, sieve)?)?;
+                        add_scan(alloc, sequence, sieve, &mut scans)?;
                     }
                 }
             }
@@ -155,6 +153,22 @@ impl SignatureScan {
         }
         all_stand(&self.sequences) && ends.have(sequences)
     }
+}
+
+// Adds a scan of the sequence at the start of a file. It is compiled by itself: its room is cleared each time, and most
+// signatures need none.
+#[inline(never)]
+fn add_scan(
+    alloc: Global,
+    sequence: &Sequence,
+    sieve: &mut Sieve,
+    scans: &mut Vec<LedScan>,
+) -> Result<(), AllocError>
+    ensures { OnOk result ((scan : SequenceScanView) × (scans.new.items ≡ scans.old.items ++ scan ∷ []) × IsSequenceScanOf [] sequence.now scan) }
+{
+    scans.reserve_exact(1)?;
+    scans.push(LedScan::of(alloc, sequence, sieve)?)?;
+    Ok(())
 }
 
 // Counts one more at this place, if there is one.

@@ -289,19 +289,21 @@ fn scans_by_look(
 }
 
 // The byte on which most sequences that look for a spaced front are left, how far behind it most of these look, and how
-// many these are.
+// many these are: none, where too few are left on that byte.
 fn most_shared(signatures: &[SignatureScan]) -> (u8, usize, usize) {
     let mut exits = [0; 256];
     for signature in signatures {
         signature.count_exits(&mut exits);
     }
-    let exit = place_of_most(&exits) as u8;
+    let exit = place_of_most(&exits);
     let mut skips = [0; FRONT + 1];
-    for signature in signatures {
-        signature.count_skips(exit, &mut skips);
+    if exits[exit] >= SPACED {
+        for signature in signatures {
+            signature.count_skips(exit as u8, &mut skips);
+        }
     }
     let skip = place_of_most(&skips);
-    (exit, skip, skips[skip])
+    (exit as u8, skip, skips[skip])
 }
 
 // In how many bytes of the next piece some sequence may ask for its front.

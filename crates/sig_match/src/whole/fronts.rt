@@ -24,13 +24,13 @@ const AHEAD: usize = 16;
 // To search so many offsets takes longer than to ask what one look told.
 const MANY: u16 = 1 << 12;
 
-// One look takes as long as to search for so many fronts.
+// One look takes no longer than to search for so many fronts.
 const MANY_FRONTS: usize = 64;
 
 /// Of which sequences the fronts are looked for.
 #[derive(Clone, Copy, Debug)]
 pub(crate) enum Sought {
-    /// Those that may begin at several offsets.
+    /// All but those that begin at one offset from the start of a file.
     Several,
     /// Those that may begin at many offsets from the start of a file.
     Many,

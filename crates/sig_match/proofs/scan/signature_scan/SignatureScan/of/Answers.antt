@@ -6,7 +6,7 @@ use Rattle.sig_match.specs.Ends.{is_short, long_of}
 use Rattle.sig_match.specs.Scans.{AreSequenceScansOf}
 use Rattle.sig_match.proofs.ScanLemmas.{long_scanned, short_passed}
 use Rattle.sig_match.proofs.scan.signature_scan.SignatureScan.of.Goals as goal
-use Rattle.sig_match.proofs.scan.signature_scan.SignatureScan.of.Goals.{then-is_none+in_ok-reserve_exact+in_ok-of+in_ok-push, else-is_none}
+use Rattle.sig_match.proofs.scan.signature_scan.SignatureScan.of.Goals.{then-is_none+in_ok-add_scan, else-is_none}
 
 pub loop-sequence-preserved : goal.loop-sequence-preserved
 loop-sequence-preserved c =
@@ -16,7 +16,9 @@ loop-sequence-preserved c =
     let scans = c.loop-sequence.scans.items in
     let asked : is_short s ≡ not c.is_none.result = sym (ap is_some c.short_len_of.ensures) ∙ c.is_none.ensures in
     elim c.if-is_none.branch [
-      | then-is_none+in_ok-reserve_exact+in_ok-of+in_ok-push w ↦ rw (w.scans-is, w.in_ok-push.ensures.items, w.in_ok-reserve_exact.ensures.items) (long_scanned ss scans i s w.in_ok-of.field-0 (omega arith) c.sequence-item.is (asked ∙ ap not w.if-is_none.true) c.loop-sequence.invariant w.in_ok-of.ensures)
+      | then-is_none+in_ok-add_scan w ↦ (
+          let added = w.in_ok-add_scan.ensures in
+          rw (w.scans-is, added.1) (long_scanned ss scans i s added.0 (omega arith) c.sequence-item.is (asked ∙ ap not w.if-is_none.true) c.loop-sequence.invariant added.2))
       | else-is_none w ↦ rw w.scans-is (short_passed ss scans i s (omega arith) c.sequence-item.is (asked ∙ ap not w.if-is_none.false) c.loop-sequence.invariant)
     ]
 
