@@ -76,7 +76,7 @@ impl Model for LedScan {
 }
 
 impl Lead {
-    // Of the sequence of this automaton, if it has so many offsets. Puts its front into the sieve.
+    // Of the sequence of this automaton, if its greatest offset is so great. Puts its front into the sieve.
     fn of(auto: &Auto, sequence: &Sequence, sieve: &mut Sieve) -> Result<Option<Lead>, AllocError>
         requires { auto.now ≡ sequence.now }
         ensures { IfOk result (λ found. IfSome found (IsLead (whole_tree sequence.now))) }
