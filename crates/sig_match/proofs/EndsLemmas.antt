@@ -1,8 +1,8 @@
 -- What the ends of a file tell of short sequences.
-use Rattle.std.proofs.Common.{◌≡◌, ◌↔◌, ◌⊎◌, ℕ, min, suc, ◌+◌, ◌-◌, ◌<◌, ◌≤◌, if◌then◌else◌, nat_eq, nat_le, Bool, List, [], ◌∷◌, ◌++◌, length, get_or, take, drop, Option, Some, None, subst, sym, ap, refl, ◌∙◌, arith, append_assoc, add-one, drop-cons, length-append, length-drop, inl, inr}
+use Rattle.std.proofs.Common.{◌≡◌, ◌≢◌, ◌↔◌, ◌⊎◌, ℕ, min, zero, suc, ◌+◌, ◌-◌, ◌<◌, ◌≤◌, if◌then◌else◌, nat_eq, nat_le, Bool, List, [], ◌∷◌, ◌++◌, length, get_or, slice_get, take, drop, Option, Some, None, subst, sym, ap, refl, ◌∙◌, arith, append_assoc, add-one, drop-cons, length-append, length-drop, inl, inr}
 use Rattle.std.specs.Prelude.{All, IsTrue, is_some, option_and_then, option_map}
 use Rattle.std.proofs.lemmas.Bool.{cases_Bool, cases_lt, eqb-true, false≢true, le-leb, lt-leb, leb-true}
-use Rattle.std.proofs.lemmas.List.{append-nil, take_more, length-take-le, take-append-drop, take-take, take_at, drop_all, drop_at, drop-drop}
+use Rattle.std.proofs.lemmas.List.{append-nil, take_more, length-take-le, take-append-drop, take-take, take_at, drop_all, drop_at, drop-drop, get_or-drop, get_or-take}
 use Rattle.std.proofs.lemmas.List.Elements.{All-push}
 use Rattle.sig_expr.specs.declared.item.Item.{Item}
 use Rattle.sig_expr.specs.declared.item.Item.TheVariants as item
@@ -121,6 +121,33 @@ Lang-first i k items w len fits = (
       (subst (Word i) (sym front) first, subst (Lang items) (sym back) later),
   λ both. (take k w, drop k w, sym (take-append-drop k w), both.0, both.1),
 )
+
+-- where the first item is a byte, no word begins with another one
+begins_with : (b : ℕ) (items : List Item) (w : List ℕ) (x : ℕ) (later : List ℕ) → w ≡ x ∷ later → Lang (item.Byte b ∷ items) w → x ≡ b
+begins_with b items w x later begins (u, v, is, first, others) =
+    let same : x ∷ later ≡ b ∷ v = sym begins ∙ is ∙ ap (λ l. l ++ v) first in
+    (cc)
+
+-- nor stands one at the place of another one
+pub none_at_other : (items : List Item) (b : ℕ) (bytes : List ℕ) (x len : ℕ) → slice_get items 0 ≡ Some (item.Byte b) → x < length bytes → get_or bytes x 0 ≢ b → Lang items (take len (drop x bytes)) → ⊥
+none_at_other [] b bytes x len first within other word = absurd (cc)
+none_at_other (i ∷ items) b bytes x len first within other word =
+    let is : i ≡ item.Byte b = (cc) in
+    by_len len (subst (λ (j : Item). Lang (j ∷ items) (take len (drop x bytes))) is word) where
+      by_len : (n : ℕ) → Lang (item.Byte b ∷ items) (take n (drop x bytes)) → ⊥
+      by_len zero (u, v, is, one, others) = let none : [] ≡ b ∷ v = is ∙ ap (λ l. l ++ v) one in absurd (cc)
+      by_len (suc n) w = other (begins_with b items (take (suc n) (drop x bytes)) (get_or bytes x 0) (take n (drop (suc x) bytes)) (ap (take (suc n)) (drop-cons bytes x 0 within)) w)
+
+-- nor before the first place of that byte
+pub none_before_next : (items : List Item) (b : ℕ) (bytes : List ℕ) (from end next : ℕ) → slice_get items 0 ≡ Some (item.Byte b) → from ≤ end → end ≤ length bytes → next ≤ length (take (end - from) (drop from bytes)) → ((y : ℕ) → y < next → get_or (take (end - from) (drop from bytes)) y 0 ≢ b) → (x len : ℕ) → from ≤ x → x < from + next → Lang items (take len (drop x bytes)) → ⊥
+none_before_next items b bytes from end next first order fits within passed x len low high =
+    let y : ℕ = x - from in
+    let rest = length-drop from bytes in
+    let part = length-take-le (end - from) (drop from bytes) (omega arith) in
+    let whole : from + y ≡ x = omega arith in
+    let same : get_or (take (end - from) (drop from bytes)) y 0 ≡ get_or bytes x 0 =
+    get_or-take (end - from) (drop from bytes) y 0 (omega arith) ∙ get_or-drop from bytes y 0 ∙ ap (λ k. get_or bytes k 0) whole in
+    none_at_other items b bytes x len first (omega arith) (λ is. passed y (omega arith) (same ∙ is))
 
 -- where some bytes are left, the words have the others
 left_exact : (n m : ℕ) (items : List Item) → left_behind n items ≡ Some m → left_behind (n - m) items ≡ Some 0

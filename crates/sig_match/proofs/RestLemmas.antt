@@ -7,7 +7,7 @@ use Rattle.std.proofs.lemmas.List.Elements.{All-head, All-tail}
 use Rattle.std.proofs.lemmas.Option.{none-some, same_Some}
 use Rattle.memchr.specs.Find.{FindsNeedle, OccursAt}
 use Rattle.sig_auto.specs.ByteCuts.{AddsSlotCuts, AddsStateCuts}
-use Rattle.sig_auto.specs.Runs.{EndsIn, FollowsOn, IsSetOf, IsStepOf}
+use Rattle.sig_auto.specs.Runs.{EndsIn, FollowsOn, IsSetOf, IsStepOf, StepsAlone}
 use Rattle.sig_auto.specs.Tracks.{Follows}
 use Rattle.sig_auto.specs.Trees.{Tree, whole_tree}
 use Rattle.sig_auto.specs.TreeSlots.{Takes, slots_of}
@@ -72,7 +72,7 @@ fades_forward (suc n) tree set (b ∷ bytes) p q stays are long fades reaches =
     ⊎_elim
     (λ on. (on.0, on.1, (reaches.0, on.2, reaches.2, reaches.3)))
     (λ later. stay_back tree set 1 (b ∷ bytes) q stays are (fades_forward n tree set bytes reaches.0 q stays (All-tail (λ x. x < 256) b bytes are) (omega arith) later reaches.3))
-    (fades reaches.0 reaches.1)
+    (fades reaches.0 b (All-head (λ x. x < 256) b bytes are) reaches.1 reaches.2)
 
 -- bytes that are passed over lead nowhere else
 pub passed_forward : (tree : Tree) (set : List ℕ) (exits : ByteClass) (front : FrontAt) (n : ℕ) (bytes : List ℕ) (q : ℕ) → IsRest tree set exits front → IsBytes bytes → ((x : ℕ) → x < n → IsPassed exits front (drop x bytes)) → IsReached tree set bytes q → IsReached tree set (drop n bytes) q
@@ -297,10 +297,14 @@ pub IsLoneBelow-old : (Kept : ℕ → Type 0) (next : List ℕ) (n : ℕ) (found
 IsLoneBelow-old Kept next n None old before = λ q below bit. ⊎_elim (λ (same : q ≡ n). subst Kept (sym same) (old (subst (λ a. HasBit next a) same bit))) (λ other. before q (omega arith) bit) (cases_eq q n)
 IsLoneBelow-old Kept next n (Some s) old before = λ q below bit. ⊎_elim (λ (same : q ≡ n). inl (subst Kept (sym same) (old (subst (λ a. HasBit next a) same bit)))) (λ other. before q (omega arith) bit) (cases_eq q n)
 
--- the first one that may be
-pub IsLoneBelow-new : (Kept : ℕ → Type 0) (next : List ℕ) (n : ℕ) (found : Option ℕ) → is_some found ≡ false → IsLoneBelow Kept next n found → IsLoneBelow Kept next (n + 1) (Some n)
-IsLoneBelow-new Kept next n None first before = λ q below bit. ⊎_elim (λ same. inr same) (λ other. inl (before q (omega arith) bit)) (cases_eq q n)
-IsLoneBelow-new Kept next n (Some s) first before = λ q below bit. absurd (false≢true (sym first))
+-- one more that may be, where the one so far is not lost, if there is one
+pub IsLoneBelow-new : (Kept : ℕ → Type 0) (next : List ℕ) (n : ℕ) (found : Option ℕ) → ((q : ℕ) → found ≡ Some q → Kept q) → IsLoneBelow Kept next n found → IsLoneBelow Kept next (n + 1) (Some n)
+IsLoneBelow-new Kept next n None kept before = λ q below bit. ⊎_elim (λ same. inr same) (λ other. inl (before q (omega arith) bit)) (cases_eq q n)
+IsLoneBelow-new Kept next n (Some s) kept before = λ q below bit.
+    ⊎_elim
+    (λ same. inr same)
+    (λ other. inl (⊎_elim (λ old. old) (λ (is : q ≡ s). subst Kept (sym is) (kept s refl)) (before q (omega arith) bit)))
+    (cases_eq q n)
 
 -- all states are looked at
 pub IsLoneBelow-all : (Kept : ℕ → Type 0) (next : List ℕ) (slots n : ℕ) (found : Option ℕ) → slots < n → IsLoneBelow Kept next n found → IfSome found (λ s. (q : ℕ) → q ≤ slots → HasBit next q → Kept q ⊎ (q ≡ s))
@@ -747,17 +751,27 @@ none_is_not_some way is = none-some way (sym is)
 -- all are asked: there is no way
 pub fades_at_once : (tree : Tree) (set : List ℕ) (state depth n : ℕ) (way : Option ℕ) → slots_of tree < n → 0 < depth → way ≡ None → IsWayBelow tree set state n way → Fades tree set depth state
 fades_at_once tree set state zero n way all some none below = absurd (omega arith)
-fades_at_once tree set state (suc depth) n None all some none below = λ r follows. inl (below r (let within = follows_to_a_slot tree state r follows in omega arith) follows)
+fades_at_once tree set state (suc depth) n None all some none below = λ r b small follows takes. inl (below r (let within = follows_to_a_slot tree state r follows in omega arith) follows)
 fades_at_once tree set state (suc depth) n (Some way) all some none below = absurd (none_is_not_some way none)
 
 -- or the way fades
 pub fades_later : (tree : Tree) (set : List ℕ) (state depth n q : ℕ) (way : Option ℕ) → slots_of tree < n → 0 < depth → way ≡ Some q → IsWayBelow tree set state n way → Fades tree set (depth - 1) q → Fades tree set depth state
 fades_later tree set state zero n q way all some is below fades = absurd (omega arith)
-fades_later tree set state (suc depth) n q None all some is below fades = λ r follows. inl (below r (let within = follows_to_a_slot tree state r follows in omega arith) follows)
-fades_later tree set state (suc depth) n q (Some way) all some is below fades = λ r follows.
+fades_later tree set state (suc depth) n q None all some is below fades = λ r b small follows takes. inl (below r (let within = follows_to_a_slot tree state r follows in omega arith) follows)
+fades_later tree set state (suc depth) n q (Some way) all some is below fades = λ r b small follows takes.
     let same : suc depth - 1 ≡ depth = omega arith in
     let way_is : way ≡ q = same_Some way q is in
     ⊎_elim
     (λ on. inl on)
     (λ (at : r ≡ way). inr (subst (λ k. Fades tree set k r) same (subst (λ k. Fades tree set (suc depth - 1) k) (sym (at ∙ way_is)) fades)))
     (below r (let within = follows_to_a_slot tree state r follows in omega arith) follows)
+
+-- where the next state alone follows, it follows the set too, or fades
+pub fades_in_a_run : (tree : Tree) (set : List ℕ) (state depth : ℕ) (byte : Option ℕ) → 0 < depth → is_some byte ≡ true → IfSome byte (StepsAlone tree state) → IsFollower tree set (state + 1) ⊎ Fades tree set (depth - 1) (state + 1) → Fades tree set depth state
+fades_in_a_run tree set state zero byte some told alone next = absurd (omega arith)
+fades_in_a_run tree set state (suc depth) None some told alone next = absurd (false≢true told)
+fades_in_a_run tree set state (suc depth) (Some byte) some told alone next = λ r b small follows takes.
+    let same : suc depth - 1 ≡ depth = omega arith in
+    let is : r ≡ state + 1 = (alone.step r b small follows takes).1 in
+    let P : ℕ → ℕ → Type 0 = λ k q. IsFollower tree set q ⊎ Fades tree set k q in
+    subst (λ q. P depth q) (sym is) (subst (λ k. P k (state + 1)) same next)

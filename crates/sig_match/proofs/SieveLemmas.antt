@@ -1,13 +1,16 @@
 -- Tables of fronts, and what is known of where they stand.
-use Rattle.std.proofs.Common.{◌≡◌, ◌≢◌, ◌⊎◌, Bool, true, false, ⊎_elim, ℕ, zero, suc, ◌+◌, ◌*◌, ◌<◌, ◌≤◌, List, [], ◌∷◌, ◌++◌, length, get_or, take, drop, Some, None, subst, sym, ap, refl, ◌∙◌, arith, inl, inr, length-drop, length-take, length-append, length-set, replicate, set}
-use Rattle.std.specs.Prelude.{◌%◌, slice_get}
+use Rattle.std.proofs.Common.{◌≡◌, ◌≢◌, ◌⊎◌, ⊎_elim, ℕ, zero, suc, ◌+◌, ◌-◌, ◌*◌, ◌<◌, ◌≤◌, List, [], ◌∷◌, ◌++◌, length, get_or, take, drop, Some, None, subst, sym, ap, refl, ◌∙◌, arith, inl, inr, length-drop, length-take, length-append, length-set, replicate, set}
+use Rattle.std.specs.Int.{bit_at}
+use Rattle.std.specs.Prelude.{◌/◌, ◌%◌, slice_get}
 use Rattle.std.proofs.lemmas.Bool.{cases_eq}
 use Rattle.std.proofs.lemmas.List.{get_or-drop, get_or-replicate, get_or_past, get_or-set_same, get_or-set_other, get_or-take}
 use Rattle.std.proofs.Math.ListN.{length-replicate}
+use Rattle.std.proofs.lemmas.Nat.Bits.{bit_at-zero}
 use Rattle.std.proofs.lemmas.Option.{slice_get_within}
+use Rattle.sig_bits.specs.BitSets.{HasBit}
 use Rattle.sig_match.specs.Rests.{Misses}
 use Rattle.sig_match.proofs.RestLemmas.{misses_none, misses_or_fits}
-use Rattle.sig_match.specs.Sieves.{AreMarksOf, IsKnown, IsKnownAt, IsKnownBelow, IsSample, IsSieve, IsWithinPiece, list_of, pair_at, pair_of, text_of}
+use Rattle.sig_match.specs.Sieves.{AreMarksOf, IsKnown, IsKnownAt, IsKnownBelow, IsSample, IsSieve, IsUnmarked, IsWithinPiece, bit_for, list_of, pair_at, pair_of, text_of}
 use Rattle.sig_match.specs.declared.scan.entry.Entry.{Entry}
 
 -- a front that has another pair there does not stand
@@ -24,6 +27,28 @@ misses_by_pair f bytes x y inside few wide place within differs =
     let second : get_or bytes (y + 1) 0 ≡ get_or f.front (f.at + 1) 0 = ap (λ k. get_or bytes k 0) (sym next) ∙ sym (get_or-drop x bytes (f.at + 1) 0) ∙ fits (f.at + 1) (omega arith) (omega arith) ∙ get_or-take f.len f.front (f.at + 1) 0 (omega arith) in
     absurd (differs (omega arith)))
     (misses_or_fits (take f.len f.front) (drop x bytes))
+
+-- nor one that has another byte before it
+pub misses_before : (f : Entry) (bytes : List ℕ) (x y : ℕ) → f.at + 1 < f.len → f.len ≤ 8 → length f.front ≡ 8 → x + f.at ≡ y → y + 1 < length bytes → 0 < f.at → get_or bytes (y - 1) 0 ≢ get_or f.front (f.at - 1) 0 → Misses (text_of f) (drop x bytes)
+misses_before f bytes x y inside few wide place within some differs =
+    let long : length (take f.len f.front) ≡ f.len = omega (arith, length-take {A = ℕ}) in
+    let rest = length-drop x bytes in
+    let far : f.at - 1 < length (drop x bytes) = omega arith in
+    ⊎_elim
+    (λ misses. misses)
+    (λ fits.
+    let next : x + (f.at - 1) ≡ y - 1 = omega arith in
+    let there : get_or bytes (y - 1) 0 ≡ get_or f.front (f.at - 1) 0 = ap (λ k. get_or bytes k 0) (sym next) ∙ sym (get_or-drop x bytes (f.at - 1) 0) ∙ fits (f.at - 1) (omega arith) far ∙ get_or-take f.len f.front (f.at - 1) 0 (omega arith) in
+    absurd (differs there))
+    (misses_or_fits (take f.len f.front) (drop x bytes))
+
+-- a mark of 0 is for no byte
+pub zero_unmarked : (marks : List ℕ) (pair b : ℕ) → get_or marks pair 0 ≡ 0 → ¬ HasBit marks (bit_for pair b)
+unfolding HasBit
+zero_unmarked marks pair b none h =
+    let byte : (8 * pair + b % 8) / 8 ≡ pair = omega arith in
+    let zero_has : bit_at 0 ((8 * pair + b % 8) % 8) ≡ 1 = subst (λ m. bit_at m ((8 * pair + b % 8) % 8) ≡ 1) none (subst (λ k. bit_at (get_or marks k 0) ((8 * pair + b % 8) % 8) ≡ 1) byte h) in
+    omega (arith, bit_at-zero ((8 * pair + b % 8) % 8))
 
 pub below_or : (x at : ℕ) → (x < at) ⊎ (at ≤ x)
 below_or x zero = inr (omega arith)
@@ -122,8 +147,29 @@ look_begins entries bytes known long ends = record {
   below = λ e x f there sample before less. absurd (omega arith);
 }
 
+-- where the pair is not marked for the byte before it, no entry is found
+unmarked_misses : (marks : List ℕ) (heads : List ℕ) (entries : List Entry) (bytes : List ℕ) (e x y : ℕ) (f : Entry) → AreMarksOf marks entries → IsSieve heads entries → slice_get entries e ≡ Some f → x + f.at ≡ y → y + 1 < length bytes → IsUnmarked marks bytes y → Misses (text_of f) (drop x bytes)
+unmarked_misses marks heads entries bytes e x y f marked is there place far empty =
+    let inside = is.inside e f there in
+    let few = is.few e f there in
+    let wide = is.wide e f there in
+    let before : ℕ = get_or bytes (y - 1) 0 in
+    ⊎_elim
+    (λ (same : pair_of f ≡ pair_at bytes y).
+    let never : (f.at ≡ 0) ⊎ (before ≡ get_or f.front (f.at - 1) 0) → Misses (text_of f) (drop x bytes) = λ told. absurd (empty (subst (λ p. HasBit marks (bit_for p before)) same (marked.1 e before f there told))) in
+    ⊎_elim
+    (λ (first : f.at ≡ 0). never (inl first))
+    (λ (later : f.at ≢ 0).
+    ⊎_elim
+    (λ (alike : before ≡ get_or f.front (f.at - 1) 0). never (inr alike))
+    (λ differs. misses_before f bytes x y inside few wide place far (omega arith) differs)
+    (cases_eq before (get_or f.front (f.at - 1) 0)))
+    (cases_eq f.at 0))
+    (λ differs. misses_by_pair f bytes x y inside few wide place far differs)
+    (cases_eq (pair_of f) (pair_at bytes y))
+
 -- behind places at which no entry is found
-pub look_passes : (marks : List Bool) (heads : List ℕ) (entries : List Entry) (bytes known : List ℕ) (at to : ℕ) → AreMarksOf marks entries → IsSieve heads entries → to ≤ length bytes + 2 → IsSample to → ((y : ℕ) → at ≤ y → y < to → IsSample y → y + 1 < length bytes → get_or marks (pair_at bytes y) false ≡ false) → Looked entries bytes known at → Looked entries bytes known to
+pub look_passes : (marks heads : List ℕ) (entries : List Entry) (bytes known : List ℕ) (at to : ℕ) → AreMarksOf marks entries → IsSieve heads entries → to ≤ length bytes + 2 → IsSample to → ((y : ℕ) → at ≤ y → y < to → IsSample y → y + 1 < length bytes → IsUnmarked marks bytes y) → Looked entries bytes known at → Looked entries bytes known to
 look_passes marks heads entries bytes known at to marked is within sample none looked = record {
   long = looked.long;
   at_most = within;
@@ -136,8 +182,7 @@ look_passes marks heads entries bytes known at to marked is within sample none l
       let inside = is.inside e f there in
       let end = looked.ends e f there in
       let far : x + f.at + 1 < length bytes = omega arith in
-      let empty = none (x + f.at) new before here far in
-      misses_by_pair f bytes x (x + f.at) inside (is.few e f there) (is.wide e f there) refl far (λ same. (let there_is : true ≡ false = sym (marked.1 e f there) ∙ ap (λ k. get_or marks k false) same ∙ empty in (cc))))
+      unmarked_misses marks heads entries bytes e x (x + f.at) f marked is there refl far (none (x + f.at) new before here far))
       (below_or (x + f.at) at);
 }
 
@@ -317,25 +362,21 @@ pub added : (heads : List ℕ) (entries new : List Entry) (f : Entry) (k n : ℕ
 added heads entries new f k n is more count pair few_pairs next inside few wide = rw (more, count) (IsSieve-more heads entries f k is pair few_pairs next inside few wide)
 
 -- one more pair
-pub AreMarksOf-more : (marks : List Bool) (entries new : List Entry) (f : Entry) (k : ℕ) → AreMarksOf marks entries → new ≡ entries ++ f ∷ [] → k ≡ pair_of f → k < 65536 → AreMarksOf (set marks k true) new
-AreMarksOf-more marks entries new f k are is pair few = (
-  length-set marks k true ∙ are.0,
-  λ e g at.
+pub AreMarksOf-more : (marks more : List ℕ) (entries new : List Entry) (f : Entry) → AreMarksOf marks entries → new ≡ entries ++ f ∷ [] → length more ≡ length marks → ((i : ℕ) → HasBit marks i → HasBit more i) → ((b : ℕ) → (f.at ≡ 0) ⊎ (b ≡ get_or f.front (f.at - 1) 0) → HasBit more (bit_for (pair_of f) b)) → AreMarksOf more new
+AreMarksOf-more marks more entries new f are is len kept marked = (
+  len ∙ are.0,
+  λ e b g at told.
       ⊎_elim
-      (λ (same : pair_of g ≡ k). ap (λ j. get_or (set marks k true) j false) same ∙ get_or-set_same marks k true false (omega (arith, are.0)))
-      (λ (other : pair_of g ≢ k).
-      ⊎_elim
-      (λ old. get_or-set_other marks k (pair_of g) true false other ∙ are.1 e g old)
-      (λ added. absurd (other (ap pair_of (sym added.1) ∙ sym pair)))
-      (more_at entries f g e (subst (λ xs. slice_get xs e ≡ Some g) is at)))
-      (cases_eq (pair_of g) k),
+      (λ old. kept (bit_for (pair_of g) b) (are.1 e b g old told))
+      (λ added. subst (λ (h : Entry). (h.at ≡ 0) ⊎ (b ≡ get_or h.front (h.at - 1) 0) → HasBit more (bit_for (pair_of h) b)) added.1 (marked b) told)
+      (more_at entries f g e (subst (λ xs. slice_get xs e ≡ Some g) is at)),
 )
 
 -- no pair at all
-pub no_marks : (marks : List Bool) (entries : List Entry) → marks ≡ replicate 65536 false → entries ≡ [] → AreMarksOf marks entries
+pub no_marks : (marks : List ℕ) (entries : List Entry) → marks ≡ replicate 65536 0 → entries ≡ [] → AreMarksOf marks entries
 no_marks marks entries zeros none = (
-  ap length zeros ∙ length-replicate 65536 false,
-  λ e f at. (let no : slice_get [] e ≡ Some f = subst (λ xs. slice_get xs e ≡ Some f) none at in let never : None ≡ Some f = no in (cc)),
+  ap length zeros ∙ length-replicate {A = ℕ} 65536 0,
+  λ e b f at told. (let no : slice_get [] e ≡ Some f = subst (λ xs. slice_get xs e ≡ Some f) none at in let never : None ≡ Some f = no in (cc)),
 )
 
 -- what differs from the first bytes differs from all

@@ -44,7 +44,7 @@ IsFollower tree set q = (p : ℕ) × HasBit set p × Follows tree p q
 -- within so many bytes all ways on from state q are also those of the set
 abbrev pub Fades : Tree → List ℕ → ℕ → ℕ → Type 0
 Fades tree set zero q = ⊥
-Fades tree set (suc n) q = (r : ℕ) → Follows tree q r → IsFollower tree set r ⊎ Fades tree set n r
+Fades tree set (suc n) q = (r b : ℕ) → b < 256 → Follows tree q r → Takes tree r b → IsFollower tree set r ⊎ Fades tree set n r
 
 -- state q is in the set, or fades
 abbrev pub IsNoLoss : Tree → List ℕ → ℕ → ℕ → Type 0

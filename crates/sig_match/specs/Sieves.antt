@@ -1,5 +1,6 @@
 -- Tables of fronts, and the places of a piece before which none of them stands.
-use Rattle.std.specs.Prelude.{◌≡◌, ◌≢◌, ℕ, ◌+◌, ◌-◌, ◌*◌, ◌%◌, ◌<◌, ◌≤◌, Bool, List, Some, true, false, drop, get_or, length, slice_get, take}
+use Rattle.std.specs.Prelude.{◌≡◌, ◌≢◌, ◌⊎◌, ℕ, ◌+◌, ◌-◌, ◌*◌, ◌%◌, ◌<◌, ◌≤◌, List, Some, drop, get_or, length, slice_get, take}
+use Rattle.sig_bits.specs.BitSets.{HasBit}
 use Rattle.sig_match.specs.declared.scan.entry.Entry.{Entry}
 use Rattle.sig_match.specs.Rests.{Misses}
 
@@ -23,9 +24,17 @@ list_of f = pair_of f % 16381
 abbrev pub IsSample : ℕ → Type 0
 IsSample y = (k : ℕ) × (y ≡ 3 * k)
 
--- the pair of each entry is marked
-abbrev pub AreMarksOf : List Bool → List Entry → Type 0
-AreMarksOf marks entries = (length marks ≡ 65536) × ((e : ℕ) (f : Entry) → slice_get entries e ≡ Some f → get_or marks (pair_of f) false ≡ true)
+-- the bit of a pair of bytes for the byte before it
+abbrev pub bit_for : ℕ → ℕ → ℕ
+bit_for pair before = 8 * pair + before % 8
+
+-- the pair of each entry is marked for the byte of the front before it, and where there is none, for each byte
+abbrev pub AreMarksOf : List ℕ → List Entry → Type 0
+AreMarksOf marks entries = (length marks ≡ 65536) × ((e b : ℕ) (f : Entry) → slice_get entries e ≡ Some f → (f.at ≡ 0) ⊎ (b ≡ get_or f.front (f.at - 1) 0) → HasBit marks (bit_for (pair_of f) b))
+
+-- the pair at place y is not marked for the byte before it: at the start, for the first byte
+abbrev pub IsUnmarked : List ℕ → List ℕ → ℕ → Type 0
+IsUnmarked marks bytes y = ¬ HasBit marks (bit_for (pair_at bytes y) (get_or bytes (y - 1) 0))
 
 -- of each list, the head is one more than the place of the last entry in it, and each entry tells so of the one before; where there is none, it is 0
 pub record IsSieve (heads : List ℕ) (entries : List Entry) : Type 0 where

@@ -1,13 +1,16 @@
 //! Random tables over random files, cut anywhere: the scan, the search of a whole file and the plain scan agree.
 
 use crate::tests::{are_plain, letters, loaded, next_state, scanned_by};
-use sig_match::{Results, left_in};
+use sig_match::{Results, Scan, left_in};
 use sig_table::Table;
-use std::alloc::Global;
+use std::alloc::{AllocError, Global};
 use std::test::Fail;
 
-// Where a sequence may stand.
-fn position_of(state: u32) -> &'static str {
+// Where a sequence may stand: those of words mostly anywhere.
+fn position_of(state: u32, has_words: bool) -> &'static str {
+    if has_words && (state >> 24) % 8 < 5 {
+        return "Variable,,";
+    }
     match (state >> 24) % 5 {
         0 => "BOF,0,",
         1 => "BOF,1,4",
@@ -34,20 +37,46 @@ fn item_of(state: u32) -> &'static str {
     }
 }
 
+// The same with words of four bytes, by which many sequences are looked for at once.
+fn word_or_item_of(state: u32) -> &'static str {
+    match (state >> 24) % 9 {
+        0 => "41420041",
+        1 => "42004241",
+        2 => "41414100",
+        3 => "0042414142",
+        4 => "*",
+        5 => "??",
+        6 => "{0-3}",
+        7 => "[41:42]",
+        _ => "(4142|0041)",
+    }
+}
+
 // Three items, the same for the same number.
-fn push_items(rows: &mut String, seed: u32) -> Result<(), Fail> {
+fn push_items(rows: &mut String, seed: u32, has_words: bool) -> Result<(), Fail> {
     let mut state = seed;
     for _ in 0..3u32 {
         state = next_state(state);
-        rows.push_str(item_of(state))?;
+        let item = if has_words {
+            word_or_item_of(state)
+        } else {
+            item_of(state)
+        };
+        rows.push_str(item)?;
     }
     Ok(())
 }
 
 // Puts a row of three items behind the others, of a signature and a format of its own.
-fn push_row(alloc: Global, rows: &mut String, number: u32, state: u32) -> Result<(), Fail> {
-    push_place(alloc, rows, number, position_of(state))?;
-    push_items(rows, state)?;
+fn push_row(
+    alloc: Global,
+    rows: &mut String,
+    number: u32,
+    state: u32,
+    has_words: bool,
+) -> Result<(), Fail> {
+    push_place(alloc, rows, number, position_of(state, has_words))?;
+    push_items(rows, state, has_words)?;
     rows.push_str("\n")?;
     Ok(())
 }
@@ -59,43 +88,92 @@ fn push_place(alloc: Global, rows: &mut String, number: u32, position: &str) -> 
 }
 
 // Eight such rows.
-fn random_rows(alloc: Global, seed: u32) -> Result<String, Fail> {
+fn random_rows(alloc: Global, seed: u32, has_words: bool) -> Result<String, Fail> {
     let mut state = seed;
     let mut rows = String::new(alloc);
     for number in 1..9u32 {
         state = next_state(state);
-        push_row(alloc, &mut rows, number, state)?;
+        push_row(alloc, &mut rows, number, state, has_words)?;
     }
     Ok(rows)
 }
 
 // The table of them.
-fn random_table(alloc: Global, seed: u32) -> Result<Table, Fail> {
-    let rows = random_rows(alloc, seed)?;
+fn random_table(alloc: Global, seed: u32, has_words: bool) -> Result<Table, Fail> {
+    let rows = random_rows(alloc, seed, has_words)?;
     loaded(alloc, &rows)
 }
 
-// Whether the search of the whole file answers these results.
-fn is_searched(alloc: Global, table: &Table, file: &[u8], results: &Results) -> Result<bool, Fail> {
-    Ok(left_in(alloc, table, file)?.hits() == results.hits())
+// What a scan answers that has gone through each piece when it was fed, where the lengths of the pieces come of the number:
+// one to nine bytes each, and none once the file has come to its end.
+fn scanned_in_random_pieces(
+    alloc: Global,
+    table: &Table,
+    file: &[u8],
+    seed: u32,
+) -> Result<Results, AllocError> {
+    let mut scan = Scan::with_room(alloc, table, 0)?;
+    let mut state = seed;
+    let mut left = file;
+    for _ in 0..file.len() {
+        state = next_state(state);
+        let len = 1 + (state >> 24) as usize % 9;
+        let (piece, later) = left.split_at(len.min(left.len()));
+        scan.feed(piece);
+        left = later;
+    }
+    Ok(scan.finish())
+}
+
+// Whether the search of the whole file answers these results, and the plain scan does.
+fn agree(alloc: Global, table: &Table, file: &[u8], results: &Results) -> Result<bool, Fail> {
+    Ok(
+        left_in(alloc, table, file)?.hits() == results.hits()
+            && are_plain(alloc, table, file, results)?,
+    )
 }
 
 // Whether all three agree on the file, which the scan gets in pieces of this length.
-fn three_agree(alloc: Global, table: &Table, file: &[u8], piece: usize) -> Result<bool, Fail> {
+fn agree_by(alloc: Global, table: &Table, file: &[u8], piece: usize) -> Result<bool, Fail> {
     let results = scanned_by(alloc, table, file, piece)?;
-    Ok(is_searched(alloc, table, file, &results)? && are_plain(alloc, table, file, &results)?)
+    agree(alloc, table, file, &results)
 }
 
-// The lengths of pieces that fronts are fed in.
+// Whether they do where the pieces have random lengths.
+fn agree_in_random_pieces(
+    alloc: Global,
+    table: &Table,
+    file: &[u8],
+    seed: u32,
+) -> Result<bool, Fail> {
+    let results = scanned_in_random_pieces(alloc, table, file, seed)?;
+    agree(alloc, table, file, &results)
+}
+
+// The lengths of pieces that fronts are fed in, beside random ones.
 const PIECES: &[usize] = &[1, 2, 3, 7, 64];
 
-// Whether they do on each front of the file, with a new scan for each.
-fn agree_on_fronts(alloc: Global, table: &Table, file: &[u8]) -> Result<bool, Fail> {
+// Whether they do in pieces of each of these lengths, and of random ones.
+fn agree_however_cut(alloc: Global, table: &Table, file: &[u8], seed: u32) -> Result<bool, Fail> {
+    for piece in PIECES {
+        if !agree_by(alloc, table, file, *piece)? {
+            return Ok(false);
+        }
+    }
+    agree_in_random_pieces(alloc, table, file, seed)
+}
+
+// Whether they do on each front of the file whose length is a multiple of this one, with a new scan for each.
+fn agree_on_fronts(
+    alloc: Global,
+    table: &Table,
+    file: &[u8],
+    seed: u32,
+    step: usize,
+) -> Result<bool, Fail> {
     for len in 0..file.len() + 1 {
-        for piece in PIECES {
-            if !three_agree(alloc, table, &file[..len], *piece)? {
-                return Ok(false);
-            }
+        if len % step.max(1) == 0 && !agree_however_cut(alloc, table, &file[..len], seed)? {
+            return Ok(false);
         }
     }
     Ok(true)
@@ -103,15 +181,30 @@ fn agree_on_fronts(alloc: Global, table: &Table, file: &[u8]) -> Result<bool, Fa
 
 // Whether they do on the random table and the random file of this number.
 fn agree_on(alloc: Global, seed: u32) -> Result<bool, Fail> {
-    let table = random_table(alloc, seed)?;
+    let table = random_table(alloc, seed, false)?;
     let file = letters(alloc, seed, 32)?;
-    agree_on_fronts(alloc, &table, &file)
+    agree_on_fronts(alloc, &table, &file, seed, 1)
 }
 
 #[test]
 fn fronts_of_random_files_are_told_alike(rt: HostRuntime) -> Result<(), Fail> {
     for seed in 0..40 {
         assert!(rt; agree_on(rt.alloc(), seed)?, "{seed}");
+    }
+    Ok(())
+}
+
+// The same of a table of words, and of a longer file.
+fn agree_on_words(alloc: Global, seed: u32) -> Result<bool, Fail> {
+    let table = random_table(alloc, seed, true)?;
+    let file = letters(alloc, seed, 400)?;
+    agree_on_fronts(alloc, &table, &file, seed, 40)
+}
+
+#[test]
+fn random_words_in_long_files_are_told_alike(rt: HostRuntime) -> Result<(), Fail> {
+    for seed in 0..40 {
+        assert!(rt; agree_on_words(rt.alloc(), seed)?, "{seed}");
     }
     Ok(())
 }

@@ -2,8 +2,8 @@
 //!
 //! Most sequences of a table stand within some bytes of the start of a file, or of its end, and all of their words
 //! have the same length. Whether such a *short* one stands in a file, its first 4 KiB or its last 4 KiB tell. So a
-//! scan keeps these bytes, and makes no automaton for it: `41??42` with offsets 0 to 4 is looked for at five places
-//! once the file has come to its end.
+//! scan keeps these bytes, and makes no automaton for it: `41??42` with offsets 0 to 4 is looked for at those of five
+//! places that have a `41`, once the file has come to its end.
 
 ghost use Rattle.std.specs.Prelude.{◌≡◌, ◌+◌, ◌-◌, ◌↔◌, ◌<◌, ◌≤◌, ℕ, None, Some, List, [], ◌++◌, IfOk, IsTrue, drop, length, take};
 ghost use Rattle.std.specs.Vec.{vec_capacity};
@@ -12,6 +12,7 @@ ghost use Rattle.sig_expr.specs.Words.{Lang, Word};
 ghost use Rattle.sig_match.specs.Ends.{AreEndsOf, HasWordIn, IsHeadOf, IsTailOf, ShortStand, item_len, left_behind, room_of, short_len};
 ghost use Rattle.sig_table.specs.Standing.{Stands};
 
+use crate::scan::way::next_byte;
 use crate::whole::is_part_word;
 use sig_expr::{Atom, Item};
 use sig_table::{Position, Sequence};
@@ -250,12 +251,33 @@ fn stands_from(bytes: &[u8], items: &[Item], len: usize, from: usize, to: usize)
     requires within { to + len ≤ length bytes.now }
     ensures { IsTrue result ↔ HasWordIn from to len items.now bytes.now }
 {
-    for at in from..to + 1 {
-        if is_word(items, &bytes[at..at + len]) {
+    let mut at = from;
+    while at <= to {
+        at = next_place(bytes, items, at, to);
+        if at <= to && is_word(items, &bytes[at..at + len]) {
             return true;
         }
+        at += 1;
     }
     false
+}
+
+// The first place from the one up to the other at which a word of the items may begin: where the first item is a fixed
+// byte, the first place of that byte. If there is none, that is the place behind them, or the end of the bytes.
+fn next_place(bytes: &[u8], items: &[Item], from: usize, to: usize) -> usize
+    requires order { from ≤ to }
+    requires within { to ≤ length bytes.now }
+    ensures after { from ≤ result }
+    ensures within { result ≤ length bytes.now }
+    ensures passed { (x len : ℕ) → from ≤ x → x < result → ¬ Lang items.now (take len (drop x bytes.now)) }
+{
+    match items.first() {
+        Some(Item::Byte(byte)) => {
+            let end = bytes.len().min(to + 1);
+            from + next_byte(*byte, &bytes[from..end])
+        }
+        _ => from,
+    }
 }
 
 // Whether the bytes, as many as each word of the items has, are one.

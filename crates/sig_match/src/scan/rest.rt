@@ -1,6 +1,6 @@
 //! How a sequence leaves a set of states, found out by its automaton.
 
-ghost use Rattle.std.specs.Prelude.{◌≡◌, ◌⊎◌, ◌↔◌, ℕ, ◌<◌, ◌≤◌, IfSome, IsTrue, length, take};
+ghost use Rattle.std.specs.Prelude.{◌≡◌, ◌⊎◌, ◌↔◌, ℕ, ◌<◌, ◌≤◌, IfSome, IsTrue, Some, length, take};
 ghost use Rattle.sig_auto.specs.Tracks.{Follows};
 ghost use Rattle.sig_auto.specs.Trees.{whole_tree};
 ghost use Rattle.sig_auto.specs.TreeSlots.{set_len, slots_of};
@@ -245,13 +245,17 @@ pub(crate) fn all_fade(auto: &Auto, set: &[u8], next: &[u8]) -> bool
 }
 
 // Whether all ways on from the state are also those of the set within so many bytes: each state that
-// follows it follows the set too, or one does not, and fades. One that follows itself never does.
+// follows it and takes some byte follows the set too, or one does not, and fades. One that follows itself never does.
 fn fades(auto: &Auto, set: &[u8], state: u32, depth: usize) -> bool
     requires { length set.now ≡ set_len (whole_tree auto.now) }
     ensures { IsTrue result → Fades (whole_tree auto.now) set.now depth state }
 {
     if depth == 0 {
         return false;
+    }
+    // Where the next slot of a run takes one byte alone, one walk tells that no other state follows.
+    if auto.byte_behind(state).is_some() {
+        return follows_some(auto, set, state + 1) || fades(auto, set, state + 1, depth - 1);
     }
     let mut way = None;
     for q in 1..auto.slots() + 1 {
@@ -281,25 +285,39 @@ fn follows_some(auto: &Auto, set: &[u8], q: u32) -> bool
     false
 }
 
-// The state of the second set that the first has not and that does not fade, where it is one alone.
+// A state of the second set that the first has not, where each other one fades.
 fn lone_new(auto: &Auto, set: &[u8], next: &[u8], depth: usize) -> Option<u32>
     requires set_len { length set.now ≡ set_len (whole_tree auto.now) }
     requires next_len { length next.now ≡ set_len (whole_tree auto.now) }
     ensures { IfSome result (IsLoneNew (whole_tree auto.now) set.now next.now depth) }
 {
     let mut found = None;
+    // Whether the one found is known not to fade: the first one is asked only when another comes that does not.
+    let mut lasts = false;
     for state in 0..auto.slots() + 1 {
         if get_bit(next, state as usize)
             && !get_bit(set, state as usize)
-            && !fades(auto, set, state, depth)
+            && (found.is_none() || !fades(auto, set, state, depth))
         {
-            if found.is_some() {
+            if lasts || !gives_way(auto, set, found, depth) {
                 return None;
             }
+            lasts = found.is_some();
             found = Some(state);
         }
     }
     found
+}
+
+// Whether the state found so far, if there is one, fades.
+fn gives_way(auto: &Auto, set: &[u8], found: Option<u32>, depth: usize) -> bool
+    requires { length set.now ≡ set_len (whole_tree auto.now) }
+    ensures { IsTrue result → (q : ℕ) → found ≡ Some q → Fades (whole_tree auto.now) set.now depth q }
+{
+    match found {
+        Some(state) => fades(auto, set, state, depth),
+        None => true,
+    }
 }
 
 // Writes the byte, by which the state was reached, and those that are then the only way on, as far

@@ -3,20 +3,26 @@
 //! Every third place of a piece is looked at. A front of four bytes and more that stands in the piece has
 //! one of these places at its first, second or third byte, and at each third one behind that. So it is in the
 //! table three times, by a pair of bytes for each of the three: two different ones, if there are such. Most pairs
-//! of a piece are those of no front, so a table of marks passes over them: one byte for each pair. At the others the
-//! fronts in the list of the pair are compared, one by one. Some pairs share a list: the marks take most of the room.
+//! of a piece are those of no front, so a table of marks passes over them: one byte for each pair, with a bit for each of
+//! eight kinds of the byte before the pair. Where the bit of that byte is set, the fronts in the list of the pair are
+//! compared, one by one. Some pairs share a list: the marks take 64 KiB.
 
-ghost use Rattle.std.specs.Prelude.{◌≡◌, ◌⊎◌, ◌+◌, ◌*◌, ◌^◌, [], ℕ, ◌<◌, ◌≤◌, false, IfOk, IsTrue, Some, drop, get_or, length, slice_get};
+ghost use Rattle.std.specs.Prelude.{◌≡◌, ◌⊎◌, ◌+◌, ◌-◌, ◌*◌, ◌^◌, [], ℕ, ◌<◌, ◌≤◌, false, IfOk, IsTrue, Some, drop, get_or, length, slice_get};
+ghost use Rattle.sig_bits.specs.BitSets.{HasBit};
 ghost use Rattle.sig_match.specs.Rests.{Misses};
-ghost use Rattle.sig_match.specs.Sieves.{AreMarksOf, IsKnown, IsKnownAt, IsSample, IsSieve, IsWithinPiece, pair_at, text_of};
+ghost use Rattle.sig_match.specs.Sieves.{AreMarksOf, IsKnown, IsKnownAt, IsSample, IsSieve, IsUnmarked, IsWithinPiece, bit_for, pair_at, text_of};
 
 use crate::scan::entry::Entry;
 use crate::scan::way::{FRONT, may_begin, same_bytes};
+use sig_bits::{get_bit, set_bit};
 use std::alloc::{AllocError, Global};
 use std::marker::Model;
 
 // How many pairs of bytes there are.
 const PAIRS: usize = 65_536;
+
+// How many kinds of the byte before a pair are told apart: those of one remainder by this.
+const KINDS: usize = 8;
 
 // How many lists the entries are in. It is a prime, so pairs that have the same byte at the same place have lists of their own.
 const LISTS: usize = 16_381;
@@ -30,8 +36,9 @@ pub(crate) const STRIDE: usize = 3;
 /// Fronts of four bytes and more, each with three entries.
 #[derive(Debug, Drop)]
 pub(crate) struct Sieve {
-    // Of each two bytes, whether an entry is found by them.
-    marks: Vec<bool>,
+    // Of each two bytes a bit for each remainder by eight that the byte before them has in an entry that is found by
+    // them: all eight, where no byte of its front is before them.
+    marks: Vec<u8>,
     // Of each list, one more than the place of its last entry, or 0.
     heads: Vec<u16>,
     entries: Vec<Entry>,
@@ -57,7 +64,7 @@ impl Sieve {
         ensures { IfOk result (λ s. s ≡ []) }
     {
         Ok(Sieve {
-            marks: vec![in alloc; false; PAIRS]?,
+            marks: vec![in alloc; 0; PAIRS]?,
             heads: vec![in alloc; 0; LISTS]?,
             entries: Vec::new(alloc),
         })
@@ -113,7 +120,7 @@ impl Sieve {
             next: self.heads[list],
         })?;
         self.heads[list] = place as u16 + 1;
-        self.marks[pair] = true;
+        mark_pair(&mut self.marks, &front, at);
         Ok(())
     }
 
@@ -156,7 +163,7 @@ pub(crate) fn pair_place(front: &[u8], first: usize) -> usize
 
 // Finds of each entry a place before which it does not stand.
 #[inline(never)]
-fn look_through(marks: &[bool], heads: &[u16], entries: &[Entry], bytes: &[u8], known: &mut [usize])
+fn look_through(marks: &[u8], heads: &[u16], entries: &[Entry], bytes: &[u8], known: &mut [usize])
     requires marks { AreMarksOf marks.now entries.now }
     requires sieve { IsSieve heads.now entries.now }
     requires known { length known.old ≡ length entries.now }
@@ -189,39 +196,98 @@ fn begin(entries: &[Entry], len: usize, known: &mut [usize])
     }
 }
 
-// The next place to be looked at by whose pair an entry is found, or one near the end.
-fn next_marked(marks: &[bool], bytes: &[u8], from: usize) -> usize
+// Marks the two bytes of the front from `at` on for the byte before them, or for each, if they are its first ones.
+fn mark_pair(marks: &mut [u8], front: &[u8; FRONT], at: usize)
+    requires marks { length marks.old ≡ 65536 }
+    requires inside { at + 1 < 8 }
+    ensures len { length marks.new ≡ length marks.old }
+    ensures kept { (i : ℕ) → HasBit marks.old i → HasBit marks.new i }
+    ensures marked { (b : ℕ) → (at ≡ 0) ⊎ (b ≡ get_or front.now (at - 1) 0) → HasBit marks.new (bit_for (pair_at front.now at) b) }
+{
+    let pair = pair(front[at], front[at + 1]);
+    if at > 0 {
+        set_bit(marks, KINDS * pair + front[at - 1] as usize % KINDS);
+        return;
+    }
+    for kind in 0..KINDS {
+        set_bit(marks, KINDS * pair + kind);
+    }
+}
+
+// The next place to be looked at at which an entry may be found, or one near the end.
+fn next_marked(marks: &[u8], bytes: &[u8], from: usize) -> usize
     requires marks { length marks.now ≡ 65536 }
     requires from { from ≤ length bytes.now + 2 }
     requires sample { IsSample from }
     ensures from { from ≤ result }
     ensures sample { IsSample result }
     ensures within { result ≤ length bytes.now + 2 }
-    ensures none { (y : ℕ) → from ≤ y → y < result → IsSample y → y + 1 < length bytes.now → get_or marks.now (pair_at bytes.now y) false ≡ false }
+    ensures none { (y : ℕ) → from ≤ y → y < result → IsSample y → y + 1 < length bytes.now → IsUnmarked marks.now bytes.now y }
 {
     let mut at = from;
     while at + 3 * STRIDE + 1 < bytes.len() {
-        let near = mark(marks, bytes, at) + mark(marks, bytes, at + STRIDE);
-        let far = mark(marks, bytes, at + 2 * STRIDE) + mark(marks, bytes, at + 3 * STRIDE);
-        if near + far > 0 {
+        if some_marked(marks, bytes, at) && some_found(marks, bytes, at) {
             break;
         }
         at += 4 * STRIDE;
     }
-    while at + 1 < bytes.len() && mark(marks, bytes, at) == 0 {
+    while at + 1 < bytes.len() && found(marks, bytes, at) == 0 {
         at += STRIDE;
     }
     at
 }
 
-// 1 if an entry is found by the pair at this place, or 0.
-fn mark(marks: &[bool], bytes: &[u8], at: usize) -> u32
+// Whether one of the pairs at the next four places that are looked at is marked at all: of most pieces this tells what is passed over, and it takes less
+// than to ask for the bytes before them too.
+#[inline(always)]
+fn some_marked(marks: &[u8], bytes: &[u8], at: usize) -> bool
+    requires marks { length marks.now ≡ 65536 }
+    requires place { at + 10 < length bytes.now }
+    requires sample { IsSample at }
+    ensures { result ≡ false → (y : ℕ) → at ≤ y → y < at + 12 → IsSample y → IsUnmarked marks.now bytes.now y }
+{
+    let near = mark(marks, bytes, at) + mark(marks, bytes, at + STRIDE);
+    let far = mark(marks, bytes, at + 2 * STRIDE) + mark(marks, bytes, at + 3 * STRIDE);
+    near + far > 0
+}
+
+// Whether an entry may be found at one of the next four places that are looked at. It is compiled by itself: within the
+// loop that calls it, it would take the registers of what is asked of all places.
+#[inline(never)]
+fn some_found(marks: &[u8], bytes: &[u8], at: usize) -> bool
+    requires marks { length marks.now ≡ 65536 }
+    requires place { at + 10 < length bytes.now }
+    requires sample { IsSample at }
+    ensures { result ≡ false → (y : ℕ) → at ≤ y → y < at + 12 → IsSample y → IsUnmarked marks.now bytes.now y }
+{
+    let near = found(marks, bytes, at) + found(marks, bytes, at + STRIDE);
+    let far = found(marks, bytes, at + 2 * STRIDE) + found(marks, bytes, at + 3 * STRIDE);
+    near + far > 0
+}
+
+// The mark of the pair at this place: 0, if no entry is found by it.
+#[inline(always)]
+fn mark(marks: &[u8], bytes: &[u8], at: usize) -> u32
     requires marks { length marks.now ≡ 65536 }
     requires place { at + 1 < length bytes.now }
-    ensures none { result ≡ 0 → get_or marks.now (pair_at bytes.now at) false ≡ false }
-    ensures few { result ≤ 1 }
+    ensures none { result ≡ 0 → IsUnmarked marks.now bytes.now at }
+    ensures few { result ≤ 255 }
 {
     marks[pair(bytes[at], bytes[at + 1])] as u32
+}
+
+// 1 if the pair at this place is marked for the byte before it, or 0. At the start of a piece, where none is before it,
+// the first byte stands for that: an entry that is found there is marked for all.
+#[inline(always)]
+fn found(marks: &[u8], bytes: &[u8], at: usize) -> u32
+    requires marks { length marks.now ≡ 65536 }
+    requires place { at + 1 < length bytes.now }
+    ensures none { result ≡ 0 → IsUnmarked marks.now bytes.now at }
+    ensures few { result ≤ 1 }
+{
+    let pair = pair(bytes[at], bytes[at + 1]);
+    let kind = bytes[at.saturating_sub(1)] as usize % KINDS;
+    get_bit(marks, KINDS * pair + kind) as u32
 }
 
 // Compares the entries in the list of the two bytes at this place.

@@ -1,7 +1,8 @@
-use Rattle.std.proofs.Common.{◌≡◌, ◌+◌, ◌<◌, ◌≤◌, ⊎_elim, arith, false, get_or, subst, sym}
-use Rattle.sig_match.specs.Sieves.{pair_at}
-use Rattle.sig_match.proofs.SieveLemmas.{below_or, four_samples, next_sample, sample_below}
+use Rattle.std.proofs.Common.{◌≡◌, ◌+◌, ◌<◌, ◌≤◌, ⊎_elim, arith, subst, sym}
+use Rattle.sig_match.specs.Sieves.{IsUnmarked}
+use Rattle.sig_match.proofs.SieveLemmas.{below_or, next_sample, sample_below}
 use Rattle.sig_match.proofs.scan.sieve.next_marked.Goals as goal
+use Rattle.sig_match.proofs.scan.sieve.next_marked.Goals.{else-some_marked-via-then-some_marked+else-some_found, else-some_marked-via-else-some_marked}
 
 pub loop-at-preserved : goal.loop-at-preserved
 loop-at-preserved c = record {
@@ -12,18 +13,10 @@ loop-at-preserved c = record {
       ⊎_elim
       (λ (old : y < c.loop-at.at). c.loop-at.invariant.none y after old sample inside)
       (λ (new : c.loop-at.at ≤ y).
-      ⊎_elim
-      (λ (first : y ≡ c.loop-at.at). subst (λ k. get_or c.args.marks.now (pair_at c.args.bytes.now k) false ≡ false) (sym first) (c.mark.ensures.none (let none = c.if-near-far-gt0.false in omega arith)))
-      (λ later.
-      ⊎_elim
-      (λ (second : y ≡ c.loop-at.at + 3). subst (λ k. get_or c.args.marks.now (pair_at c.args.bytes.now k) false ≡ false) (sym second) (c.mark-in-loop-at.ensures.none (let none = c.if-near-far-gt0.false in omega arith)))
-      (λ others.
-      ⊎_elim
-      (λ (third : y ≡ c.loop-at.at + 6). subst (λ k. get_or c.args.marks.now (pair_at c.args.bytes.now k) false ≡ false) (sym third) (c.mark-in-loop-at-2.ensures.none (let none = c.if-near-far-gt0.false in omega arith)))
-      (λ (fourth : y ≡ c.loop-at.at + 9). subst (λ k. get_or c.args.marks.now (pair_at c.args.bytes.now k) false ≡ false) (sym fourth) (c.mark-in-loop-at-3.ensures.none (let none = c.if-near-far-gt0.false in omega arith)))
-      others)
-      later)
-      (four_samples c.loop-at.at y c.loop-at.invariant.sample sample new before))
+      elim c.else-some_marked.branch [
+        | else-some_marked-via-then-some_marked+else-some_found w ↦ w.some_found.ensures w.if-some_found.false y new before sample
+        | else-some_marked-via-else-some_marked w ↦ c.some_marked.ensures w.if-some_marked.false y new before sample
+      ])
       (below_or y c.loop-at.at);
 }
 
@@ -38,6 +31,6 @@ loop-at-2-preserved c = record {
       (λ (new : c.loop-at-2.at ≤ y).
       let low = sample_below c.loop-at-2.at y c.loop-at-2.invariant.sample sample before in
       let here : y ≡ c.loop-at-2.at = omega arith in
-      subst (λ k. get_or c.args.marks.now (pair_at c.args.bytes.now k) false ≡ false) (sym here) (c.mark-in-loop-at-2-2.ensures.none c.if-mark-eq0.true))
+      subst (λ k. IsUnmarked c.args.marks.now c.args.bytes.now k) (sym here) (c.found.ensures.none c.if-found-eq0.true))
       (below_or y c.loop-at-2.at);
 }

@@ -1,5 +1,5 @@
-use Rattle.std.proofs.Common.{◌≡◌, ℕ, ◌+◌, ◌-◌, ◌<◌, ◌≤◌, false, get_or, length}
-use Rattle.sig_match.specs.Sieves.{IsSample, pair_at}
+use Rattle.std.proofs.Common.{ℕ, ◌+◌, ◌-◌, ◌<◌, ◌≤◌, length}
+use Rattle.sig_match.specs.Sieves.{IsSample, IsUnmarked}
 use Rattle.sig_match.proofs.scan.sieve.next_marked.Given as goal
 
 -- no entry is found at the places so far
@@ -8,7 +8,7 @@ invariant-loop-at l = record {
   from : l.from ≤ l.at;
   within : l.at ≤ length l.bytes + 2;
   sample : IsSample l.at;
-  none : (y : ℕ) → l.from ≤ y → y < l.at → IsSample y → y + 1 < length l.bytes → get_or l.marks (pair_at l.bytes y) false ≡ false;
+  none : (y : ℕ) → l.from ≤ y → y < l.at → IsSample y → y + 1 < length l.bytes → IsUnmarked l.marks l.bytes y;
 }
 
 abbrev pub decreases-loop-at : goal.decreases-loop-at
@@ -20,7 +20,7 @@ invariant-loop-at-2 l = record {
   from : l.from ≤ l.at;
   within : l.at ≤ length l.bytes + 2;
   sample : IsSample l.at;
-  none : (y : ℕ) → l.from ≤ y → y < l.at → IsSample y → y + 1 < length l.bytes → get_or l.marks (pair_at l.bytes y) false ≡ false;
+  none : (y : ℕ) → l.from ≤ y → y < l.at → IsSample y → y + 1 < length l.bytes → IsUnmarked l.marks l.bytes y;
 }
 
 abbrev pub decreases-loop-at-2 : goal.decreases-loop-at-2
