@@ -39,13 +39,14 @@ TABLES = {
 OTHERS = [byte for byte in range(256) if byte != 0x41]
 
 
-def table(rng, name, count):
+def table(rng, name, count, each=1):
+    """So many signatures of one sequence, so many to a format."""
     position, expression = TABLES[name]
 
     def others(place):
         return "".join(f"{rng.choice(OTHERS):02X}" for _ in range(int(place[1])))
 
-    rows = [f"fmt/{n},{n},{position}{re.sub('<(.)>', others, expression)}\n" for n in range(1, count + 1)]
+    rows = [f"fmt/{n // each + 1},{n + 1},{position}{re.sub('<(.)>', others, expression)}\n" for n in range(count)]
     return HEADER + "".join(rows)
 
 
