@@ -17,7 +17,6 @@ signatures: the process counts where it did at least 175 MB/s both times (`docs/
 the quickest, the middle and the slowest run in milliseconds, of the processes that count and of all, how many
 runs these are, and what YARA did in the middle. Each takes so many seconds, at first 20.
 """
-import argparse
 import os
 import random
 import shutil
@@ -114,14 +113,10 @@ def registry(feed, folder, yara, seconds):
 
 
 def main():
-    parser = argparse.ArgumentParser(description=__doc__, formatter_class=argparse.RawDescriptionHelpFormatter)
-    parser.add_argument("feed")
-    parser.add_argument("tables", nargs="*", metavar="TABLE")
+    parser = awake.parser_of(__doc__, 1 << 18, 7)
     parser.add_argument("--seconds", type=float, default=20)
-    parser.add_argument("--bytes", type=int, default=1 << 18)
-    parser.add_argument("--seed", type=int, default=7)
     asked = parser.parse_args()
-    rng, feed = random.Random(asked.seed), os.path.abspath(asked.feed)
+    rng, feed = random.Random(asked.seed), os.path.abspath(asked.program)
     data = {"41": b"A" * asked.bytes, "random": rng.randbytes(asked.bytes)}
     with tempfile.TemporaryDirectory() as folder:
         yara = Yara(folder)
