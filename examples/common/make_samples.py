@@ -4,7 +4,7 @@
     python3 examples/common/make_samples.py [--compare]
 
 Each sample is as small as its format allows, or little more, and is put together from the numbers that
-the format's publication gives (`SOURCES.md` lists the publications); no library of the format takes
+the format's publication gives (`sources.csv` lists the publications); no library of the format takes
 part. The line beside it is that of the format for which it was made: its PUID, and its signature in
 `signatures.csv` that these bytes were made for. With `--compare` nothing is written: the files in
 `samples/` must be the ones that would be.
