@@ -18,7 +18,8 @@ ghost use Rattle.std.specs.Prelude.{◌<◌, length};
 
 use crate::tests::plain::PlainScan;
 use sig_bits::FromRead;
-use sig_match::{Hit, Results, Scan};
+use sig_core::{Hit, Results};
+use sig_match::Scan;
 use sig_table::{FormatId, Sequence, SigId, Table};
 use std::alloc::{AllocError, Global};
 use std::test::Fail;

@@ -7,8 +7,8 @@ use Rattle.std.proofs.lemmas.List.{get_or-map, length-map}
 use Rattle.std.proofs.lemmas.List.Elements.{All-filter, filter_passes}
 use Rattle.std.proofs.lemmas.List.Folds.{list_any-from_Any}
 use Rattle.std.proofs.lemmas.List.Kept.{AllPairs-filter, AllPairs-from_increasing}
-use Rattle.sig_match.specs.declared.results.Hit.{Hit}
-use Rattle.sig_match.specs.Hits.{HitFormats, HitsAt, IsFirstHit, Left, formats_of}
+use Rattle.sig_core.specs.declared.results.Hit.{Hit}
+use Rattle.sig_core.specs.Hits.{HitFormats, HitsAt, IsFirstHit, Left, formats_of}
 use Rattle.sig_table.specs.Views.{TableView}
 use Rattle.sig_cert.proofs.MemberLemmas.{first_or_later, none_is_there}
 

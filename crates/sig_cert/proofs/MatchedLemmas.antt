@@ -2,8 +2,8 @@
 use Rattle.std.proofs.Common.{◌≤◌, ℕ, List, length, inl, inr, arith}
 use Rattle.std.proofs.lemmas.Bool.{cases_lt}
 use Rattle.sig_bits.specs.Bytes.{IsBytes}
-use Rattle.sig_match.specs.declared.results.Hit.{Hit}
-use Rattle.sig_match.specs.Hits.{Left}
+use Rattle.sig_core.specs.declared.results.Hit.{Hit}
+use Rattle.sig_core.specs.Hits.{Left}
 use Rattle.sig_table.specs.Views.{TableView}
 use Rattle.sig_cert.specs.Deciding.{Decided}
 

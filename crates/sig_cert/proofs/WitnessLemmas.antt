@@ -1,9 +1,9 @@
 -- What the first two hits that are left say of a file.
 use Rattle.std.proofs.Common.{◌≡◌, ◌<◌, ◌≤◌, ℕ, List, All, length, subst, sym}
 use Rattle.std.proofs.lemmas.List.Elements.{All-filter}
-use Rattle.sig_match.specs.declared.results.Hit.{Hit}
-use Rattle.sig_match.specs.Hits.{HitsAt, IsFirstHit, Left}
-use Rattle.sig_match.proofs.Exports.{left_is_one_list}
+use Rattle.sig_core.specs.declared.results.Hit.{Hit}
+use Rattle.sig_core.specs.Hits.{HitsAt, IsFirstHit, Left}
+use Rattle.sig_core.proofs.Exports.{left_is_one_list}
 use Rattle.sig_table.specs.Tables.{IsTable}
 use Rattle.sig_table.specs.Views.{TableView}
 use Rattle.sig_cert.specs.Deciding.{Ambiguous}

@@ -1,8 +1,8 @@
 -- Files that leave two formats, and tables of which no file does.
 use Rattle.std.specs.Prelude.{◌≡◌, ℕ, ◌<◌, ◌≤◌, List, ◌∷◌, length}
 use Rattle.sig_bits.specs.Bytes.{IsBytes}
-use Rattle.sig_match.specs.Hits.{Left}
-use Rattle.sig_match.specs.declared.results.Hit.{Hit}
+use Rattle.sig_core.specs.Hits.{Left}
+use Rattle.sig_core.specs.declared.results.Hit.{Hit}
 use Rattle.sig_table.specs.Views.{TableView}
 use Rattle.sig_table.specs.declared.ids.FormatId.{FormatId}
 

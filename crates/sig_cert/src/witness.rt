@@ -3,7 +3,8 @@
 ghost use Rattle.std.specs.Prelude.{◌≡◌, ◌↔◌, IfErr, IfOk, IfSome, IsSome};
 ghost use Rattle.sig_cert.specs.Deciding.{Ambiguous, AreFirstLeft, AreFormats};
 
-use sig_match::{CoreError, left_in};
+use sig_core::CoreError;
+use sig_match::left_in;
 use sig_table::{FormatId, Table};
 use std::alloc::Global;
 

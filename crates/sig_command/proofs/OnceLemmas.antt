@@ -14,7 +14,7 @@ use Rattle.sig_engines.specs.Judged.{AddsVerdict}
 use Rattle.sig_engines.specs.Lines.{lines_of}
 use Rattle.sig_engines.specs.Stores.{ReadsAs}
 use Rattle.sig_engines.specs.declared.store.TablePaths.{TablePaths}
-use Rattle.sig_match.specs.declared.results.Hit.{Hit}
+use Rattle.sig_core.specs.declared.results.Hit.{Hit}
 use Rattle.sig_table.specs.Loading.{records_of, table_of}
 use Rattle.sig_table.specs.Views.{TableView}
 use Rattle.sig_table.specs.declared.error.TableError.{TableError}

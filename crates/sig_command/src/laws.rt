@@ -9,7 +9,7 @@ ghost use Rattle.sig_command.specs.Requests.{Answers};
 ghost use Rattle.sig_command.specs.declared.args.Request.TheVariants.{Check, Match};
 ghost use Rattle.sig_engines.specs.Lines.{lines_of};
 ghost use Rattle.sig_engines.specs.declared.store.TablePaths.{TablePaths};
-ghost use Rattle.sig_match.specs.declared.results.Hit.{Hit};
+ghost use Rattle.sig_core.specs.declared.results.Hit.{Hit};
 ghost use Rattle.sig_table.specs.Views.{TableView};
 
 use clap::error::ErrorKind;

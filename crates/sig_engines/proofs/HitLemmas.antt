@@ -1,8 +1,8 @@
 -- Hits that are asked for are hits of the table.
 use Rattle.std.proofs.Common.{ℕ, Bool, true, false, List, All, subst, sym}
 use Rattle.std.proofs.lemmas.List.Elements.{All-filter}
-use Rattle.sig_match.specs.Hits.{IsFirstHit}
-use Rattle.sig_match.specs.declared.results.Hit.{Hit}
+use Rattle.sig_core.specs.Hits.{IsFirstHit}
+use Rattle.sig_core.specs.declared.results.Hit.{Hit}
 use Rattle.sig_table.specs.Views.{TableView}
 use Rattle.sig_engines.specs.Lines.{AreAsked, IsOf}
 

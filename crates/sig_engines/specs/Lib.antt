@@ -13,7 +13,7 @@ pub mod Writing
 pub use Rattle.sig_bits.specs.Device
 pub use Rattle.sig_cert.specs.Deciding
 pub use Rattle.sig_cert.specs.Verdicts
-pub use Rattle.sig_match.specs.Hits
+pub use Rattle.sig_core.specs.Hits
 pub use Rattle.sig_table.specs.Canonical
 pub use Rattle.sig_table.specs.Puids
 pub use Rattle.sig_table.specs.Tables

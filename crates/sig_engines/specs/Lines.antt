@@ -4,8 +4,8 @@ use Rattle.std.specs.Fmt.{decimal}
 use Rattle.std.specs.List.{flat_map}
 use Rattle.sig_bits.specs.Bytes.{IsBytes}
 use Rattle.sig_bits.specs.Device.{Adds}
-use Rattle.sig_match.specs.Hits.{HitFormats, Left}
-use Rattle.sig_match.specs.declared.results.Hit.{Hit}
+use Rattle.sig_core.specs.Hits.{HitFormats, Left}
+use Rattle.sig_core.specs.declared.results.Hit.{Hit}
 use Rattle.sig_table.specs.Views.{SignatureView, TableView}
 use Rattle.sig_table.specs.Puids.{puid_text}
 use Rattle.sig_table.specs.declared.puid.Puid.{Puid}

@@ -4,7 +4,7 @@ use Rattle.std.specs.Borrow.{Bor}
 use Rattle.std.specs.List.{list_all}
 use Rattle.sig_bits.specs.Bytes.{IsBytes}
 use Rattle.sig_bits.specs.Device.{Adds, AddsFront}
-use Rattle.sig_match.specs.declared.results.Hit.{Hit}
+use Rattle.sig_core.specs.declared.results.Hit.{Hit}
 use Rattle.sig_table.specs.Views.{TableView}
 use Rattle.sig_engines.specs.Writing.{run_text}
 use Rattle.sig_engines.specs.Lines.{AreAsked, file_lines}

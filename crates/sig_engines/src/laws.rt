@@ -4,7 +4,7 @@ ghost use Rattle.std.specs.Prelude.{◌≡◌, ◌≤◌, ℕ, false, List, Opti
 ghost use Rattle.sig_bits.specs.Device.{Adds};
 ghost use Rattle.sig_cert.specs.Deciding.{Decided};
 ghost use Rattle.sig_engines.specs.Lines.{AddsLinesOfSome, AreLinesOfSome, file_lines, lines_of};
-ghost use Rattle.sig_match.specs.declared.results.Hit.{Hit};
+ghost use Rattle.sig_core.specs.declared.results.Hit.{Hit};
 ghost use Rattle.sig_table.specs.Views.{TableView};
 
 /// Of a decided table `match` without `--all` never writes two lines of a file, also where nothing is known of

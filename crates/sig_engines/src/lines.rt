@@ -8,8 +8,8 @@ ghost use Rattle.sig_engines.specs.Witnessed.{pair_text, witness_line};
 ghost use Rattle.sig_cert.specs.Deciding.{AreFormats};
 
 use sig_cert::CheckError;
+use sig_core::Hit;
 use sig_find::Found;
-use sig_match::Hit;
 use sig_table::{FormatId, SigId, Table};
 use std::alloc::{AllocError, Global};
 use std::fmt::Write;

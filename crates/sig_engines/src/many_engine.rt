@@ -12,7 +12,7 @@ use crate::match_engine::lines_of_match;
 use crate::store::Store;
 use crate::writing::put;
 use sig_bits::{DeviceFault, Output};
-use sig_match::DroidCore;
+use sig_core::DroidCore;
 use std::alloc::Global;
 
 /// Writes the lines of each file, in the order of their names, and tells of each file with a fault.

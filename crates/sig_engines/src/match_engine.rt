@@ -9,7 +9,7 @@ ghost use Rattle.sig_engines.specs.Lines.{AddsLinesOfSome, AreAskedOfSome, AreLi
 use crate::error::RunError;
 use crate::lines::lines_of_file;
 use sig_bits::{Input, Output};
-use sig_match::{CoreError, DroidCore, Results};
+use sig_core::{CoreError, DroidCore, Results};
 use std::alloc::Global;
 
 /// Writes a line for each format left for the file, in table order. With `all`, for each format

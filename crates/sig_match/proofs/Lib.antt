@@ -7,17 +7,12 @@ mod FrontLemmas
 mod FrontierLemmas
 mod GapLemmas
 mod GappedLemmas
-mod HitLaws
-mod HitLemmas
 mod ItemLemmas
 mod KeptLemmas
 mod LangLemmas
 mod LeadLemmas
-mod LeftLemmas
-mod ListingLemmas
 mod MarkLemmas
 mod NarrowLemmas
-mod OneListLemmas
 mod OutlookLemmas
 mod PartLemmas
 mod ReachLemmas

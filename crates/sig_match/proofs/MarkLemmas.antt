@@ -3,9 +3,9 @@ use Rattle.std.proofs.Common.{◌≡◌, ℕ, ◌+◌, ◌<◌, List, [], ◌∷
 use Rattle.std.proofs.lemmas.Bool.{cases_lt, false≢true}
 use Rattle.std.proofs.lemmas.List.{get_or_append_left, get_or_push, get_or_past}
 use Rattle.sig_table.specs.Views.{TableView}
-use Rattle.sig_match.specs.FirstHits.{MarksHits}
-use Rattle.sig_match.specs.Hits.{HitsOf}
-use Rattle.sig_match.proofs.HitLemmas.{HitsOf-within}
+use Rattle.sig_core.specs.FirstHits.{MarksHits}
+use Rattle.sig_core.specs.Hits.{HitsOf}
+use Rattle.sig_core.proofs.Exports.{HitsOf-within}
 
 -- exactly the signatures below the limit that hit are marked
 pub record MarksBelow (table : TableView) (file : List ℕ) (limit : ℕ) (marks : List Bool) : Type 0 where

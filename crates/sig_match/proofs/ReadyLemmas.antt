@@ -5,10 +5,10 @@ use Rattle.std.proofs.lemmas.Bool.{cases_lt, false≢true}
 use Rattle.std.proofs.lemmas.List.{get_or_append_left, get_or_push}
 use Rattle.sig_table.specs.Views.{SequenceView, TableView}
 use Rattle.sig_match.specs.declared.whole.ready.Begin.{Begin}
-use Rattle.sig_match.specs.Hits.{HitsOf}
+use Rattle.sig_core.specs.Hits.{HitsOf}
 use Rattle.sig_match.specs.Lates.{AllStand}
 use Rattle.sig_match.specs.Readies.{AreBegins, BeginsAll, IsBegin}
-use Rattle.sig_match.proofs.HitLemmas.{HitsOf-stand}
+use Rattle.sig_core.proofs.Exports.{HitsOf-stand}
 
 -- a byte of all sequences of a signature is one of the signature
 pub begin_of : (table : TableView) (n : ℕ) (first : Option ℕ) (sequences : List SequenceView) → option_map (λ s. s.sequences) (slice_get table.signatures n) ≡ Some sequences → IfSome first (BeginsAll (λ file. AllStand file sequences)) → IfSome first (BeginsAll (HitsOf table n))

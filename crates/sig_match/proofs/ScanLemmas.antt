@@ -19,11 +19,11 @@ use Rattle.sig_bits.specs.Device.{Gives, IsAtEnd}
 use Rattle.sig_table.specs.Standing.{Hits, Stands}
 use Rattle.sig_table.specs.Tables.{IsSequence, IsTable}
 use Rattle.sig_table.specs.Views.{SequenceView, SignatureView, TableView}
-use Rattle.sig_match.specs.FirstHits.{MarksHits}
-use Rattle.sig_match.specs.Hits.{HitFormats, HitFormatsOfSome}
-use Rattle.sig_match.specs.declared.results.Hit.{Hit}
+use Rattle.sig_core.specs.FirstHits.{MarksHits}
+use Rattle.sig_core.specs.Hits.{HitFormats, HitFormatsOfSome}
+use Rattle.sig_core.specs.declared.results.Hit.{Hit}
 use Rattle.std.proofs.lemmas.Slice.Zip.{AllZip-long, all_zipped_more}
-use Rattle.sig_match.proofs.HitLemmas.{HitsOf-within}
+use Rattle.sig_core.proofs.Exports.{HitsOf-within}
 use Rattle.sig_match.specs.Ends.{AreEndsOf, EndsView, ShortStand, is_short, long_of}
 use Rattle.sig_match.specs.Lates.{AreLateScansOf, IsFedBy, IsLateTableOf, IsLateTableScanOf, IsLateSignatureScanOf, IsMarkOf}
 use Rattle.sig_match.specs.Scans.{AreSequenceScansOf, IsTableScanOf, IsSequenceScanOf, IsSignatureScanOf, TableScanView, SequenceScanView, SignatureScanView, scan_of}

@@ -1,5 +1,4 @@
--- What a reader must trust: which signatures hit a file, which formats are hit, and which are left.
-pub mod Hits
+-- What a reader must trust: what a scan has of a file.
 pub mod Scans
 pub mod Ends
 pub use Rattle.sig_auto.specs.Runs as AutomatonRuns
@@ -14,7 +13,6 @@ pub use Rattle.sig_table.specs.Standing
 pub use Rattle.sig_table.specs.Tables
 -- The vocabulary of proofs: frontiers of offsets, and the first hits of the formats.
 pub mod Exits
-pub mod FirstHits
 pub mod Fixed
 pub mod Frontiers
 pub mod Fronts

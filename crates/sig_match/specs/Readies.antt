@@ -2,7 +2,7 @@
 use Rattle.std.specs.Prelude.{◌≡◌, ◌<◌, ℕ, List, IfSome, get_or, length}
 use Rattle.sig_table.specs.Views.{TableView}
 use Rattle.sig_match.specs.declared.whole.ready.Begin.{Begin}
-use Rattle.sig_match.specs.Hits.{HitsOf}
+use Rattle.sig_core.specs.Hits.{HitsOf}
 
 -- each file of which it holds begins with this byte
 abbrev pub BeginsAll : (List ℕ → Type 0) → ℕ → Type 0

@@ -6,10 +6,10 @@
 //! some length of them.
 
 ghost use Rattle.std.specs.Prelude.{◌≡◌, ◌++◌, ℕ, ◌≤◌, [], List, IfOk, length};
-ghost use Rattle.sig_match.specs.Hits.{HitFormats};
+ghost use Rattle.sig_core.specs.Hits.{HitFormats};
 ghost use Rattle.sig_match.specs.Scans.{IsScanOf};
 
-use crate::results::Results;
+use sig_core::Results;
 use sig_table::Table;
 use std::alloc::{AllocError, Global};
 use std::marker::Model;

@@ -3,16 +3,14 @@
 ghost use Rattle.std.specs.Prelude.{◌≡◌, ◌+◌, ◌<◌, ◌≤◌, false, true, IfErr, IfOk, IfSome, IsErrOf, OnOk, is_err, length, take};
 ghost use Rattle.sig_bits.specs.Bytes.{IsBytes};
 ghost use Rattle.sig_bits.specs.Device.{Gives, IsAtEnd};
-ghost use Rattle.sig_match.specs.Hits.{HitFormats, HitFormatsOfSome};
+ghost use Rattle.sig_core.specs.Hits.{HitFormats, HitFormatsOfSome};
 ghost use Rattle.sig_match.specs.Readies.{AreBegins};
 ghost use Rattle.sig_table.specs.Views.{TableView};
 
-use crate::droid_core::DroidCore;
-use crate::error::CoreError;
-use crate::results::Results;
 use crate::scan::TableScan;
 use crate::whole::{Ready, hits_by, hits_in};
 use sig_bits::{DeviceFault, Input};
+use sig_core::{CoreError, DroidCore, Results};
 use sig_table::{Puid, Table};
 use std::alloc::{AllocError, Global};
 use std::marker::Model;

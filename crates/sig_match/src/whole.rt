@@ -11,16 +11,13 @@
 
 ghost use Rattle.std.specs.Prelude.{◌≡◌, ◌<◌, ◌↔◌, IfOk, IfErr, IsTrue, length};
 ghost use Rattle.sig_bits.specs.Bytes.{IsBytes};
-ghost use Rattle.sig_match.specs.Hits.{HitFormats, HitsOf, Left};
+ghost use Rattle.sig_core.specs.Hits.{HitFormats, HitsOf, Left};
 ghost use Rattle.sig_match.specs.Readies.{AreBegins};
 ghost use Rattle.sig_table.specs.Views.{TableView};
 
-use crate::droid_core::DroidCore;
-use crate::error::CoreError;
-use crate::hits::list_hits;
-use crate::results::Results;
 use crate::scan::TableScan;
 use sig_bits::{Input, ReadWholeError, read_whole};
+use sig_core::{CoreError, DroidCore, Results, list_hits};
 use sig_table::{Puid, SigId, Table};
 use std::alloc::{AllocError, Global};
 use std::marker::Model;

@@ -3,8 +3,10 @@
 use crate::tests::table_of;
 use fixtures::{Broken, OVER_BOTH, Pieces, Room};
 use sig_bits::{FromRead, FromWrite};
+use sig_core::{CoreError, DroidCore, Hit};
 use sig_engines::{RunError, run_match, run_show};
-use sig_match::{CoreError, DroidCore, Hit, StreamCore, WholeCore};
+use sig_match::{StreamCore, WholeCore};
+use sig_scan::BlockCore;
 use sig_table::{FormatId, Puid, SigId, Table};
 use std::test::Fail;
 
@@ -20,6 +22,11 @@ fn core_of_one(rt: &HostRuntime) -> Result<WholeCore, Fail> {
 
 fn stream_core_of_one(rt: &HostRuntime) -> Result<StreamCore, Fail> {
     Ok(StreamCore::new(rt.alloc(), table_of_one(rt)?))
+}
+
+// Blocks of one byte have a border in every file.
+fn block_core_of_one(rt: &HostRuntime) -> Result<BlockCore, Fail> {
+    Ok(BlockCore::with_block(rt.alloc(), table_of_one(rt)?, 1))
 }
 
 // What is read of a file of two bytes, one a read, before a read fails.
@@ -54,10 +61,16 @@ fn stream_is_unread(rt: &HostRuntime) -> Result<bool, Fail> {
     Ok(all_unread(rt, &core))
 }
 
+fn block_is_unread(rt: &HostRuntime) -> Result<bool, Fail> {
+    let core = block_core_of_one(rt)?;
+    Ok(all_unread(rt, &core))
+}
+
 #[test]
 fn writes_nothing_before_the_last_read(rt: HostRuntime) -> Result<(), Fail> {
     assert!(rt; whole_is_unread(&rt)?);
     assert!(rt; stream_is_unread(&rt)?);
+    assert!(rt; block_is_unread(&rt)?);
     Ok(())
 }
 
@@ -89,6 +102,11 @@ fn stream_needs_eight(rt: &HostRuntime) -> Result<bool, Fail> {
     Ok(needs_eight_bytes(rt, &core))
 }
 
+fn block_needs_eight(rt: &HostRuntime) -> Result<bool, Fail> {
+    let core = block_core_of_one(rt)?;
+    Ok(needs_eight_bytes(rt, &core))
+}
+
 // Whether `show` reports its first write as a failed one.
 fn is_unshown(rt: &HostRuntime) -> Result<bool, Fail> {
     let table = table_of_one(rt)?;
@@ -100,6 +118,7 @@ fn is_unshown(rt: &HostRuntime) -> Result<bool, Fail> {
 fn reports_a_failed_write(rt: HostRuntime) -> Result<(), Fail> {
     assert!(rt; whole_needs_eight(&rt)?);
     assert!(rt; stream_needs_eight(&rt)?);
+    assert!(rt; block_needs_eight(&rt)?);
     assert!(rt; is_unshown(&rt)?);
     Ok(())
 }
@@ -140,6 +159,15 @@ fn a_core_matches_on_after_a_failed_read(rt: HostRuntime) -> Result<(), Fail> {
     Ok(())
 }
 
+#[test]
+fn a_core_that_scans_by_blocks_matches_on_after_a_failed_read(rt: HostRuntime) -> Result<(), Fail> {
+    let block = block_core_of_one(&rt)?;
+    for front in FRONTS {
+        assert!(rt; matches_on(&block, front)?, "{front:?}");
+    }
+    Ok(())
+}
+
 // How many hits the core finds.
 fn hit_count<K: DroidCore>(core: &K) -> Result<usize, Fail> {
     let results = core.match_binary_signatures(&mut Pieces::of(b"AB"))?;
@@ -164,10 +192,16 @@ fn removes<K: DroidCore>(core: &mut K, puid: &[u8], count: usize) -> Result<bool
     )
 }
 
+fn block_removes_one(rt: &HostRuntime) -> Result<bool, Fail> {
+    let mut core = block_core_of_one(rt)?;
+    removes(&mut core, b"fmt/1", 1)
+}
+
 #[test]
 fn a_removed_format_is_hit_no_more(rt: HostRuntime) -> Result<(), Fail> {
     assert!(rt; removes(&mut core_of_one(&rt)?, b"fmt/1", 1)?);
     assert!(rt; removes(&mut stream_core_of_one(&rt)?, b"fmt/1", 1)?);
+    assert!(rt; block_removes_one(&rt)?);
     Ok(())
 }
 
@@ -182,10 +216,16 @@ fn stream_removes_third(rt: &HostRuntime) -> Result<bool, Fail> {
     removes(&mut StreamCore::new(rt.alloc(), table), b"fmt/3", 3)
 }
 
+fn prepared_removes_third(rt: &HostRuntime) -> Result<bool, Fail> {
+    let table = table_of(rt, OVER_BOTH.0, OVER_BOTH.1)?;
+    removes(&mut BlockCore::prepared(rt.alloc(), table), b"fmt/3", 3)
+}
+
 #[test]
 fn the_others_are_hit_when_one_is_removed(rt: HostRuntime) -> Result<(), Fail> {
     assert!(rt; whole_removes_third(&rt)?);
     assert!(rt; stream_removes_third(&rt)?);
+    assert!(rt; prepared_removes_third(&rt)?);
     Ok(())
 }
 

@@ -3,8 +3,9 @@
 use crate::tests::table_of;
 use fixtures::{Broken, Failing, Memory, Named, Rows};
 use sig_bits::FromWrite;
+use sig_core::DroidCore;
 use sig_engines::{RunError, Store, run_match_many};
-use sig_match::{DroidCore, StreamCore, WholeCore};
+use sig_match::{StreamCore, WholeCore};
 use std::test::Fail;
 
 // A format whose files begin with `A`, below one whose files begin with `AB`.

@@ -4,8 +4,10 @@
 use crate::tests::table_of;
 use fixtures::Pieces;
 use sig_bits::FromWrite;
+use sig_core::{DroidCore, Hit, Results};
 use sig_engines::run_match;
-use sig_match::{DroidCore, Hit, Results, Scan, StreamCore, WholeCore};
+use sig_match::{Scan, StreamCore, WholeCore};
+use sig_scan::BlockCore;
 use sig_table::{FormatId, SigId, Table};
 use std::test::Fail;
 
@@ -168,11 +170,34 @@ fn answers<K: DroidCore>(rt: &HostRuntime, core: &K, file: &[u8], all: &str, lef
     true
 }
 
-// The two cores.
-#[derive(Clone, Copy)]
+// The cores: one that scans by blocks has blocks of so many bytes, or is made ready for many files.
+#[derive(Clone, Copy, Debug)]
 enum By {
     Whole,
     Stream,
+    Blocks(u32),
+    Prepared,
+}
+
+const BY_BLOCKS: &[By] = &[
+    By::Blocks(1),
+    By::Blocks(2),
+    By::Blocks(3),
+    By::Blocks(1 << 18),
+    By::Prepared,
+];
+
+// Whether a core with such blocks does.
+fn answers_by_blocks(
+    rt: &HostRuntime,
+    block: u32,
+    table: Table,
+    file: &[u8],
+    all: &str,
+    left: &str,
+) -> bool {
+    let core = BlockCore::with_block(rt.alloc(), table, block.max(1));
+    answers(rt, &core, file, all, left)
 }
 
 // Whether this core of the table answers so.
@@ -180,6 +205,8 @@ fn answers_by(rt: &HostRuntime, by: By, table: Table, file: &[u8], all: &str, le
     match by {
         By::Whole => answers(rt, &WholeCore::new(rt.alloc(), table), file, all, left),
         By::Stream => answers(rt, &StreamCore::new(rt.alloc(), table), file, all, left),
+        By::Blocks(block) => answers_by_blocks(rt, block, table, file, all, left),
+        By::Prepared => answers(rt, &BlockCore::prepared(rt.alloc(), table), file, all, left),
     }
 }
 
@@ -229,6 +256,35 @@ fn the_stream_core_answers_the_worked_rows(rt: HostRuntime) -> Result<(), Fail> 
     }
     for row in TABLES {
         assert!(rt; answers_row(&rt, By::Stream, row)?, "{}{:?}", row.0, row.2);
+    }
+    Ok(())
+}
+
+// Whether this core says so of each one signature.
+fn answers_each(rt: &HostRuntime, by: By) -> Result<bool, Fail> {
+    for (sequences, file, hits) in ONE_SIGNATURE {
+        if !answers_one(rt, by, sequences, file, *hits)? {
+            return Ok(false);
+        }
+    }
+    Ok(true)
+}
+
+// Whether it does of each table.
+fn answers_tables(rt: &HostRuntime, by: By) -> Result<bool, Fail> {
+    for row in TABLES {
+        if !answers_row(rt, by, row)? {
+            return Ok(false);
+        }
+    }
+    Ok(true)
+}
+
+#[test]
+fn the_block_core_answers_the_worked_rows(rt: HostRuntime) -> Result<(), Fail> {
+    for by in BY_BLOCKS {
+        assert!(rt; answers_each(&rt, *by)?, "{by:?}");
+        assert!(rt; answers_tables(&rt, *by)?, "{by:?}");
     }
     Ok(())
 }
@@ -309,21 +365,24 @@ fn between_zeros(rt: &HostRuntime, zeros: usize) -> Result<Vec<u8>, Fail> {
     Ok(file)
 }
 
-// Whether both cores answer `41{65530}42` with these lines where there are so many zeros.
-fn both_answer(rt: &HostRuntime, zeros: usize, lines: &str) -> Result<bool, Fail> {
+const ALL: &[By] = &[By::Whole, By::Stream, By::Blocks(1000), By::Prepared];
+
+// Whether all cores answer `41{65530}42` with these lines where there are so many zeros.
+fn all_answer(rt: &HostRuntime, zeros: usize, lines: &str) -> Result<bool, Fail> {
     let file = between_zeros(rt, zeros)?;
     let rows = "BOF,0,,41{65530}42\n";
-    let whole = table_of_one(rt, rows)?;
-    let stream = table_of_one(rt, rows)?;
-    Ok(
-        answers_by(rt, By::Whole, whole, &file, lines, lines)
-            && answers_by(rt, By::Stream, stream, &file, lines, lines),
-    )
+    for by in ALL {
+        let table = table_of_one(rt, rows)?;
+        if !answers_by(rt, *by, table, &file, lines, lines) {
+            return Ok(false);
+        }
+    }
+    Ok(true)
 }
 
 #[test]
 fn a_long_gap_is_passed_and_not_left_early(rt: HostRuntime) -> Result<(), Fail> {
-    assert!(rt; both_answer(&rt, 65_530, "fmt/1 1\n")?);
-    assert!(rt; both_answer(&rt, 65_529, "")?);
+    assert!(rt; all_answer(&rt, 65_530, "fmt/1 1\n")?);
+    assert!(rt; all_answer(&rt, 65_529, "")?);
     Ok(())
 }

@@ -2,7 +2,8 @@
 
 use crate::tests::{letters, loaded, push_letters, push_repeated};
 use sig_bits::FromRead;
-use sig_match::{DroidCore, StreamCore, WholeCore};
+use sig_core::DroidCore;
+use sig_match::{StreamCore, WholeCore};
 use std::alloc::Global;
 use std::test::Fail;
 

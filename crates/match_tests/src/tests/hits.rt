@@ -2,7 +2,8 @@
 
 use crate::tests::{hit, loaded, loaded_with};
 use sig_bits::FromRead;
-use sig_match::{DroidCore, Hit, StreamCore, left_in, signature_hits};
+use sig_core::{DroidCore, Hit};
+use sig_match::{StreamCore, left_in, signature_hits};
 use sig_table::{SigId, Table};
 use std::alloc::{AllocError, Global};
 use std::test::Fail;

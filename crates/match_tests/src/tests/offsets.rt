@@ -2,7 +2,8 @@
 
 use crate::tests::{is_plain_by, letters, loaded, repeated, scanned, scanned_by};
 use sig_bits::FromRead;
-use sig_match::{DroidCore, Results, StreamCore};
+use sig_core::{DroidCore, Results};
+use sig_match::StreamCore;
 use sig_table::Table;
 use std::alloc::{AllocError, Global};
 use std::test::Fail;

@@ -1,7 +1,11 @@
-//! Random tables over random files, cut anywhere: the scan, the search of a whole file and the plain scan agree.
+//! Random tables over random files, cut anywhere: the scan, the scan by blocks, the search of a whole file and the plain
+//! scan agree.
 
 use crate::tests::{are_plain, letters, loaded, next_state, scanned_by};
-use sig_match::{Results, Scan, left_in};
+use sig_bits::FromRead;
+use sig_core::{DroidCore, Results};
+use sig_match::{Scan, left_in};
+use sig_scan::BlockCore;
 use sig_table::Table;
 use std::alloc::{AllocError, Global};
 use std::test::Fail;
@@ -205,6 +209,80 @@ fn agree_on_words(alloc: Global, seed: u32) -> Result<bool, Fail> {
 fn random_words_in_long_files_are_told_alike(rt: HostRuntime) -> Result<(), Fail> {
     for seed in 0..40 {
         assert!(rt; agree_on_words(rt.alloc(), seed)?, "{seed}");
+    }
+    Ok(())
+}
+
+// The lengths of blocks: with few bytes, words lie across many borders.
+const BLOCKS: &[u32] = &[1, 2, 3, 5, 8, 64];
+
+// Whether a core that scans by blocks agrees on the file.
+fn core_agrees(alloc: Global, core: &BlockCore, file: &[u8]) -> Result<bool, Fail> {
+    let results = core.match_binary_signatures(&mut FromRead::new(file))?;
+    agree(alloc, core.table(), file, &results)
+}
+
+// Whether it does on each front of the file whose length is a multiple of this one.
+fn core_agrees_on_fronts(
+    alloc: Global,
+    core: &BlockCore,
+    file: &[u8],
+    step: usize,
+) -> Result<bool, Fail> {
+    for len in 0..file.len() + 1 {
+        if len % step.max(1) == 0 && !core_agrees(alloc, core, &file[..len])? {
+            return Ok(false);
+        }
+    }
+    Ok(true)
+}
+
+// Whether the core of the random table of this number does, with blocks of so many bytes.
+fn blocks_agree(
+    alloc: Global,
+    seed: u32,
+    has_words: bool,
+    block: u32,
+    file: &[u8],
+    step: usize,
+) -> Result<bool, Fail> {
+    let table = random_table(alloc, seed, has_words)?;
+    let core = BlockCore::with_block(alloc, table, block.max(1));
+    core_agrees_on_fronts(alloc, &core, file, step)
+}
+
+// Whether it does with blocks of each of these lengths, on a random file of so many letters.
+fn all_blocks_agree(
+    alloc: Global,
+    seed: u32,
+    has_words: bool,
+    len: usize,
+    step: usize,
+) -> Result<bool, Fail> {
+    let file = letters(alloc, seed, len)?;
+    for block in BLOCKS {
+        if !blocks_agree(alloc, seed, has_words, *block, &file, step)? {
+            return Ok(false);
+        }
+    }
+    Ok(true)
+}
+
+#[test]
+fn blocks_of_random_files_are_told_alike(rt: HostRuntime) -> Result<(), Fail> {
+    for seed in 0..40 {
+        assert!(rt; all_blocks_agree(rt.alloc(), seed, false, 32, 1)?, "{seed}");
+    }
+    Ok(())
+}
+
+#[test]
+fn blocks_of_random_words_are_told_alike(rt: HostRuntime) -> Result<(), Fail> {
+    for seed in 0..40 {
+        assert!(rt;
+            all_blocks_agree(rt.alloc(), seed, true, 400, 40)?,
+            "{seed}"
+        );
     }
     Ok(())
 }

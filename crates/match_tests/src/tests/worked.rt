@@ -1,7 +1,7 @@
 //! The worked rows, fed to a scan in pieces of any length.
 
 use crate::tests::{PIECES, fronts_agree, hit, loaded, scanned_by, table_of};
-use sig_match::Hit;
+use sig_core::Hit;
 use sig_table::Table;
 use std::alloc::{AllocError, Global};
 use std::test::Fail;

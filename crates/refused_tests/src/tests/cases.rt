@@ -2,7 +2,7 @@
 
 use fixtures::{BOTH_ENDS, OVER_BOTH, PRIORITIES, Rows, SIGNATURES, TWO};
 use sig_bits::FromRead;
-use sig_match::{CoreError, Results};
+use sig_core::{CoreError, Results};
 use sig_table::{FormatId, SigId, Table};
 use std::test::Fail;
 

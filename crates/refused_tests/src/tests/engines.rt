@@ -5,8 +5,10 @@ use crate::tests::tables::{ITS_PRIORITIES, ITS_SIGNATURES};
 use crate::tests::{begin, end};
 use fixtures::{OVER_BOTH, Rows, TWO};
 use sig_bits::{FromRead, FromWrite};
+use sig_core::DroidCore;
 use sig_engines::{RunError, run_check, run_match, run_show, run_witness};
-use sig_match::{DroidCore, StreamCore, WholeCore};
+use sig_match::{StreamCore, WholeCore};
+use sig_scan::BlockCore;
 use std::alloc::AllocError;
 use std::test::Fail;
 
@@ -71,6 +73,12 @@ fn stream_core_is_run(rt: &HostRuntime, case: &Case) -> Result<bool, Fail> {
     Ok(first.is_or_lacks(&(), case.lines) && matches(rt, &core, case.file, case.lines)?)
 }
 
+fn block_core_is_run(rt: &HostRuntime, case: &Case) -> Result<bool, Fail> {
+    let core = BlockCore::new(rt.alloc(), table_of(rt, case.rows)?);
+    let first = matched(rt, &core, case.file)?;
+    Ok(first.is_or_lacks(&(), case.lines) && matches(rt, &core, case.file, case.lines)?)
+}
+
 fn whole_core_is_run(rt: &HostRuntime, case: &Case) -> Result<bool, Fail> {
     let core = WholeCore::new(rt.alloc(), table_of(rt, case.rows)?);
     let first = matched(rt, &core, case.file)?;
@@ -89,6 +97,14 @@ fn run_match_lacks_memory_or_is_right(rt: HostRuntime) -> Result<(), Fail> {
 fn run_match_of_a_whole_core_lacks_memory_or_is_right(rt: HostRuntime) -> Result<(), Fail> {
     for case in CASES {
         assert!(rt; whole_core_is_run(&rt, case)?);
+    }
+    Ok(())
+}
+
+#[test]
+fn run_match_of_a_block_core_lacks_memory_or_is_right(rt: HostRuntime) -> Result<(), Fail> {
+    for case in CASES {
+        assert!(rt; block_core_is_run(&rt, case)?);
     }
     Ok(())
 }

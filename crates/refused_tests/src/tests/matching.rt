@@ -1,10 +1,12 @@
-//! Both cores, a scan, and what is left of a file.
+//! The cores, a scan, and what is left of a file.
 
 use crate::tests::cases::{CASES, Case, NINE_WORDS, are_answers, are_hits, is_match, table_of};
 use crate::tests::{begin, end};
 use fixtures::OVER_BOTH;
 use sig_bits::FromRead;
-use sig_match::{DroidCore, Results, Scan, StreamCore, WholeCore, left_in};
+use sig_core::{DroidCore, Results};
+use sig_match::{Scan, StreamCore, WholeCore, left_in};
+use sig_scan::BlockCore;
 use sig_table::{Puid, Table};
 use std::alloc::AllocError;
 use std::test::Fail;
@@ -65,6 +67,48 @@ fn prepared_core_match_binary_signatures_lacks_memory_or_is_right(
     for case in CASES {
         assert!(rt; prepared_core_reads(&rt, case)?);
     }
+    Ok(())
+}
+
+fn block_core_reads(rt: &HostRuntime, case: &Case) -> Result<bool, Fail> {
+    let core = BlockCore::new(rt.alloc(), table_of(rt, case.rows)?);
+    Ok(reads_or_lacks(rt, &core, case.file, case.hits))
+}
+
+#[test]
+fn block_core_match_binary_signatures_lacks_memory_or_is_right(
+    rt: HostRuntime,
+) -> Result<(), Fail> {
+    for case in CASES {
+        assert!(rt; block_core_reads(&rt, case)?);
+    }
+    Ok(())
+}
+
+// A core that could not compile the table compiles it for each file.
+fn prepared_block_core_reads(rt: &HostRuntime, case: &Case) -> Result<bool, Fail> {
+    let table = table_of(rt, case.rows)?;
+    begin(rt);
+    let core = BlockCore::prepared(rt.alloc(), table);
+    end(rt);
+    Ok(reads_or_lacks(rt, &core, case.file, case.hits))
+}
+
+#[test]
+fn prepared_block_core_match_binary_signatures_lacks_memory_or_is_right(
+    rt: HostRuntime,
+) -> Result<(), Fail> {
+    for case in CASES {
+        assert!(rt; prepared_block_core_reads(&rt, case)?);
+    }
+    Ok(())
+}
+
+#[test]
+fn a_long_file_of_blocks_lacks_memory_or_is_right(rt: HostRuntime) -> Result<(), Fail> {
+    let file = long_file(&rt)?;
+    let core = BlockCore::new(rt.alloc(), table_of(&rt, NINE_WORDS)?);
+    assert!(rt; reads_or_lacks(&rt, &core, &file, &[3, 8]));
     Ok(())
 }
 

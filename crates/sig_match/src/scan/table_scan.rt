@@ -13,13 +13,11 @@
 ghost use Rattle.std.specs.Prelude.{◌≡◌, ◌++◌, ℕ, ◌<◌, [], List, IfOk, length};
 ghost use Rattle.std.specs.List.{AllZip};
 ghost use Rattle.sig_match.specs.Ends.{AreEndsOf};
-ghost use Rattle.sig_match.specs.FirstHits.{MarksHits};
-ghost use Rattle.sig_match.specs.Hits.{HitFormats};
+ghost use Rattle.sig_core.specs.FirstHits.{MarksHits};
+ghost use Rattle.sig_core.specs.Hits.{HitFormats};
 ghost use Rattle.sig_match.specs.Lates.{AreLateScansOf, IsFedBy, IsLateTableOf, IsLateTableScanOf};
 ghost use Rattle.sig_match.specs.Scans.{IsTableScanOf, IsSignatureScanOf, scan_of};
 
-use crate::hits::list_hits;
-use crate::results::{Hit, Results};
 use crate::scan::ends::Ends;
 use crate::scan::exits::{Exits, WINDOW, list_exits};
 use crate::scan::piece::Piece;
@@ -27,6 +25,7 @@ use crate::scan::sieve::Sieve;
 use crate::scan::signature_scan::SignatureScan;
 use crate::scan::way::FRONT;
 use crate::whole::{fronts_of_offsets, number_behind};
+use sig_core::{Hit, Results, list_hits};
 use sig_table::{SigId, Table};
 use std::alloc::{AllocError, Global};
 use std::marker::Model;

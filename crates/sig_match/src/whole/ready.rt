@@ -5,7 +5,7 @@
 //! signature. For the others there are the fronts of the table, which are looked for all at once.
 
 ghost use Rattle.std.specs.Prelude.{◌≡◌, ◌≢◌, ◌<◌, IfOk, IfSome, IsSomeAnd, IsTrue, get_or, length};
-ghost use Rattle.sig_match.specs.Hits.{HitsOf};
+ghost use Rattle.sig_core.specs.Hits.{HitsOf};
 ghost use Rattle.sig_match.specs.Lates.{AllStand};
 ghost use Rattle.sig_match.specs.Readies.{AreBegins, BeginsAll, IsBegin};
 ghost use Rattle.sig_table.specs.Standing.{Stands};

@@ -1,8 +1,8 @@
 //! Which signatures hit a file: those of which all sequences stand in it.
 
 ghost use Rattle.std.specs.Prelude.{◌≡◌, ◌<◌, ◌↔◌, IsTrue, All, IfOk, IfSome, length, vec_len};
-ghost use Rattle.sig_match.specs.FirstHits.{MarksHits};
-ghost use Rattle.sig_match.specs.Hits.{HitsOf};
+ghost use Rattle.sig_core.specs.FirstHits.{MarksHits};
+ghost use Rattle.sig_core.specs.Hits.{HitsOf};
 ghost use Rattle.sig_match.specs.Readies.{AreBegins};
 ghost use Rattle.sig_table.specs.Standing.{Stands};
 

@@ -1,5 +1,5 @@
 use Rattle.std.proofs.Common.{◌<◌, ◌≤◌, length, arith}
-use Rattle.sig_match.specs.Hits.{Left}
+use Rattle.sig_core.specs.Hits.{Left}
 use Rattle.sig_cert.proofs.WitnessLemmas.{left_are_formats, two_are_left}
 use Rattle.sig_cert.proofs.witness.check_witness.Goals as goal
 

@@ -1,4 +1,4 @@
-use Rattle.sig_match.proofs.HitLemmas.{IfOk-hits}
+use Rattle.sig_core.proofs.Exports.{IfOk-hits}
 use Rattle.sig_match.proofs.whole.search.is_hit.Goals as goal
 
 pub returns : goal.returns

@@ -1,5 +1,5 @@
 use Rattle.std.proofs.Common.{subst, sym}
-use Rattle.sig_match.specs.Hits.{HitsOf}
+use Rattle.sig_core.specs.Hits.{HitsOf}
 use Rattle.sig_match.proofs.ReadyLemmas.{out_of_hits}
 use Rattle.sig_match.proofs.whole.search.is_hit_by_sieve.Goals as goal
 

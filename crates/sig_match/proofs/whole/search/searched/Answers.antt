@@ -1,5 +1,5 @@
 use Rattle.std.proofs.Common.{◌≡◌, ◌↔◌, IfSome, IsTrue, arith, length, subst}
-use Rattle.sig_match.specs.Hits.{HitsOf}
+use Rattle.sig_core.specs.Hits.{HitsOf}
 use Rattle.sig_match.proofs.MarkLemmas.{MarksBelow-none, MarksBelow-push, MarksHits-from_below}
 use Rattle.sig_match.proofs.whole.search.searched.Goals as goal
 

@@ -1,7 +1,7 @@
 use Rattle.std.proofs.Common.{◌≡◌, ◌∙◌, drop, length, subst, sym, vec_len}
 use Rattle.std.specs.Prelude.{OnOk}
-use Rattle.sig_match.specs.FirstHits.{MarksHits}
-use Rattle.sig_match.specs.Hits.{HitFormats}
+use Rattle.sig_core.specs.FirstHits.{MarksHits}
+use Rattle.sig_core.specs.Hits.{HitFormats}
 use Rattle.sig_match.specs.Lates.{IsLateTableScanOf}
 use Rattle.sig_match.specs.Scans.{TableScanView, scan_of}
 use Rattle.sig_match.proofs.ScanLemmas.{late_from_exact, written}

@@ -1,5 +1,0 @@
-use Rattle.sig_match.proofs.LeftLemmas.{one_left}
-use Rattle.sig_match.proofs.laws.left_is_one_list.Goals as goal
-
-pub returns : goal.returns
-returns c = one_left

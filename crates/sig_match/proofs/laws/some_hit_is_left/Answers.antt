@@ -1,5 +1,0 @@
-use Rattle.sig_match.proofs.LeftLemmas.{kept_hits-some}
-use Rattle.sig_match.proofs.laws.some_hit_is_left.Goals as goal
-
-pub returns : goal.returns
-returns c = kept_hits-some

@@ -1,0 +1,163 @@
+-- The beginning and the end of a scan: what it is of an empty file, and which signatures it marks.
+use Rattle.std.proofs.Common.{◌≡◌, ◌∙◌, ℕ, ◌+◌, ◌-◌, ◌≤◌, ◌<◌, inl, inr, All, Bool, List, [], ◌∷◌, ◌++◌, add-one, ap, arith, drop, drop-cons, false, get_or, get_or-set_other, get_or-set_same, length, length-append, map, Option, refl, Some, subst, suc, sym, take}
+use Rattle.std.proofs.Math.ListN.{set}
+use Rattle.std.proofs.lemmas.Bool.{cases_eq}
+use Rattle.std.proofs.lemmas.Grind.{flat_map-append}
+use Rattle.std.proofs.lemmas.List.{get_or-append-add, get_or_append_left, length-map, take-append-drop, take_more}
+use Rattle.std.proofs.lemmas.Option.{get_or_from_slice_get, slice_get-get_or, slice_get-map, slice_get_within}
+use Rattle.std.specs.List.{flat_map, slice_get}
+use Rattle.std.specs.Option.{option_map}
+use Rattle.std.specs.Prelude.{◌↔◌, IsTrue}
+use Rattle.sig_scan.specs.Courses.{IsHeld, courses_of}
+use Rattle.sig_scan.specs.Scans.{AllStand, AreFirst, AreMarked, HasLastBytes, InTurnAt, IsBase, IsEndOf, IsScanOf, IsShort, IsShortCourse, TailIsShort, WaitsAt, sequences_of}
+use Rattle.sig_scan.specs.Stages.{CourseView, StageView, TailView, Waits, course_of}
+use Rattle.sig_scan.specs.declared.state.State.{State}
+use Rattle.sig_scan.proofs.ScanLemmas.{All-course, courses_of-map, table-short}
+use Rattle.sig_scan.proofs.WaitLemmas.{Waits-fresh}
+use Rattle.sig_table.specs.Standing.{Hits, Stands}
+use Rattle.sig_table.specs.Views.{SequenceView, SignatureView, TableView}
+
+-- the course of a sequence of the table
+course-at : (table : TableView) (courses : List CourseView) (i : ℕ) (s : SequenceView) (c : CourseView) → courses ≡ courses_of table
+    → slice_get (sequences_of table) i ≡ Some s → slice_get courses i ≡ Some c → course_of s ≡ c
+course-at table courses i s c is sequence course =
+    let same : courses ≡ map course_of (sequences_of table) = is ∙ courses_of-map table.signatures in
+    let mapped : slice_get courses i ≡ option_map course_of (slice_get (sequences_of table) i) =
+    ap (λ (l : List CourseView). slice_get l i) same ∙ slice_get-map course_of (sequences_of table) i in
+    let both : Some (course_of s) ≡ Some c = ap (λ (o : Option SequenceView). option_map course_of o) (sym sequence) ∙ sym mapped ∙ course in
+    (cc)
+
+-- a scan of an empty file
+pub IsScanOf-fresh : (table : TableView) (courses : List CourseView) (keep room : ℕ) (states : List State) → courses ≡ courses_of table
+    → AreFirst courses states
+    → IsScanOf table [] (record { courses = courses; keep = keep; base = 0; buffer = record { room = room; bytes = [] }; states = states })
+IsScanOf-fresh table courses keep room states is first = record {
+  before = [];
+  bytes = refl;
+  base = refl;
+  last = inl refl;
+  courses = is;
+  wait = λ i s c t sequence course state.
+      let t_is = first i c t course state in
+      let c_is = course-at table courses i s c is sequence course in
+      let P : State → Type 0 = λ x. WaitsAt s [] [] x.from (drop x.done c.stages) c.tail in
+      let Q : CourseView → Type 0 = λ d. Waits s [] d.from d.stages d.tail in
+      let fresh : Waits s [] c.from c.stages c.tail = subst Q c_is (Waits-fresh s) in
+      let zero : c.from ≡ length {A = ℕ} [] + c.from = omega arith in
+      subst P (sym t_is) (subst (λ (n : ℕ). Waits s [] n c.stages c.tail) zero fresh);
+}
+
+-- there are as many courses as sequences
+pub sequences-count : (table : TableView) (courses : List CourseView) → courses ≡ courses_of table → length courses ≡ length (sequences_of table)
+sequences-count table courses is = ap length (is ∙ courses_of-map table.signatures) ∙ length-map (sequences_of table) course_of
+
+-- the sequences of one signature among those of all
+abbrev sequences : List SignatureView → List SequenceView
+sequences signatures = flat_map (λ s. s.sequences) signatures
+
+signatures-cut : (signatures : List SignatureView) (index : ℕ) (g : SignatureView) → slice_get signatures index ≡ Some g
+    → signatures ≡ take index signatures ++ g ∷ drop (index + 1) signatures
+signatures-cut signatures index g at =
+    let within = slice_get_within signatures index g at in
+    let is : get_or signatures index g ≡ g = get_or_from_slice_get signatures index g g at in
+    let next : drop index signatures ≡ g ∷ drop (index + 1) signatures =
+    rw (add-one) (drop-cons signatures index g within ∙ ap (λ (v : SignatureView). v ∷ drop (suc index) signatures) is) in
+    sym (take-append-drop index signatures) ∙ ap (λ (l : List SignatureView). take index signatures ++ l) next
+
+sequences-cut : (signatures : List SignatureView) (index : ℕ) (g : SignatureView) → slice_get signatures index ≡ Some g
+    → sequences signatures ≡ sequences (take index signatures) ++ (g.sequences ++ sequences (drop (index + 1) signatures))
+sequences-cut signatures index g at =
+    ap sequences (signatures-cut signatures index g at)
+    ∙ flat_map-append (λ (s : SignatureView). s.sequences) (take index signatures) (g ∷ drop (index + 1) signatures)
+
+-- those of the next signature begin behind them, and there are so many
+pub sequences-fit : (table : TableView) (index first : ℕ) (g : SignatureView) → slice_get table.signatures index ≡ Some g
+    → first ≡ length (sequences (take index table.signatures)) → first + length g.sequences ≤ length (sequences_of table)
+sequences-fit table index first g at is =
+    let all = ap length (sequences-cut table.signatures index g at) in
+    let one = length-append (sequences (take index table.signatures)) (g.sequences ++ sequences (drop (index + 1) table.signatures)) in
+    let two = length-append g.sequences (sequences (drop (index + 1) table.signatures)) in
+    omega arith
+
+pub sequences-next : (table : TableView) (index first : ℕ) (g : SignatureView) → slice_get table.signatures index ≡ Some g
+    → first ≡ length (sequences (take index table.signatures))
+    → first + length g.sequences ≡ length (sequences (take (index + 1) table.signatures))
+sequences-next table index first g at is =
+    let within = slice_get_within table.signatures index g at in
+    let taken : take (index + 1) table.signatures ≡ take index table.signatures ++ g ∷ [] =
+    take_more table.signatures index g within ∙ ap (λ (v : SignatureView). take index table.signatures ++ v ∷ [])
+    (get_or_from_slice_get table.signatures index g g at) in
+    let all = ap length (ap sequences taken ∙ flat_map-append (λ (s : SignatureView). s.sequences) (take index table.signatures) (g ∷ [])) in
+    let one = length-append (sequences (take index table.signatures)) (sequences (g ∷ [])) in
+    let two = length-append g.sequences [] in
+    omega arith
+
+-- an element of the middle part
+middle : (front part back all : List SequenceView) (j : ℕ) (d : SequenceView) → all ≡ front ++ (part ++ back) → j < length part
+    → get_or all (length front + j) d ≡ get_or part j d
+middle front part back all j d is within =
+    ap (λ (l : List SequenceView). get_or l (length front + j) d) is ∙ get_or-append-add front (part ++ back) j d ∙ get_or_append_left part back d j within
+
+-- a signature hits where its sequences stand
+pub AllStand-hits : (table : TableView) (file : List ℕ) (index first : ℕ) (g : SignatureView) → slice_get table.signatures index ≡ Some g
+    → first ≡ length (sequences (take index table.signatures)) → AllStand table file first (first + length g.sequences) ↔ Hits g file
+AllStand-hits table file index first g at is =
+    let front = sequences (take index table.signatures) in
+    let back = sequences (drop (index + 1) table.signatures) in
+    let all : List SequenceView = sequences_of table in
+    let cut : all ≡ front ++ (g.sequences ++ back) = sequences-cut table.signatures index g at in
+    let fits = sequences-fit table index first g at is in
+    let P : SequenceView → Type 0 = λ s. Stands s file in (
+      λ stand j d within.
+          let k : ℕ = length front + j in
+          let here = middle front g.sequences back all j d cut within in
+          let some : slice_get all k ≡ Some (get_or g.sequences j d) =
+          slice_get-get_or all k d (omega arith) ∙ ap (λ (v : SequenceView). Some v) here in
+          stand k (get_or g.sequences j d) (omega arith) (omega arith) some,
+      λ hits k s low high some.
+          let j : ℕ = k - length front in
+          let same : length front + j ≡ k = omega arith in
+          let within : j < length g.sequences = omega arith in
+          let here = middle front g.sequences back all j s cut within in
+          let value : get_or all k s ≡ s = get_or_from_slice_get all k s s some in
+          let member : get_or g.sequences j s ≡ s = sym here ∙ ap (λ n. get_or all n s) same ∙ value in
+          subst P member (hits j s within),
+    )
+
+-- one mark more
+pub AreMarked-set : (table : TableView) (file : List ℕ) (index : ℕ) (marks : List Bool) (b : Bool) → index < length marks
+    → ((g : SignatureView) → slice_get table.signatures index ≡ Some g → IsTrue b ↔ Hits g file) → AreMarked table file index marks
+    → AreMarked table file (index + 1) (set marks index b)
+AreMarked-set table file index marks b within is marked i g below at =
+    elim (cases_eq i index) [
+      | inl same ↦ (
+          let at_index : slice_get table.signatures index ≡ Some g = subst (λ n. slice_get table.signatures n ≡ Some g) same at in
+          let mark : b ≡ get_or (set marks index b) i false =
+          sym (ap (λ n. get_or (set marks index b) n false) same ∙ get_or-set_same marks index b false within) in
+          subst (λ (v : Bool). IsTrue v ↔ Hits g file) mark (is g at_index))
+      | inr other ↦ (
+          let mark : get_or marks i false ≡ get_or (set marks index b) i false = sym (get_or-set_other marks index i b false other) in
+          subst (λ (v : Bool). IsTrue v ↔ Hits g file) mark (marked i g (omega arith) at))
+    ]
+
+-- what is asked at the end of a sequence with these stages and this tail, over these bytes
+abbrev pub JudgedBy : ℕ → ℕ → State → Bool → List StageView → Option TailView → List ℕ → Type 0
+JudgedBy keep base t b stages tail bytes = (before : List ℕ) → IsBase before base → All (IsShort keep) stages → TailIsShort keep tail
+    → HasLastBytes keep before bytes → IsTrue b ↔ InTurnAt before bytes t.from (drop t.done stages) tail
+
+-- a sequence of a scan is judged
+pub Stands-judged : (table : TableView) (file : List ℕ) (courses : List CourseView) (keep base room : ℕ) (bytes : List ℕ) (states : List State) (k : ℕ)
+    (s : SequenceView) (t : State) (c : CourseView) (b : Bool) (stages : List StageView) (tail : Option TailView) (seen : List ℕ)
+    → All (IsHeld keep) courses → slice_get courses k ≡ Some c → slice_get states k ≡ Some t → stages ≡ c.stages → tail ≡ c.tail → seen ≡ bytes
+    → JudgedBy keep base t b stages tail seen
+    → IsEndOf table file (record { courses = courses; keep = keep; base = base; buffer = record { room = room; bytes = bytes }; states = states })
+    → slice_get (sequences_of table) k ≡ Some s → IsTrue b ↔ Stands s file
+Stands-judged table file courses keep base room bytes states k s t c b stages tail seen held course state stages_is tail_is seen_is judged of sequence =
+    let few = All-course (IsShortCourse keep) courses k c course (table-short keep table courses of.courses held) in
+    let here : JudgedBy keep base t b c.stages c.tail bytes =
+    subst (λ (l : List ℕ). JudgedBy keep base t b c.stages c.tail l) seen_is
+    (subst (λ (o : Option TailView). JudgedBy keep base t b c.stages o seen) tail_is
+    (subst (λ (l : List StageView). JudgedBy keep base t b l tail seen) stages_is judged)) in
+    let turn = here of.before of.base few.stages few.tail of.last in
+    let left = of.left k s c t sequence course state in
+    subst (λ (f : List ℕ). IsTrue b ↔ Stands s f) (sym of.bytes) (λ yes. left.1 (turn.0 yes), λ stands. turn.1 (left.0 stands))

@@ -1,0 +1,101 @@
+-- A file that is read: what a scan is fed of it, and which hits its marks give.
+use borrow.Rule.Slice.PartMut.{post_of, put_mid}
+use Rattle.std.proofs.Common.{◌≡◌, ◌∙◌, ℕ, ◌+◌, ◌≤◌, ◌<◌, inl, inr, ap, append_assoc, arith, Bool, false, true, length, List, [], ◌++◌, None, Option, refl, Some, subst, sym, take}
+use Rattle.std.proofs.Math.Seq.{take-append-add}
+use Rattle.std.proofs.lemmas.Bool.{false≢true}
+use Rattle.std.proofs.lemmas.List.{append-nil, get_or_past, length-take-le, take-append-le, take_all}
+use Rattle.std.proofs.lemmas.List.Elements.{All-append}
+use Rattle.std.proofs.lemmas.Option.{slice_get_cases, slice_get_within}
+use Rattle.std.specs.List.{slice_get}
+use Rattle.std.specs.Prelude.{IfSome, IsSomeAnd}
+use Rattle.sig_bits.specs.Bytes.{IsBytes}
+use Rattle.sig_bits.specs.Device.{Gives, IsAtEnd}
+use Rattle.sig_core.specs.FirstHits.{MarksHits}
+use Rattle.sig_core.specs.Hits.{HitFormats, HitFormatsOfSome}
+use Rattle.sig_core.specs.declared.results.Hit.{Hit}
+use Rattle.sig_scan.specs.Scans.{AreMarked, IsScanOf, ScanView}
+use Rattle.sig_table.specs.Standing.{Hits}
+use Rattle.sig_table.specs.Views.{SignatureView, TableView}
+
+some_that : (o : Option SignatureView) (P : SignatureView → Type 0) → IsSomeAnd o P → (s : SignatureView) × (o ≡ Some s) × P s
+some_that None P h = absurd h
+some_that (Some s) P h = (s, refl, h)
+
+-- the marks of a scan say which signatures hit
+pub MarksHits-from_marked : (table : TableView) (file : List ℕ) (marks : List Bool) → length marks ≡ length table.signatures
+    → AreMarked table file (length marks) marks → MarksHits table file marks
+MarksHits-from_marked table file marks len marked = record {
+  sound = λ index mark.
+      elim (slice_get_cases table.signatures index).1 [
+        | inl here ↦ (
+            let known = (marked index here.0 (omega (arith, here.1)) here.2).0 mark in
+            let P : Option SignatureView → Type 0 = λ o. IsSomeAnd o (λ s. Hits s file) in
+            subst P (sym here.2) known)
+        | inr past ↦ absurd (false≢true (sym (get_or_past marks index false (omega (arith, past.0))) ∙ mark))
+      ];
+  complete = λ index hit.
+      let at = some_that (slice_get table.signatures index) (λ s. Hits s file) hit in
+      let within = slice_get_within table.signatures index at.0 at.1 in
+      (marked index at.0 (omega arith) at.1).1 at.2;
+}
+
+-- what is fed so far is what the input has given
+pub record IsFed (scan : ScanView) (table : TableView) (before after : Option (List ℕ)) : Type 0 where
+  pub file : List ℕ
+  pub bytes : IsBytes file
+  pub is_of : IsScanOf table file scan
+  pub given : Gives before file after
+
+gives_more : (a b c : Option (List ℕ)) (x y : List ℕ) → Gives a x b → Gives b y c → Gives a (x ++ y) c
+gives_more None b c x y h k = tt
+gives_more (Some xs) None c x y h k = absurd h
+gives_more (Some xs) (Some ys) None x y h k = absurd k
+gives_more (Some xs) (Some ys) (Some zs) x y h k = h ∙ ap (λ l. x ++ l) k ∙ sym (append_assoc x y zs)
+
+pub gives_on : (a b c : Option (List ℕ)) (x y z : List ℕ) → z ≡ x ++ y → Gives a x b → Gives b y c → Gives a z c
+gives_on a b c x y z is first second = subst (λ l. Gives a l c) (sym is) (gives_more a b c x y first second)
+
+-- the first piece is fed
+pub IsFed-first : (old new : ScanView) (table : TableView) (before after : Option (List ℕ)) (piece : List ℕ) → IsScanOf table [] old
+    → ((t : TableView) (file : List ℕ) → IsScanOf t file old → IsScanOf t (file ++ piece) new) → IsBytes piece → Gives before piece after → IsFed new table before after
+IsFed-first old new table before after piece fresh step bytes gives = record { file = piece; bytes = bytes; is_of = step table [] fresh; given = gives }
+
+-- one more piece
+pub IsFed-more : (old new : ScanView) (table : TableView) (before at after : Option (List ℕ)) (piece : List ℕ)
+    → ((t : TableView) (file : List ℕ) → IsScanOf t file old → IsScanOf t (file ++ piece) new) → IsBytes piece → Gives at piece after → IsFed old table before at → IsFed new table before after
+IsFed-more old new table before at after piece step bytes gives fed = record {
+  file = fed.file ++ piece;
+  bytes = All-append (λ b. b < 256) fed.file piece fed.bytes bytes;
+  is_of = step table fed.file fed.is_of;
+  given = gives_more before at after fed.file piece fed.given gives;
+}
+
+gives_all : (before after : Option (List ℕ)) (file : List ℕ) → Gives before file after → IsAtEnd after → IfSome before (λ bytes. file ≡ bytes)
+gives_all None after file given end = tt
+gives_all (Some bytes) None file given end = absurd given
+gives_all (Some bytes) (Some rest) file given end = sym (given ∙ ap (λ l. file ++ l) end ∙ append-nil file)
+
+-- all is fed
+pub HitFormatsOfSome-fed : (scan : ScanView) (table : TableView) (before at : Option (List ℕ)) (hits : List Hit) → IsAtEnd at
+    → ((file : List ℕ) → IsScanOf table file scan → HitFormats table file hits) → IsFed scan table before at → HitFormatsOfSome table before hits
+HitFormatsOfSome-fed scan table before at hits end finish fed = record {
+  file = fed.file;
+  bytes = fed.bytes;
+  is_to_come = gives_all before at fed.file fed.given end;
+  hit_formats = finish fed.file fed.is_of;
+}
+
+-- what is written over a whole buffer
+pub written : {A : Type 0} (to back : List A) (len : ℕ) → length to ≡ len → take len (to ++ back) ≡ to
+written to back len all = take-append-le len to back (omega arith) ∙ take_all len to (omega arith)
+
+-- the filled front of a room, and what was read behind it
+pub filled_more : (filled n k : ℕ) (room buf : List ℕ) → filled ≤ length room → n ≤ length buf → take (filled + n) (put_mid filled k room buf) ≡ take filled room ++ take n buf
+filled_more filled n k room buf low within =
+    let at : length (take filled room) ≡ filled = length-take-le filled room low in
+    ap (λ m. take (m + n) (put_mid filled k room buf)) (sym at) ∙ take-append-add (take filled room) (buf ++ post_of filled k room) n ∙ ap (λ l. take filled room ++ l) (take-append-le n buf (post_of filled k room) within)
+
+-- what is not true is false
+pub false_from_not : (b : Bool) → (b ≡ true → ⊥) → b ≡ false
+false_from_not true never = absurd (never refl)
+false_from_not false never = refl

@@ -1,0 +1,166 @@
+-- The states of all sequences: one after the other is settled.
+use Rattle.std.proofs.Common.{◌≡◌, ◌∙◌, ℕ, ◌+◌, ◌-◌, ◌≤◌, ◌<◌, ◌⊎◌, ◌^◌, inl, inr, All, List, [], ◌∷◌, ◌++◌, ap, append_assoc, arith, drop, get_or, get_or-set_other, get_or-set_same, length, length-append, map, min, None, Option, refl, Some, subst, sym, take}
+use Rattle.std.proofs.Math.ListN.{get_or-map, length-set, set}
+use Rattle.std.proofs.lemmas.Bool.{cases_eq}
+use Rattle.std.proofs.lemmas.List.{length-drop, length-map, length-take-le, map-append, take-append-drop}
+use Rattle.std.proofs.lemmas.List.Elements.{All-get_or, All-map}
+use Rattle.std.proofs.lemmas.Option.{get_or_from_slice_get, slice_get-get_or, slice_get_within}
+use Rattle.std.specs.List.{flat_map, slice_get}
+use Rattle.std.specs.Prelude.{IfSome}
+use Rattle.sig_bits.specs.Bytes.{IsBytes}
+use Rattle.sig_scan.specs.Courses.{IsHeld, courses_of, signature_courses}
+use Rattle.sig_scan.specs.Lengths.{AreBounded, span}
+use Rattle.sig_scan.specs.Scans.{AllWait, AreDone, IsBase, IsScanOf, IsShortCourse, TailIsShort, WaitsAt, sequences_of}
+use Rattle.sig_scan.specs.Stages.{CourseView, StageView, TailView, Waits, course_of}
+use Rattle.sig_scan.specs.declared.state.State.{State}
+use Rattle.sig_scan.proofs.CutLemmas.{stages-bounded, tail-bounded}
+use Rattle.sig_scan.proofs.WaitLemmas.{Waits-fed}
+use Rattle.sig_table.specs.Views.{SequenceView, SignatureView, TableView}
+
+-- an element after a write
+pub slice_get-set_cases : {X : Type 0} (xs : List X) (k i : ℕ) (v t : X) → k < length xs → slice_get (set xs k v) i ≡ Some t
+    → ((i ≡ k) × (t ≡ v)) ⊎ ((i ≡ k → ⊥) × (slice_get xs i ≡ Some t))
+slice_get-set_cases {X} xs k i v t within at =
+    let inside = slice_get_within (set xs k v) i t at in
+    let len : length (set xs k v) ≡ length xs = length-set xs k v in
+    let value : get_or (set xs k v) i t ≡ t = get_or_from_slice_get (set xs k v) i t t at in
+    elim (cases_eq i k) [
+      | inl same ↦ inl (same, sym value ∙ ap (λ n. get_or (set xs k v) n t) same ∙ get_or-set_same xs k v t within)
+      | inr other ↦ inr (other, slice_get-get_or xs i t (omega arith) ∙ ap (λ (x : X). Some x) (sym (get_or-set_other xs k i v t other) ∙ value))
+    ]
+
+-- the sequences before this one wait from the limit on, with the bytes before it behind them, and the others as they did
+abbrev pub AllMoved : ℕ → ℕ → List SequenceView → List CourseView → List ℕ → List ℕ → List State → Type 0
+AllMoved k limit sequences courses before bytes states = (i : ℕ) (s : SequenceView) (c : CourseView) (t : State) → slice_get sequences i ≡ Some s
+    → slice_get courses i ≡ Some c → slice_get states i ≡ Some t
+    → (i < k → WaitsAt s (before ++ take limit bytes) (drop limit bytes) t.from (drop t.done c.stages) c.tail)
+    × (k ≤ i → WaitsAt s before bytes t.from (drop t.done c.stages) c.tail)
+
+-- one more
+pub AllMoved-set : (k limit : ℕ) (sequences : List SequenceView) (courses : List CourseView) (before bytes : List ℕ) (states : List State) (old v : State)
+    → k < length states → old ≡ get_or states k old
+    → ((s : SequenceView) (c : CourseView) → slice_get courses k ≡ Some c → WaitsAt s before bytes old.from (drop old.done c.stages) c.tail
+    → WaitsAt s (before ++ take limit bytes) (drop limit bytes) v.from (drop v.done c.stages) c.tail)
+    → AllMoved k limit sequences courses before bytes states → AllMoved (k + 1) limit sequences courses before bytes (set states k v)
+AllMoved-set k limit sequences courses before bytes states old v within is step all i s c t sequence course state =
+    elim (slice_get-set_cases states k i v t within state) [
+      | inl here ↦ (
+          let at : slice_get states k ≡ Some old = slice_get-get_or states k old within ∙ ap (λ (x : State). Some x) (sym is) in
+          let same = here.0 in
+          let course_k : slice_get courses k ≡ Some c = subst (λ n. slice_get courses n ≡ Some c) same course in
+          let sequence_k : slice_get sequences k ≡ Some s = subst (λ n. slice_get sequences n ≡ Some s) same sequence in
+          let waits = (all k s c old sequence_k course_k at).1 (omega arith) in
+          let moved = step s c course_k waits in
+          let P : State → Type 0 = λ x. WaitsAt s (before ++ take limit bytes) (drop limit bytes) x.from (drop x.done c.stages) c.tail in
+          (λ _. subst P (sym here.1) moved, λ far. absurd (omega arith)))
+      | inr there ↦ (
+          let was = all i s c t sequence course there.1 in
+          let other = there.0 in
+          (λ near. was.0 (omega arith), λ far. was.1 (omega arith)))
+    ]
+
+-- and its stages behind it are some of its own
+pub AreDone-set : (courses : List CourseView) (states : List State) (k : ℕ) (v : State) → k < length states
+    → ((c : CourseView) → slice_get courses k ≡ Some c → v.done ≤ length c.stages) → AreDone courses states → AreDone courses (set states k v)
+AreDone-set courses states k v within here done i c t course state =
+    elim (slice_get-set_cases states k i v t within state) [
+      | inl same ↦ (
+          let course_k : slice_get courses k ≡ Some c = subst (λ n. slice_get courses n ≡ Some c) same.0 course in
+          subst (λ (x : State). x.done ≤ length c.stages) (sym same.1) (here c course_k))
+      | inr other ↦ done i c t course other.1
+    ]
+
+-- the same residual, counted from the limit on
+pub Waits-moved : (s : SequenceView) (before bytes : List ℕ) (from limit : ℕ) (stages : List StageView) (tail : Option TailView) → limit ≤ from
+    → limit ≤ length bytes → WaitsAt s before bytes from stages tail → WaitsAt s (before ++ take limit bytes) (drop limit bytes) (from - limit) stages tail
+Waits-moved s before bytes from limit stages tail order within waits =
+    let file : before ++ bytes ≡ (before ++ take limit bytes) ++ drop limit bytes =
+    sym (append_assoc before (take limit bytes) (drop limit bytes) ∙ ap (λ (l : List ℕ). before ++ l) (take-append-drop limit bytes)) in
+    let len = length-append before (take limit bytes) in
+    let taken = length-take-le limit bytes within in
+    let offset : length before + from ≡ length (before ++ take limit bytes) + (from - limit) = omega arith in
+    subst (λ (f : List ℕ). Waits s f (length (before ++ take limit bytes) + (from - limit)) stages tail) file
+    (subst (λ (n : ℕ). Waits s (before ++ bytes) n stages tail) offset waits)
+
+-- what holds of each course holds of this one
+pub All-course : (P : CourseView → Type 0) (courses : List CourseView) (k : ℕ) (c : CourseView) → slice_get courses k ≡ Some c → All P courses → P c
+All-course P courses k c at all =
+    subst P (get_or_from_slice_get courses k c c at) (All-get_or P courses k c (slice_get_within courses k c at) all)
+
+-- the courses of a table are those of its sequences
+pub courses_of-map : (signatures : List SignatureView) → flat_map signature_courses signatures ≡ map course_of (flat_map (λ s. s.sequences) signatures)
+courses_of-map [] = refl
+courses_of-map (s ∷ later) =
+    ap (λ (l : List CourseView). map course_of s.sequences ++ l) (courses_of-map later)
+    ∙ sym (map-append course_of s.sequences (flat_map (λ (s : SignatureView). s.sequences) later))
+
+tail-short_of : (reach : ℕ) (o : Option TailView) → IfSome o (λ (t : TailView). AreBounded t.items) → IfSome o (λ (t : TailView). span t.items + t.max ≤ reach)
+    → TailIsShort reach o
+tail-short_of reach None bounded few = tt
+tail-short_of reach (Some t) bounded few = (bounded, few)
+
+-- so none of their words is without bound
+courses-short : (reach : ℕ) (sequences : List SequenceView) → All (IsHeld reach) (map course_of sequences)
+    → All (IsShortCourse reach) (map course_of sequences)
+courses-short reach sequences held =
+    All-map (IsShortCourse reach) course_of sequences
+    (λ k d within.
+    let s = get_or sequences k d in
+    let inside : k < length (map course_of sequences) = rw length-map within in
+    let here : IsHeld reach (course_of s) = subst (IsHeld reach) (get_or-map course_of sequences k d) (held k (course_of d) inside) in
+    record {
+      stages = λ j e at. record { bounded = stages-bounded s.position s.items j e at; few = here.stages j e at };
+      tail = tail-short_of reach (course_of s).tail (tail-bounded s.position s.items) here.tail;
+    })
+
+pub table-short : (reach : ℕ) (table : TableView) (courses : List CourseView) → courses ≡ courses_of table → All (IsHeld reach) courses
+    → All (IsShortCourse reach) courses
+table-short reach table courses is held =
+    let same : courses ≡ map course_of (sequences_of table) = is ∙ courses_of-map table.signatures in
+    subst (All (IsShortCourse reach)) (sym same) (courses-short reach (sequences_of table) (subst (All (IsHeld reach)) same held))
+
+-- a scan, settled up to the limit
+pub IsScanOf-settled : (table : TableView) (file : List ℕ) (courses : List CourseView) (keep base later room limit : ℕ) (bytes : List ℕ) (states next : List State)
+    → All (IsHeld keep) courses → limit + keep ≡ length bytes → later ≡ min (base + limit) (2 ^ 64 - 1)
+    → ((sequences : List SequenceView) (before : List ℕ) → IsBase before base → All (IsShortCourse keep) courses
+    → AllWait sequences courses before bytes states → AllWait sequences courses (before ++ take limit bytes) (drop limit bytes) next)
+    → IsScanOf table file (record { courses = courses; keep = keep; base = base; buffer = record { room = room; bytes = bytes }; states = states })
+    → IsScanOf table file (record { courses = courses; keep = keep; base = later; buffer = record { room = room; bytes = drop limit bytes }; states = next })
+IsScanOf-settled table file courses keep base later room limit bytes states next held size later_is step of =
+    let before = of.before in
+    let within : limit ≤ length bytes = omega arith in
+    let cut : before ++ bytes ≡ (before ++ take limit bytes) ++ drop limit bytes =
+    sym (append_assoc before (take limit bytes) (drop limit bytes) ∙ ap (λ (l : List ℕ). before ++ l) (take-append-drop limit bytes)) in
+    let taken = length-take-le limit bytes within in
+    let all = length-append before (take limit bytes) in
+    let left = length-drop limit bytes in
+    let counted = of.base in
+    record {
+      before = before ++ take limit bytes;
+      bytes = of.bytes ∙ cut;
+      base = omega arith;
+      last = inr (omega arith);
+      courses = of.courses;
+      wait = step (sequences_of table) before of.base (table-short keep table courses of.courses held) of.wait;
+    }
+
+-- a scan with some bytes more
+pub IsScanOf-added : (table : TableView) (file : List ℕ) (courses : List CourseView) (keep base room : ℕ) (bytes piece : List ℕ) (states : List State)
+    → IsBytes piece
+    → IsScanOf table file (record { courses = courses; keep = keep; base = base; buffer = record { room = room; bytes = bytes }; states = states })
+    → IsScanOf table (file ++ piece) (record { courses = courses; keep = keep; base = base; buffer = record { room = room; bytes = bytes ++ piece }; states = states })
+IsScanOf-added table file courses keep base room bytes piece states are of =
+    let before = of.before in
+    let joined : (before ++ bytes) ++ piece ≡ before ++ (bytes ++ piece) = append_assoc before bytes piece in
+    let len = length-append bytes piece in
+    record {
+      before = before;
+      bytes = ap (λ (l : List ℕ). l ++ piece) of.bytes ∙ joined;
+      base = of.base;
+      last = elim of.last [ inl none ↦ inl none | inr enough ↦ inr (omega arith) ];
+      courses = of.courses;
+      wait = λ i s c t sequence course state.
+          let waits = of.wait i s c t sequence course state in
+          subst (λ (f : List ℕ). Waits s f (length before + t.from) (drop t.done c.stages) c.tail) joined
+          (Waits-fed s (before ++ bytes) piece (length before + t.from) (drop t.done c.stages) c.tail are waits);
+    }

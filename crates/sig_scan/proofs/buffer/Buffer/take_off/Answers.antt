@@ -1,0 +1,38 @@
+use Rattle.std.proofs.Common.{◌≡◌, ◌∙◌, ◌+◌, ◌-◌, ◌≤◌, ℕ, List, ap, ap₂, drop, length, sym, take, arith, zero-add}
+use Rattle.std.proofs.lemmas.List.{drop-take, length-drop, length-take-le}
+use Rattle.std.proofs.lemmas.List.Edits.{length-paste, take-paste}
+use Rattle.std.specs.List.{copy_within}
+use Rattle.sig_scan.specs.Scans.{BufferView}
+use Rattle.sig_scan.proofs.buffer.Buffer.take_off.Goals as goal
+
+-- what is left of the bytes, moved to the front
+moved : (xs ys : List ℕ) (count len : ℕ) → count ≤ len → len ≤ length xs → ys ≡ copy_within xs count len 0
+    → take (len - count) ys ≡ drop count (take len xs)
+moved xs ys count len few within is =
+    let n : ℕ = len - count in
+    let all : count + n ≡ len = omega arith in
+    let size : n ≤ length (drop count xs) = rw length-drop (omega arith) in
+    let pasted : take n (copy_within xs count len 0) ≡ take n (drop count xs) =
+    ap (λ k. take k (copy_within xs count len 0)) (sym (zero-add n)) ∙ take-paste xs 0 (drop count xs) n (omega arith) size in
+    ap (take n) is ∙ pasted ∙ sym (drop-take count n xs) ∙ ap (λ k. drop count (take k xs)) all
+
+-- and the room stays
+same_room : (xs ys : List ℕ) (count len : ℕ) → count ≤ len → len ≤ length xs → ys ≡ copy_within xs count len 0 → length ys ≡ length xs
+same_room xs ys count len few within is =
+    let n : ℕ = len - count in
+    let size : n ≤ length (drop count xs) = rw length-drop (omega arith) in
+    ap length is ∙ length-paste xs 0 (drop count xs) n (omega arith) size
+
+pub returns : goal.returns
+returns c =
+    let xs = c.self.inside.bytes.items in
+    let ys = c.copy_within.new.self.items in
+    let count = c.args.count in
+    let len = c.self.inside.len in
+    let View : ℕ → List ℕ → BufferView = λ room bytes. record { room = room - 1; bytes = bytes } in
+    let size : length (take len xs) ≡ length c.args.self.now.bytes = ap (λ (w : BufferView). length w.bytes) c.self.view_is in
+    let before : len ≤ length xs = let inside = c.self.invariant in omega arith in
+    let taken = length-take-le len xs before in
+    let few : count ≤ len = omega arith in
+    ap₂ View (same_room xs ys count len few before c.copy_within.ensures.items) (moved xs ys count len few before c.copy_within.ensures.items)
+    ∙ ap (λ (w : BufferView). record { room = w.room; bytes = drop count w.bytes }) c.self.view_is

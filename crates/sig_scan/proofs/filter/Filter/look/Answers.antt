@@ -1,0 +1,61 @@
+use Rattle.std.proofs.Common.{◌≡◌, ◌∙◌, ◌+◌, ◌≤◌, List, Some, ℕ, ap, arith, length, subst, sym}
+use Rattle.std.specs.List.{slice_get}
+use Rattle.sig_scan.specs.Filters.{AreOwned, IsFilter}
+use Rattle.sig_scan.specs.declared.filter.Entry.{Entry}
+use Rattle.sig_scan.proofs.FilterLemmas.{AreLowered-twice, AreMissed-last, AreOwned-lowered, ArePassedBelow, ArePassedBelow-first, ArePassedBelow-next, IsPassedAt-lowered}
+use Rattle.sig_scan.proofs.filter.Filter.look.Goals as goal
+use Rattle.sig_scan.proofs.filter.Filter.look.Goals.{then-place-gt0, else-place-gt0}
+
+-- the four bytes of each entry are in its literal
+windows : (marks slots : List ℕ) (entries all : List Entry) → IsFilter marks slots entries → entries ≡ all → (i : ℕ) (e : Entry) → slice_get all i ≡ Some e
+    → e.window + 4 ≤ length e.literal.text
+windows marks slots entries all filter same i e at = (filter.each i e (ap (λ (es : List Entry). slice_get es i) same ∙ at)).inside
+
+pub places-init : goal.places-init
+places-init c = record {
+  even = c.next_listed-place.ensures.even;
+  few = c.next_listed-place.ensures.few;
+  owned = subst (λ (es : List Entry). AreOwned es c.args.waits.now c.begin.new.found) (c.deref.ensures.value ∙ c.self.view_is) c.begin.ensures.owned;
+  passed = ArePassedBelow-first c.args.self.now c.args.bytes.now c.args.waits.now c.next_listed-place.result c.begin.new.found
+      (windows c.self.inside.marks.items c.self.inside.slots.items c.self.inside.entries.items c.args.self.now c.self.invariant c.self.view_is)
+      (λ i w e at low high room has. c.next_listed-place.ensures.passed i w e at low high room has);
+}
+
+pub places-preserved : goal.places-preserved
+places-preserved c =
+    let entries = c.args.self.now in
+    let bytes = c.args.bytes.now in
+    let waits = c.args.waits.now in
+    let place = c.places.place in
+    let next = c.next_listed-place-in-places.result in
+    let old = c.places.found in
+    let middle = c.visit.new.found in
+    let inside = windows c.self.inside.marks.items c.self.inside.slots.items c.self.inside.entries.items entries c.self.invariant c.self.view_is in
+    let Now : List ℕ → Type 0 = λ l. AreOwned entries waits l × ArePassedBelow entries bytes waits next l in
+    let now : Now c.if-place-gt0.found =
+    elim c.if-place-gt0.branch [
+      | then-place-gt0 w ↦ (
+          let new = w.visit-then-place-gt0.new.found in
+          let lower = AreLowered-twice old middle new c.visit.ensures.lowered w.visit-then-place-gt0.ensures.lowered in
+          subst Now (sym w.found-is) (
+            AreOwned-lowered entries waits old new lower c.places.invariant.owned,
+            ArePassedBelow-next entries bytes waits place next old new lower
+                (λ i e at has. IsPassedAt-lowered e bytes waits place middle new w.visit-then-place-gt0.ensures.lowered (c.visit.ensures.passed i e at has))
+                (λ i e some at has. w.visit-then-place-gt0.ensures.passed i e at has) inside c.next_listed-place-in-places.ensures.passed
+                c.places.invariant.passed,
+          ))
+      | else-place-gt0 w ↦ (
+          let none = w.if-place-gt0.false in
+          subst Now (sym w.found-is) (
+            AreOwned-lowered entries waits old middle c.visit.ensures.lowered c.places.invariant.owned,
+            ArePassedBelow-next entries bytes waits place next old middle c.visit.ensures.lowered c.visit.ensures.passed
+                (λ i e some at has. absurd (omega arith)) inside c.next_listed-place-in-places.ensures.passed c.places.invariant.passed,
+          ))
+    ] in
+    record { even = c.next_listed-place-in-places.ensures.even; few = c.next_listed-place-in-places.ensures.few; owned = now.0; passed = now.1 }
+
+pub returns : goal.returns
+returns c =
+    AreMissed-last c.args.self.now c.args.bytes.now c.args.waits.now c.places.place c.places.found
+    (windows c.self.inside.marks.items c.self.inside.slots.items c.self.inside.entries.items c.args.self.now c.self.invariant c.self.view_is)
+    (omega arith) c.places.invariant.owned c.places.invariant.passed

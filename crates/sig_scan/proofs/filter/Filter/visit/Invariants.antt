@@ -1,0 +1,13 @@
+use Rattle.std.proofs.Common.{◌≡◌, ◌+◌, ◌≤◌, ◌<◌, ℕ, Some, slice_index}
+use Rattle.std.specs.List.{slice_get}
+use Rattle.sig_scan.specs.Filters.{AreLowered, IsPassedAt}
+use Rattle.sig_scan.specs.declared.filter.Entry.{Entry}
+use Rattle.sig_scan.proofs.filter.Filter.visit.Given as goal
+
+-- the entries of the slots so far are compared
+abbrev pub invariant-loop-slot : goal.invariant-loop-slot
+invariant-loop-slot l = record {
+  lowered : AreLowered l.fn.found l.found;
+  passed : (slot i : ℕ) (e : Entry) → l.list ≤ slot → slot < l.slot → slice_index l.self-inside.slots.items slot ≡ i + 1 → slice_get l.self i ≡ Some e
+      → IsPassedAt e l.bytes l.waits l.place l.found;
+}

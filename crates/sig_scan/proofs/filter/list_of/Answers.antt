@@ -1,0 +1,7 @@
+use Rattle.std.proofs.Common.{◌*◌, ◌%◌, ◌/◌, ap}
+use Rattle.sig_scan.specs.Filters.{list_of}
+use Rattle.sig_scan.proofs.filter.list_of.Goals as goal
+
+pub returns-clause-value : goal.returns-clause-value
+unfolding list_of
+returns-clause-value c = ap (λ n. n * 2654435761 % 4294967296 / 1048576) c.from.ensures

@@ -1,0 +1,7 @@
+use Rattle.std.proofs.Common.{◌≡◌, All, take}
+use Rattle.sig_scan.specs.Lengths.{parts_length}
+use Rattle.sig_scan.proofs.lengths.fixed_length_of_any.Given as goal
+
+-- the alternatives so far are as long as the first
+abbrev pub invariant-loop-parts : goal.invariant-loop-parts
+invariant-loop-parts l = All (λ a. parts_length a ≡ l.len) (take l.parts-index l.alternatives)

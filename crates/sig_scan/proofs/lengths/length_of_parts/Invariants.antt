@@ -1,0 +1,7 @@
+use Rattle.std.proofs.Common.{◌≡◌, take}
+use Rattle.sig_scan.specs.Lengths.{parts_length}
+use Rattle.sig_scan.proofs.lengths.length_of_parts.Given as goal
+
+-- those of the parts so far
+abbrev pub invariant-loop-part : goal.invariant-loop-part
+invariant-loop-part l = l.sum ≡ parts_length (take l.part-index l.parts)

@@ -1,0 +1,7 @@
+use Rattle.std.proofs.Common.{◌≡◌, take}
+use Rattle.sig_scan.specs.Lengths.{span}
+use Rattle.sig_scan.proofs.lengths.span_of.Given as goal
+
+-- those of the items so far
+abbrev pub invariant-loop-item : goal.invariant-loop-item
+invariant-loop-item l = l.sum ≡ span (take l.item-index l.items)

@@ -1,0 +1,7 @@
+use Rattle.std.proofs.Common.{ℕ, ◌+◌, ◌<◌, slice_index}
+use Rattle.sig_scan.specs.Literals.{Fits}
+use Rattle.sig_scan.proofs.literal.Literal.stands_at.Given as goal
+
+-- the bytes so far fit
+abbrev pub invariant-loop-k : goal.invariant-loop-k
+invariant-loop-k l = (j : ℕ) → j < l.k → Fits l.self j (slice_index l.bytes (l.place + j))

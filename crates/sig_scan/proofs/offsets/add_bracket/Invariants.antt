@@ -1,0 +1,9 @@
+use Rattle.sig_bits.specs.BitSets.{HasBit}
+use Rattle.sig_expr.specs.Words.{PartWord}
+use Rattle.sig_scan.specs.Frontiers.{GainsBits}
+use Rattle.sig_scan.proofs.PartLemmas.{Passed}
+use Rattle.sig_scan.proofs.offsets.add_bracket.Given as goal
+
+-- the ends so far
+abbrev pub invariant-loop-end : goal.invariant-loop-end
+invariant-loop-end l = GainsBits (Passed (PartWord l.part) l.bytes (HasBit l.starts) l.end) l.initial.ends l.ends

@@ -1,0 +1,36 @@
+use Rattle.std.proofs.Common.{◌≡◌, ◌++◌, ◌∷◌, [], List, Ok, Err, Result, arith, subst, sym}
+use Rattle.std.specs.declared.alloc.AllocError.{AllocError}
+use Rattle.std.specs.Prelude.{IfOk}
+use Rattle.sig_scan.specs.Stages.{StageView, stages_of}
+use Rattle.sig_scan.proofs.ProgramLemmas.{stages_of-last, stages_of-more, stages_of-same}
+use Rattle.sig_scan.proofs.program.cut.Goals as goal
+use Rattle.sig_scan.proofs.program.cut.Goals.{in-Some+in_ok-stage+in_ok-push, in_default}
+
+pub loop-i-preserved : goal.loop-i-preserved
+loop-i-preserved c =
+    let xs = c.args.items.now in
+    let i = c.loop-i.i in
+    let x = c.index-items-i.result in
+    let all : List StageView = c.args.stages.now.items ++ stages_of c.args.until [] xs in
+    let at = c.loop-i-test.true in
+    elim c.match-unbounded.branch [
+      | in-Some+in_ok-stage+in_ok-push w ↦ (
+          let next = stages_of-more xs c.loop-i.stages.items all c.loop-i.until c.loop-i.begin i w.in-Some.delay x at c.index-items-i.is
+          w.in-Some.ensures c.loop-i.invariant.same in
+          let pushed = w.in_ok-push.ensures.items in
+          let stage = w.in_ok-stage.ensures in
+          record { in_range = omega arith; same = (rw (w.stages-is, w.until-is, w.begin-is, pushed, stage) next) })
+      | in_default w ↦ (
+          let next = stages_of-same xs c.loop-i.stages.items all c.loop-i.until c.loop-i.begin i x c.loop-i.invariant.in_range at c.index-items-i.is
+          w.in_default.ensures c.loop-i.invariant.same in
+          record { in_range = omega arith; same = (rw (w.stages-is, w.until-is, w.begin-is) next) })
+    ]
+
+on_ok : (r : Result StageView AllocError) (P : StageView → Type 0) (v : StageView) → IfOk r (λ s. s ≡ v) → P v → IfOk r P
+on_ok (Ok s) P v is p = subst P (sym is) p
+on_ok (Err e) P v is p = tt
+
+pub returns : goal.returns
+returns c = on_ok c.of-2.result (λ s. c.loop-i.stages.items ++ s ∷ [] ≡ c.args.stages.now.items ++ stages_of c.args.until [] c.args.items.now) _ c.of-2.ensures
+    (stages_of-last c.args.items.now c.loop-i.stages.items (c.args.stages.now.items ++ stages_of c.args.until [] c.args.items.now)
+    c.loop-i.until c.loop-i.begin c.loop-i.i c.loop-i.auto.i-end c.loop-i-test.false c.loop-i.invariant.same)

@@ -1,0 +1,17 @@
+use Rattle.std.proofs.Common.{◌+◌, ◌-◌, ◌*◌, ◌≡◌, ◌≤◌, ℕ, All, List, Option, drop, length}
+use Rattle.sig_scan.specs.Scans.{IsBase, IsShort, WaitsAt}
+use Rattle.sig_scan.specs.Stages.{TailView}
+use Rattle.sig_table.specs.Views.{SequenceView}
+use Rattle.sig_scan.proofs.state.settle.Given as goal
+
+-- the sequence waits for the stages that are not done
+abbrev pub invariant-steps : goal.invariant-steps
+invariant-steps l = record {
+  room : l.frontier ≡ l.fn.frontier;
+  done : l.done ≤ length l.stages;
+  waits : (s : SequenceView) (before : List ℕ) (tail : Option TailView) → IsBase before l.base → All (IsShort l.reach) l.stages
+      → WaitsAt s before l.bytes l.fn.state.from (drop l.fn.state.done l.stages) tail → WaitsAt s before l.bytes l.from (drop l.done l.stages) tail;
+}
+
+abbrev pub decreases-steps : goal.decreases-steps
+decreases-steps l = (length l.stages - l.done) * (l.limit + 1) + (l.limit - l.from)

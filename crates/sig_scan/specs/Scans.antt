@@ -1,0 +1,140 @@
+-- A scan: what it knows of a file of which the last bytes are at hand.
+use Rattle.std.specs.Prelude.{◌≡◌, ◌↔◌, Bool, false, IsTrue, slice_index_or, ℕ, ◌+◌, ◌-◌, ◌<◌, ◌≤◌, ◌^◌, ◌⊎◌, ⊤, All, Some, drop, max, min, slice_index, List, [], ◌∷◌, ◌++◌, length, Option, IfSome, MatchOption}
+use Rattle.std.specs.List.{flat_map, slice_get}
+use Rattle.sig_expr.specs.declared.item.Item.{Item}
+use Rattle.sig_scan.specs.Frontiers.{EndsAt}
+use Rattle.sig_scan.specs.Courses.{IsHeld, courses_of}
+use Rattle.sig_scan.specs.Lengths.{AreBounded, span}
+use Rattle.sig_scan.specs.Placed.{Lies}
+use Rattle.sig_scan.specs.Stages.{CourseView, InTurn, StageView, TailView, Waits}
+use Rattle.sig_scan.specs.declared.state.State.{State}
+use Rattle.sig_scan.specs.declared.state.Step.{Step}
+use Rattle.sig_scan.specs.declared.state.Step.TheVariants.{Ended, Past}
+use Rattle.sig_table.specs.Standing.{Hits, Stands}
+use Rattle.sig_table.specs.Views.{SequenceView, SignatureView, TableView}
+
+-- the first end of all words that begin at `from` or later and before `until`; or none of them begins before `limit`
+abbrev pub IsFirstOf : List Item → List ℕ → ℕ → ℕ → ℕ → Option ℕ → Type 0
+IsFirstOf items bytes from until limit found =
+    MatchOption found ((start end : ℕ) → from ≤ start → start < until → start < limit → ¬ Lies items bytes start end)
+    (λ e. EndsAt items bytes from until e × ((end : ℕ) → EndsAt items bytes from until end → e ≤ end))
+
+-- as far as it is counted, so many bytes stand before those at hand
+abbrev pub IsBase : List ℕ → ℕ → Type 0
+IsBase before base = base ≡ min (length before) (2 ^ 64 - 1)
+
+-- the residual of a sequence, with its offset counted in the bytes at hand
+abbrev pub WaitsAt : SequenceView → List ℕ → List ℕ → ℕ → List StageView → Option TailView → Type 0
+WaitsAt sequence before bytes from stages tail = Waits sequence (before ++ bytes) (length before + from) stages tail
+
+-- the residual behind an attempt at the first of the stages
+abbrev pub WaitsBehind : SequenceView → List ℕ → List ℕ → StageView → List StageView → Option TailView → Step → Type 0
+WaitsBehind sequence before bytes stage later tail (Past from) = WaitsAt sequence before bytes from (stage ∷ later) tail
+WaitsBehind sequence before bytes stage later tail (Ended from) = WaitsAt sequence before bytes from later tail
+
+-- a failed attempt takes off offsets, of those before the limit
+abbrev pub StepsOn : ℕ → ℕ → Step → Type 0
+StepsOn from limit (Past later) = (from < later) × (later ≤ limit)
+StepsOn from limit (Ended later) = ⊤
+
+-- no word of the stage has more bytes
+pub record IsShort (reach : ℕ) (stage : StageView) : Type 0 where
+  pub bounded : AreBounded stage.items
+  pub few : span stage.items ≤ reach
+
+-- nor has the tail, with what may stand behind it
+abbrev pub TailIsShort : ℕ → Option TailView → Type 0
+TailIsShort reach tail = IfSome tail (λ t. AreBounded t.items × (span t.items + t.max ≤ reach))
+
+-- the stages and the tail stand in turn, from an offset of the bytes at hand on
+abbrev pub InTurnAt : List ℕ → List ℕ → ℕ → List StageView → Option TailView → Type 0
+InTurnAt before bytes from stages tail = InTurn (before ++ bytes) (length before + from) stages tail
+
+-- the bytes at hand are all of the file, or at least so many
+abbrev pub HasLastBytes : ℕ → List ℕ → List ℕ → Type 0
+HasLastBytes reach before bytes = (before ≡ []) ⊎ (reach ≤ length bytes)
+
+-- each sequence, in order, waits for what its state says of its course
+abbrev pub AllWait : List SequenceView → List CourseView → List ℕ → List ℕ → List State → Type 0
+AllWait sequences courses before bytes states = (i : ℕ) (s : SequenceView) (c : CourseView) (t : State) → slice_get sequences i ≡ Some s
+    → slice_get courses i ≡ Some c → slice_get states i ≡ Some t → WaitsAt s before bytes t.from (drop t.done c.stages) c.tail
+
+-- no state has more stages behind it than its course has
+abbrev pub AreDone : List CourseView → List State → Type 0
+AreDone courses states = (i : ℕ) (c : CourseView) (t : State) → slice_get courses i ≡ Some c → slice_get states i ≡ Some t → t.done ≤ length c.stages
+
+-- no word of the course is without bound or has more bytes
+pub record IsShortCourse (reach : ℕ) (course : CourseView) : Type 0 where
+  pub stages : All (IsShort reach) course.stages
+  pub tail : TailIsShort reach course.tail
+
+-- the bytes at hand, and how many there can be
+pub record BufferView : Type 0 where
+  pub room : ℕ
+  pub bytes : List ℕ
+
+-- what a scan has: the courses of its program, how many bytes hold any word, how many bytes stand before those at hand, as far as
+-- they are counted, these bytes, and the state of each sequence
+pub record ScanView : Type 0 where
+  pub courses : List CourseView
+  pub keep : ℕ
+  pub base : ℕ
+  pub buffer : BufferView
+  pub states : List State
+
+-- what is true of every scan, with room in its frontier for so many bytes, and for what so many sequences wait for
+pub record IsScan (room waits found : ℕ) (scan : ScanView) : Type 0 where
+  pub waits_len : waits ≡ length scan.courses
+  pub found_len : found ≡ length scan.courses
+  pub sets : room ≡ scan.buffer.room
+  pub few : scan.keep < scan.buffer.room
+  pub held : All (IsHeld scan.keep) scan.courses
+  pub count : length scan.states ≡ length scan.courses
+  pub done : AreDone scan.courses scan.states
+
+-- the sequences of a table, in the order of its signatures
+abbrev pub sequences_of : TableView → List SequenceView
+sequences_of table = flat_map (λ s. s.sequences) table.signatures
+
+-- behind this file: its last bytes are at hand, and each sequence of the table waits for what its state says
+pub record IsScanOf (table : TableView) (file : List ℕ) (scan : ScanView) : Type 0 where
+  pub before : List ℕ
+  pub bytes : file ≡ before ++ scan.buffer.bytes
+  pub base : IsBase before scan.base
+  pub last : HasLastBytes scan.keep before scan.buffer.bytes
+  pub courses : scan.courses ≡ courses_of table
+  pub wait : AllWait (sequences_of table) scan.courses before scan.buffer.bytes scan.states
+
+-- at the end of a file, each sequence stands in it where what its state leaves of its course does
+abbrev pub AllLeft : List SequenceView → List CourseView → List ℕ → List ℕ → List State → Type 0
+AllLeft sequences courses before bytes states = (i : ℕ) (s : SequenceView) (c : CourseView) (t : State) → slice_get sequences i ≡ Some s
+    → slice_get courses i ≡ Some c → slice_get states i ≡ Some t
+    → Stands s (before ++ bytes) ↔ InTurnAt before bytes t.from (drop t.done c.stages) c.tail
+
+-- at the end of this file: its last bytes are at hand
+pub record IsEndOf (table : TableView) (file : List ℕ) (scan : ScanView) : Type 0 where
+  pub before : List ℕ
+  pub bytes : file ≡ before ++ scan.buffer.bytes
+  pub base : IsBase before scan.base
+  pub last : HasLastBytes scan.keep before scan.buffer.bytes
+  pub courses : scan.courses ≡ courses_of table
+  pub left : AllLeft (sequences_of table) scan.courses before scan.buffer.bytes scan.states
+
+-- each state goes on to the offset that was found for it
+abbrev pub AreRaised : List State → List ℕ → List State → Type 0
+AreRaised old found new = (i : ℕ) (t : State) → slice_get new i ≡ Some t
+    → (u : State) × (slice_get old i ≡ Some u) × (t ≡ record { done = u.done; from = max u.from (slice_index found i) })
+
+-- each sequence waits for all of its course
+abbrev pub AreFirst : List CourseView → List State → Type 0
+AreFirst courses states = (i : ℕ) (c : CourseView) (t : State) → slice_get courses i ≡ Some c → slice_get states i ≡ Some t
+    → t ≡ record { done = 0; from = c.from }
+
+-- those of so many sequences of the table, from this one on, that there are all stand in the file
+abbrev pub AllStand : TableView → List ℕ → ℕ → ℕ → Type 0
+AllStand table file first end = (k : ℕ) (s : SequenceView) → first ≤ k → k < end → slice_get (sequences_of table) k ≡ Some s → Stands s file
+
+-- each mark says whether its signature hits the file
+abbrev pub AreMarked : TableView → List ℕ → ℕ → List Bool → Type 0
+AreMarked table file end marks = (index : ℕ) (g : SignatureView) → index < end → slice_get table.signatures index ≡ Some g
+    → IsTrue (slice_index_or marks index false) ↔ Hits g file

@@ -1,0 +1,395 @@
+//! A table, compiled once for many files: its sequences, each cut at its unbounded gaps into stages.
+//!
+//! Of `41{0-1}42{3-*}43` anywhere there are two stages, `41{0-1}42` with a delay of three bytes and
+//! `43`; at the end of a file the second one is the tail. The items are copied, so that a program serves
+//! for as long as it is wanted. The stages of all sequences stand in one list, and a course says which
+//! of them are those of its sequence.
+
+ghost use Rattle.std.specs.Prelude.{◌≡◌, ◌≤◌, ◌<◌, ◌++◌, ◌∷◌, [], All, List, IfOk, OnOk, MatchOption, None, Some, length};
+ghost use Rattle.sig_expr.specs.declared.item.Item.TheVariants.{Gap};
+ghost use Rattle.sig_scan.specs.Courses.{AddsCourse, AreHeld, IsHeld, courses_of};
+ghost use Rattle.sig_scan.specs.Filters.{AreLiteralsOf};
+ghost use Rattle.sig_scan.specs.Lengths.{IsBoundedItem};
+ghost use Rattle.sig_scan.specs.Passes.{ArePast, IsWaitOf};
+ghost use Rattle.sig_scan.specs.Stages.{CourseView, StageView, course_of, stages_of};
+ghost use Rattle.std.specs.List.{slice_get};
+ghost use Rattle.sig_table.specs.Tables.{IsSequence};
+
+use crate::copy::copy_items;
+use crate::filter::{Filter, Wait};
+use crate::lengths::span_of;
+use crate::literal::Literal;
+use crate::state::State;
+use sig_expr::Item;
+use sig_table::{Position, Sequence, SigId, Table};
+use std::alloc::{AllocError, Global};
+use std::marker::Model;
+
+// Items without an unbounded gap, the greatest offset at which a word of them may begin, how many bytes
+// behind its end the next stage may begin, and bytes that each word of it has.
+#[derive(Debug, Drop)]
+pub(crate) struct Stage {
+    pub(crate) items: Vec<Item>,
+    pub(crate) until: Option<u32>,
+    pub(crate) delay: u32,
+    pub(crate) literal: Literal,
+}
+
+impl Model for Stage {
+    ghost use Rattle.sig_scan.specs.Literals.{IsLiteralOf};
+    ghost use Rattle.sig_scan.specs.Stages.{StageView};
+
+    ghost Value = { StageView };
+
+    ghost view = { λ s. record { items = s.items.items; until = s.until; delay = s.delay } };
+
+    ghost invariant = { λ s. IsLiteralOf s.items.items s.literal };
+}
+
+impl Stage {
+    ghost use Rattle.std.specs.Prelude.{◌≡◌, IfOk};
+
+    fn of(
+        alloc: Global,
+        items: &[Item],
+        until: Option<u32>,
+        delay: u32,
+    ) -> Result<Stage, AllocError>
+        ensures { IfOk result (λ s. s ≡ record { items = items.now; until = until; delay = delay }) }
+    {
+        let literal = Literal::of(items);
+        let items = copy_items(alloc, items)?;
+        Ok(Stage {
+            items,
+            until,
+            delay,
+            literal,
+        })
+    }
+
+    // The items alone.
+    fn into_items(self) -> Vec<Item>
+        ensures { result.items ≡ self.items }
+    {
+        let Stage {
+            items,
+            until: _,
+            delay: _,
+            literal: _,
+        } = self;
+        items
+    }
+}
+
+// What stands at the end of a file, at least `min` and at most `max` bytes before it.
+#[derive(Debug, Drop)]
+pub(crate) struct Tail {
+    pub(crate) items: Vec<Item>,
+    pub(crate) min: u16,
+    pub(crate) max: u16,
+    // The greatest length of a word, and bytes that each word has.
+    pub(crate) longest: usize,
+    pub(crate) literal: Literal,
+}
+
+impl Model for Tail {
+    ghost use Rattle.std.specs.Prelude.{◌≡◌};
+    ghost use Rattle.sig_scan.specs.Lengths.{span};
+    ghost use Rattle.sig_scan.specs.Literals.{IsLiteralOf};
+    ghost use Rattle.sig_scan.specs.Stages.{TailView};
+
+    ghost Value = { TailView };
+
+    ghost view = { λ t. record { items = t.items.items; min = t.min; max = t.max } };
+
+    ghost invariant = { λ t. (t.longest ≡ span t.items.items) × IsLiteralOf t.items.items t.literal };
+}
+
+impl Tail {
+    ghost use Rattle.std.specs.Prelude.{◌≡◌, ◌≤◌};
+    ghost use Rattle.sig_scan.specs.Lengths.{span};
+
+    fn of(items: Vec<Item>, min: u16, max: u16) -> Tail
+        requires { span items.items ≤ 65535 }
+        ensures { result ≡ record { items = items.items; min = min; max = max } }
+    {
+        let longest = span_of(&items);
+        let literal = Literal::of(&items);
+        Tail {
+            items,
+            min,
+            max,
+            longest,
+            literal,
+        }
+    }
+}
+
+// A sequence: the first offset at which it may begin, where its stages stand among those of the table,
+// and its tail.
+#[derive(Debug, Drop)]
+struct Course {
+    from: u16,
+    first: usize,
+    end: usize,
+    tail: Option<Tail>,
+}
+
+// A table's sequences as stages and tails, in the order of the signatures.
+#[derive(Debug, Drop)]
+pub(crate) struct Program {
+    stages: Vec<Stage>,
+    courses: Vec<Course>,
+    filter: Filter,
+    keep: usize,
+}
+
+impl Model for Program {
+    ghost use Rattle.std.specs.Prelude.{List, map};
+    ghost use Rattle.sig_scan.specs.Courses.{IsCompiled, course_in};
+    ghost use Rattle.sig_scan.specs.Stages.{CourseView};
+
+    ghost Value = { List CourseView };
+
+    ghost view = { λ p. map (course_in p.stages.items) p.courses.items };
+
+    ghost invariant = { λ p. IsCompiled p.keep p.filter p.stages.items p.courses.items };
+}
+
+impl Program {
+    // Compiles a table.
+    pub(crate) fn of(alloc: Global, table: &Table) -> Result<Program, AllocError>
+        ensures { IfOk result (λ p. p ≡ courses_of table.now) }
+    {
+        let mut stages = Vec::new(alloc);
+        let mut courses = Vec::new(alloc);
+        for index in 0..table.signature_count() {
+            for sequence in table.sequences_of(SigId(index as u16)) {
+                let course = add_stages(alloc, sequence, &mut stages)?;
+                courses.push(course)?;
+            }
+        }
+        let filter = filter_of(alloc, &stages, &courses)?;
+        let keep = keep_of(&stages, &courses);
+        Ok(Program {
+            stages,
+            courses,
+            filter,
+            keep,
+        })
+    }
+
+    // How many bytes hold any word that is looked for: that of a stage, and that of a tail with what
+    // may stand behind it.
+    pub(crate) fn keep(&self) -> usize
+        ensures holds { All (IsHeld result) self.now }
+        ensures few { result ≤ 65535 }
+    {
+        self.keep
+    }
+
+    // How many sequences there are.
+    pub(crate) fn sequence_count(&self) -> usize
+        ensures { result ≡ length self.now }
+    {
+        self.courses.len()
+    }
+
+    // The first offset at which a sequence may begin.
+    pub(crate) fn first_offset(&self, sequence: usize) -> usize
+        requires { sequence < length self.now }
+        ensures { (course : CourseView) → slice_get self.now sequence ≡ Some course → result ≡ course.from }
+    {
+        usize::from(self.courses[sequence].from)
+    }
+
+    // The stages of a sequence, in turn.
+    pub(crate) fn stages_of(&self, sequence: usize) -> &[Stage]
+        requires { sequence < length self.now }
+        ensures { (course : CourseView) → slice_get self.now sequence ≡ Some course → result.now ≡ course.stages }
+    {
+        let course = &self.courses[sequence];
+        &self.stages[course.first..course.end]
+    }
+
+    // The tail of a sequence, if it has one.
+    pub(crate) fn tail_of(&self, sequence: usize) -> &Option<Tail>
+        requires { sequence < length self.now }
+        ensures { (course : CourseView) → slice_get self.now sequence ≡ Some course → result.now ≡ course.tail }
+    {
+        &self.courses[sequence].tail
+    }
+
+    // Finds for each sequence an offset before which no word of the stage that it waits in begins, as
+    // far as the prefilter tells. `waits` is room.
+    pub(crate) fn look(
+        &self,
+        bytes: &[u8],
+        states: &[State],
+        waits: &mut [Wait],
+        found: &mut [usize],
+    )
+        requires states { length states.now ≡ length self.now }
+        requires waits { length waits.old ≡ length self.now }
+        ensures { ArePast self.now states.now bytes.now found.new }
+    {
+        for (k, wait) in waits.iter_mut().enumerate() {
+            *wait = wait_of(&self.courses[k], states[k]);
+        }
+        self.filter.look(bytes, waits, found);
+    }
+}
+
+// The stage among all that a sequence waits in, or one that there is not.
+fn wait_of(course: &Course, state: State) -> Wait
+    requires { course.now.first ≤ course.now.end }
+    ensures { IsWaitOf course.now state result }
+{
+    let stage = if state.done < course.end - course.first {
+        course.first + state.done
+    } else {
+        usize::MAX
+    };
+    Wait {
+        stage,
+        from: state.from,
+    }
+}
+
+// The literals of all stages that may begin anywhere.
+fn filter_of(alloc: Global, stages: &[Stage], courses: &[Course]) -> Result<Filter, AllocError>
+    ensures { IfOk result (AreLiteralsOf stages.now) }
+{
+    let mut filter = Filter::new(alloc)?;
+    for (sequence, course) in courses.iter().enumerate() {
+        for stage in course.first..course.end.min(stages.len()) {
+            add_literal(&mut filter, &stages[stage], sequence, stage)?;
+        }
+    }
+    Ok(filter)
+}
+
+// Adds the literal of a stage, if it has enough bytes.
+fn add_literal(
+    filter: &mut Filter,
+    stage: &Stage,
+    sequence: usize,
+    index: usize,
+) -> Result<(), AllocError>
+    ensures { (stages : List StageView) → slice_get stages index ≡ Some stage.now → AreLiteralsOf stages filter.old → OnOk result (AreLiteralsOf stages filter.new) }
+{
+    if stage.until.is_some() || stage.literal.text().len() < 4 {
+        return Ok(());
+    }
+    filter.add(&stage.literal, sequence, index)
+}
+
+// The same of these stages and tails.
+fn keep_of(stages: &[Stage], courses: &[Course]) -> usize
+    requires { AreHeld 65535 stages.now courses.now }
+    ensures holds { AreHeld result stages.now courses.now }
+    ensures few { result ≤ 65535 }
+{
+    let mut longest: usize = 0;
+    for stage in stages {
+        longest = longest.max(span_of(&stage.items));
+    }
+    for course in courses {
+        if let Some(tail) = &course.tail {
+            longest = longest.max(tail.longest + tail.max as usize);
+        }
+    }
+    longest
+}
+
+// Adds the stages of a sequence to those of the sequences before it.
+fn add_stages(
+    alloc: Global,
+    sequence: &Sequence,
+    stages: &mut Vec<Stage>,
+) -> Result<Course, AllocError>
+    ensures adds { IfOk result (λ course. AddsCourse stages.old.items stages.new.items course (course_of sequence.now)) }
+    ensures sequence { IsSequence sequence.now }
+{
+    let items = sequence.expr().items();
+    let first = stages.len();
+    match sequence.position() {
+        Position::Bof { min, max } => {
+            cut_whole(alloc, items, Some(u32::from(max)), stages)?;
+            Ok(Course {
+                from: min,
+                first,
+                end: stages.len(),
+                tail: None,
+            })
+        }
+        Position::Eof { min, max } => {
+            let last = cut(alloc, items, None, stages)?.into_items();
+            Ok(Course {
+                from: 0,
+                first,
+                end: stages.len(),
+                tail: Some(Tail::of(last, min, max)),
+            })
+        }
+        Position::Variable => {
+            cut_whole(alloc, items, None, stages)?;
+            Ok(Course {
+                from: 0,
+                first,
+                end: stages.len(),
+                tail: None,
+            })
+        }
+    }
+}
+
+// Adds all stages of the items.
+fn cut_whole(
+    alloc: Global,
+    items: &[Item],
+    until: Option<u32>,
+    stages: &mut Vec<Stage>,
+) -> Result<(), AllocError>
+    ensures { OnOk result (stages.new.items ≡ stages.old.items ++ stages_of until [] items.now) }
+{
+    let last = cut(alloc, items, until, stages)?;
+    stages.push(last)?;
+    Ok(())
+}
+
+// Adds a stage for the items up to each unbounded gap, and gives the one of those behind the last gap.
+fn cut(
+    alloc: Global,
+    items: &[Item],
+    until: Option<u32>,
+    stages: &mut Vec<Stage>,
+) -> Result<Stage, AllocError>
+    ensures { IfOk result (λ last. stages.new.items ++ last ∷ [] ≡ stages.old.items ++ stages_of until [] items.now) }
+{
+    let mut until = until;
+    let mut begin = 0;
+    for (i, item) in items.iter().enumerate() {
+        if let Some(delay) = unbounded(item) {
+            let stage = Stage::of(alloc, &items[begin..i], until, delay)?;
+            stages.push(stage)?;
+            until = None;
+            begin = i + 1;
+        }
+    }
+    Stage::of(alloc, &items[begin..], until, 0)
+}
+
+// The least length of a gap that has no greatest one.
+fn unbounded(item: &Item) -> Option<u32>
+    ensures { MatchOption result (IsBoundedItem item.now) (λ min. item.now ≡ Gap min None) }
+{
+    match item {
+        Item::Gap { min, max } => match max {
+            Some(_) => None,
+            None => Some(*min),
+        },
+        Item::Byte(_) | Item::Any | Item::Alt(_) => None,
+        Item::Range(_, _) | Item::Not(_) | Item::NotRange(_, _) => None,
+    }
+}

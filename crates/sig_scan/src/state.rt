@@ -1,0 +1,202 @@
+//! What a scan knows of one sequence: the stage that it waits in, and the first offset at which a word
+//! of it may begin.
+//!
+//! `41*42*43` over `41 42 40` has two stages behind it, and waits for `43` from the third byte on. No
+//! more has to be known: what stands before is not asked again. An offset here is one of the bytes at
+//! hand, so nothing counts the bytes of a file; only the greatest offset of a stage is one of the
+//! file, and `base`, the number of the bytes before those at hand, stops at its maximum.
+
+ghost use Rattle.std.specs.Prelude.{◌≡◌, ℕ, ◌+◌, ◌<◌, ◌≤◌, ◌↔◌, All, List, ◌∷◌, drop, length, IsTrue, MatchOption, Option};
+ghost use Rattle.sig_expr.specs.Words.{IsAtMost};
+ghost use Rattle.sig_scan.specs.Lengths.{AreBounded};
+ghost use Rattle.sig_scan.specs.Scans.{HasLastBytes, InTurnAt, IsBase, IsShort, StepsOn, TailIsShort, WaitsAt, WaitsBehind};
+ghost use Rattle.sig_scan.specs.Stages.{StageView, TailStands, TailView};
+ghost use Rattle.sig_table.specs.Views.{SequenceView};
+
+use crate::attempt::attempt;
+use crate::frontier::Frontier;
+use crate::program::{Stage, Tail};
+
+// So many offsets are tried at once, or as many as the longest word has bytes.
+const AT_ONCE: usize = 1024;
+
+// What an attempt shows: no word of the stage begins before this offset, or the next stage begins at
+// this offset or behind it.
+#[derive(Clone, Copy, Debug, Drop)]
+enum Step {
+    Past(usize),
+    Ended(usize),
+}
+
+// Attempts a stage at some of the offsets from `from` on, below the limit.
+fn attempt_stage(
+    stage: &Stage,
+    from: usize,
+    bytes: &[u8],
+    base: u64,
+    limit: usize,
+    reach: usize,
+    frontier: &mut Frontier,
+) -> Step
+    requires room { length bytes.now ≤ frontier.old }
+    requires open { from < limit }
+    requires sight { limit + reach ≤ length bytes.now }
+    ensures room { frontier.new ≡ frontier.old }
+    ensures on { StepsOn from limit result }
+    ensures waits { (s : SequenceView) (before : List ℕ) (later : List StageView) (tail : Option TailView) → IsBase before base → IsShort reach stage.now
+        → WaitsAt s before bytes.now from (stage.now ∷ later) tail → WaitsBehind s before bytes.now stage.now later tail result }
+{
+    let until = offsets_up_to(stage.until, base, bytes.len() + 1);
+    let Some(first) = stage.literal.next(bytes, from, until.min(limit)) else {
+        return Step::Past(limit);
+    };
+    let to = limit.min(first + AT_ONCE.max(reach));
+    match attempt(&stage.items, bytes, first, until, to, reach, frontier) {
+        None => Step::Past(to),
+        Some(end) => Step::Ended(end + stage.delay as usize),
+    }
+}
+
+// How many of the first offsets of the bytes at hand are at most this one of the file.
+fn offsets_up_to(until: Option<u32>, base: u64, all: usize) -> usize
+    ensures within { result ≤ all }
+    ensures many { (before : List ℕ) (x : ℕ) → IsBase before base → x < all → (x < result) ↔ IsAtMost until (length before + x) }
+{
+    match until {
+        None => all,
+        Some(until) => {
+            let until = u64::from(until);
+            if until < base {
+                0
+            } else {
+                all.min((until - base) as usize + 1)
+            }
+        }
+    }
+}
+
+/// What is known of a sequence: how many of its stages have ended, and the first offset of the bytes at
+/// hand at which a word of the next one may begin.
+#[derive(Clone, Copy, Debug, Drop)]
+pub(crate) struct State {
+    pub(crate) done: usize,
+    pub(crate) from: usize,
+}
+
+/// Goes on over the words that begin before the limit. No word that is looked for has more bytes than
+/// `reach`, so all of them end in the bytes at hand.
+pub(crate) fn settle(
+    state: State,
+    stages: &[Stage],
+    bytes: &[u8],
+    base: u64,
+    limit: usize,
+    reach: usize,
+    frontier: &mut Frontier,
+) -> State
+    requires room { length bytes.now ≤ frontier.old }
+    requires sight { limit + reach ≤ length bytes.now }
+    requires done { state.done ≤ length stages.now }
+    ensures room { frontier.new ≡ frontier.old }
+    ensures done { result.done ≤ length stages.now }
+    ensures settled { limit ≤ result.from }
+    ensures waits { (s : SequenceView) (before : List ℕ) (tail : Option TailView) → IsBase before base → All (IsShort reach) stages.now → TailIsShort reach tail
+        → WaitsAt s before bytes.now state.from (drop state.done stages.now) tail
+        → WaitsAt s before bytes.now result.from (drop result.done stages.now) tail }
+{
+    let mut done = state.done;
+    let mut from = state.from;
+    'steps: while from < limit && done < stages.len() {
+        match attempt_stage(&stages[done], from, bytes, base, limit, reach, frontier) {
+            Step::Past(later) => from = later,
+            Step::Ended(later) => {
+                done += 1;
+                from = later;
+            }
+        }
+    }
+    State {
+        done,
+        from: from.max(limit),
+    }
+}
+
+/// Whether what is left of a sequence stands in the file, which ends with the bytes at hand: they are
+/// all of it, or at least `reach`.
+pub(crate) fn stands(
+    state: State,
+    stages: &[Stage],
+    tail: &Option<Tail>,
+    bytes: &[u8],
+    base: u64,
+    reach: usize,
+    frontier: &mut Frontier,
+) -> bool
+    requires room { length bytes.now ≤ frontier.old }
+    requires done { state.done ≤ length stages.now }
+    ensures room { frontier.new ≡ frontier.old }
+    ensures stands { (before : List ℕ) → IsBase before base → All (IsShort reach) stages.now → TailIsShort reach tail.now
+        → HasLastBytes reach before bytes.now → IsTrue result ↔ InTurnAt before bytes.now state.from (drop state.done stages.now) tail.now }
+{
+    let mut from = state.from;
+    for k in state.done..stages.len() {
+        match next_from(&stages[k], from, bytes, base, reach, frontier) {
+            Some(next) => from = next,
+            None => return false,
+        }
+    }
+    match tail {
+        Some(tail) => tail_stands(tail, from, bytes, frontier),
+        None => from <= bytes.len(),
+    }
+}
+
+// The offset from which on the next stage may begin, at the end of the file.
+fn next_from(
+    stage: &Stage,
+    from: usize,
+    bytes: &[u8],
+    base: u64,
+    reach: usize,
+    frontier: &mut Frontier,
+) -> Option<usize>
+    requires { length bytes.now ≤ frontier.old }
+    ensures room { frontier.new ≡ frontier.old }
+    ensures next { (before : List ℕ) (later : List StageView) (tail : Option TailView) → IsBase before base → IsShort reach stage.now
+        → MatchOption result (¬ InTurnAt before bytes.now from (stage.now ∷ later) tail)
+        (λ next. InTurnAt before bytes.now from (stage.now ∷ later) tail ↔ InTurnAt before bytes.now next later tail) }
+{
+    let all = bytes.len() + 1;
+    let until = offsets_up_to(stage.until, base, all);
+    let mut from = from;
+    'steps: while from < until {
+        let first = stage.literal.next(bytes, from, until)?;
+        let to = all.min(first.saturating_add(AT_ONCE.max(reach)));
+        match attempt(&stage.items, bytes, first, until, to, reach, frontier) {
+            None => from = to,
+            Some(end) => return Some(end + stage.delay as usize),
+        }
+    }
+    None
+}
+
+// Whether the tail stands in the bytes at the end of a file, from this offset on.
+fn tail_stands(tail: &Tail, from: usize, bytes: &[u8], frontier: &mut Frontier) -> bool
+    requires { length bytes.now ≤ frontier.old }
+    ensures room { frontier.new ≡ frontier.old }
+    ensures stands { AreBounded tail.now.items → IsTrue result ↔ TailStands tail.now bytes.now from }
+{
+    let min = usize::from(tail.min);
+    if bytes.len() < min {
+        return false;
+    }
+    let last = bytes.len() - min;
+    let least = bytes.len().saturating_sub(usize::from(tail.max));
+    let near = from.max(least.saturating_sub(tail.longest));
+    let Some(first) = tail.literal.next(&bytes[..last], near, last + 1) else {
+        return false;
+    };
+    frontier
+        .first_end(&tail.items, &bytes[..last], first..last + 1, least)
+        .is_some()
+}
