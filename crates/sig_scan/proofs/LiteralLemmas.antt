@@ -159,8 +159,8 @@ IsFirst-some file run a e to n order within end room found =
 pub IsFirst-same : (P Q : ℕ → Type 0) (i j : ℕ) (r : Option ℕ) → ((k : ℕ) → P k → Q k) → ((k : ℕ) → Q k → P k) → IsFirst P i j r → IsFirst Q i j r
 IsFirst-same P Q i j None on back none = λ k low high q. none k low high (back k q)
 IsFirst-same P Q i j (Some k) on back found = (
-    record { low = found.0.low; high = found.0.high; before = λ x low high q. found.0.before x low high (back x q) },
-    on k found.1,
+  record { low = found.0.low; high = found.0.high; before = λ x low high q. found.0.before x low high (back x q) },
+  on k found.1,
 )
 
 -- a literal of whole bytes

@@ -246,13 +246,7 @@ fn rarity(literal: &Literal, window: usize) -> u32
 }
 
 // Enters all texts of the four places of a literal, if there is room.
-fn enter_all(
-    marks: &mut [u8],
-    slots: &mut [u16],
-    literal: &Literal,
-    window: usize,
-    id: u16,
-) -> bool
+fn enter_all(marks: &mut [u8], slots: &mut [u16], literal: &Literal, window: usize, id: u16) -> bool
     requires marks { length marks.old ≡ 65536 }
     requires slots { length slots.old ≡ 32768 }
     requires inside { window + 4 ≤ length literal.now.text }

@@ -141,13 +141,7 @@ fn files_hit_where_the_rows_say(rt: HostRuntime) -> Result<(), Fail> {
         let table = Table::load(rt.alloc(), &mut signatures, &mut priorities)?;
         for block in BLOCKS {
             for piece in PIECES {
-                let marked = scanned(
-                    rt.alloc(),
-                    &table,
-                    file,
-                    block.max(1),
-                    piece.max(1),
-                )?;
+                let marked = scanned(rt.alloc(), &table, file, block.max(1), piece.max(1))?;
                 assert_eq!(rt; marked, *hits, "{sequence} by {block} and {piece}");
             }
         }
