@@ -138,7 +138,8 @@ impl Filter {
         ensures even { result % 2 ≡ 0 }
         ensures order { from ≤ result }
         ensures few { result < 2 ^ 63 + 8 }
-        ensures passed { (i w : ℕ) (e : Entry) → slice_get self.now i ≡ Some e → from ≤ w + 1 → w + 1 < result → w + 5 ≤ length bytes.now → ¬ HasWindow e bytes.now w }
+        ensures passed { (i w : ℕ) (e : Entry) → slice_get self.now i ≡ Some e → from ≤ w + 1 → w + 1 < result
+            → w + 5 ≤ length bytes.now → ¬ HasWindow e bytes.now w }
     {
         let mut place = next_marked(&self.marks, bytes, from);
         'places: while place + 4 <= bytes.len() {
@@ -299,7 +300,9 @@ fn enter(marks: &mut [u8], slots: &mut [u16], four: u32, behind: u32, id: u16) -
 // The first slot of a list that is free, or has the entry.
 fn slot_for(slots: &[u16], list: usize, id: u16) -> Option<usize>
     requires { list + 8 ≤ length slots.now }
-    ensures { IfSome result (λ slot. (list ≤ slot) × (slot < list + 8) × ((slice_index slots.now slot ≡ 0) ⊎ (slice_index slots.now slot ≡ id)) × ((slot ≡ list) ⊎ (slice_index slots.now list ≢ 0))) }
+    ensures { IfSome result (λ slot. (list ≤ slot) × (slot < list + 8)
+        × ((slice_index slots.now slot ≡ 0) ⊎ (slice_index slots.now slot ≡ id))
+        × ((slot ≡ list) ⊎ (slice_index slots.now list ≢ 0))) }
 {
     for slot in list..list + DEPTH {
         if slots[slot] == 0 || slots[slot] == id {
@@ -318,7 +321,8 @@ fn next_marked(marks: &[u8], bytes: &[u8], from: usize) -> usize
     ensures even { result % 2 ≡ 0 }
     ensures order { from ≤ result }
     ensures few { result < 2 ^ 63 + 8 }
-    ensures unmarked { (y : ℕ) → from ≤ y → y < result → y % 2 ≡ 0 → y + 4 ≤ length bytes.now → slice_index marks.now (mark_of (four_at bytes.now y)) ≡ 0 }
+    ensures unmarked { (y : ℕ) → from ≤ y → y < result → y % 2 ≡ 0 → y + 4 ≤ length bytes.now
+        → slice_index marks.now (mark_of (four_at bytes.now y)) ≡ 0 }
 {
     let mut place = from;
     'fours: while place + 10 <= bytes.len() {

@@ -276,7 +276,8 @@ fn add_literal(
     sequence: usize,
     index: usize,
 ) -> Result<(), AllocError>
-    ensures { (stages : List StageView) → slice_get stages index ≡ Some stage.now → AreLiteralsOf stages filter.old → OnOk result (AreLiteralsOf stages filter.new) }
+    ensures { (stages : List StageView) → slice_get stages index ≡ Some stage.now → AreLiteralsOf stages filter.old
+        → OnOk result (AreLiteralsOf stages filter.new) }
 {
     if stage.until.is_some() || stage.literal.text().len() < 4 {
         return Ok(());

@@ -46,7 +46,8 @@ impl<'p> Model for Scan<'p> {
 
     ghost view = { λ s. record { courses = s.program.now; keep = s.keep; base = s.base; buffer = s.buffer; states = s.states.items } };
 
-    ghost invariant = { λ s. IsScan s.frontier (length s.waits.items) (length s.found.items) (record { courses = s.program.now; keep = s.keep; base = s.base; buffer = s.buffer; states = s.states.items }) };
+    ghost invariant = { λ s. IsScan s.frontier (length s.waits.items) (length s.found.items)
+        (record { courses = s.program.now; keep = s.keep; base = s.base; buffer = s.buffer; states = s.states.items }) };
 }
 
 impl<'p> Scan<'p> {
