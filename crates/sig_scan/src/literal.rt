@@ -55,10 +55,13 @@ impl Literal {
         ensures { IsLiteralOf items.now result }
     {
         let mut best = run_of(items, 0);
+        let mut most = best.rarity();
         let mut at: usize = 0;
         for (i, item) in items.iter().enumerate() {
             let found = run_of(&items[i..], at);
-            if best.rarity() <= found.rarity() {
+            let rarity = found.rarity();
+            if most <= rarity {
+                most = rarity;
                 best = found;
             }
             match behind(item, at) {

@@ -4,7 +4,7 @@ use Rattle.sig_expr.specs.declared.item.Item.{Item}
 use Rattle.sig_scan.specs.Literals.{BeginsWith, IsLiteralOf}
 use Rattle.sig_scan.proofs.LiteralLemmas.{AreFixed-next, AreFixed-none, IsLiteralOf-behind}
 use Rattle.sig_scan.proofs.literal.Literal.of.Goals as goal
-use Rattle.sig_scan.proofs.literal.Literal.of.Goals.{then-rarity, else-rarity}
+use Rattle.sig_scan.proofs.literal.Literal.of.Goals.{then-most-rarity, else-most-rarity}
 
 -- the items from one on
 rest_is : (items : List Item) (i : ℕ) → take (length items - i) (drop i items) ≡ drop i items
@@ -15,9 +15,9 @@ returns-in-None c =
     let items = c.args.items.now in
     let found = IsLiteralOf-behind items c.loop-i.i c.loop-i.at c.run_of-found.result c.run_of-found.ensures.at c.loop-i.invariant.fixed
     (subst (λ (l : List Item). BeginsWith l c.run_of-found.result.text c.run_of-found.result.other) (rest_is items c.loop-i.i) c.run_of-found.ensures.begins) in
-    elim c.if-rarity.branch [
-      | then-rarity w ↦ subst (IsLiteralOf c.args.items.now) (sym w.best-is) found
-      | else-rarity w ↦ subst (IsLiteralOf c.args.items.now) (sym w.best-is) c.loop-i.invariant.literal
+    elim c.if-most-rarity.branch [
+      | then-most-rarity w ↦ subst (IsLiteralOf c.args.items.now) (sym w.best-is) found
+      | else-most-rarity w ↦ subst (IsLiteralOf c.args.items.now) (sym w.best-is) c.loop-i.invariant.literal
     ]
 
 pub loop-i-init : goal.loop-i-init
@@ -33,9 +33,9 @@ loop-i-preserved c =
     let found = IsLiteralOf-behind items c.loop-i.i c.loop-i.at c.run_of-found.result c.run_of-found.ensures.at c.loop-i.invariant.fixed
     (subst (λ (l : List Item). BeginsWith l c.run_of-found.result.text c.run_of-found.result.other) (rest_is items c.loop-i.i) c.run_of-found.ensures.begins) in
     record {
-      literal = elim c.if-rarity.branch [
-        | then-rarity w ↦ subst (IsLiteralOf c.args.items.now) (sym w.best-is) found
-        | else-rarity w ↦ subst (IsLiteralOf c.args.items.now) (sym w.best-is) c.loop-i.invariant.literal
+      literal = elim c.if-most-rarity.branch [
+        | then-most-rarity w ↦ subst (IsLiteralOf c.args.items.now) (sym w.best-is) found
+        | else-most-rarity w ↦ subst (IsLiteralOf c.args.items.now) (sym w.best-is) c.loop-i.invariant.literal
       ];
       fixed = AreFixed-next c.args.items.now c.loop-i.i c.loop-i.at c.in-Some.next c.index-items-i.result c.loop-i-test.true c.index-items-i.is
           c.in-Some.ensures.order c.in-Some.ensures.long c.loop-i.invariant.fixed;
