@@ -15,18 +15,21 @@ fn position_of(state: u32, has_words: bool) -> &'static str {
     if has_words && (state >> 24) % 8 < 5 {
         return "Variable,,";
     }
-    match (state >> 24) % 5 {
+    match (state >> 24) % 7 {
         0 => "BOF,0,",
         1 => "BOF,1,4",
-        2 => "EOF,0,",
-        3 => "EOF,0,3",
+        2 => "BOF,0,20",
+        3 => "EOF,0,",
+        4 => "EOF,0,3",
+        5 => "EOF,2,20",
         _ => "Variable,,",
     }
 }
 
-// One of its items, among them brackets of two bytes inside alternatives, and gaps.
+// One of its items, among them brackets of two bytes inside alternatives, alternatives of other lengths, and gaps of all
+// kinds.
 fn item_of(state: u32) -> &'static str {
-    match (state >> 24) % 11 {
+    match (state >> 24) % 16 {
         0 => "41",
         1 => "4142",
         2 => "00",
@@ -37,6 +40,11 @@ fn item_of(state: u32) -> &'static str {
         7 => "[!41]",
         8 => "[!4142]",
         9 => "(41|4200)",
+        10 => "{3-*}",
+        11 => "{0-20}",
+        12 => "[41:42]",
+        13 => "[4142:4241]",
+        14 => "(41424200|42)",
         _ => "(4142|[4100:4142]00)",
     }
 }
@@ -214,7 +222,7 @@ fn random_words_in_long_files_are_told_alike(rt: HostRuntime) -> Result<(), Fail
 }
 
 // The lengths of blocks: with few bytes, words lie across many borders.
-const BLOCKS: &[u32] = &[1, 2, 3, 5, 8, 64];
+const BLOCKS: &[u32] = &[1, 2, 3, 5, 8, 17, 64];
 
 // Whether a core that scans by blocks agrees on the file.
 fn core_agrees(alloc: Global, core: &BlockCore, file: &[u8]) -> Result<bool, Fail> {
