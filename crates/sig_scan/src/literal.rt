@@ -57,12 +57,16 @@ impl Literal {
         let mut best = run_of(items, 0);
         let mut most = best.rarity();
         let mut at: usize = 0;
+        let mut passed: usize = 0;
         for (i, item) in items.iter().enumerate() {
-            let found = run_of(&items[i..], at);
-            let rarity = found.rarity();
-            if most <= rarity {
-                most = rarity;
-                best = found;
+            if passed <= i {
+                let found = run_of(&items[i..], at);
+                let rarity = found.rarity();
+                passed = found.passes(i);
+                if most <= rarity {
+                    most = rarity;
+                    best = found;
+                }
             }
             match behind(item, at) {
                 Some(next) => at = next,
@@ -70,6 +74,16 @@ impl Literal {
             }
         }
         best
+    }
+
+    // Of a run that begins at item `i`: before which item no other beginning is as rare. Within a run that has an end, the
+    // later a beginning, the fewer bytes are left.
+    fn passes(&self, i: usize) -> usize {
+        if self.len < LONGEST {
+            i.saturating_add(self.len)
+        } else {
+            i
+        }
     }
 
     // A guess of how rare it is: the more, the rarer.
