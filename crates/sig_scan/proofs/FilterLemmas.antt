@@ -6,10 +6,11 @@ use Rattle.std.proofs.lemmas.List.{get_or-append-add, get_or_append_left, get_or
 use Rattle.std.proofs.lemmas.Option.{get_or_from_slice_get, slice_get-get_or, slice_get_within}
 use Rattle.std.proofs.lemmas.Bool.{cases_eq, cases_lt}
 use Rattle.std.specs.List.{slice_get}
-use Rattle.sig_scan.specs.Filters.{AreKept, AreLowered, AreMissed, AreOwned, HasWindow, IsEntered, IsFilter, IsListed, IsPassedAt, IsUnlisted, behind_of, four_at, list_of, mark_of, text_of}
-use Rattle.sig_scan.specs.Literals.{Fits, LiteralView, StandsAt, byte_of}
+use Rattle.sig_scan.specs.Filters.{AddsEntry, AreKept, AreLiteralsOf, AreLowered, AreMissed, AreOwned, HasWindow, IsEntered, IsFilter, IsListed, IsPassedAt, IsUnlisted, behind_of, four_at, list_of, mark_of, text_of}
+use Rattle.sig_scan.specs.Literals.{Fits, IsLiteralOf, LiteralView, StandsAt, byte_of}
+use Rattle.sig_scan.specs.Stages.{CourseView, StageView}
 use Rattle.sig_scan.specs.declared.filter.Entry.{Entry}
-use Rattle.sig_scan.specs.declared.filter.Wait.{Wait}
+use Rattle.sig_scan.specs.declared.state.State.{State}
 
 -- the fourth byte does not count for a mark
 mark_of-four : (m d : ℕ) → mark_of (m + d * 16777216) ≡ mark_of m
@@ -135,12 +136,12 @@ ArePassed-on marks slots entries bytes from place to filter even unlisted none b
     ]
 
 -- the slots of a list say which entries are found by its four bytes
-pub IsEntered-slot : (marks slots : List ℕ) (entries : List Entry) (bytes : List ℕ) (w i : ℕ) (e : Entry) (found : List ℕ) (waits : List Wait)
+pub IsEntered-slot : (marks slots : List ℕ) (entries : List Entry) (bytes : List ℕ) (w i : ℕ) (e : Entry) (found : List ℕ) (states : List State)
     → IsFilter marks slots entries → slice_get entries i ≡ Some e → HasWindow e bytes w
     → ((slot j : ℕ) (f : Entry) → 8 * list_of (four_at bytes w) ≤ slot → slot < 8 * list_of (four_at bytes w) + 8 → get_or slots slot 0 ≡ j + 1
-    → slice_get entries j ≡ Some f → IsPassedAt f bytes waits w found)
-    → IsPassedAt e bytes waits w found
-IsEntered-slot marks slots entries bytes w i e found waits filter at has all =
+    → slice_get entries j ≡ Some f → IsPassedAt f bytes states w found)
+    → IsPassedAt e bytes states w found
+IsEntered-slot marks slots entries bytes w i e found states filter at has all =
     let is = (at_window marks slots i e bytes w (filter.each i e at) has).1 in
     all is.slot i e is.low is.high is.listed at
 
@@ -152,60 +153,60 @@ HasWindow-stands e bytes x w inside at stands j few =
     (stands.fits (e.window + j) (omega arith))
 
 -- at the places before this one no literal stands with its four bytes, before what was found
-abbrev pub ArePassedBelow : List Entry → List ℕ → List Wait → ℕ → List ℕ → Type 0
-ArePassedBelow entries bytes waits place found =
-    (i w : ℕ) (e : Entry) → slice_get entries i ≡ Some e → w + 1 < place → w + 5 ≤ length bytes → IsPassedAt e bytes waits w found
+abbrev pub ArePassedBelow : List Entry → List ℕ → List State → ℕ → List ℕ → Type 0
+ArePassedBelow entries bytes states place found =
+    (i w : ℕ) (e : Entry) → slice_get entries i ≡ Some e → w + 1 < place → w + 5 ≤ length bytes → IsPassedAt e bytes states w found
 
 -- what is lowered stays passed
-pub IsPassedAt-lowered : (e : Entry) (bytes : List ℕ) (waits : List Wait) (w : ℕ) (old new : List ℕ) → AreLowered old new → IsPassedAt e bytes waits w old
-    → IsPassedAt e bytes waits w new
-IsPassedAt-lowered e bytes waits w old new lower passed x v at stage low high place =
+pub IsPassedAt-lowered : (e : Entry) (bytes : List ℕ) (states : List State) (w : ℕ) (old new : List ℕ) → AreLowered old new → IsPassedAt e bytes states w old
+    → IsPassedAt e bytes states w new
+IsPassedAt-lowered e bytes states w old new lower passed x v at stage low high place =
     let less = lower e.sequence in
     passed x v at stage low (omega arith) place
 
-pub IsPassedAt-set : (e : Entry) (bytes : List ℕ) (waits : List Wait) (w : ℕ) (found : List ℕ) (n : ℕ) (v : Wait) → e.sequence < length waits
-    → e.sequence < length found → v ≡ get_or waits e.sequence v
-    → ((x : ℕ) → e.stage ≡ v.stage → v.from ≤ x → x < n → x + e.literal.at + e.window ≡ w → ¬ StandsAt e.literal bytes (x + e.literal.at))
-    → IsPassedAt e bytes waits w (set found e.sequence n)
-IsPassedAt-set e bytes waits w found n v waits_has found_has is passed x u at stage low high place =
-    let same : u ≡ v = sym (get_or_from_slice_get waits e.sequence u v at) ∙ sym is in
+pub IsPassedAt-set : (e : Entry) (bytes : List ℕ) (states : List State) (w : ℕ) (found : List ℕ) (n : ℕ) (v : State) → e.sequence < length states
+    → e.sequence < length found → v ≡ get_or states e.sequence v
+    → ((x : ℕ) → e.done ≡ v.done → v.from ≤ x → x < n → x + e.literal.at + e.window ≡ w → ¬ StandsAt e.literal bytes (x + e.literal.at))
+    → IsPassedAt e bytes states w (set found e.sequence n)
+IsPassedAt-set e bytes states w found n v states_has found_has is passed x u at stage low high place =
+    let same : u ≡ v = sym (get_or_from_slice_get states e.sequence u v at) ∙ sym is in
     let here = get_or-set_same found e.sequence n 0 found_has in
-    let s = ap (λ (t : Wait). t.stage) same in
-    let f = ap (λ (t : Wait). t.from) same in
+    let s = ap (λ (t : State). t.done) same in
+    let f = ap (λ (t : State). t.from) same in
     passed x (stage ∙ s) (omega arith) (omega arith) place
 
--- a sequence that is not there waits for nothing
-pub IsPassedAt-none : (e : Entry) (bytes : List ℕ) (waits : List Wait) (w : ℕ) (found : List ℕ)
-    → (length waits ≤ e.sequence) ⊎ (length found ≤ e.sequence) → IsPassedAt e bytes waits w found
-IsPassedAt-none e bytes waits w found (inl none) x v at stage low high place =
-    let inside = slice_get_within waits e.sequence v at in
+-- a sequence that is not there states for nothing
+pub IsPassedAt-none : (e : Entry) (bytes : List ℕ) (states : List State) (w : ℕ) (found : List ℕ)
+    → (length states ≤ e.sequence) ⊎ (length found ≤ e.sequence) → IsPassedAt e bytes states w found
+IsPassedAt-none e bytes states w found (inl none) x v at stage low high place =
+    let inside = slice_get_within states e.sequence v at in
     absurd (omega arith)
-IsPassedAt-none e bytes waits w found (inr none) x v at stage low high place =
+IsPassedAt-none e bytes states w found (inr none) x v at stage low high place =
     let past = get_or_past found e.sequence 0 none in
     absurd (omega arith)
 
 -- the places below, and what two looks there pass
-pub ArePassedBelow-next : (entries : List Entry) (bytes : List ℕ) (waits : List Wait) (place next : ℕ) (old new : List ℕ) → AreLowered old new
-    → ((i : ℕ) (e : Entry) → slice_get entries i ≡ Some e → HasWindow e bytes place → IsPassedAt e bytes waits place new)
-    → ((i : ℕ) (e : Entry) → 0 < place → slice_get entries i ≡ Some e → HasWindow e bytes (place - 1) → IsPassedAt e bytes waits (place - 1) new)
+pub ArePassedBelow-next : (entries : List Entry) (bytes : List ℕ) (states : List State) (place next : ℕ) (old new : List ℕ) → AreLowered old new
+    → ((i : ℕ) (e : Entry) → slice_get entries i ≡ Some e → HasWindow e bytes place → IsPassedAt e bytes states place new)
+    → ((i : ℕ) (e : Entry) → 0 < place → slice_get entries i ≡ Some e → HasWindow e bytes (place - 1) → IsPassedAt e bytes states (place - 1) new)
     → ((i : ℕ) (e : Entry) → slice_get entries i ≡ Some e → e.window + 4 ≤ length e.literal.text)
     → ArePassed entries bytes (place + 2) next
-    → ArePassedBelow entries bytes waits place old → ArePassedBelow entries bytes waits next new
-ArePassedBelow-next entries bytes waits place next old new lower here behind inside none below i w e at high room =
+    → ArePassedBelow entries bytes states place old → ArePassedBelow entries bytes states next new
+ArePassedBelow-next entries bytes states place next old new lower here behind inside none below i w e at high room =
     let enough = inside i e at in
     elim (cases_lt (w + 1) place) [
-      | inl past ↦ IsPassedAt-lowered e bytes waits w old new lower (below i w e at past room)
+      | inl past ↦ IsPassedAt-lowered e bytes states w old new lower (below i w e at past room)
       | inr on ↦ λ x v wait stage low small is occurs. (
           let has = HasWindow-stands e bytes x w enough is occurs in
           elim (cases_lt w place) [
             | inl first ↦ (
                 let same : place - 1 ≡ w = omega arith in
-                let P : ℕ → Type 0 = λ n. HasWindow e bytes n → IsPassedAt e bytes waits n new in
+                let P : ℕ → Type 0 = λ n. HasWindow e bytes n → IsPassedAt e bytes states n new in
                 subst P same (behind i e (omega arith) at) has x v wait stage low small is occurs)
             | inr later ↦
                 elim (cases_eq w place) [
                   | inl same ↦ (
-                      let P : ℕ → Type 0 = λ n. HasWindow e bytes n → IsPassedAt e bytes waits n new in
+                      let P : ℕ → Type 0 = λ n. HasWindow e bytes n → IsPassedAt e bytes states n new in
                       subst P (sym same) (here i e at) has x v wait stage low small is occurs)
                   | inr other ↦ none i w e at (omega arith) high room has
                 ]
@@ -213,46 +214,47 @@ ArePassedBelow-next entries bytes waits place next old new lower here behind ins
     ]
 
 -- before the first place nothing is passed but what does not stand
-pub ArePassedBelow-first : (entries : List Entry) (bytes : List ℕ) (waits : List Wait) (place : ℕ) (found : List ℕ)
+pub ArePassedBelow-first : (entries : List Entry) (bytes : List ℕ) (states : List State) (place : ℕ) (found : List ℕ)
     → ((i : ℕ) (e : Entry) → slice_get entries i ≡ Some e → e.window + 4 ≤ length e.literal.text)
-    → ArePassed entries bytes 0 place → ArePassedBelow entries bytes waits place found
-ArePassedBelow-first entries bytes waits place found inside none i w e at high room x v wait stage low small is occurs =
+    → ArePassed entries bytes 0 place → ArePassedBelow entries bytes states place found
+ArePassedBelow-first entries bytes states place found inside none i w e at high room x v wait stage low small is occurs =
     none i w e at (omega arith) high room (HasWindow-stands e bytes x w (inside i e at) is occurs)
 
 -- at the end each literal is missed
-pub AreMissed-last : (entries : List Entry) (bytes : List ℕ) (waits : List Wait) (place : ℕ) (found : List ℕ)
+pub AreMissed-last : (entries : List Entry) (bytes : List ℕ) (states : List State) (place : ℕ) (found : List ℕ)
     → ((i : ℕ) (e : Entry) → slice_get entries i ≡ Some e → e.window + 4 ≤ length e.literal.text)
-    → length bytes < place + 4 → AreOwned entries waits found → ArePassedBelow entries bytes waits place found → AreMissed entries bytes waits found
-AreMissed-last entries bytes waits place found inside end owned passed k x w at low high =
+    → length bytes < place + 4 → AreOwned entries states found → ArePassedBelow entries bytes states place found → AreMissed entries bytes states found
+AreMissed-last entries bytes states place found inside end owned passed k x w at low high =
     let own = owned k (omega arith) in
     let e : Entry = own.0 in
     let i : ℕ = own.1 in
-    let v : Wait = own.2 in
+    let v : State = own.2 in
     let same : Some v ≡ Some w = sym own.5 ∙ at in
     let is : v ≡ w = cc in
-    let here : slice_get waits e.sequence ≡ Some w = ap (slice_get waits) own.4 ∙ at in
-    let stage : e.stage ≡ w.stage = own.6 ∙ ap (λ (t : Wait). t.stage) is in
+    let here : slice_get states e.sequence ≡ Some w = ap (slice_get states) own.4 ∙ at in
+    let stage : e.done ≡ w.done = own.6 ∙ ap (λ (t : State). t.done) is in
     let enough = inside i e own.3 in
     let few : x < get_or found e.sequence 0 = subst (λ n. x < get_or found n 0) (sym own.4) high in (
       i,
       e,
       own.3,
+      own.4,
       stage,
       λ room occurs. passed i (x + e.literal.at + e.window) e own.3 (omega arith) (omega arith) x w here stage low few refl occurs,
     )
 
 -- the entries of one slot more are compared
-abbrev pub AreCompared : List Entry → List ℕ → List ℕ → List Wait → ℕ → ℕ → ℕ → List ℕ → Type 0
-AreCompared entries slots bytes waits place list to found =
-    (slot i : ℕ) (e : Entry) → list ≤ slot → slot < to → get_or slots slot 0 ≡ i + 1 → slice_get entries i ≡ Some e → IsPassedAt e bytes waits place found
+abbrev pub AreCompared : List Entry → List ℕ → List ℕ → List State → ℕ → ℕ → ℕ → List ℕ → Type 0
+AreCompared entries slots bytes states place list to found =
+    (slot i : ℕ) (e : Entry) → list ≤ slot → slot < to → get_or slots slot 0 ≡ i + 1 → slice_get entries i ≡ Some e → IsPassedAt e bytes states place found
 
-pub AreCompared-next : (entries : List Entry) (slots bytes : List ℕ) (waits : List Wait) (place list slot : ℕ) (old new : List ℕ) → AreLowered old new
-    → ((i : ℕ) (e : Entry) → get_or slots slot 0 ≡ i + 1 → slice_get entries i ≡ Some e → IsPassedAt e bytes waits place new)
-    → AreCompared entries slots bytes waits place list slot old → AreCompared entries slots bytes waits place list (slot + 1) new
-AreCompared-next entries slots bytes waits place list slot old new lower here before k i e low high id at =
+pub AreCompared-next : (entries : List Entry) (slots bytes : List ℕ) (states : List State) (place list slot : ℕ) (old new : List ℕ) → AreLowered old new
+    → ((i : ℕ) (e : Entry) → get_or slots slot 0 ≡ i + 1 → slice_get entries i ≡ Some e → IsPassedAt e bytes states place new)
+    → AreCompared entries slots bytes states place list slot old → AreCompared entries slots bytes states place list (slot + 1) new
+AreCompared-next entries slots bytes states place list slot old new lower here before k i e low high id at =
     elim (cases_eq k slot) [
       | inl same ↦ here i e (same_byte slots slot k (sym same) ∙ id) at
-      | inr other ↦ IsPassedAt-lowered e bytes waits place old new lower (before k i e low (omega arith) id at)
+      | inr other ↦ IsPassedAt-lowered e bytes states place old new lower (before k i e low (omega arith) id at)
     ]
 
 -- marks that are set stay
@@ -388,6 +390,37 @@ IsFilter-added marks slots entries e filter is = record {
 pub AreLowered-twice : (a b d : List ℕ) → AreLowered a b → AreLowered b d → AreLowered a d
 AreLowered-twice a b d first second k = let x = first k in let y = second k in omega arith
 
-pub AreOwned-lowered : (entries : List Entry) (waits : List Wait) (old new : List ℕ) → AreLowered old new → AreOwned entries waits old
-    → AreOwned entries waits new
-AreOwned-lowered entries waits old new lower owned k some = let less = lower k in owned k (omega arith)
+pub AreOwned-lowered : (entries : List Entry) (states : List State) (old new : List ℕ) → AreLowered old new → AreOwned entries states old
+    → AreOwned entries states new
+AreOwned-lowered entries states old new lower owned k some = let less = lower k in owned k (omega arith)
+
+-- the element at a place of a list with one more at its end
+push_cases : {X : Type 0} (xs : List X) (x y : X) (i : ℕ) → slice_get (xs ++ x ∷ []) i ≡ Some y → (slice_get xs i ≡ Some y) ⊎ (x ≡ y)
+push_cases {X} xs x y i at =
+    elim (cases_lt i (length xs)) [
+      | inl old ↦ (
+          let value : get_or xs i y ≡ y = sym (get_or_append_left xs (x ∷ []) y i old) ∙ get_or_from_slice_get (xs ++ x ∷ []) i y y at in
+          inl (slice_get-get_or xs i y old ∙ ap (λ (g : X). Some g) value))
+      | inr new ↦ (
+          let within = slice_get_within (xs ++ x ∷ []) i y at in
+          let len = length-append xs (x ∷ []) in
+          let end : length xs + 0 ≡ i = omega arith in
+          inr (sym (get_or-append-add xs (x ∷ []) 0 y) ∙ ap (λ k. get_or (xs ++ x ∷ []) k y) end
+          ∙ get_or_from_slice_get (xs ++ x ∷ []) i y y at))
+    ]
+
+-- the literal of one stage more
+pub AreLiteralsOf-added : (courses : List CourseView) (old new : List Entry) (l : LiteralView) (u : StageView) (sequence done : ℕ)
+    → AddsEntry old new l sequence done → IsLiteralOf u.items l
+    → ((c : CourseView) → slice_get courses sequence ≡ Some c → slice_get c.stages done ≡ Some u) → AreLiteralsOf courses old → AreLiteralsOf courses new
+AreLiteralsOf-added courses old new l u sequence done (inl same) is stage literals i f c at course =
+    subst (AreLiteralsOf courses) (sym same) literals i f c at course
+AreLiteralsOf-added courses old new l u sequence done (inr (e, new_is, literal, of, number)) is stage literals i f c at course =
+    elim (push_cases old e f i (ap (λ (es : List Entry). slice_get es i) (sym new_is) ∙ at)) [
+      | inl before ↦ literals i f c before course
+      | inr same ↦ (
+          let here : slice_get courses sequence ≡ Some c =
+          ap (slice_get courses) (sym of ∙ ap (λ (x : Entry). x.sequence) same) ∙ course in
+          let P : Entry → Type 0 = λ x. (v : StageView) × (slice_get c.stages x.done ≡ Some v) × IsLiteralOf v.items x.literal in
+          subst P same (u, ap (slice_get c.stages) number ∙ stage c here, subst (IsLiteralOf u.items) (sym literal) is))
+    ]

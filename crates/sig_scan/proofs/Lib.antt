@@ -26,3 +26,5 @@ mod StateLemmas
 mod PassLemmas
 mod ScanLemmas
 mod MarkedLemmas
+mod HeadLemmas
+mod SignatureLemmas

@@ -1,14 +1,15 @@
 -- Where required literals stand: behind the beginning of each word, and so far from each other offset.
 use Rattle.std.proofs.Common.{◌≡◌, ◌⊎◌, ℕ, zero, suc, ◌+◌, ◌-◌, ◌≤◌, ◌<◌, true, eqb, eq-eqb, List, [], ◌∷◌, ◌++◌, length, get_or, take, drop, min, ap, ap₂, ◌∙◌, sym, subst, refl, arith, length-append, inl, inr, Option, Some, None}
 use Rattle.std.specs.Prelude.{slice_range}
-use Rattle.std.proofs.lemmas.Bool.{cases_lt, or_left, or_right}
+use Rattle.std.proofs.Math.ListN.{set}
+use Rattle.std.proofs.lemmas.Bool.{cases_eq, cases_lt, or_left, or_right}
 use Rattle.std.proofs.lemmas.List.{append-nil, get_or-drop, get_or-take, take-append-drop, take-take, take_at, take_more}
 use Rattle.memchr.specs.Find.{FindsNeedle, IsFirst, Nowhere, OccursAt, Passes, is_byte2}
 use Rattle.memchr.proofs.lemmas.MatchLemmas.{OccursAt-from_part}
 use Rattle.sig_expr.specs.declared.item.Item.{Item}
 use Rattle.sig_expr.specs.Words.{Lang, Word}
 use Rattle.sig_scan.specs.Lengths.{HasLength}
-use Rattle.sig_scan.specs.Literals.{AreFixed, BeginsWith, Fits, IsLiteralOf, LiteralView, StandsAt, byte_of}
+use Rattle.sig_scan.specs.Literals.{AreFixed, BeginsWith, Fits, IsEitherOf, IsLiteralOf, LiteralView, StandsAt, byte_of}
 use Rattle.sig_scan.specs.Placed.{Lies}
 use Rattle.sig_scan.specs.Scans.{IsFirstOf}
 use Rattle.sig_scan.proofs.LiesLemmas.{Lies-split, length-slice_range}
@@ -41,6 +42,26 @@ run_front (a ∷ text) (b ∷ other) (i ∷ items) w begins (u, v, cut, word, la
       (omega arith, fits-more a b x text other run first.2 rest.3),
     )
 
+-- the bytes of an item more
+begins_more : (items : List Item) (text other : List ℕ) (k a b : ℕ) (x : Item) → k < length items → k < length text → k < length other
+    → x ≡ get_or items k x → IsEitherOf x a b → BeginsWith items (take k text) (take k other)
+    → BeginsWith items (take (suc k) (set text k a)) (take (suc k) (set other k b))
+begins_more [] text other k a b x in_items in_text in_other is either begins = absurd (omega arith)
+begins_more (i ∷ items) [] other k a b x in_items in_text in_other is either begins = absurd (omega arith)
+begins_more (i ∷ items) (t ∷ text) [] k a b x in_items in_text in_other is either begins = absurd (omega arith)
+begins_more (i ∷ items) (t ∷ text) (u ∷ other) zero a b x in_items in_text in_other is either begins =
+    (subst (λ (y : Item). IsEitherOf y a b) is either, tt)
+begins_more (i ∷ items) (t ∷ text) (u ∷ other) (suc k) a b x in_items in_text in_other is either begins =
+    (begins.0, begins_more items text other k a b x (omega arith) (omega arith) (omega arith) is either begins.1)
+
+pub BeginsWith-more : (items : List Item) (text other : List ℕ) (k a b : ℕ) (x : Item) → k < length items → k < length text → k < length other
+    → x ≡ get_or items k x → IsEitherOf x a b → BeginsWith items (take k text) (take k other)
+    → BeginsWith items (take (k + 1) (set text k a)) (take (k + 1) (set other k b))
+BeginsWith-more items text other k a b x in_items in_text in_other is either begins =
+    let next : suc k ≡ k + 1 = omega arith in
+    subst (λ n. BeginsWith items (take n (set text k a)) (take n (set other k b))) next
+    (begins_more items text other k a b x in_items in_text in_other is either begins)
+
 -- no items have no bytes
 pub AreFixed-none : (items : List Item) → AreFixed (take 0 items) 0
 AreFixed-none items = record {
@@ -68,6 +89,30 @@ AreFixed-next items i at next x within is order long fixed = record {
       let size = long word.0 word.3 in
       omega arith;
 }
+
+pub AreFixed-same : (items : List Item) (i j at to : ℕ) → i ≡ j → at ≡ to → AreFixed (take i items) at → AreFixed (take j items) to
+AreFixed-same items i j at to i_is at_is fixed =
+    subst (λ n. AreFixed (take j items) n) at_is (subst (λ n. AreFixed (take n items) at) i_is fixed)
+
+-- so are those before each of the last places
+abbrev pub AreAllFixed : List Item → ℕ → ℕ → ℕ → Type 0
+AreAllFixed items i at len = (k : ℕ) → k ≤ len → AreFixed (take (i - k) items) (at - k)
+
+pub AreAllFixed-none : (items : List Item) (i at len : ℕ) → len ≡ 0 → AreFixed (take i items) at → AreAllFixed items i at len
+AreAllFixed-none items i at len none fixed k low = AreFixed-same items i (i - k) at (at - k) (omega arith) (omega arith) fixed
+
+-- a place more
+pub AreAllFixed-next : (items : List Item) (i at len new : ℕ) (x : Item) → i < length items → x ≡ get_or items i x → HasLength (Word x) 1
+    → new ≤ len + 1 → AreAllFixed items i at len → AreAllFixed items (i + 1) (at + 1) new
+AreAllFixed-next items i at len new x within is long few fixed k low =
+    elim (cases_eq k 0) [
+      | inl last ↦ (
+          let one : HasLength (Word x) (at + 1 - at) = subst (HasLength (Word x)) (omega arith) long in
+          let here = AreFixed-same items (i - 0) i (at - 0) at (omega arith) (omega arith) (fixed 0 (omega arith)) in
+          AreFixed-same items (i + 1) (i + 1 - k) (at + 1) (at + 1 - k) (omega arith) (omega arith)
+          (AreFixed-next items i at (at + 1) x within is (omega arith) one here))
+      | inr before ↦ AreFixed-same items (i - (k - 1)) (i + 1 - k) (at - (k - 1)) (at + 1 - k) (omega arith) (omega arith) (fixed (k - 1) (omega arith))
+    ]
 
 -- bytes behind items of one length stand behind the beginning of each word
 pub IsLiteralOf-behind : (items : List Item) (i at : ℕ) (literal : LiteralView) → literal.at ≡ at → AreFixed (take i items) at

@@ -1,15 +1,16 @@
 -- The beginning and the end of a scan: what it is of an empty file, and which signatures it marks.
-use Rattle.std.proofs.Common.{◌≡◌, ◌∙◌, ℕ, ◌+◌, ◌-◌, ◌≤◌, ◌<◌, inl, inr, All, Bool, List, [], ◌∷◌, ◌++◌, add-one, ap, arith, drop, drop-cons, false, get_or, get_or-set_other, get_or-set_same, length, length-append, map, Option, refl, Some, subst, suc, sym, take}
+use Rattle.std.proofs.Common.{◌≡◌, ◌∙◌, ℕ, ◌+◌, ◌-◌, ◌≤◌, ◌<◌, inl, inr, All, Bool, List, [], ◌∷◌, ◌++◌, add-one, ap, arith, drop, drop-cons, false, true, get_or, get_or-set_other, get_or-set_same, length, length-append, map, max, Option, refl, Some, subst, suc, sym, take}
 use Rattle.std.proofs.Math.ListN.{set}
-use Rattle.std.proofs.lemmas.Bool.{cases_eq}
+use Rattle.std.proofs.lemmas.Bool.{cases_eq, false≢true}
 use Rattle.std.proofs.lemmas.Grind.{flat_map-append}
-use Rattle.std.proofs.lemmas.List.{get_or-append-add, get_or_append_left, length-map, take-append-drop, take_more}
+use Rattle.std.proofs.lemmas.List.{append-nil, get_or-append-add, get_or_append_left, length-map, take-append-drop, take_more}
+use Rattle.std.proofs.lemmas.List.Elements.{All-nil}
 use Rattle.std.proofs.lemmas.Option.{get_or_from_slice_get, slice_get-get_or, slice_get-map, slice_get_within}
 use Rattle.std.specs.List.{flat_map, slice_get}
 use Rattle.std.specs.Option.{option_map}
-use Rattle.std.specs.Prelude.{◌↔◌, IsTrue}
+use Rattle.std.specs.Prelude.{◌↔◌, IsTrue, slice_index}
 use Rattle.sig_scan.specs.Courses.{IsHeld, courses_of}
-use Rattle.sig_scan.specs.Scans.{AllStand, AreFirst, AreMarked, HasLastBytes, InTurnAt, IsBase, IsEndOf, IsScanOf, IsShort, IsShortCourse, TailIsShort, WaitsAt, sequences_of}
+use Rattle.sig_scan.specs.Scans.{AllStand, AreExcluded, AreFirst, AreMarked, HasLastBytes, InTurnAt, IsBase, IsEndOf, IsScanOf, IsShort, IsShortCourse, ScanView, TailIsShort, WaitsAt, first_of, sequences_of}
 use Rattle.sig_scan.specs.Stages.{CourseView, StageView, TailView, Waits, course_of}
 use Rattle.sig_scan.specs.declared.state.State.{State}
 use Rattle.sig_scan.proofs.ScanLemmas.{All-course, courses_of-map, table-short}
@@ -27,17 +28,26 @@ course-at table courses i s c is sequence course =
     let both : Some (course_of s) ≡ Some c = ap (λ (o : Option SequenceView). option_map course_of o) (sym sequence) ∙ sym mapped ∙ course in
     (cc)
 
--- a scan of an empty file
-pub IsScanOf-fresh : (table : TableView) (courses : List CourseView) (keep room : ℕ) (states : List State) → courses ≡ courses_of table
-    → AreFirst courses states
-    → IsScanOf table [] (record { courses = courses; keep = keep; base = 0; buffer = record { room = room; bytes = [] }; states = states })
-IsScanOf-fresh table courses keep room states is first = record {
+-- a scan of an empty file, with all signatures may_hit
+pub IsScanOf-fresh : (table : TableView) (courses : List CourseView) (keep room : ℕ) (states : List State) (may_hit : List Bool) (found : List ℕ)
+    → courses ≡ courses_of table → AreFirst courses states → All (λ b. b ≡ true) may_hit
+    → IsScanOf table [] (record {
+      table = table;
+      courses = courses;
+      keep = keep;
+      base = 0;
+      buffer = record { room = room; bytes = [] };
+      states = states;
+      may_hit = may_hit;
+      found = found;
+    })
+IsScanOf-fresh table courses keep room states may_hit found is first all_open = record {
   before = [];
   bytes = refl;
   base = refl;
   last = inl refl;
-  courses = is;
-  wait = λ i s c t sequence course state.
+  is_table = refl;
+  wait = λ g h may signature i s c t low high sequence course state.
       let t_is = first i c t course state in
       let c_is = course-at table courses i s c is sequence course in
       let P : State → Type 0 = λ x. WaitsAt s [] [] x.from (drop x.done c.stages) c.tail in
@@ -45,6 +55,10 @@ IsScanOf-fresh table courses keep room states is first = record {
       let fresh : Waits s [] c.from c.stages c.tail = subst Q c_is (Waits-fresh s) in
       let zero : c.from ≡ length {A = ℕ} [] + c.from = omega arith in
       subst P (sym t_is) (subst (λ (n : ℕ). Waits s [] n c.stages c.tail) zero fresh);
+  excluded = λ g h exclude signature more are hits.
+      let within = slice_get_within may_hit g false exclude in
+      let value = get_or_from_slice_get may_hit g false false exclude in
+      absurd (false≢true (sym value ∙ all_open g false within));
 }
 
 -- there are as many courses as sequences
@@ -52,7 +66,7 @@ pub sequences-count : (table : TableView) (courses : List CourseView) → course
 sequences-count table courses is = ap length (is ∙ courses_of-map table.signatures) ∙ length-map (sequences_of table) course_of
 
 -- the sequences of one signature among those of all
-abbrev sequences : List SignatureView → List SequenceView
+abbrev pub sequences : List SignatureView → List SequenceView
 sequences signatures = flat_map (λ s. s.sequences) signatures
 
 signatures-cut : (signatures : List SignatureView) (index : ℕ) (g : SignatureView) → slice_get signatures index ≡ Some g
@@ -141,23 +155,35 @@ AreMarked-set table file index marks b within is marked i g below at =
     ]
 
 -- what is asked at the end of a sequence with these stages and this tail, over these bytes
-abbrev pub JudgedBy : ℕ → ℕ → State → Bool → List StageView → Option TailView → List ℕ → Type 0
-JudgedBy keep base t b stages tail bytes = (before : List ℕ) → IsBase before base → All (IsShort keep) stages → TailIsShort keep tail
-    → HasLastBytes keep before bytes → IsTrue b ↔ InTurnAt before bytes t.from (drop t.done stages) tail
+abbrev pub JudgedBy : ℕ → ℕ → ℕ → ℕ → Bool → List StageView → Option TailView → List ℕ → Type 0
+JudgedBy keep base done from b stages tail bytes = (before : List ℕ) → IsBase before base → All (IsShort keep) stages → TailIsShort keep tail
+    → HasLastBytes keep before bytes → IsTrue b ↔ InTurnAt before bytes from (drop done stages) tail
 
--- a sequence of a scan is judged
-pub Stands-judged : (table : TableView) (file : List ℕ) (courses : List CourseView) (keep base room : ℕ) (bytes : List ℕ) (states : List State) (k : ℕ)
+-- a sequence of a signature that the file may hit is judged
+pub Stands-judged : (table : TableView) (file : List ℕ) (scan : ScanView) (g : ℕ) (h : SignatureView) (k from : ℕ)
     (s : SequenceView) (t : State) (c : CourseView) (b : Bool) (stages : List StageView) (tail : Option TailView) (seen : List ℕ)
-    → All (IsHeld keep) courses → slice_get courses k ≡ Some c → slice_get states k ≡ Some t → stages ≡ c.stages → tail ≡ c.tail → seen ≡ bytes
-    → JudgedBy keep base t b stages tail seen
-    → IsEndOf table file (record { courses = courses; keep = keep; base = base; buffer = record { room = room; bytes = bytes }; states = states })
+    → scan.courses ≡ courses_of table → All (IsHeld scan.keep) scan.courses → slice_get scan.courses k ≡ Some c → slice_get scan.states k ≡ Some t
+    → stages ≡ c.stages → tail ≡ c.tail → seen ≡ scan.buffer.bytes → from ≡ max t.from (slice_index scan.found k)
+    → JudgedBy scan.keep scan.base t.done from b stages tail seen → IsEndOf table file scan
+    → slice_get scan.may_hit g ≡ Some true → slice_get table.signatures g ≡ Some h → first_of table g ≤ k → k < first_of table g + length h.sequences
     → slice_get (sequences_of table) k ≡ Some s → IsTrue b ↔ Stands s file
-Stands-judged table file courses keep base room bytes states k s t c b stages tail seen held course state stages_is tail_is seen_is judged of sequence =
-    let few = All-course (IsShortCourse keep) courses k c course (table-short keep table courses of.courses held) in
-    let here : JudgedBy keep base t b c.stages c.tail bytes =
-    subst (λ (l : List ℕ). JudgedBy keep base t b c.stages c.tail l) seen_is
-    (subst (λ (o : Option TailView). JudgedBy keep base t b c.stages o seen) tail_is
-    (subst (λ (l : List StageView). JudgedBy keep base t b l tail seen) stages_is judged)) in
+Stands-judged table file scan g h k from s t c b stages tail seen is held course state stages_is tail_is seen_is from_is judged of may signature low
+    high sequence =
+    let keep = scan.keep in
+    let base = scan.base in
+    let bytes = scan.buffer.bytes in
+    let few = All-course (IsShortCourse keep) scan.courses k c course (table-short keep table scan.courses is held) in
+    let here : JudgedBy keep base t.done from b c.stages c.tail bytes =
+    subst (λ (l : List ℕ). JudgedBy keep base t.done from b c.stages c.tail l) seen_is
+    (subst (λ (o : Option TailView). JudgedBy keep base t.done from b c.stages o seen) tail_is
+    (subst (λ (l : List StageView). JudgedBy keep base t.done from b l tail seen) stages_is judged)) in
     let turn = here of.before of.base few.stages few.tail of.last in
-    let left = of.left k s c t sequence course state in
-    subst (λ (f : List ℕ). IsTrue b ↔ Stands s f) (sym of.bytes) (λ yes. left.1 (turn.0 yes), λ stands. turn.1 (left.0 stands))
+    let left = of.left g h may signature k s c t low high sequence course state in
+    let at = subst (λ n. Stands s (of.before ++ bytes) ↔ InTurnAt of.before bytes n (drop t.done c.stages) c.tail) (sym from_is) left in
+    subst (λ (f : List ℕ). IsTrue b ↔ Stands s f) (sym of.bytes) (λ yes. at.1 (turn.0 yes), λ stands. turn.1 (at.0 stands))
+
+-- an excluded signature does not hit the file at its end
+pub Hits-never : (table : TableView) (may_hit : List Bool) (file : List ℕ) (index : ℕ) (g : SignatureView) → slice_get may_hit index ≡ Some false
+    → slice_get table.signatures index ≡ Some g → AreExcluded table may_hit file → ¬ Hits g file
+Hits-never table may_hit file index g never at excluded hits =
+    excluded index g never at [] (All-nil (λ b. b < 256)) (subst (Hits g) (sym (append-nil file)) hits)

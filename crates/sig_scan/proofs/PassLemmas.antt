@@ -1,5 +1,5 @@
 -- Sequences go on to what the prefilter found.
-use Rattle.std.proofs.Common.{◌≡◌, ◌∙◌, ℕ, ◌+◌, ◌-◌, ◌≤◌, ◌<◌, ◌^◌, inl, inr, All, List, [], ◌∷◌, ◌++◌, ap, arith, drop, get_or, length, length-append, map, max, min, Option, refl, Some, subst, sym, take}
+use Rattle.std.proofs.Common.{◌≡◌, ◌∙◌, ℕ, ◌+◌, ◌-◌, ◌≤◌, ◌<◌, ◌^◌, inl, inr, All, Bool, List, [], ◌∷◌, ◌++◌, ap, arith, drop, get_or, length, length-append, map, max, min, Option, refl, Some, subst, sym, take}
 use Rattle.std.proofs.Math.ListN.{set}
 use Rattle.std.specs.List.{slice_get}
 use Rattle.std.specs.Option.{option_map}
@@ -10,15 +10,14 @@ use Rattle.std.proofs.lemmas.Option.{get_or_from_slice_get, slice_get-get_or, sl
 use Rattle.sig_table.proofs.Exports.{slice_get-within}
 use Rattle.sig_table.specs.Views.{SequenceView, TableView}
 use Rattle.sig_scan.specs.declared.filter.Entry.{Entry}
-use Rattle.sig_scan.specs.declared.filter.Wait.{Wait}
 use Rattle.sig_scan.specs.declared.program.Course.{Course}
 use Rattle.sig_scan.specs.declared.state.State.{State}
-use Rattle.sig_scan.specs.Courses.{IsCompiled, course_in}
-use Rattle.sig_scan.specs.Filters.{AreMissed}
+use Rattle.sig_scan.specs.Courses.{course_in}
+use Rattle.sig_scan.specs.Filters.{AreLiteralsOf, AreMissed}
 use Rattle.sig_scan.specs.Literals.{IsLiteralOf, LiteralView, StandsAt}
-use Rattle.sig_scan.specs.Passes.{ArePast, IsWaitOf}
+use Rattle.sig_scan.specs.Passes.{ArePast}
 use Rattle.sig_scan.specs.Placed.{Lies}
-use Rattle.sig_scan.specs.Scans.{AreRaised, InTurnAt, IsEndOf, IsScanOf, IsShort, WaitsAt}
+use Rattle.sig_scan.specs.Scans.{BufferView, InTurnAt, IsEndOf, IsScanOf, IsShort, WaitsAt}
 use Rattle.sig_scan.specs.Stages.{CourseView, StageView, TailView}
 use Rattle.sig_scan.proofs.AttemptLemmas.{Lies-take}
 use Rattle.sig_scan.proofs.LengthLemmas.{Lies-span}
@@ -30,14 +29,14 @@ use Rattle.sig_scan.proofs.WaitLemmas.{Waits-judged}
 use Rattle.sig_table.specs.Standing.{Stands}
 
 -- a place of a mapped list
-within_map : (cs : List Course) (k : ℕ) (c : CourseView) (stages : List StageView) → slice_get (map (course_in stages) cs) k ≡ Some c → k < length cs
+pub within_map : (cs : List Course) (k : ℕ) (c : CourseView) (stages : List StageView) → slice_get (map (course_in stages) cs) k ≡ Some c → k < length cs
 within_map cs k c stages at =
     let inside = slice_get_within (map (course_in stages) cs) k c at in
     let len = length-map cs (course_in stages) in
     omega arith
 
 -- a stage of a course, among all stages
-slice_get-range : (stages : List StageView) (a b j : ℕ) (u : StageView) → j < b - a → slice_get stages (a + j) ≡ Some u
+pub slice_get-range : (stages : List StageView) (a b j : ℕ) (u : StageView) → j < b - a → slice_get stages (a + j) ≡ Some u
     → slice_get (slice_range stages a b) j ≡ Some u
 slice_get-range stages a b j u few at =
     let inside = slice_get_within stages (a + j) u at in
@@ -54,6 +53,20 @@ slice_get-range stages a b j u few at =
           slice_get-get_or (slice_range stages a b) j u (omega arith) ∙ ap (λ (v : StageView). Some v) value)
     ]
 
+-- a stage of a course among all, as one of the course
+pub stage-of_course : (stages : List StageView) (cs : List Course) (k stage : ℕ) (d : Course) (u : StageView) (c : CourseView) → k < length cs
+    → d ≡ get_or cs k d → d.first ≤ stage → stage < d.end → stage < length stages → u ≡ get_or stages stage u
+    → slice_get (map (course_in stages) cs) k ≡ Some c → slice_get c.stages (stage - d.first) ≡ Some u
+stage-of_course stages cs k stage d u c inside d_is low high within u_is course =
+    let at : slice_get cs k ≡ Some d = slice_get-get_or cs k d inside ∙ ap (λ (x : Course). Some x) (sym d_is) in
+    let mapped : option_map (course_in stages) (slice_get cs k) ≡ Some c = sym (slice_get-map (course_in stages) cs k) ∙ course in
+    let both : Some (course_in stages d) ≡ Some c = ap (option_map (course_in stages)) (sym at) ∙ mapped in
+    let is : course_in stages d ≡ c = cc in
+    let there : slice_get stages stage ≡ Some u = slice_get-get_or stages stage u within ∙ ap (λ (x : StageView). Some x) (sym u_is) in
+    let same : d.first + (stage - d.first) ≡ stage = omega arith in
+    subst (λ (v : CourseView). slice_get v.stages (stage - d.first) ≡ Some u) is
+    (slice_get-range stages d.first d.end (stage - d.first) u (omega arith) (subst (λ n. slice_get stages n ≡ Some u) (sym same) there))
+
 -- no word of a stage begins where its literal is missed
 Lies-missed : (u : StageView) (l : LiteralView) (bytes : List ℕ) (x end : ℕ) → IsLiteralOf u.items l
     → (x + l.at + length l.text < length bytes → ¬ StandsAt l bytes (x + l.at)) → end < length bytes → ¬ Lies u.items bytes x end
@@ -64,50 +77,19 @@ Lies-missed u l bytes x end is missed before lies =
     let fits = there.within in
     missed (omega arith) (is.stands bytes x end lies)
 
--- the sequences wait for what their states say
-abbrev pub AreWaits : List Course → List State → List Wait → ℕ → Type 0
-AreWaits cs states waits to = (k : ℕ) (c : Course) (t : State) (w : Wait) → k < to → slice_get cs k ≡ Some c → slice_get states k ≡ Some t
-    → slice_get waits k ≡ Some w → IsWaitOf c t w
-
-pub ArePast-missed : (keep : ℕ) (entries : List Entry) (stages : List StageView) (cs : List Course) (bytes : List ℕ) (states : List State)
-    (waits : List Wait) (found : List ℕ) → IsCompiled keep entries stages cs → length stages < 2 ^ 63 → length waits ≡ length cs
-    → AreWaits cs states waits (length cs) → AreMissed entries bytes waits found → ArePast (map (course_in stages) cs) states bytes found
-ArePast-missed keep entries stages cs bytes states waits found compiled few count are missed k x c t course state low high =
-    let mapped : option_map (course_in stages) (slice_get cs k) ≡ Some c = sym (slice_get-map (course_in stages) cs k) ∙ course in
-    let inside : k < length cs = within_map cs k c stages course in
-    let d = slice_get-within cs k inside in
-    let is : course_in stages d.0 ≡ c =
-    (let both : Some (course_in stages d.0) ≡ Some c = ap (option_map (course_in stages)) (sym d.1) ∙ mapped in cc) in
-    let w = slice_get-within waits k (omega arith) in
-    let wait = are k d.0 t w.0 inside d.1 state w.1 in
-    let from = wait.from in
-    let miss = missed k x w.0 w.1 (omega arith) high in
+-- before the offset that was found for a sequence, no word of its stage begins
+pub ArePast-missed : (entries : List Entry) (courses : List CourseView) (bytes : List ℕ) (states : List State) (found : List ℕ)
+    → AreLiteralsOf courses entries → AreMissed entries bytes states found → ArePast 0 courses states bytes found
+ArePast-missed entries courses bytes states found literals missed k x c t least course state low high =
+    let miss = missed k x t state low high in
     let e : Entry = miss.1 in
-    let stage = compiled.literals miss.0 e miss.2 in
-    let u : StageView = stage.0 in
-    let stages_has = slice_get_within stages e.stage u stage.1 in
-    let same : e.stage ≡ w.0.stage = miss.3 in
-    let some : t.done < d.0.end - d.0.first =
-    elim (cases_lt t.done (d.0.end - d.0.first)) [ inl below ↦ below | inr past ↦ (let none = wait.none past in absurd (omega arith)) ] in
-    let index : e.stage ≡ d.0.first + t.done = same ∙ wait.stage some in
-    let at = slice_get-range stages d.0.first d.0.end t.done u some (subst (λ n. slice_get stages n ≡ Some u) index stage.1) in (
+    let here : slice_get courses e.sequence ≡ Some c = ap (slice_get courses) miss.3 ∙ course in
+    let stage = literals miss.0 e c miss.2 here in
+    let u : StageView = stage.0 in (
       u,
-      subst (λ (v : CourseView). slice_get v.stages t.done ≡ Some u) is at,
-      λ end before. Lies-missed u e.literal bytes x end stage.2 miss.4 before,
+      subst (λ n. slice_get c.stages n ≡ Some u) miss.4 stage.1,
+      λ end before. Lies-missed u e.literal bytes x end stage.2 miss.5 before,
     )
-
--- one more
-pub AreWaits-set : (cs : List Course) (states : List State) (waits : List Wait) (k : ℕ) (w : Wait) → k < length waits
-    → ((c : Course) (t : State) → slice_get cs k ≡ Some c → slice_get states k ≡ Some t → IsWaitOf c t w) → AreWaits cs states waits k
-    → AreWaits cs states (set waits k w) (k + 1)
-AreWaits-set cs states waits k w inside here before i c t v low course state at =
-    elim (slice_get-set_cases waits k i w v inside at) [
-      | inl same ↦ (
-          let course_k : slice_get cs k ≡ Some c = subst (λ n. slice_get cs n ≡ Some c) same.0 course in
-          let state_k : slice_get states k ≡ Some t = subst (λ n. slice_get states n ≡ Some t) same.0 state in
-          subst (IsWaitOf c t) (sym same.1) (here c t course_k state_k))
-      | inr other ↦ (let different = other.0 in before i c t v (omega arith) course state other.1)
-    ]
 
 -- so a sequence goes on to the offset that was found, or the limit
 pub Waits-found : (s : SequenceView) (stages : List StageView) (tail : Option TailView) (before bytes : List ℕ) (done from found limit to reach : ℕ)
@@ -169,23 +151,25 @@ InTurn-raised stages tail before bytes byte done from found to to_is past =
     ]
 
 -- the end of a file
-pub IsEndOf-raised : (table : TableView) (file : List ℕ) (courses : List CourseView) (keep base room : ℕ) (bytes : List ℕ) (states next : List State)
-    (byte : ℕ) (found : List ℕ) → ArePast courses states (bytes ++ byte ∷ []) found → AreRaised states found next
-    → IsScanOf table file (record { courses = courses; keep = keep; base = base; buffer = record { room = room; bytes = bytes }; states = states })
-    → IsEndOf table file (record { courses = courses; keep = keep; base = base; buffer = record { room = room; bytes = bytes }; states = next })
-IsEndOf-raised table file courses keep base room bytes states next byte found past raised of = record {
+pub IsEndOf-found : (table : TableView) (file : List ℕ) (courses : List CourseView) (keep base : ℕ) (buffer : BufferView) (states : List State)
+    (may_hit : List Bool) (byte : ℕ) (old found : List ℕ) → ArePast 0 courses states (buffer.bytes ++ byte ∷ []) found
+    → IsScanOf table file (record
+    { table = table; courses = courses; keep = keep; base = base; buffer = buffer; states = states; may_hit = may_hit; found = old })
+    → IsEndOf table file (record
+    { table = table; courses = courses; keep = keep; base = base; buffer = buffer; states = states; may_hit = may_hit; found = found })
+IsEndOf-found table file courses keep base buffer states may_hit byte old found past of = record {
   before = of.before;
   bytes = of.bytes;
   base = of.base;
   last = of.last;
-  courses = of.courses;
-  left = λ i s c t sequence course state.
+  is_table = refl;
+  left = λ g h may signature i s c t low high sequence course state.
       let before = of.before in
-      let r = raised i t state in
-      let u : State = r.0 in
-      let judged = Waits-judged s (before ++ bytes) (length before + u.from) (drop u.done c.stages) c.tail (of.wait i s c u sequence course r.1) in
-      let turn = InTurn-raised c.stages c.tail before bytes byte u.done u.from (slice_index found i) (max u.from (slice_index found i)) refl
-      (λ x low high. past i x c u course r.1 low high) in
-      let P : State → Type 0 = λ v. Stands s (before ++ bytes) ↔ InTurnAt before bytes v.from (drop v.done c.stages) c.tail in
-      subst P (sym r.2) (λ stands. turn.0 (judged.0 stands), λ all. judged.1 (turn.1 all));
+      let bytes = buffer.bytes in
+      let judged = Waits-judged s (before ++ bytes) (length before + t.from) (drop t.done c.stages) c.tail
+      (of.wait g h may signature i s c t low high sequence course state) in
+      let turn = InTurn-raised c.stages c.tail before bytes byte t.done t.from (slice_index found i) (max t.from (slice_index found i)) refl
+      (λ x least most. past i x c t (omega arith) course state least most) in
+      (λ stands. turn.0 (judged.0 stands), λ all. judged.1 (turn.1 all));
+  excluded = of.excluded;
 }

@@ -91,12 +91,13 @@ last_is old new last items same =
     subst P (sym some.2) known same
 
 -- the stages and the tail of a sequence at the end of a file are added
-pub AddsCourse-to_end : (old new : List StageView) (s : SequenceView) (last : StageView) (min max first end : ℕ) → s.position ≡ position.Eof min max
+pub AddsCourse-to_end : (old new : List StageView) (s : SequenceView) (last : StageView) (min max signature first end : ℕ) → s.position ≡ position.Eof min max
     → new ++ last ∷ [] ≡ old ++ stages_of None [] s.items → first ≡ length old → end ≡ length new
-    → AddsCourse old new (record { from = 0; first = first; end = end; tail = Some (record { items = last.items; min = min; max = max }) }) (course_of s)
-AddsCourse-to_end old new s last min max first end at same first_is end_is =
+    → AddsCourse old new (record { signature = signature; from = 0; first = first; end = end; tail = Some (record { items = last.items; min = min; max = max }) })
+    (course_of s)
+AddsCourse-to_end old new s last min max signature first end at same first_is end_is =
     let P : Position → Type 0 = λ p. AddsCourse old new (record
-    { from = 0; first = first; end = end; tail = Some (record { items = last.items; min = min; max = max }) })
+    { signature = signature; from = 0; first = first; end = end; tail = Some (record { items = last.items; min = min; max = max }) })
     (course_of (record { position = p; items = s.items })) in
     let known = last_is old new last s.items same in
     subst P (sym at) (record {
@@ -129,7 +130,7 @@ courses-kept old more (c ∷ cs) within =
     ap₂ (λ (v : CourseView) (vs : List CourseView). v ∷ vs) here (courses-kept old more cs (All-tail P c cs within))
 
 -- what is added is the next course
-course-added : (old new : List StageView) (c : Course) (course : CourseView) → AddsCourse old new c course → course_in new c ≡ course
+pub course-added : (old new : List StageView) (c : Course) (course : CourseView) → AddsCourse old new c course → course_in new c ≡ course
 course-added old new c course adds =
     let len : length new ≡ length old + length course.stages = ap length adds.stages ∙ length-append old course.stages in
     let first = adds.first in

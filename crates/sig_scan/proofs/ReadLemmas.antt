@@ -1,6 +1,6 @@
--- A file that is read: what a scan is fed of it, and which hits its marks give.
+-- A file that is read: what a scan has of it, and which hits its marks give.
 use borrow.Rule.Slice.PartMut.{post_of, put_mid}
-use Rattle.std.proofs.Common.{◌≡◌, ◌∙◌, ℕ, ◌+◌, ◌≤◌, ◌<◌, inl, inr, ap, append_assoc, arith, Bool, false, true, length, List, [], ◌++◌, None, Option, refl, Some, subst, sym, take}
+use Rattle.std.proofs.Common.{◌≡◌, ◌∙◌, ℕ, ◌+◌, ◌≤◌, ◌<◌, inl, inr, ap, append_assoc, arith, Bool, false, true, length, List, ◌++◌, None, Option, refl, Some, subst, sym, take}
 use Rattle.std.proofs.Math.Seq.{take-append-add}
 use Rattle.std.proofs.lemmas.Bool.{false≢true}
 use Rattle.std.proofs.lemmas.List.{append-nil, get_or_past, length-take-le, take-append-le, take_all}
@@ -13,7 +13,7 @@ use Rattle.sig_bits.specs.Device.{Gives, IsAtEnd}
 use Rattle.sig_core.specs.FirstHits.{MarksHits}
 use Rattle.sig_core.specs.Hits.{HitFormats, HitFormatsOfSome}
 use Rattle.sig_core.specs.declared.results.Hit.{Hit}
-use Rattle.sig_scan.specs.Scans.{AreMarked, IsScanOf, ScanView}
+use Rattle.sig_scan.specs.Scans.{AreMarked, HasRead, IsScanOf, ScanView}
 use Rattle.sig_table.specs.Standing.{Hits}
 use Rattle.sig_table.specs.Views.{SignatureView, TableView}
 
@@ -39,8 +39,8 @@ MarksHits-from_marked table file marks len marked = record {
       (marked index at.0 (omega arith) at.1).1 at.2;
 }
 
--- what is fed so far is what the input has given
-pub record IsFed (scan : ScanView) (table : TableView) (before after : Option (List ℕ)) : Type 0 where
+-- what is read so far is what the input has given
+pub record IsRead (scan : ScanView) (table : TableView) (before after : Option (List ℕ)) : Type 0 where
   pub file : List ℕ
   pub bytes : IsBytes file
   pub is_of : IsScanOf table file scan
@@ -55,34 +55,31 @@ gives_more (Some xs) (Some ys) (Some zs) x y h k = h ∙ ap (λ l. x ++ l) k ∙
 pub gives_on : (a b c : Option (List ℕ)) (x y z : List ℕ) → z ≡ x ++ y → Gives a x b → Gives b y c → Gives a z c
 gives_on a b c x y z is first second = subst (λ l. Gives a l c) (sym is) (gives_more a b c x y first second)
 
--- the first piece is fed
-pub IsFed-first : (old new : ScanView) (table : TableView) (before after : Option (List ℕ)) (piece : List ℕ) → IsScanOf table [] old
-    → ((t : TableView) (file : List ℕ) → IsScanOf t file old → IsScanOf t (file ++ piece) new) → IsBytes piece → Gives before piece after → IsFed new table before after
-IsFed-first old new table before after piece fresh step bytes gives = record { file = piece; bytes = bytes; is_of = step table [] fresh; given = gives }
-
--- one more piece
-pub IsFed-more : (old new : ScanView) (table : TableView) (before at after : Option (List ℕ)) (piece : List ℕ)
-    → ((t : TableView) (file : List ℕ) → IsScanOf t file old → IsScanOf t (file ++ piece) new) → IsBytes piece → Gives at piece after → IsFed old table before at → IsFed new table before after
-IsFed-more old new table before at after piece step bytes gives fed = record {
-  file = fed.file ++ piece;
-  bytes = All-append (λ b. b < 256) fed.file piece fed.bytes bytes;
-  is_of = step table fed.file fed.is_of;
-  given = gives_more before at after fed.file piece fed.given gives;
-}
+-- and what it gives behind that
+pub IsRead-more : (old new : ScanView) (table : TableView) (before at after : Option (List ℕ))
+    → ((t : TableView) (file : List ℕ) → IsScanOf t file old → HasRead t file at after new) → IsRead old table before at → IsRead new table before after
+IsRead-more old new table before at after step read =
+    let more = step table read.file read.is_of in
+    record {
+      file = read.file ++ more.piece;
+      bytes = All-append (λ b. b < 256) read.file more.piece read.bytes more.bytes;
+      is_of = more.is_of;
+      given = gives_more before at after read.file more.piece read.given more.given;
+    }
 
 gives_all : (before after : Option (List ℕ)) (file : List ℕ) → Gives before file after → IsAtEnd after → IfSome before (λ bytes. file ≡ bytes)
 gives_all None after file given end = tt
 gives_all (Some bytes) None file given end = absurd given
 gives_all (Some bytes) (Some rest) file given end = sym (given ∙ ap (λ l. file ++ l) end ∙ append-nil file)
 
--- all is fed
-pub HitFormatsOfSome-fed : (scan : ScanView) (table : TableView) (before at : Option (List ℕ)) (hits : List Hit) → IsAtEnd at
-    → ((file : List ℕ) → IsScanOf table file scan → HitFormats table file hits) → IsFed scan table before at → HitFormatsOfSome table before hits
-HitFormatsOfSome-fed scan table before at hits end finish fed = record {
-  file = fed.file;
-  bytes = fed.bytes;
-  is_to_come = gives_all before at fed.file fed.given end;
-  hit_formats = finish fed.file fed.is_of;
+-- all is read
+pub HitFormatsOfSome-read : (scan : ScanView) (table : TableView) (before at : Option (List ℕ)) (hits : List Hit) → IsAtEnd at
+    → ((file : List ℕ) → IsScanOf table file scan → HitFormats table file hits) → IsRead scan table before at → HitFormatsOfSome table before hits
+HitFormatsOfSome-read scan table before at hits end finish read = record {
+  file = read.file;
+  bytes = read.bytes;
+  is_to_come = gives_all before at read.file read.given end;
+  hit_formats = finish read.file read.is_of;
 }
 
 -- what is written over a whole buffer

@@ -1,20 +1,22 @@
 -- The states of all sequences: one after the other is settled.
-use Rattle.std.proofs.Common.{◌≡◌, ◌∙◌, ℕ, ◌+◌, ◌-◌, ◌≤◌, ◌<◌, ◌⊎◌, ◌^◌, inl, inr, All, List, [], ◌∷◌, ◌++◌, ap, append_assoc, arith, drop, get_or, get_or-set_other, get_or-set_same, length, length-append, map, min, None, Option, refl, Some, subst, sym, take}
+use Rattle.std.proofs.Common.{◌≡◌, ◌∙◌, ℕ, ◌+◌, ◌-◌, ◌≤◌, ◌<◌, ◌⊎◌, ◌^◌, inl, inr, All, Bool, List, [], ◌∷◌, ◌++◌, ap, append_assoc, arith, drop, get_or, get_or-set_other, get_or-set_same, length, length-append, map, min, None, Option, refl, Some, subst, sym, take}
 use Rattle.std.proofs.Math.ListN.{get_or-map, length-set, set}
-use Rattle.std.proofs.lemmas.Bool.{cases_eq}
+use Rattle.std.proofs.lemmas.Bool.{cases_eq, cases_lt}
 use Rattle.std.proofs.lemmas.List.{length-drop, length-map, length-take-le, map-append, take-append-drop}
-use Rattle.std.proofs.lemmas.List.Elements.{All-get_or, All-map}
-use Rattle.std.proofs.lemmas.Option.{get_or_from_slice_get, slice_get-get_or, slice_get_within}
+use Rattle.std.proofs.lemmas.List.Elements.{All-append, All-get_or, All-map}
+use Rattle.std.proofs.lemmas.Option.{get_or_from_slice_get, slice_get-get_or, slice_get_past, slice_get_within}
 use Rattle.std.specs.List.{flat_map, slice_get}
 use Rattle.std.specs.Prelude.{IfSome}
 use Rattle.sig_bits.specs.Bytes.{IsBytes}
 use Rattle.sig_scan.specs.Courses.{IsHeld, courses_of, signature_courses}
 use Rattle.sig_scan.specs.Lengths.{AreBounded, span}
-use Rattle.sig_scan.specs.Scans.{AllWait, AreDone, IsBase, IsScanOf, IsShortCourse, TailIsShort, WaitsAt, sequences_of}
+use Rattle.sig_scan.specs.Scans.{AllWait, AreExcluded, AreDone, IsBase, IsScanOf, IsShortCourse, ScanView, TailIsShort, WaitsAt, sequences_of}
 use Rattle.sig_scan.specs.Stages.{CourseView, StageView, TailView, Waits, course_of}
 use Rattle.sig_scan.specs.declared.state.State.{State}
 use Rattle.sig_scan.proofs.CutLemmas.{stages-bounded, tail-bounded}
 use Rattle.sig_scan.proofs.WaitLemmas.{Waits-fed}
+use Rattle.sig_table.proofs.Exports.{slice_get-within}
+use Rattle.sig_table.specs.Standing.{Hits}
 use Rattle.sig_table.specs.Views.{SequenceView, SignatureView, TableView}
 
 -- an element after a write
@@ -29,32 +31,44 @@ slice_get-set_cases {X} xs k i v t within at =
       | inr other ↦ inr (other, slice_get-get_or xs i t (omega arith) ∙ ap (λ (x : X). Some x) (sym (get_or-set_other xs k i v t other) ∙ value))
     ]
 
--- the sequences before this one wait from the limit on, with the bytes before it behind them, and the others as they did
-abbrev pub AllMoved : ℕ → ℕ → List SequenceView → List CourseView → List ℕ → List ℕ → List State → Type 0
-AllMoved k limit sequences courses before bytes states = (i : ℕ) (s : SequenceView) (c : CourseView) (t : State) → slice_get sequences i ≡ Some s
-    → slice_get courses i ≡ Some c → slice_get states i ≡ Some t
+-- the element at another place
+pub slice_get-set_other : {X : Type 0} (xs : List X) (k i : ℕ) (v : X) → (i ≡ k → ⊥) → slice_get (set xs k v) i ≡ slice_get xs i
+slice_get-set_other {X} xs k i v other =
+    let len : length (set xs k v) ≡ length xs = length-set xs k v in
+    elim (cases_lt i (length xs)) [
+      | inl within ↦ (
+          let y = slice_get-within xs i within in
+          let value = get_or-set_other xs k i v y.0 other ∙ get_or_from_slice_get xs i y.0 y.0 y.1 in
+          slice_get-get_or (set xs k v) i y.0 (omega arith) ∙ ap (λ (x : X). Some x) value ∙ sym y.1)
+      | inr past ↦ slice_get_past (set xs k v) i (omega arith) ∙ sym (slice_get_past xs i past)
+    ]
+
+-- each of these sequences before this one waits from the limit on, with the bytes before it behind them, and the others as they did
+abbrev pub AreMoved : ℕ → ℕ → List SequenceView → List CourseView → List ℕ → List ℕ → List State → ℕ → ℕ → Type 0
+AreMoved k limit sequences courses before bytes states first end = (i : ℕ) (s : SequenceView) (c : CourseView) (t : State) → first ≤ i → i < end
+    → slice_get sequences i ≡ Some s → slice_get courses i ≡ Some c → slice_get states i ≡ Some t
     → (i < k → WaitsAt s (before ++ take limit bytes) (drop limit bytes) t.from (drop t.done c.stages) c.tail)
     × (k ≤ i → WaitsAt s before bytes t.from (drop t.done c.stages) c.tail)
 
 -- one more
-pub AllMoved-set : (k limit : ℕ) (sequences : List SequenceView) (courses : List CourseView) (before bytes : List ℕ) (states : List State) (old v : State)
-    → k < length states → old ≡ get_or states k old
+pub AreMoved-set : (k limit : ℕ) (sequences : List SequenceView) (courses : List CourseView) (before bytes : List ℕ) (states : List State) (first end : ℕ)
+    (old v : State) → k < length states → first ≤ k → k < end → old ≡ get_or states k old
     → ((s : SequenceView) (c : CourseView) → slice_get courses k ≡ Some c → WaitsAt s before bytes old.from (drop old.done c.stages) c.tail
     → WaitsAt s (before ++ take limit bytes) (drop limit bytes) v.from (drop v.done c.stages) c.tail)
-    → AllMoved k limit sequences courses before bytes states → AllMoved (k + 1) limit sequences courses before bytes (set states k v)
-AllMoved-set k limit sequences courses before bytes states old v within is step all i s c t sequence course state =
+    → AreMoved k limit sequences courses before bytes states first end → AreMoved (k + 1) limit sequences courses before bytes (set states k v) first end
+AreMoved-set k limit sequences courses before bytes states first end old v within least most is step all i s c t low high sequence course state =
     elim (slice_get-set_cases states k i v t within state) [
       | inl here ↦ (
           let at : slice_get states k ≡ Some old = slice_get-get_or states k old within ∙ ap (λ (x : State). Some x) (sym is) in
           let same = here.0 in
           let course_k : slice_get courses k ≡ Some c = subst (λ n. slice_get courses n ≡ Some c) same course in
           let sequence_k : slice_get sequences k ≡ Some s = subst (λ n. slice_get sequences n ≡ Some s) same sequence in
-          let waits = (all k s c old sequence_k course_k at).1 (omega arith) in
+          let waits = (all k s c old least most sequence_k course_k at).1 (omega arith) in
           let moved = step s c course_k waits in
           let P : State → Type 0 = λ x. WaitsAt s (before ++ take limit bytes) (drop limit bytes) x.from (drop x.done c.stages) c.tail in
           (λ _. subst P (sym here.1) moved, λ far. absurd (omega arith)))
       | inr there ↦ (
-          let was = all i s c t sequence course there.1 in
+          let was = all i s c t low high sequence course there.1 in
           let other = there.0 in
           (λ near. was.0 (omega arith), λ far. was.1 (omega arith)))
     ]
@@ -120,13 +134,34 @@ table-short reach table courses is held =
     subst (All (IsShortCourse reach)) (sym same) (courses-short reach (sequences_of table) (subst (All (IsHeld reach)) same held))
 
 -- a scan, settled up to the limit
-pub IsScanOf-settled : (table : TableView) (file : List ℕ) (courses : List CourseView) (keep base later room limit : ℕ) (bytes : List ℕ) (states next : List State)
+pub IsScanOf-settled : (table : TableView) (file : List ℕ) (courses : List CourseView) (keep base later room limit : ℕ) (bytes : List ℕ)
+    (states next : List State) (may_hit exclude : List Bool) (old found : List ℕ) → courses ≡ courses_of table
     → All (IsHeld keep) courses → limit + keep ≡ length bytes → later ≡ min (base + limit) (2 ^ 64 - 1)
-    → ((sequences : List SequenceView) (before : List ℕ) → IsBase before base → All (IsShortCourse keep) courses
-    → AllWait sequences courses before bytes states → AllWait sequences courses (before ++ take limit bytes) (drop limit bytes) next)
-    → IsScanOf table file (record { courses = courses; keep = keep; base = base; buffer = record { room = room; bytes = bytes }; states = states })
-    → IsScanOf table file (record { courses = courses; keep = keep; base = later; buffer = record { room = room; bytes = drop limit bytes }; states = next })
-IsScanOf-settled table file courses keep base later room limit bytes states next held size later_is step of =
+    → ((before : List ℕ) → IsBase before base → All (IsShortCourse keep) courses → AllWait table may_hit courses before bytes states
+    → AllWait table exclude courses (before ++ take limit bytes) (drop limit bytes) next)
+    → ((before : List ℕ) → IsBase before base → All (IsShortCourse keep) courses → AllWait table may_hit courses before bytes states
+    → AreExcluded table may_hit (before ++ bytes) → AreExcluded table exclude (before ++ bytes))
+    → IsScanOf table file (record {
+      table = table;
+      courses = courses;
+      keep = keep;
+      base = base;
+      buffer = record { room = room; bytes = bytes };
+      states = states;
+      may_hit = may_hit;
+      found = old;
+    })
+    → IsScanOf table file (record {
+      table = table;
+      courses = courses;
+      keep = keep;
+      base = later;
+      buffer = record { room = room; bytes = drop limit bytes };
+      states = next;
+      may_hit = exclude;
+      found = found;
+    })
+IsScanOf-settled table file courses keep base later room limit bytes states next may_hit exclude old found is held size later_is step close of =
     let before = of.before in
     let within : limit ≤ length bytes = omega arith in
     let cut : before ++ bytes ≡ (before ++ take limit bytes) ++ drop limit bytes =
@@ -135,22 +170,39 @@ IsScanOf-settled table file courses keep base later room limit bytes states next
     let all = length-append before (take limit bytes) in
     let left = length-drop limit bytes in
     let counted = of.base in
+    let short = table-short keep table courses is held in
+    let closed = close before of.base short of.wait (subst (AreExcluded table may_hit) of.bytes of.excluded) in
     record {
       before = before ++ take limit bytes;
       bytes = of.bytes ∙ cut;
       base = omega arith;
       last = inr (omega arith);
-      courses = of.courses;
-      wait = step (sequences_of table) before of.base (table-short keep table courses of.courses held) of.wait;
+      is_table = refl;
+      wait = step before of.base short of.wait;
+      excluded = subst (AreExcluded table exclude) (sym of.bytes) closed;
     }
 
+-- an excluded signature stays excluded
+AreExcluded-fed : (table : TableView) (may_hit : List Bool) (file piece : List ℕ) → IsBytes piece → AreExcluded table may_hit file → AreExcluded table may_hit (file ++ piece)
+AreExcluded-fed table may_hit file piece are closed g h exclude signature more later hits =
+    closed g h exclude signature (piece ++ more) (All-append (λ b. b < 256) piece more are later)
+    (subst (Hits h) (append_assoc file piece more) hits)
+
 -- a scan with some bytes more
-pub IsScanOf-added : (table : TableView) (file : List ℕ) (courses : List CourseView) (keep base room : ℕ) (bytes piece : List ℕ) (states : List State)
-    → IsBytes piece
-    → IsScanOf table file (record { courses = courses; keep = keep; base = base; buffer = record { room = room; bytes = bytes }; states = states })
-    → IsScanOf table (file ++ piece) (record { courses = courses; keep = keep; base = base; buffer = record { room = room; bytes = bytes ++ piece }; states = states })
-IsScanOf-added table file courses keep base room bytes piece states are of =
+pub IsScanOf-added : (table : TableView) (file piece : List ℕ) (scan : ScanView) → IsBytes piece → IsScanOf table file scan
+    → IsScanOf table (file ++ piece) (record {
+      table = scan.table;
+      courses = scan.courses;
+      keep = scan.keep;
+      base = scan.base;
+      buffer = record { room = scan.buffer.room; bytes = scan.buffer.bytes ++ piece };
+      states = scan.states;
+      may_hit = scan.may_hit;
+      found = scan.found;
+    })
+IsScanOf-added table file piece scan are of =
     let before = of.before in
+    let bytes = scan.buffer.bytes in
     let joined : (before ++ bytes) ++ piece ≡ before ++ (bytes ++ piece) = append_assoc before bytes piece in
     let len = length-append bytes piece in
     record {
@@ -158,9 +210,10 @@ IsScanOf-added table file courses keep base room bytes piece states are of =
       bytes = ap (λ (l : List ℕ). l ++ piece) of.bytes ∙ joined;
       base = of.base;
       last = elim of.last [ inl none ↦ inl none | inr enough ↦ inr (omega arith) ];
-      courses = of.courses;
-      wait = λ i s c t sequence course state.
-          let waits = of.wait i s c t sequence course state in
+      is_table = of.is_table;
+      wait = λ g h may signature i s c t low high sequence course state.
+          let waits = of.wait g h may signature i s c t low high sequence course state in
           subst (λ (f : List ℕ). Waits s f (length before + t.from) (drop t.done c.stages) c.tail) joined
           (Waits-fed s (before ++ bytes) piece (length before + t.from) (drop t.done c.stages) c.tail are waits);
+      excluded = AreExcluded-fed table scan.may_hit file piece are of.excluded;
     }

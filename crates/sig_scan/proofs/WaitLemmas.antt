@@ -10,6 +10,7 @@ use Rattle.sig_table.specs.Standing.{Stands}
 use Rattle.sig_table.specs.Views.{SequenceView}
 use Rattle.sig_scan.specs.Lengths.{AreBounded, span}
 use Rattle.sig_scan.specs.Placed.{Lies}
+use Rattle.sig_scan.specs.Scans.{NeverStands}
 use Rattle.sig_scan.specs.Stages.{InTurn, IsFirstEnd, StageView, TailView, Waits, course_of}
 use Rattle.sig_scan.proofs.CutLemmas.{Stands-in_turn}
 use Rattle.sig_scan.proofs.LengthLemmas.{Lies-in_sight}
@@ -51,3 +52,11 @@ pub Waits-judged : (s : SequenceView) (file : List ℕ) (from : ℕ) (stages : L
     → Stands s file ↔ InTurn file from stages tail
 Waits-judged s file from stages tail waits =
     subst (λ (l : List ℕ). Stands s l ↔ InTurn l from stages tail) (append-nil file) (waits.residual [] (All-nil (λ b. b < 256)))
+
+-- where no word of the first stage may begin any more, the sequence never stands
+pub Waits-never : (s : SequenceView) (t : StageView) (file : List ℕ) (from : ℕ) (stages : List StageView) (tail : Option TailView)
+    → ((x : ℕ) → from ≤ x → ¬ IsAtMost t.until x) → Waits s file from (t ∷ stages) tail → NeverStands s file
+Waits-never s t file from stages tail none waits more bytes stands =
+    let turn = (waits.residual more bytes).0 stands in
+    let ends = turn.1 in
+    none ends.start ends.not_before ends.not_behind

@@ -55,4 +55,4 @@ pub record IsCompiled (bytes : ℕ) (entries : List Entry) (stages : List StageV
   pub held : AreHeld bytes stages cs
   pub few : bytes ≤ 65535
   pub within : All (StandsIn stages) cs
-  pub literals : AreLiteralsOf stages entries
+  pub literals : AreLiteralsOf (map (course_in stages) cs) entries

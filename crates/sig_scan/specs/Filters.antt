@@ -2,9 +2,9 @@
 use Rattle.std.specs.Prelude.{◌≡◌, ◌≢◌, ◌⊎◌, ℕ, ◌+◌, ◌*◌, ◌%◌, ◌/◌, ◌^◌, ◌<◌, ◌≤◌, List, [], ◌∷◌, ◌++◌, Some, length, slice_index}
 use Rattle.std.specs.List.{slice_get}
 use Rattle.sig_scan.specs.Literals.{Fits, IsLiteralOf, LiteralView, StandsAt, byte_of}
-use Rattle.sig_scan.specs.Stages.{StageView}
+use Rattle.sig_scan.specs.Stages.{CourseView, StageView}
 use Rattle.sig_scan.specs.declared.filter.Entry.{Entry}
-use Rattle.sig_scan.specs.declared.filter.Wait.{Wait}
+use Rattle.sig_scan.specs.declared.state.State.{State}
 
 -- four bytes of a list as one number
 abbrev pub four_at : List ℕ → ℕ → ℕ
@@ -53,9 +53,10 @@ pub record IsFilter (marks slots : List ℕ) (entries : List Entry) : Type 0 whe
   pub slots_len : length slots ≡ 32768
   pub each : (place : ℕ) (e : Entry) → slice_get entries place ≡ Some e → IsEntered marks slots place e
 
--- an entry of the literal of the stage is added, or none
-abbrev pub AddsEntry : List Entry → List Entry → LiteralView → ℕ → Type 0
-AddsEntry old new literal stage = (new ≡ old) ⊎ ((e : Entry) × (new ≡ old ++ e ∷ []) × (e.literal ≡ literal) × (e.stage ≡ stage))
+-- an entry of the literal of the stage of the sequence is added, or none
+abbrev pub AddsEntry : List Entry → List Entry → LiteralView → ℕ → ℕ → Type 0
+AddsEntry old new literal sequence done = (new ≡ old)
+    ⊎ ((e : Entry) × (new ≡ old ++ e ∷ []) × (e.literal ≡ literal) × (e.sequence ≡ sequence) × (e.done ≡ done))
 
 -- if a byte more follows, the literal of the entry stands not behind the offset
 abbrev pub IsMissed : List ℕ → Entry → ℕ → Type 0
@@ -74,20 +75,21 @@ abbrev pub AreLowered : List ℕ → List ℕ → Type 0
 AreLowered old new = (k : ℕ) → slice_index new k ≤ slice_index old k
 
 -- if its sequence waits for it, the literal of the entry stands not with its four bytes at this place, before what was found
-abbrev pub IsPassedAt : Entry → List ℕ → List Wait → ℕ → List ℕ → Type 0
-IsPassedAt e bytes waits place found = (x : ℕ) (w : Wait) → slice_get waits e.sequence ≡ Some w → e.stage ≡ w.stage → w.from ≤ x
+abbrev pub IsPassedAt : Entry → List ℕ → List State → ℕ → List ℕ → Type 0
+IsPassedAt e bytes states place found = (x : ℕ) (t : State) → slice_get states e.sequence ≡ Some t → e.done ≡ t.done → t.from ≤ x
     → x < slice_index found e.sequence → x + e.literal.at + e.window ≡ place → ¬ StandsAt e.literal bytes (x + e.literal.at)
 
 -- where something may be found, an entry is of the sequence and of the stage that it waits in
-abbrev pub AreOwned : List Entry → List Wait → List ℕ → Type 0
-AreOwned entries waits found = (k : ℕ) → 0 < slice_index found k
-    → (e : Entry) × (i : ℕ) × (w : Wait) × (slice_get entries i ≡ Some e) × (e.sequence ≡ k) × (slice_get waits k ≡ Some w) × (e.stage ≡ w.stage)
+abbrev pub AreOwned : List Entry → List State → List ℕ → Type 0
+AreOwned entries states found = (k : ℕ) → 0 < slice_index found k
+    → (e : Entry) × (i : ℕ) × (t : State) × (slice_get entries i ≡ Some e) × (e.sequence ≡ k) × (slice_get states k ≡ Some t) × (e.done ≡ t.done)
 
 -- at each offset at which a sequence may go on, before the one that was found, the literal of an entry of its stage is missed
-abbrev pub AreMissed : List Entry → List ℕ → List Wait → List ℕ → Type 0
-AreMissed entries bytes waits found = (k x : ℕ) (w : Wait) → slice_get waits k ≡ Some w → w.from ≤ x → x < slice_index found k
-    → (i : ℕ) × (e : Entry) × (slice_get entries i ≡ Some e) × (e.stage ≡ w.stage) × IsMissed bytes e x
+abbrev pub AreMissed : List Entry → List ℕ → List State → List ℕ → Type 0
+AreMissed entries bytes states found = (k x : ℕ) (t : State) → slice_get states k ≡ Some t → t.from ≤ x → x < slice_index found k
+    → (i : ℕ) × (e : Entry) × (slice_get entries i ≡ Some e) × (e.sequence ≡ k) × (e.done ≡ t.done) × IsMissed bytes e x
 
 -- each literal is that of its stage
-abbrev pub AreLiteralsOf : List StageView → List Entry → Type 0
-AreLiteralsOf stages entries = (i : ℕ) (e : Entry) → slice_get entries i ≡ Some e → (t : StageView) × (slice_get stages e.stage ≡ Some t) × IsLiteralOf t.items e.literal
+abbrev pub AreLiteralsOf : List CourseView → List Entry → Type 0
+AreLiteralsOf courses entries = (i : ℕ) (e : Entry) (c : CourseView) → slice_get entries i ≡ Some e → slice_get courses e.sequence ≡ Some c
+    → (u : StageView) × (slice_get c.stages e.done ≡ Some u) × IsLiteralOf u.items e.literal

@@ -1,12 +1,16 @@
 -- A scan: what it knows of a file of which the last bytes are at hand.
-use Rattle.std.specs.Prelude.{◌≡◌, ◌↔◌, Bool, false, IsTrue, slice_index_or, ℕ, ◌+◌, ◌-◌, ◌<◌, ◌≤◌, ◌^◌, ◌⊎◌, ⊤, All, Some, drop, max, min, slice_index, List, [], ◌∷◌, ◌++◌, length, Option, IfSome, MatchOption}
+use Rattle.std.specs.Prelude.{◌≡◌, ◌↔◌, Bool, false, true, IsTrue, slice_index_or, ℕ, ◌+◌, ◌-◌, ◌<◌, ◌≤◌, ◌^◌, ◌⊎◌, ⊤, All, Some, drop, max, min, slice_index, List, [], ◌∷◌, ◌++◌, length, take, Option, IfSome, MatchOption}
 use Rattle.std.specs.List.{flat_map, slice_get}
+use Rattle.sig_bits.specs.Bytes.{IsBytes}
+use Rattle.sig_bits.specs.Device.{Gives}
 use Rattle.sig_expr.specs.declared.item.Item.{Item}
 use Rattle.sig_scan.specs.Frontiers.{EndsAt}
-use Rattle.sig_scan.specs.Courses.{IsHeld, courses_of}
+use Rattle.sig_scan.specs.Courses.{IsHeld}
+use Rattle.sig_scan.specs.Heads.{IsProgramOf}
 use Rattle.sig_scan.specs.Lengths.{AreBounded, span}
 use Rattle.sig_scan.specs.Placed.{Lies}
 use Rattle.sig_scan.specs.Stages.{CourseView, InTurn, StageView, TailView, Waits}
+use Rattle.sig_scan.specs.declared.head.Head.{Head}
 use Rattle.sig_scan.specs.declared.state.State.{State}
 use Rattle.sig_scan.specs.declared.state.Step.{Step}
 use Rattle.sig_scan.specs.declared.state.Step.TheVariants.{Ended, Past}
@@ -54,10 +58,36 @@ InTurnAt before bytes from stages tail = InTurn (before ++ bytes) (length before
 abbrev pub HasLastBytes : ℕ → List ℕ → List ℕ → Type 0
 HasLastBytes reach before bytes = (before ≡ []) ⊎ (reach ≤ length bytes)
 
--- each sequence, in order, waits for what its state says of its course
-abbrev pub AllWait : List SequenceView → List CourseView → List ℕ → List ℕ → List State → Type 0
-AllWait sequences courses before bytes states = (i : ℕ) (s : SequenceView) (c : CourseView) (t : State) → slice_get sequences i ≡ Some s
-    → slice_get courses i ≡ Some c → slice_get states i ≡ Some t → WaitsAt s before bytes t.from (drop t.done c.stages) c.tail
+-- each of these sequences, from the one up to the other, which is left out, waits for what its state says of its course
+abbrev pub AreWaiting : List SequenceView → List CourseView → List ℕ → List ℕ → List State → ℕ → ℕ → Type 0
+AreWaiting sequences courses before bytes states first end = (i : ℕ) (s : SequenceView) (c : CourseView) (t : State) → first ≤ i → i < end
+    → slice_get sequences i ≡ Some s → slice_get courses i ≡ Some c → slice_get states i ≡ Some t → WaitsAt s before bytes t.from (drop t.done c.stages) c.tail
+
+-- whatever bytes follow, the sequence does not stand
+abbrev pub NeverStands : SequenceView → List ℕ → Type 0
+NeverStands sequence file = (more : List ℕ) → IsBytes more → ¬ Stands sequence (file ++ more)
+
+-- one of these sequences never stands
+abbrev pub SomeNeverStands : List SequenceView → List ℕ → ℕ → ℕ → Type 0
+SomeNeverStands sequences file first end = (k : ℕ) × (first ≤ k) × (k < end) × ((s : SequenceView) → slice_get sequences k ≡ Some s → NeverStands s file)
+
+-- the sequences of a table, in the order of its signatures
+abbrev pub sequences_of : TableView → List SequenceView
+sequences_of table = flat_map (λ s. s.sequences) table.signatures
+
+-- how many of them the signatures before this one have
+abbrev pub first_of : TableView → ℕ → ℕ
+first_of table index = length (flat_map (λ s. s.sequences) (take index table.signatures))
+
+-- the sequences of each signature that the file may hit wait for what their states say
+abbrev pub AllWait : TableView → List Bool → List CourseView → List ℕ → List ℕ → List State → Type 0
+AllWait table may_hit courses before bytes states = (g : ℕ) (h : SignatureView) → slice_get may_hit g ≡ Some true → slice_get table.signatures g ≡ Some h
+    → AreWaiting (sequences_of table) courses before bytes states (first_of table g) (first_of table g + length h.sequences)
+
+-- an excluded signature hits no file that begins with these bytes
+abbrev pub AreExcluded : TableView → List Bool → List ℕ → Type 0
+AreExcluded table may_hit file = (g : ℕ) (h : SignatureView) → slice_get may_hit g ≡ Some false → slice_get table.signatures g ≡ Some h
+    → (more : List ℕ) → IsBytes more → ¬ Hits h (file ++ more)
 
 -- no state has more stages behind it than its course has
 abbrev pub AreDone : List CourseView → List State → Type 0
@@ -73,43 +103,64 @@ pub record BufferView : Type 0 where
   pub room : ℕ
   pub bytes : List ℕ
 
--- what a scan has: the courses of its program, how many bytes hold any word, how many bytes stand before those at hand, as far as
--- they are counted, these bytes, and the state of each sequence
+-- the buffer has what the input gave behind its bytes
+pub record IsFilled (old new : BufferView) (before after : Option (List ℕ)) : Type 0 where
+  pub piece : List ℕ
+  pub bytes : IsBytes piece
+  pub given : Gives before piece after
+  pub added : new ≡ record { room = old.room; bytes = old.bytes ++ piece }
+
+-- what a scan has: the table and the courses of its program, how many bytes hold any word, how many bytes stand before those at hand,
+-- as far as they are counted, these bytes, the state of each sequence, whether each signature may still hit the file, and the offset that
+-- was found for each sequence
 pub record ScanView : Type 0 where
+  pub table : TableView
   pub courses : List CourseView
   pub keep : ℕ
   pub base : ℕ
   pub buffer : BufferView
   pub states : List State
+  pub may_hit : List Bool
+  pub found : List ℕ
 
--- what is true of every scan, with room in its frontier for so many bytes, and for what so many sequences wait for
-pub record IsScan (room waits found : ℕ) (scan : ScanView) : Type 0 where
-  pub waits_len : waits ≡ length scan.courses
-  pub found_len : found ≡ length scan.courses
+-- what is true of every scan, with room in its frontier for so many bytes, and these heads in its program
+pub record IsScan (room : ℕ) (heads : List Head) (scan : ScanView) : Type 0 where
+  pub program : IsProgramOf scan.table (record { courses = scan.courses; heads = heads })
+  pub may_hit_len : length scan.may_hit ≡ length scan.table.signatures
+  pub found_len : length scan.found ≡ length scan.courses
   pub sets : room ≡ scan.buffer.room
-  pub few : scan.keep < scan.buffer.room
   pub held : All (IsHeld scan.keep) scan.courses
   pub count : length scan.states ≡ length scan.courses
   pub done : AreDone scan.courses scan.states
 
--- the sequences of a table, in the order of its signatures
-abbrev pub sequences_of : TableView → List SequenceView
-sequences_of table = flat_map (λ s. s.sequences) table.signatures
-
--- behind this file: its last bytes are at hand, and each sequence of the table waits for what its state says
+-- behind this file: its last bytes are at hand, each sequence of a signature that may hit the file waits for what its state says, and an
+-- excluded signature hits no file that so begins
 pub record IsScanOf (table : TableView) (file : List ℕ) (scan : ScanView) : Type 0 where
   pub before : List ℕ
   pub bytes : file ≡ before ++ scan.buffer.bytes
   pub base : IsBase before scan.base
   pub last : HasLastBytes scan.keep before scan.buffer.bytes
-  pub courses : scan.courses ≡ courses_of table
-  pub wait : AllWait (sequences_of table) scan.courses before scan.buffer.bytes scan.states
+  pub is_table : scan.table ≡ table
+  pub wait : AllWait table scan.may_hit scan.courses before scan.buffer.bytes scan.states
+  pub excluded : AreExcluded table scan.may_hit file
 
--- at the end of a file, each sequence stands in it where what its state leaves of its course does
-abbrev pub AllLeft : List SequenceView → List CourseView → List ℕ → List ℕ → List State → Type 0
-AllLeft sequences courses before bytes states = (i : ℕ) (s : SequenceView) (c : CourseView) (t : State) → slice_get sequences i ≡ Some s
-    → slice_get courses i ≡ Some c → slice_get states i ≡ Some t
-    → Stands s (before ++ bytes) ↔ InTurnAt before bytes t.from (drop t.done c.stages) c.tail
+-- behind this file and what the input gave
+pub record HasRead (table : TableView) (file : List ℕ) (before after : Option (List ℕ)) (scan : ScanView) : Type 0 where
+  pub piece : List ℕ
+  pub bytes : IsBytes piece
+  pub given : Gives before piece after
+  pub is_of : IsScanOf table (file ++ piece) scan
+
+-- at the end of a file, each of these sequences stands in it where its state, and what was found, leave of its course does
+abbrev pub AreLeft : List SequenceView → List CourseView → List ℕ → List ℕ → List State → List ℕ → ℕ → ℕ → Type 0
+AreLeft sequences courses before bytes states found first end = (i : ℕ) (s : SequenceView) (c : CourseView) (t : State) → first ≤ i → i < end
+    → slice_get sequences i ≡ Some s → slice_get courses i ≡ Some c → slice_get states i ≡ Some t
+    → Stands s (before ++ bytes) ↔ InTurnAt before bytes (max t.from (slice_index found i)) (drop t.done c.stages) c.tail
+
+-- so do those of each signature that the file may hit
+abbrev pub AllLeft : TableView → List Bool → List CourseView → List ℕ → List ℕ → List State → List ℕ → Type 0
+AllLeft table may_hit courses before bytes states found = (g : ℕ) (h : SignatureView) → slice_get may_hit g ≡ Some true → slice_get table.signatures g ≡ Some h
+    → AreLeft (sequences_of table) courses before bytes states found (first_of table g) (first_of table g + length h.sequences)
 
 -- at the end of this file: its last bytes are at hand
 pub record IsEndOf (table : TableView) (file : List ℕ) (scan : ScanView) : Type 0 where
@@ -117,13 +168,9 @@ pub record IsEndOf (table : TableView) (file : List ℕ) (scan : ScanView) : Typ
   pub bytes : file ≡ before ++ scan.buffer.bytes
   pub base : IsBase before scan.base
   pub last : HasLastBytes scan.keep before scan.buffer.bytes
-  pub courses : scan.courses ≡ courses_of table
-  pub left : AllLeft (sequences_of table) scan.courses before scan.buffer.bytes scan.states
-
--- each state goes on to the offset that was found for it
-abbrev pub AreRaised : List State → List ℕ → List State → Type 0
-AreRaised old found new = (i : ℕ) (t : State) → slice_get new i ≡ Some t
-    → (u : State) × (slice_get old i ≡ Some u) × (t ≡ record { done = u.done; from = max u.from (slice_index found i) })
+  pub is_table : scan.table ≡ table
+  pub left : AllLeft table scan.may_hit scan.courses before scan.buffer.bytes scan.states scan.found
+  pub excluded : AreExcluded table scan.may_hit file
 
 -- each sequence waits for all of its course
 abbrev pub AreFirst : List CourseView → List State → Type 0

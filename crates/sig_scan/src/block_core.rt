@@ -1,20 +1,22 @@
 //! The matcher that scans a file by blocks while it reads it.
 //!
-//! The table is compiled (`program`), once for many files or for each of them. A file is read in
-//! pieces of 32 KiB, which a scan is fed. A file shorter than a piece gets a buffer of its own length:
-//! to clear a block of 256 KiB would take longer than to scan it.
+//! The table is compiled (`program`), once for many files or for each of them. A file is read straight
+//! into the buffer over which the sequences go, which has room for its first 32 KiB at first. A file
+//! that fits in there is scanned where it stands: to clear a block of 256 KiB would take longer than to
+//! scan it. For a longer one the buffer grows, once, to a block and what is kept of the one before it.
 //!
 //! The memory is that of a program and of one scan, however long the file is.
 
-ghost use Rattle.std.specs.Prelude.{◌≡◌, ◌+◌, ◌<◌, ◌≤◌, ℕ, List, false, true, IfOk, IfSome, IsErrOf, OnOk, is_err, length, take};
-ghost use Rattle.sig_bits.specs.Device.{Gives, IsAtEnd};
+ghost use Rattle.std.specs.Prelude.{◌≡◌, ◌<◌, ℕ, List, false, true, IfOk, IfSome, IsErrOf, OnOk};
+ghost use Rattle.sig_bits.specs.Device.{IsAtEnd};
 ghost use Rattle.sig_core.specs.Hits.{HitFormats, HitFormatsOfSome};
-ghost use Rattle.sig_scan.specs.Courses.{courses_of};
+ghost use Rattle.sig_scan.specs.Heads.{IsProgramOf};
 ghost use Rattle.sig_scan.specs.Scans.{IsScanOf};
 
+use crate::buffer::Buffer;
 use crate::program::Program;
 use crate::scan::Scan;
-use sig_bits::{DeviceFault, Input};
+use sig_bits::Input;
 use sig_core::{CoreError, DroidCore, Results};
 use sig_table::{Puid, Table};
 use std::alloc::{AllocError, Global};
@@ -23,8 +25,8 @@ use std::marker::Model;
 // So many bytes are read before the sequences go on over them.
 const BLOCK: u32 = 1 << 18;
 
-// How many bytes a read has room for.
-const PIECE: usize = 1 << 15;
+// So many bytes of a file are read before there is room for a block.
+const FIRST_ROOM: usize = 1 << 15;
 
 /// A matcher that scans a file by blocks while it reads it.
 #[derive(Debug, Drop)]
@@ -38,15 +40,15 @@ pub struct BlockCore {
 }
 
 impl Model for BlockCore {
-    ghost use Rattle.std.specs.Prelude.{◌≡◌, ◌<◌, IfSome};
-    ghost use Rattle.sig_scan.specs.Courses.{courses_of};
+    ghost use Rattle.std.specs.Prelude.{◌<◌, IfSome};
+    ghost use Rattle.sig_scan.specs.Heads.{IsProgramOf};
     ghost use Rattle.sig_table.specs.Views.{TableView};
 
     ghost Value = { TableView };
 
     ghost view = { λ c. c.table };
 
-    ghost invariant = { λ c. IfSome c.program (λ p. p ≡ courses_of c.table) × (0 < c.block) };
+    ghost invariant = { λ c. IfSome c.program (IsProgramOf c.table) × (0 < c.block) };
 }
 
 impl BlockCore {
@@ -121,7 +123,7 @@ fn scan_input<R: Input>(
     block: u32,
     input: &mut R,
 ) -> Result<Results, CoreError>
-    requires program { program.now ≡ courses_of table.now }
+    requires program { IsProgramOf table.now program.now }
     requires block { 0 < block }
     ensures hits { IfOk result (HitFormatsOfSome table.now (R.to_come input.old)) }
     ensures at_end { OnOk result (IsAtEnd (R.to_come input.new)) }
@@ -129,57 +131,28 @@ fn scan_input<R: Input>(
     ensures read { IsErrOf result CoreError.Read → R.failed input.new ≡ true }
     ensures memory { IsErrOf result CoreError.OutOfMemory → R.failed input.new ≡ R.failed input.old }
 {
-    let mut piece = vec![in alloc; 0; PIECE]?;
-    let first = fill(input, &mut piece)?;
-    let mut scan = Scan::new(alloc, program, block_of(first, block))?;
-    scan.feed(&piece[..first]);
-    let mut last = first;
-    'pieces: while last == PIECE {
-        let n = fill(input, &mut piece)?;
-        scan.feed(&piece[..n]);
-        last = n;
+    let keep = program.keep();
+    let room = keep + block as usize;
+    let mut buffer = Buffer::new(alloc, room.min(FIRST_ROOM))?;
+    buffer.fill(input)?;
+    if !buffer.is_full() {
+        let mut scan = Scan::new(alloc, table, program, keep, buffer.trimmed())?;
+        return Ok(results_of(alloc, table, &mut scan)?);
     }
-    Ok(results_of(alloc, table, &mut scan)?)
-}
-
-// How many bytes the blocks of a file have of which so many come first: all of a shorter file, and room for one more.
-fn block_of(first: usize, block: u32) -> u32
-    requires { 0 < block }
-    ensures { 0 < result }
-{
-    if first < PIECE && first < block as usize {
-        first as u32 + 1
-    } else {
-        block
+    let mut scan = Scan::new(alloc, table, program, keep, buffer.grown(room)?)?;
+    'reads: loop {
+        if !scan.read_on(input)? {
+            return Ok(results_of(alloc, table, &mut scan)?);
+        }
     }
 }
 
 // The formats that the file of a scan hits.
 fn results_of(alloc: Global, table: &Table, scan: &mut Scan) -> Result<Results, AllocError>
-    requires { scan.old.courses ≡ courses_of table.now }
+    requires { scan.old.table ≡ table.now }
     ensures { (file : List ℕ) → IsScanOf table.now file scan.old → IfOk result (λ hits. HitFormats table.now file hits) }
 {
     let mut marks = vec![in alloc; false; table.signature_count()]?;
-    scan.finish(table, &mut marks);
+    scan.finish(&mut marks);
     Results::of_marks(alloc, table, &marks)
-}
-
-// Reads until the room is full, or nothing more is to come. Answers how many bytes came.
-fn fill<R: Input>(input: &mut R, room: &mut [u8]) -> Result<usize, DeviceFault>
-    requires { 0 < length room.old }
-    ensures within { IfOk result (λ n. n ≤ length room.new) }
-    ensures gives { IfOk result (λ n. Gives (R.to_come input.old) (take n room.new) (R.to_come input.new)) }
-    ensures at_end { IfOk result (λ n. n < length room.new → IsAtEnd (R.to_come input.new)) }
-    ensures lowers { IfOk result (λ n. R.limit input.old ≡ n + R.limit input.new) }
-    ensures fails { R.failed input.new ≡ is_err result }
-    ensures sound { OnOk result (R.failed input.old ≡ false) }
-{
-    let mut filled = 0;
-    'reads: loop {
-        let n = input.read(&mut room[filled..])?;
-        filled += n;
-        if n == 0 || filled == room.len() {
-            return Ok(filled);
-        }
-    }
 }

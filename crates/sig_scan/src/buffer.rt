@@ -1,11 +1,16 @@
-//! The bytes at hand: the last ones of those that were fed.
+//! The bytes at hand: the last ones of those that were read.
 //!
-//! Bytes are added at the end, and taken off at the front, where the rest moves to. It never grows.
-//! Behind the last byte there is always one more, which belongs to no file: the prefilter looks at
-//! whole fours of bytes, and so it finds what ends with the file too.
+//! Bytes are read to their place behind the last one, so none is copied as it comes, and taken off at
+//! the front, where the rest moves to. The room is made when a buffer is made, and once more if it
+//! proves too small: then it grows. Behind the last byte there is always one more, which belongs to
+//! no file: the prefilter looks at whole fours of bytes, and so it finds what ends with the file too.
 
-ghost use Rattle.std.specs.Prelude.{◌≡◌, ℕ, ◌+◌, ◌<◌, ◌≤◌, ◌^◌, ◌++◌, ◌∷◌, [], IfOk, drop, length};
+ghost use Rattle.std.specs.Prelude.{◌≡◌, ℕ, ◌+◌, ◌<◌, ◌≤◌, ◌^◌, ◌++◌, ◌∷◌, [], IfOk, IsTrue, OnErr, OnOk, drop, false, is_err, length, take};
+ghost use Rattle.sig_bits.specs.Bytes.{IsBytes};
+ghost use Rattle.sig_bits.specs.Device.{Gives, IsAtEnd};
+ghost use Rattle.sig_scan.specs.Scans.{IsFilled};
 
+use sig_bits::{DeviceFault, Input};
 use std::alloc::{AllocError, Global};
 use std::marker::Model;
 
@@ -38,6 +43,32 @@ impl Buffer {
         })
     }
 
+    /// The same bytes, with room for so many.
+    pub(crate) fn grown(self, room: usize) -> Result<Buffer, AllocError>
+        requires room { room < 2 ^ 63 }
+        requires more { self.room ≤ room }
+        ensures { IfOk result (λ b. b ≡ record { room = room; bytes = self.bytes }) }
+    {
+        let mut bytes = self.bytes;
+        bytes.resize(room + 1, 0)?;
+        Ok(Buffer {
+            bytes,
+            len: self.len,
+        })
+    }
+
+    /// The same bytes, with room for no more.
+    pub(crate) fn trimmed(self) -> Buffer
+        ensures { result ≡ record { room = length self.bytes; bytes = self.bytes } }
+    {
+        let mut bytes = self.bytes;
+        bytes.truncate(self.len + 1);
+        Buffer {
+            bytes,
+            len: self.len,
+        }
+    }
+
     /// The bytes.
     pub(crate) fn as_bytes(&self) -> &[u8]
         ensures bytes { result.now ≡ self.now.bytes }
@@ -53,21 +84,34 @@ impl Buffer {
         &self.bytes[..self.len + 1]
     }
 
-    /// How many more bytes there is room for.
-    pub(crate) fn free(&self) -> usize
-        ensures { result + length self.now.bytes ≡ self.now.room }
+    /// How many bytes there is room for.
+    pub(crate) fn room(&self) -> usize
+        ensures { result ≡ self.now.room }
     {
-        self.bytes.len() - 1 - self.len
+        self.bytes.len() - 1
     }
 
-    /// Adds bytes.
-    pub(crate) fn add(&mut self, bytes: &[u8])
-        requires { length self.old.bytes + length bytes.now ≤ self.old.room }
-        ensures { self.new ≡ record { room = self.old.room; bytes = self.old.bytes ++ bytes.now } }
+    /// Whether there is room for no more bytes.
+    pub(crate) fn is_full(&self) -> bool
+        ensures full { IsTrue result → length self.now.bytes ≡ self.now.room }
+        ensures free { result ≡ false → length self.now.bytes < self.now.room }
     {
-        let end = self.len + bytes.len();
-        self.bytes[self.len..end].copy_from_slice(bytes);
-        self.len = end;
+        self.len == self.room()
+    }
+
+    /// Reads until it is full, or nothing more is to come.
+    pub(crate) fn fill<R: Input>(&mut self, input: &mut R) -> Result<(), DeviceFault>
+        requires { length self.old.bytes < self.old.room }
+        ensures filled { OnOk result (IsFilled self.old self.new (R.to_come input.old) (R.to_come input.new)) }
+        ensures stays { OnErr result (self.new ≡ self.old) }
+        ensures at_end { OnOk result (length self.new.bytes < self.new.room → IsAtEnd (R.to_come input.new)) }
+        ensures lowers { OnOk result (length self.old.bytes + R.limit input.old ≡ length self.new.bytes + R.limit input.new) }
+        ensures fails { R.failed input.new ≡ is_err result }
+        ensures sound { OnOk result (R.failed input.old ≡ false) }
+    {
+        let end = self.room();
+        self.len += read_up_to(input, &mut self.bytes[self.len..end])?;
+        Ok(())
     }
 
     /// Takes off the first bytes.
@@ -77,5 +121,26 @@ impl Buffer {
     {
         self.bytes.copy_within(count..self.len, 0);
         self.len -= count;
+    }
+}
+
+// Reads until the room is full, or nothing more is to come. Answers how many bytes came.
+fn read_up_to<R: Input>(input: &mut R, room: &mut [u8]) -> Result<usize, DeviceFault>
+    requires { 0 < length room.old }
+    ensures bytes { IsBytes room.new }
+    ensures within { IfOk result (λ n. n ≤ length room.new) }
+    ensures gives { IfOk result (λ n. Gives (R.to_come input.old) (take n room.new) (R.to_come input.new)) }
+    ensures at_end { IfOk result (λ n. n < length room.new → IsAtEnd (R.to_come input.new)) }
+    ensures lowers { IfOk result (λ n. R.limit input.old ≡ n + R.limit input.new) }
+    ensures fails { R.failed input.new ≡ is_err result }
+    ensures sound { OnOk result (R.failed input.old ≡ false) }
+{
+    let mut filled = 0;
+    'reads: loop {
+        let n = input.read(&mut room[filled..])?;
+        filled += n;
+        if n == 0 || filled == room.len() {
+            return Ok(filled);
+        }
     }
 }

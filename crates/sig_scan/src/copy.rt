@@ -14,11 +14,16 @@ pub(crate) fn copy_items(alloc: Global, items: &[Item]) -> Result<Vec<Item>, All
 {
     let mut copy = Vec::with_capacity(alloc, items.len())?;
     for item in items {
-        copy.push(copy_item(alloc, item)?)?;
+        match item {
+            Item::Byte(byte) => copy.push_reserved(Item::Byte(*byte)),
+            _ => copy.push_reserved(copy_item(alloc, item)?),
+        }
     }
     Ok(copy)
 }
 
+// Not inlined, so that the loop over the items, most of which are bytes, stays short.
+#[inline(never)]
 fn copy_item(alloc: Global, item: &Item) -> Result<Item, AllocError>
     ensures { IfOk result (λ copy. copy ≡ item.now) }
 {
@@ -49,9 +54,5 @@ fn copy_alternatives(alloc: Global, alternatives: &Alternatives) -> Result<Alter
 fn copy_parts(alloc: Global, parts: &[Atom]) -> Result<Vec<Atom>, AllocError>
     ensures { IfOk result (λ copy. copy.items ≡ parts.now) }
 {
-    let mut copy = Vec::new(alloc);
-    for part in parts {
-        copy.push(*part)?;
-    }
-    Ok(copy)
+    Vec::from_slice(alloc, parts)
 }

@@ -14,10 +14,11 @@
 ghost use Rattle.std.specs.Prelude.{◌≡◌, ◌⊎◌, ◌≢◌, ◌↔◌, ℕ, ◌+◌, ◌*◌, ◌-◌, ◌%◌, ◌^◌, ◌<◌, ◌≤◌, IfOk, IfSome, OnOk, IsTrue, Some, [], false, length, slice_index};
 ghost use Rattle.std.specs.List.{slice_get};
 ghost use Rattle.sig_scan.specs.Filters.{AddsEntry, AreKept, AreLowered, AreMissed, AreOwned, HasWindow, IsListed, IsPassedAt, IsUnlisted, behind_of, four_at, list_of, mark_of, text_of};
-ghost use Rattle.sig_scan.specs.Literals.{StandsAt};
+ghost use Rattle.sig_scan.specs.Literals.{StandsAt, byte_of};
 ghost use Rattle.sig_scan.specs.declared.filter.Entry.{Entry};
 
 use crate::literal::Literal;
+use crate::state::State;
 use std::alloc::{AllocError, Global};
 use std::marker::Model;
 
@@ -35,20 +36,15 @@ const ENTRIES: usize = 65_535;
 // How many texts four places of two bytes each have.
 const TEXTS: u32 = 16;
 
-/// A literal, where in it the four bytes are by which it is found, and whose it is.
+/// A literal, where in it the four bytes are by which it is found, and whose it is: that of the stage of
+/// a sequence that has so many before it.
 #[derive(Debug, Drop)]
 pub(crate) struct Entry {
     pub(crate) literal: Literal,
     pub(crate) window: usize,
+    pub(crate) signature: usize,
     pub(crate) sequence: usize,
-    pub(crate) stage: usize,
-}
-
-/// The stage that a sequence waits in, and the first offset at which a word of it may begin.
-#[derive(Clone, Copy, Debug, Drop)]
-pub(crate) struct Wait {
-    pub(crate) stage: usize,
-    pub(crate) from: usize,
+    pub(crate) done: usize,
 }
 
 /// The literals of stages.
@@ -85,15 +81,16 @@ impl Filter {
         })
     }
 
-    /// Adds the literal of a stage of a sequence, if there is room.
+    /// Adds the literal of the stage of a sequence that has so many before it, if there is room.
     pub(crate) fn add(
         &mut self,
         literal: &Literal,
+        signature: usize,
         sequence: usize,
-        stage: usize,
+        done: usize,
     ) -> Result<(), AllocError>
         requires { 4 ≤ length literal.now.text }
-        ensures { OnOk result (AddsEntry self.old self.new literal.now stage) }
+        ensures { OnOk result (AddsEntry self.old self.new literal.now sequence done) }
     {
         let window = window_of(literal);
         let place = self.entries.len();
@@ -107,25 +104,27 @@ impl Filter {
         self.entries.push(Entry {
             literal: literal.copy(),
             window,
+            signature,
             sequence,
-            stage,
+            done,
         })?;
         Ok(())
     }
 
-    /// Finds for each sequence that waits in a stage of an entry an offset before which its literal
-    /// stands behind none of those at which it may go on. Of the others nothing is known, which is 0.
-    pub(crate) fn look(&self, bytes: &[u8], waits: &[Wait], found: &mut [usize])
-        ensures { AreMissed self.now bytes.now waits.now found.new }
+    /// Finds for each sequence of a signature that the file may hit that waits in the stage of an entry an offset before
+    /// which its literal stands behind none of those at which it may go on. Of the others nothing is
+    /// known, which is 0.
+    pub(crate) fn look(&self, bytes: &[u8], states: &[State], may_hit: &[bool], found: &mut [usize])
+        ensures { AreMissed self.now bytes.now states.now found.new }
     {
-        if !begin(&self.entries, bytes.len(), waits, found) {
+        if !begin(&self.entries, bytes.len(), states, may_hit, found) {
             return;
         }
         let mut place = self.next_listed(bytes, 0);
         'places: while place + 4 <= bytes.len() {
-            self.visit(bytes, place, waits, found);
+            self.visit(bytes, place, states, found);
             if place > 0 {
-                self.visit(bytes, place - 1, waits, found);
+                self.visit(bytes, place - 1, states, found);
             }
             place = self.next_listed(bytes, place + 2);
         }
@@ -152,16 +151,16 @@ impl Filter {
     }
 
     // Lowers what was found by the entries of which the four bytes at this place are.
-    fn visit(&self, bytes: &[u8], place: usize, waits: &[Wait], found: &mut [usize])
+    fn visit(&self, bytes: &[u8], place: usize, states: &[State], found: &mut [usize])
         requires { place + 4 ≤ length bytes.now }
         ensures lowered { AreLowered found.old found.new }
-        ensures passed { (i : ℕ) (e : Entry) → slice_get self.now i ≡ Some e → HasWindow e bytes.now place → IsPassedAt e bytes.now waits.now place found.new }
+        ensures passed { (i : ℕ) (e : Entry) → slice_get self.now i ≡ Some e → HasWindow e bytes.now place → IsPassedAt e bytes.now states.now place found.new }
     {
         let list = DEPTH * list_of(four(bytes, place));
         for slot in list..list + DEPTH {
             let id = self.slots[slot] as usize;
             if id > 0 && id <= self.entries.len() {
-                compare(&self.entries[id - 1], bytes, place, waits, found);
+                compare(&self.entries[id - 1], bytes, place, states, found);
             }
         }
     }
@@ -169,44 +168,52 @@ impl Filter {
 
 // Lowers what was found for the sequence of the entry, if its literal stands here with its four bytes at
 // this place.
-fn compare(entry: &Entry, bytes: &[u8], place: usize, waits: &[Wait], found: &mut [usize])
+fn compare(entry: &Entry, bytes: &[u8], place: usize, states: &[State], found: &mut [usize])
     ensures lowered { AreLowered found.old found.new }
-    ensures passed { IsPassedAt entry.now bytes.now waits.now place found.new }
+    ensures passed { IsPassedAt entry.now bytes.now states.now place found.new }
 {
     let k = entry.sequence;
-    if k < waits.len() && k < found.len() {
-        found[k] = first_of(entry, bytes, place, waits[k], found[k]);
+    if k < states.len() && k < found.len() {
+        found[k] = first_of(entry, bytes, place, states[k], found[k]);
     }
 }
 
 // The offset for which the literal stands so, if it comes first.
-fn first_of(entry: &Entry, bytes: &[u8], place: usize, wait: Wait, found: usize) -> usize
+fn first_of(entry: &Entry, bytes: &[u8], place: usize, state: State, found: usize) -> usize
     ensures lowered { result ≤ found }
-    ensures passed { (x : ℕ) → entry.now.stage ≡ wait.stage → wait.from ≤ x → x < result → x + entry.now.literal.at + entry.now.window ≡ place
+    ensures passed { (x : ℕ) → entry.now.done ≡ state.done → state.from ≤ x → x < result → x + entry.now.literal.at + entry.now.window ≡ place
         → ¬ StandsAt entry.now.literal bytes.now (x + entry.now.literal.at) }
 {
     let at = entry.literal.at();
-    if place < entry.window || place - entry.window < at || wait.stage != entry.stage {
+    if place < entry.window || place - entry.window < at || state.done != entry.done {
         return found;
     }
     let begin = place - entry.window;
     let offset = begin - at;
-    if offset < wait.from || offset >= found || !entry.literal.stands_at(bytes, begin) {
+    if offset < state.from || offset >= found || !entry.literal.stands_at(bytes, begin) {
         return found;
     }
     offset
 }
 
-// Takes it that nothing is found, and answers whether a sequence waits in a stage of an entry.
-fn begin(entries: &[Entry], len: usize, waits: &[Wait], found: &mut [usize]) -> bool
-    ensures owned { AreOwned entries.now waits.now found.new }
+// Takes it that nothing is found, and answers whether a sequence of a signature that the file may hit waits in the stage
+// of an entry.
+fn begin(
+    entries: &[Entry],
+    len: usize,
+    states: &[State],
+    may_hit: &[bool],
+    found: &mut [usize],
+) -> bool
+    ensures owned { AreOwned entries.now states.now found.new }
     ensures none { result ≡ false → (k : ℕ) → slice_index found.new k ≡ 0 }
 {
     found.fill(0);
     let mut some = false;
     for entry in entries {
         let k = entry.sequence;
-        if k < waits.len() && k < found.len() && waits[k].stage == entry.stage {
+        let is_wanted = entry.signature < may_hit.len() && may_hit[entry.signature];
+        if is_wanted && k < states.len() && k < found.len() && states[k].done == entry.done {
             found[k] = len;
             some = true;
         }
@@ -256,7 +263,7 @@ fn enter_all(marks: &mut [u8], slots: &mut [u16], literal: &Literal, window: usi
     ensures kept { AreKept marks.old slots.old marks.new slots.new }
     ensures listed { IsTrue result → (n : ℕ) → n < 16 → IsListed marks.new slots.new id (text_of literal.now window n) (behind_of literal.now window n) }
 {
-    for choice in 0..TEXTS {
+    for choice in 0..text_count(literal, window) {
         let behind = behind_of(literal, window, choice);
         let four = u32::from(literal.byte(window, choice % 2)) + behind * 0x100;
         if !enter(marks, slots, four, behind, id) {
@@ -264,6 +271,20 @@ fn enter_all(marks: &mut [u8], slots: &mut [u16], literal: &Literal, window: usi
         }
     }
     true
+}
+
+// How many texts four places have at most: one where each has one byte.
+fn text_count(literal: &Literal, window: usize) -> u32
+    requires inside { window + 4 ≤ length literal.now.text }
+    requires few { window ≤ 4 }
+    ensures all { (result ≡ 16) ⊎ ((result ≡ 1) × ((k : ℕ) → window ≤ k → k < window + 4 → byte_of literal.now k 0 ≡ byte_of literal.now k 1)) }
+{
+    for k in window..window + 4 {
+        if literal.byte(k, 0) != literal.byte(k, 1) {
+            return TEXTS;
+        }
+    }
+    1
 }
 
 // The last three of the four bytes of a choice as one number.

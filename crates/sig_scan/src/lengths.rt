@@ -17,12 +17,16 @@ pub(crate) fn span_of(items: &[Item]) -> usize
 {
     let mut sum = 0;
     for item in items {
-        sum += span_of_item(item);
+        sum += match item {
+            Item::Byte(_) => 1,
+            _ => span_of_item(item),
+        };
     }
     sum
 }
 
-// The same of one item.
+// The same of one item. Not inlined, so that the loop over the items, most of which are bytes, stays short.
+#[inline(never)]
 fn span_of_item(item: &Item) -> usize
     requires { item_span item.now ≤ 65535 }
     ensures { result ≡ item_span item.now }

@@ -15,14 +15,13 @@
 //! table into stages, of copies of its items (`copy`), and `lengths` says how long their words are.
 //! `literal` says which bytes each word of a stage has (a required literal), and passes over offsets
 //! behind which they do not stand; `filter` finds those of all stages in one look at a block (a literal
-//! prefilter). `frontier` finds the offsets at which the words of items end, item by item, as a set of
+//! prefilter), and `head` says by one byte which signatures hit no file that begins as this one. `frontier` finds the offsets at which the words of items end, item by item, as a set of
 //! bits (`offsets`), and `attempt` the first end of a stage. `state` is what is known of one sequence,
 //! `buffer` the bytes at hand, and `scan` goes over a file with both. `block_core` reads a file and
 //! answers which formats it hits: `BlockCore` is a `DroidCore` of `sig_core`, as every matcher is.
 //!
 //! Gaps and `??` at the ends of a stage are not made delays, and a literal has no place of more than two
-//! bytes. A sequence is looked for to the end of a file, also where another one of its signature can no
-//! longer stand.
+//! bytes.
 #![tactic(auto)]
 
 mod attempt;
@@ -32,6 +31,7 @@ mod class;
 mod copy;
 mod filter;
 mod frontier;
+mod head;
 mod lengths;
 mod literal;
 mod marks;

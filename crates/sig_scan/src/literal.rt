@@ -9,13 +9,13 @@
 //!
 //! It leaves out classes of more bytes: of `[41:43]42` the literal is `42`.
 
-ghost use Rattle.std.specs.Prelude.{◌≡◌, ◌↔◌, ℕ, ◌+◌, ◌-◌, ◌^◌, ◌<◌, ◌≤◌, [], ◌∷◌, IfSome, IsTrue, length, take};
+ghost use Rattle.std.specs.Prelude.{◌≡◌, ◌↔◌, ℕ, ◌+◌, ◌-◌, ◌^◌, ◌<◌, ◌≤◌, [], ◌∷◌, IfSome, IsTrue, false, length, take};
 ghost use Rattle.memchr.specs.Find.{IsFirst, OccursAt};
 ghost use Rattle.sig_expr.specs.declared.item.Atom.TheVariants as atom;
 ghost use Rattle.sig_expr.specs.declared.item.Item.TheVariants as item;
 ghost use Rattle.sig_expr.specs.Words.{Word};
 ghost use Rattle.sig_scan.specs.Lengths.{HasLength};
-ghost use Rattle.sig_scan.specs.Literals.{BeginsWith, IsEitherOf, IsLiteralOf, StandsAt, byte_of};
+ghost use Rattle.sig_scan.specs.Literals.{AreFixed, BeginsWith, IsEitherOf, IsLiteralOf, StandsAt, byte_of};
 
 use crate::lengths::fixed_length;
 use memchr::{memchr2, memmem};
@@ -24,6 +24,12 @@ use std::marker::Model;
 
 // How many bytes of a run are taken at most.
 const LONGEST: usize = 8;
+
+// How many bytes tell enough where a word may begin at one offset alone.
+const ENOUGH: usize = 4;
+
+// Among so many places a search for one byte ends before one for all of them has begun.
+const SHORT: usize = 1024;
 
 // How far behind the beginning of a word a literal stands at most.
 const FARTHEST: usize = 65_535;
@@ -36,63 +42,51 @@ pub(crate) struct Literal {
     len: usize,
     text: [u8; LONGEST],
     other: [u8; LONGEST],
+    // The place of its rarest byte, by a guess.
+    rarest: usize,
 }
 
 impl Model for Literal {
-    ghost use Rattle.std.specs.Prelude.{◌≤◌, take};
+    ghost use Rattle.std.specs.Prelude.{◌<◌, ◌≤◌, take};
     ghost use Rattle.sig_scan.specs.Literals.{LiteralView};
 
     ghost Value = { LiteralView };
 
     ghost view = { λ l. record { at = l.at; text = take l.len l.text; other = take l.len l.other } };
 
-    ghost invariant = { λ l. (l.len ≤ 8) × (l.at ≤ 65535) };
+    ghost invariant = { λ l. (l.len ≤ 8) × (l.at ≤ 65535) × (0 < l.len → l.rarest < l.len) };
 }
 
 impl Literal {
-    /// The rarest literal of the items.
+    /// The rarest literal of the items. Where it can be all of them, that is the one.
     pub(crate) fn of(items: &[Item]) -> Literal
         ensures { IsLiteralOf items.now result }
     {
-        let mut best = run_of(items, 0);
-        let mut most = best.rarity();
-        let mut at: usize = 0;
-        let mut passed: usize = 0;
-        for (i, item) in items.iter().enumerate() {
-            if passed <= i {
-                let found = run_of(&items[i..], at);
-                let rarity = found.rarity();
-                passed = found.passes(i);
-                if most <= rarity {
-                    most = rarity;
-                    best = found;
-                }
-            }
-            match behind(item, at) {
-                Some(next) => at = next,
-                None => return best,
-            }
+        let front = Literal::front(items);
+        if front.text().len() == items.len() {
+            return front;
         }
-        best
+        let (begin, at) = rarest_run(items);
+        run_of(&items[begin..], at)
     }
 
-    // Of a run that begins at item `i`: before which item no other beginning is as rare. Within a run that has an end, the
-    // later a beginning, the fewer bytes are left.
-    fn passes(&self, i: usize) -> usize {
-        if self.len < LONGEST {
-            i.saturating_add(self.len)
+    /// The literal with which the items begin, if it has enough bytes for one offset, and else the rarest.
+    pub(crate) fn in_front(items: &[Item]) -> Literal
+        ensures { IsLiteralOf items.now result }
+    {
+        let front = Literal::front(items);
+        if front.text().len() < ENOUGH {
+            Literal::of(items)
         } else {
-            i
+            front
         }
     }
 
-    // A guess of how rare it is: the more, the rarer.
-    fn rarity(&self) -> u32 {
-        let mut sum: u32 = 0;
-        for k in 0..self.text().len() {
-            sum = sum.saturating_add(self.weight(k));
-        }
-        sum
+    // The literal with which the items begin.
+    fn front(items: &[Item]) -> Literal
+        ensures { IsLiteralOf items.now result }
+    {
+        run_of(items, 0)
     }
 
     /// How rare the bytes of one place are, by a guess: one of two bytes tells half of what one tells.
@@ -100,13 +94,7 @@ impl Literal {
         requires { k < length self.now.text }
         ensures { result ≤ 9 }
     {
-        let text = self.byte(k, 0);
-        let other = self.byte(k, 1);
-        if text == other {
-            weight(text)
-        } else {
-            weight(text).min(weight(other)) / 2
-        }
+        weight_of_two(self.byte(k, 0), self.byte(k, 1))
     }
 
     /// The bytes.
@@ -154,6 +142,7 @@ impl Literal {
             len: self.len,
             text: self.text,
             other: self.other,
+            rarest: self.rarest,
         }
     }
 
@@ -194,29 +183,45 @@ impl Literal {
         requires few { last < 2 ^ 63 + 65536 }
         ensures { IsFirst (StandsAt self.now bytes.now) from (last + 1) result }
     {
-        if is_same(self.text(), self.other()) {
+        if from == last {
+            return self.place_if_there(bytes, from);
+        }
+        if self.is_found_whole(last - from) {
             first_of(bytes, from, last, self.text())
         } else {
             self.first_by(self.rarest(), bytes, from, last)
         }
     }
 
-    // The place of its rarest byte, by a guess.
-    fn rarest(&self) -> usize
+    // Whether a search for all its bytes is the quicker one among so many places and one more. One for one
+    // of them needs a byte, and one for all of them needs one text.
+    fn is_found_whole(&self, places: usize) -> bool
+        ensures same { IsTrue result → self.now.text ≡ self.now.other }
+        ensures some { result ≡ false → 0 < length self.now.text }
+    {
+        let text = self.text();
+        let other = self.other();
+        text.is_empty() || places > SHORT && is_same(text, other)
+    }
+
+    // The one place that is looked at, if it stands there.
+    fn place_if_there(&self, bytes: &[u8], place: usize) -> Option<usize>
+        ensures { IsFirst (StandsAt self.now bytes.now) place (place + 1) result }
+    {
+        if self.stands_at(bytes, place) {
+            Some(place)
+        } else {
+            None
+        }
+    }
+
+    /// The place of its rarest byte, by a guess.
+    pub(crate) fn rarest(&self) -> usize
         requires { 0 < length self.now.text }
         ensures inside { result < length self.now.text }
         ensures few { result < 8 }
     {
-        let mut best = 0;
-        let mut most = 0;
-        for k in 0..self.text().len() {
-            let found = self.weight(k);
-            if most < found {
-                most = found;
-                best = k;
-            }
-        }
-        best
+        self.rarest
     }
 
     // The same, by the bytes of its place `k`.
@@ -242,6 +247,104 @@ impl Literal {
     }
 }
 
+// The last places of one byte or one of two that stand in a row before an item, at most eight.
+#[derive(Debug, Drop)]
+struct Run {
+    len: usize,
+    // A guess of how rare they are: the more, the rarer.
+    rarity: u32,
+    // How rare each of them is, by the number of its item.
+    weights: [u32; LONGEST],
+}
+
+impl Run {
+    fn empty() -> Run
+        ensures { result.len ≡ 0 }
+    {
+        Run {
+            len: 0,
+            rarity: 0,
+            weights: [0; LONGEST],
+        }
+    }
+
+    // One place more, which is item `i`. The first of nine is left out.
+    fn push(&mut self, i: usize, weight: u32)
+        ensures { self.new.len ≤ self.old.len + 1 }
+    {
+        let slot = i % LONGEST;
+        if self.len < LONGEST {
+            self.len += 1;
+        } else {
+            self.rarity = self.rarity.saturating_sub(self.weights[slot]);
+        }
+        self.rarity = self.rarity.saturating_add(weight);
+        self.weights[slot] = weight;
+    }
+
+    fn clear(&mut self)
+        ensures { self.new.len ≡ 0 }
+    {
+        self.len = 0;
+        self.rarity = 0;
+    }
+}
+
+// At which item the rarest run of places begins, and how far behind the beginning of a word. Of those that are as rare it is
+// the last one.
+fn rarest_run(items: &[Item]) -> (usize, usize)
+    ensures inside { result.0 ≤ length items.now }
+    ensures few { result.1 ≤ 65535 }
+    ensures fixed { AreFixed (take result.0 items.now) result.1 }
+{
+    let mut run = Run::empty();
+    let mut most: u32 = 0;
+    let mut best: usize = 0;
+    let mut best_at: usize = 0;
+    let mut at: usize = 0;
+    for (i, item) in items.iter().enumerate() {
+        let weight = weight_of(item);
+        if weight > 0 && at < FARTHEST {
+            at += 1;
+            run.push(i, weight);
+            if most <= run.rarity {
+                most = run.rarity;
+                best = i + 1 - run.len;
+                best_at = at - run.len;
+            }
+        } else {
+            match behind(item, at) {
+                Some(next) => at = next,
+                None => return (best, best_at),
+            }
+            run.clear();
+        }
+    }
+    (best, best_at)
+}
+
+// A guess of how rare the bytes of an item are, or 0 if it is no place.
+fn weight_of(item: &Item) -> u32
+    ensures { 0 < result → HasLength (Word item.now) 1 }
+{
+    match bytes_of(item) {
+        Some((a, b)) => weight_of_two(a, b),
+        None => 0,
+    }
+}
+
+// A guess of how rare one of two bytes is, or one byte, which is given twice.
+#[inline(always)]
+fn weight_of_two(a: u8, b: u8) -> u32
+    ensures { result ≤ 9 }
+{
+    if a == b {
+        weight(a)
+    } else {
+        weight(a).min(weight(b)) / 2
+    }
+}
+
 // The bytes with which the items begin, so far behind the beginning of a word.
 fn run_of(items: &[Item], at: usize) -> Literal
     requires { at ≤ 65535 }
@@ -251,32 +354,49 @@ fn run_of(items: &[Item], at: usize) -> Literal
     let mut text = [0; LONGEST];
     let mut other = [0; LONGEST];
     let len = copy_run(items, &mut text, &mut other);
+    let rarest = rarest_of(&text[..len], &other[..len]);
     Literal {
         at,
         len,
         text,
         other,
+        rarest,
     }
 }
 
-// Writes the bytes with which the items begin, as far as there is room, and answers how many they are.
+// The place of the rarest of some bytes, in the place of each of which another one may stand.
+fn rarest_of(text: &[u8], other: &[u8]) -> usize
+    requires { length other.now ≡ length text.now }
+    ensures { 0 < length text.now → result < length text.now }
+{
+    let mut best = 0;
+    let mut most = 0;
+    for k in 0..text.len() {
+        let found = weight_of_two(text[k], other[k]);
+        if most < found {
+            most = found;
+            best = k;
+        }
+    }
+    best
+}
+
+// Writes the bytes with which the items begin, as far as there is room, and answers how many they are. Not inlined, so that
+// they are written to memory one by one.
+#[inline(never)]
 fn copy_run(items: &[Item], text: &mut [u8], other: &mut [u8]) -> usize
     ensures run { BeginsWith items.now (take result text.new) (take result other.new) }
     ensures within { result ≤ length text.new }
 {
-    let (Some((item, later)), Some((a, texts)), Some((b, others))) = (
-        items.split_first(),
-        text.split_first_mut(),
-        other.split_first_mut(),
-    ) else {
-        return 0;
-    };
-    let Some((x, y)) = bytes_of(item) else {
-        return 0;
-    };
-    *a = x;
-    *b = y;
-    1 + copy_run(later, texts, others)
+    let most = items.len().min(text.len()).min(other.len());
+    for k in 0..most {
+        let Some((a, b)) = bytes_of(&items[k]) else {
+            return k;
+        };
+        text[k] = a;
+        other[k] = b;
+    }
+    most
 }
 
 // Two bytes, one of which is each word of the item; the same twice where it has one word.
@@ -335,8 +455,7 @@ fn behind(item: &Item, at: usize) -> Option<usize>
     if next <= FARTHEST { Some(next) } else { None }
 }
 
-// The first offset from `from` up to `last`, which is counted in, at which the text stands. One offset
-// is looked at without a search.
+// The first offset from `from` up to `last`, which is counted in, at which the text stands.
 fn first_of(bytes: &[u8], from: usize, last: usize, text: &[u8]) -> Option<usize>
     requires { from ≤ last }
     ensures { IsFirst (OccursAt bytes.now text.now) from (last + 1) result }
@@ -345,11 +464,7 @@ fn first_of(bytes: &[u8], from: usize, last: usize, text: &[u8]) -> Option<usize
     if end < from {
         return None;
     }
-    let part = &bytes[from..end];
-    if from == last && !is_same(part, text) {
-        return None;
-    }
-    let n = memmem::find(part, text)?;
+    let n = memmem::find(&bytes[from..end], text)?;
     Some(from + n)
 }
 

@@ -3,20 +3,28 @@
 //! Of `41{0-1}42{3-*}43` anywhere there are two stages, `41{0-1}42` with a delay of three bytes and
 //! `43`; at the end of a file the second one is the tail. The items are copied, so that a program serves
 //! for as long as it is wanted. The stages of all sequences stand in one list, and a course says which
-//! of them are those of its sequence.
+//! of them are those of its sequence. Beside them stand what is looked for in all at once: the heads of
+//! signatures (`head`), and the literals of stages (`filter`).
 
-ghost use Rattle.std.specs.Prelude.{◌≡◌, ◌≤◌, ◌<◌, ◌++◌, ◌∷◌, [], All, List, IfOk, OnOk, MatchOption, None, Some, length};
+ghost use Rattle.std.specs.Prelude.{◌≡◌, ◌≤◌, ◌<◌, ◌++◌, ◌∷◌, [], ℕ, All, List, IfOk, IfSome, OnOk, MatchOption, None, Some, length, map};
 ghost use Rattle.sig_expr.specs.declared.item.Item.TheVariants.{Gap};
-ghost use Rattle.sig_scan.specs.Courses.{AddsCourse, AreHeld, IsHeld, courses_of};
+ghost use Rattle.sig_bits.specs.Bytes.{IsBytes};
+ghost use Rattle.sig_scan.specs.Courses.{AddsCourse, AreHeld, IsHeld, StandsIn, course_in};
 ghost use Rattle.sig_scan.specs.Filters.{AreLiteralsOf};
+ghost use Rattle.sig_scan.specs.Heads.{AreHeadsOf, HasHead, IsProgramOf};
 ghost use Rattle.sig_scan.specs.Lengths.{IsBoundedItem};
-ghost use Rattle.sig_scan.specs.Passes.{ArePast, IsWaitOf};
-ghost use Rattle.sig_scan.specs.Stages.{CourseView, StageView, course_of, stages_of};
+ghost use Rattle.sig_scan.specs.Passes.{ArePast};
+ghost use Rattle.sig_scan.specs.Placed.{Lies};
+ghost use Rattle.sig_scan.specs.Scans.{AreFirst};
+ghost use Rattle.sig_scan.specs.Stages.{CourseStands, CourseView, StageView, course_of, stages_of};
 ghost use Rattle.std.specs.List.{slice_get};
+ghost use Rattle.sig_table.specs.Standing.{Hits};
 ghost use Rattle.sig_table.specs.Tables.{IsSequence};
+ghost use Rattle.sig_table.specs.Views.{SignatureView, TableView};
 
 use crate::copy::copy_items;
-use crate::filter::{Filter, Wait};
+use crate::filter::Filter;
+use crate::head::Head;
 use crate::lengths::span_of;
 use crate::literal::Literal;
 use crate::state::State;
@@ -57,7 +65,10 @@ impl Stage {
     ) -> Result<Stage, AllocError>
         ensures { IfOk result (λ s. s ≡ record { items = items.now; until = until; delay = delay }) }
     {
-        let literal = Literal::of(items);
+        let literal = match until {
+            Some(0) => Literal::in_front(items),
+            _ => Literal::of(items),
+        };
         let items = copy_items(alloc, items)?;
         Ok(Stage {
             items,
@@ -114,7 +125,11 @@ impl Tail {
         ensures { result ≡ record { items = items.items; min = min; max = max } }
     {
         let longest = span_of(&items);
-        let literal = Literal::of(&items);
+        let literal = if min == max {
+            Literal::in_front(&items)
+        } else {
+            Literal::of(&items)
+        };
         Tail {
             items,
             min,
@@ -125,10 +140,11 @@ impl Tail {
     }
 }
 
-// A sequence: the first offset at which it may begin, where its stages stand among those of the table,
-// and its tail.
+// A sequence: its signature, the first offset at which it may begin, where its stages stand among those
+// of the table, and its tail.
 #[derive(Debug, Drop)]
 struct Course {
+    signature: usize,
     from: u16,
     first: usize,
     end: usize,
@@ -140,40 +156,50 @@ struct Course {
 pub(crate) struct Program {
     stages: Vec<Stage>,
     courses: Vec<Course>,
+    // Of each sequence, what is known of it at the beginning of a file.
+    states: Vec<State>,
+    heads: Vec<Head>,
     filter: Filter,
     keep: usize,
 }
 
 impl Model for Program {
-    ghost use Rattle.std.specs.Prelude.{List, map};
+    ghost use Rattle.std.specs.Prelude.{◌≡◌, length, map};
     ghost use Rattle.sig_scan.specs.Courses.{IsCompiled, course_in};
-    ghost use Rattle.sig_scan.specs.Stages.{CourseView};
+    ghost use Rattle.sig_scan.specs.Heads.{ProgramView};
+    ghost use Rattle.sig_scan.specs.Scans.{AreFirst};
 
-    ghost Value = { List CourseView };
+    ghost Value = { ProgramView };
 
-    ghost view = { λ p. map (course_in p.stages.items) p.courses.items };
+    ghost view = { λ p. record { courses = map (course_in p.stages.items) p.courses.items; heads = p.heads.items } };
 
-    ghost invariant = { λ p. IsCompiled p.keep p.filter p.stages.items p.courses.items };
+    ghost invariant = { λ p. IsCompiled p.keep p.filter p.stages.items p.courses.items
+        × (length p.states.items ≡ length p.courses.items) × AreFirst (map (course_in p.stages.items) p.courses.items) p.states.items };
 }
 
 impl Program {
     // Compiles a table.
     pub(crate) fn of(alloc: Global, table: &Table) -> Result<Program, AllocError>
-        ensures { IfOk result (λ p. p ≡ courses_of table.now) }
+        ensures { IfOk result (IsProgramOf table.now) }
     {
         let mut stages = Vec::new(alloc);
         let mut courses = Vec::new(alloc);
+        let mut heads = Vec::new(alloc);
         for index in 0..table.signature_count() {
             for sequence in table.sequences_of(SigId(index as u16)) {
-                let course = add_stages(alloc, sequence, &mut stages)?;
+                let course = add_stages(alloc, sequence, index, &mut stages)?;
+                add_head(&mut heads, &course, &stages, index)?;
                 courses.push(course)?;
             }
         }
+        let states = first_states(alloc, &stages, &courses)?;
         let filter = filter_of(alloc, &stages, &courses)?;
         let keep = keep_of(&stages, &courses);
         Ok(Program {
             stages,
             courses,
+            states,
+            heads,
             filter,
             keep,
         })
@@ -182,7 +208,7 @@ impl Program {
     // How many bytes hold any word that is looked for: that of a stage, and that of a tail with what
     // may stand behind it.
     pub(crate) fn keep(&self) -> usize
-        ensures holds { All (IsHeld result) self.now }
+        ensures holds { All (IsHeld result) self.now.courses }
         ensures few { result ≤ 65535 }
     {
         self.keep
@@ -190,23 +216,23 @@ impl Program {
 
     // How many sequences there are.
     pub(crate) fn sequence_count(&self) -> usize
-        ensures { result ≡ length self.now }
+        ensures { result ≡ length self.now.courses }
     {
         self.courses.len()
     }
 
-    // The first offset at which a sequence may begin.
-    pub(crate) fn first_offset(&self, sequence: usize) -> usize
-        requires { sequence < length self.now }
-        ensures { (course : CourseView) → slice_get self.now sequence ≡ Some course → result ≡ course.from }
+    // What is known of each sequence at the beginning of a file: it waits for all of its course.
+    pub(crate) fn first_states(&self) -> &[State]
+        ensures count { length result.now ≡ length self.now.courses }
+        ensures first { AreFirst self.now.courses result.now }
     {
-        usize::from(self.courses[sequence].from)
+        &self.states
     }
 
     // The stages of a sequence, in turn.
     pub(crate) fn stages_of(&self, sequence: usize) -> &[Stage]
-        requires { sequence < length self.now }
-        ensures { (course : CourseView) → slice_get self.now sequence ≡ Some course → result.now ≡ course.stages }
+        requires { sequence < length self.now.courses }
+        ensures { (course : CourseView) → slice_get self.now.courses sequence ≡ Some course → result.now ≡ course.stages }
     {
         let course = &self.courses[sequence];
         &self.stages[course.first..course.end]
@@ -214,56 +240,112 @@ impl Program {
 
     // The tail of a sequence, if it has one.
     pub(crate) fn tail_of(&self, sequence: usize) -> &Option<Tail>
-        requires { sequence < length self.now }
-        ensures { (course : CourseView) → slice_get self.now sequence ≡ Some course → result.now ≡ course.tail }
+        requires { sequence < length self.now.courses }
+        ensures { (course : CourseView) → slice_get self.now.courses sequence ≡ Some course → result.now ≡ course.tail }
     {
         &self.courses[sequence].tail
     }
 
-    // Finds for each sequence an offset before which no word of the stage that it waits in begins, as
-    // far as the prefilter tells. `waits` is room.
-    pub(crate) fn look(
-        &self,
-        bytes: &[u8],
-        states: &[State],
-        waits: &mut [Wait],
-        found: &mut [usize],
-    )
-        requires states { length states.now ≡ length self.now }
-        requires waits { length waits.old ≡ length self.now }
-        ensures { ArePast self.now states.now bytes.now found.new }
+    // The heads of signatures.
+    pub(crate) fn heads(&self) -> &[Head]
+        ensures { result.now ≡ self.now.heads }
     {
-        for (k, wait) in waits.iter_mut().enumerate() {
-            *wait = wait_of(&self.courses[k], states[k]);
-        }
-        self.filter.look(bytes, waits, found);
+        &self.heads
+    }
+
+    // Finds for each sequence of a signature that the file may hit an offset before which no word of the stage that it
+    // waits in begins, as far as the prefilter tells.
+    pub(crate) fn look(&self, bytes: &[u8], states: &[State], may_hit: &[bool], found: &mut [usize])
+        ensures { ArePast 0 self.now.courses states.now bytes.now found.new }
+    {
+        self.filter.look(bytes, states, may_hit, found);
     }
 }
 
-// The stage among all that a sequence waits in, or one that there is not.
-fn wait_of(course: &Course, state: State) -> Wait
-    requires { course.now.first ≤ course.now.end }
-    ensures { IsWaitOf course.now state result }
+// Of each sequence the state in which it waits for all of its course.
+fn first_states(
+    alloc: Global,
+    stages: &[Stage],
+    courses: &[Course],
+) -> Result<Vec<State>, AllocError>
+    ensures count { IfOk result (λ states. length states.items ≡ length courses.now) }
+    ensures first { IfOk result (λ states. AreFirst (map (course_in stages.now) courses.now) states.items) }
 {
-    let stage = if state.done < course.end - course.first {
-        course.first + state.done
-    } else {
-        usize::MAX
-    };
-    Wait {
-        stage,
-        from: state.from,
+    let mut states = Vec::with_capacity(alloc, courses.len())?;
+    for course in courses {
+        states.push(State {
+            done: 0,
+            from: usize::from(course.from),
+        })?;
     }
+    Ok(states)
+}
+
+// Adds the head of a signature, if the sequence may begin at one offset alone and has a literal.
+fn add_head(
+    heads: &mut Vec<Head>,
+    course: &Course,
+    stages: &[Stage],
+    signature: usize,
+) -> Result<(), AllocError>
+    requires { StandsIn stages.now course.now }
+    ensures { (table : TableView) (g : SignatureView) → slice_get table.signatures signature ≡ Some g
+        → ((file : List ℕ) → IsBytes file → Hits g file → CourseStands (course_in stages.now course.now) file)
+        → AreHeadsOf table heads.old.items → OnOk result (AreHeadsOf table heads.new.items) }
+{
+    if let Some(head) = head_of(course, stages, signature) {
+        heads.push(head)?;
+    }
+    Ok(())
+}
+
+// The head of a sequence that may begin at one offset alone and has a literal.
+fn head_of(course: &Course, stages: &[Stage], signature: usize) -> Option<Head>
+    requires { StandsIn stages.now course.now }
+    ensures signature { IfSome result (λ h. h.signature ≡ signature) }
+    ensures has { IfSome result (λ h. (file : List ℕ) → CourseStands (course_in stages.now course.now) file → HasHead h file) }
+{
+    let first = stages[course.first..course.end].first()?;
+    if first.until != Some(u32::from(course.from)) {
+        return None;
+    }
+    head_at(first, usize::from(course.from), signature)
+}
+
+// The head of a stage that begins at this offset.
+fn head_at(stage: &Stage, from: usize, signature: usize) -> Option<Head>
+    requires { from ≤ 65535 }
+    ensures signature { IfSome result (λ h. h.signature ≡ signature) }
+    ensures has { IfSome result (λ h. (file : List ℕ) (end : ℕ) → Lies stage.now.items file from end → HasHead h file) }
+{
+    let literal = &stage.literal;
+    if literal.text().is_empty() {
+        return None;
+    }
+    let place = literal.rarest();
+    Some(Head {
+        signature,
+        at: from + literal.at() + place,
+        text: literal.byte(place, 0),
+        other: literal.byte(place, 1),
+    })
 }
 
 // The literals of all stages that may begin anywhere.
 fn filter_of(alloc: Global, stages: &[Stage], courses: &[Course]) -> Result<Filter, AllocError>
-    ensures { IfOk result (AreLiteralsOf stages.now) }
+    ensures { IfOk result (AreLiteralsOf (map (course_in stages.now) courses.now)) }
 {
     let mut filter = Filter::new(alloc)?;
     for (sequence, course) in courses.iter().enumerate() {
         for stage in course.first..course.end.min(stages.len()) {
-            add_literal(&mut filter, &stages[stage], sequence, stage)?;
+            let done = stage - course.first;
+            add_literal(
+                &mut filter,
+                &stages[stage],
+                course.signature,
+                sequence,
+                done,
+            )?;
         }
     }
     Ok(filter)
@@ -273,16 +355,17 @@ fn filter_of(alloc: Global, stages: &[Stage], courses: &[Course]) -> Result<Filt
 fn add_literal(
     filter: &mut Filter,
     stage: &Stage,
+    signature: usize,
     sequence: usize,
-    index: usize,
+    done: usize,
 ) -> Result<(), AllocError>
-    ensures { (stages : List StageView) → slice_get stages index ≡ Some stage.now → AreLiteralsOf stages filter.old
-        → OnOk result (AreLiteralsOf stages filter.new) }
+    ensures { (courses : List CourseView) → ((c : CourseView) → slice_get courses sequence ≡ Some c → slice_get c.stages done ≡ Some stage.now)
+        → AreLiteralsOf courses filter.old → OnOk result (AreLiteralsOf courses filter.new) }
 {
     if stage.until.is_some() || stage.literal.text().len() < 4 {
         return Ok(());
     }
-    filter.add(&stage.literal, sequence, index)
+    filter.add(&stage.literal, signature, sequence, done)
 }
 
 // The same of these stages and tails.
@@ -307,6 +390,7 @@ fn keep_of(stages: &[Stage], courses: &[Course]) -> usize
 fn add_stages(
     alloc: Global,
     sequence: &Sequence,
+    signature: usize,
     stages: &mut Vec<Stage>,
 ) -> Result<Course, AllocError>
     ensures adds { IfOk result (λ course. AddsCourse stages.old.items stages.new.items course (course_of sequence.now)) }
@@ -318,6 +402,7 @@ fn add_stages(
         Position::Bof { min, max } => {
             cut_whole(alloc, items, Some(u32::from(max)), stages)?;
             Ok(Course {
+                signature,
                 from: min,
                 first,
                 end: stages.len(),
@@ -327,6 +412,7 @@ fn add_stages(
         Position::Eof { min, max } => {
             let last = cut(alloc, items, None, stages)?.into_items();
             Ok(Course {
+                signature,
                 from: 0,
                 first,
                 end: stages.len(),
@@ -336,6 +422,7 @@ fn add_stages(
         Position::Variable => {
             cut_whole(alloc, items, None, stages)?;
             Ok(Course {
+                signature,
                 from: 0,
                 first,
                 end: stages.len(),

@@ -6,10 +6,10 @@
 //! hand, so nothing counts the bytes of a file; only the greatest offset of a stage is one of the
 //! file, and `base`, the number of the bytes before those at hand, stops at its maximum.
 
-ghost use Rattle.std.specs.Prelude.{◌≡◌, ℕ, ◌+◌, ◌<◌, ◌≤◌, ◌↔◌, All, List, ◌∷◌, drop, length, IsTrue, MatchOption, Option};
+ghost use Rattle.std.specs.Prelude.{◌≡◌, ℕ, ◌+◌, ◌<◌, ◌≤◌, ◌↔◌, All, List, ◌∷◌, ◌++◌, drop, length, IsTrue, MatchOption, Option};
 ghost use Rattle.sig_expr.specs.Words.{IsAtMost};
 ghost use Rattle.sig_scan.specs.Lengths.{AreBounded};
-ghost use Rattle.sig_scan.specs.Scans.{HasLastBytes, InTurnAt, IsBase, IsShort, StepsOn, TailIsShort, WaitsAt, WaitsBehind};
+ghost use Rattle.sig_scan.specs.Scans.{HasLastBytes, InTurnAt, IsBase, IsShort, NeverStands, StepsOn, TailIsShort, WaitsAt, WaitsBehind};
 ghost use Rattle.sig_scan.specs.Stages.{StageView, TailStands, TailView};
 ghost use Rattle.sig_table.specs.Views.{SequenceView};
 
@@ -118,6 +118,29 @@ pub(crate) fn settle(
     State {
         done,
         from: from.max(limit),
+    }
+}
+
+/// Whether no word of the stage that it waits in may begin any more, so that the sequence never stands.
+pub(crate) fn is_past(state: State, stages: &[Stage], base: u64) -> bool
+    requires { state.done ≤ length stages.now }
+    ensures { IsTrue result → (s : SequenceView) (before bytes : List ℕ) (tail : Option TailView) → IsBase before base
+        → WaitsAt s before bytes state.from (drop state.done stages.now) tail → NeverStands s (before ++ bytes) }
+{
+    if state.done == stages.len() {
+        return false;
+    }
+    let stage = &stages[state.done];
+    is_behind(stage.until, base, state.from)
+}
+
+// Whether this offset of the bytes at hand lies behind the greatest one of the file.
+fn is_behind(until: Option<u32>, base: u64, from: usize) -> bool
+    ensures { IsTrue result → (before : List ℕ) (x : ℕ) → IsBase before base → length before + from ≤ x → ¬ IsAtMost until x }
+{
+    match until {
+        Some(until) => u64::from(until) < base.saturating_add(from as u64),
+        None => false,
     }
 }
 

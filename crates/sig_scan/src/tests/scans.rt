@@ -1,12 +1,11 @@
-//! Rows of one signature, scanned by blocks and in pieces of any length.
+//! Rows of one signature, scanned by blocks of any length and read in pieces of any length.
 
-ghost use Rattle.std.specs.Prelude.{◌<◌};
+ghost use Rattle.std.specs.Prelude.{None, false, length};
 
-use crate::program::Program;
-use crate::scan::Scan;
-use sig_bits::FromRead;
+use crate::BlockCore;
+use sig_bits::{DeviceFault, FromRead, Input};
+use sig_core::DroidCore;
 use sig_table::Table;
-use std::alloc::Global;
 use std::test::Fail;
 
 // Sequences of signature 1 of `fmt/1`, a file, and whether it hits, worked out by hand.
@@ -127,7 +126,7 @@ const WORKED: &[(&str, &[u8], bool)] = &[
 // Lengths of blocks.
 const BLOCKS: [u32; 5] = [1, 2, 3, 7, 4096];
 
-// Lengths of pieces.
+// How many bytes a read gives at most.
 const PIECES: [usize; 4] = [1, 2, 5, 64];
 
 #[test]
@@ -136,39 +135,40 @@ fn files_hit_where_the_rows_say(rt: HostRuntime) -> Result<(), Fail> {
         let rows = format!(in rt.alloc();
             "puid,signature,position,offset,max_offset,expression\nfmt/1,1,{sequence}\n"
         )?;
-        let mut signatures = FromRead::new(rows.as_bytes());
-        let mut priorities = FromRead::new(b"higher,lower\n".as_slice());
-        let table = Table::load(rt.alloc(), &mut signatures, &mut priorities)?;
         for block in BLOCKS {
-            for piece in PIECES {
-                let marked = scanned(rt.alloc(), &table, file, block.max(1), piece.max(1))?;
-                assert_eq!(rt; marked, *hits, "{sequence} by {block} and {piece}");
+            let mut signatures = FromRead::new(rows.as_bytes());
+            let mut priorities = FromRead::new(b"higher,lower\n".as_slice());
+            let table = Table::load(rt.alloc(), &mut signatures, &mut priorities)?;
+            let core = BlockCore::with_block(rt.alloc(), table, block.max(1));
+            for most in PIECES {
+                let mut pieces = Pieces { rest: file, most };
+                let results = core.match_binary_signatures(&mut pieces)?;
+                let are_any = !results.hits().is_empty();
+                assert_eq!(rt; are_any, *hits, "{sequence} by {block} and {most}");
             }
         }
     }
     Ok(())
 }
 
-// Whether the first signature of the table is marked.
-fn scanned(
-    alloc: Global,
-    table: &Table,
-    file: &[u8],
-    block: u32,
-    piece: usize,
-) -> Result<bool, Fail>
-    requires block { 0 < block }
-    requires piece { 0 < piece }
-{
-    let program = Program::of(alloc, table)?;
-    let mut scan = Scan::new(alloc, &program, block)?;
-    let mut rest = file;
-    'pieces: while !rest.is_empty() {
-        let count = rest.len().min(piece);
-        scan.feed(&rest[..count]);
-        rest = &rest[count..];
+// Gives at most so many bytes a read.
+#[derive(Drop)]
+struct Pieces<'a> {
+    rest: &'a [u8],
+    most: usize,
+}
+
+impl Input for Pieces<'_> {
+    ghost failed = { λ _. false };
+
+    ghost limit = { λ s. length s.rest.now };
+
+    ghost to_come = { λ _. None };
+
+    fn read(&mut self, buf: &mut [u8]) -> Result<usize, DeviceFault> {
+        let count = self.rest.len().min(self.most).min(buf.len());
+        buf[..count].copy_from_slice(&self.rest[..count]);
+        self.rest = &self.rest[count..];
+        Ok(count)
     }
-    let mut marks = vec![in alloc; false; table.signature_count()]?;
-    scan.finish(table, &mut marks);
-    Ok(marks.first() == Some(&true))
 }

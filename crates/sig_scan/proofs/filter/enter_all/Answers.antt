@@ -1,9 +1,44 @@
-use Rattle.std.proofs.Common.{◌≡◌, ◌∙◌, ◌+◌, ◌*◌, ◌%◌, ℕ, List, arith, inl, inr, subst}
+use Rattle.std.proofs.Common.{◌≡◌, ◌∙◌, ◌+◌, ◌*◌, ◌%◌, ◌/◌, ◌≤◌, ◌<◌, ℕ, zero, suc, List, arith, inl, inr, refl, subst, sym}
 use Rattle.std.proofs.lemmas.Bool.{cases_lt}
 use Rattle.sig_scan.specs.Filters.{IsListed, behind_of, text_of}
 use Rattle.sig_scan.specs.Literals.{LiteralView, byte_of}
 use Rattle.sig_scan.proofs.FilterLemmas.{AreKept-twice, IsListed-kept}
 use Rattle.sig_scan.proofs.filter.enter_all.Goals as goal
+
+-- where each place has one byte, all texts are the same
+byte_same : (l : LiteralView) (k n : ℕ) → byte_of l k 0 ≡ byte_of l k 1 → byte_of l k n ≡ byte_of l k 0
+byte_same l k zero one = refl
+byte_same l k (suc n) one = sym one
+
+abbrev IsWhole : LiteralView → ℕ → Type 0
+IsWhole l v = (k : ℕ) → v ≤ k → k < v + 4 → byte_of l k 0 ≡ byte_of l k 1
+
+behind_same : (l : LiteralView) (v n : ℕ) → IsWhole l v → behind_of l v n ≡ behind_of l v 0
+behind_same l v n whole =
+    let b1 = byte_same l (v + 1) (n / 2 % 2) (whole (v + 1) (omega arith) (omega arith)) in
+    let b2 = byte_same l (v + 2) (n / 4 % 2) (whole (v + 2) (omega arith) (omega arith)) in
+    let b3 = byte_same l (v + 3) (n / 8 % 2) (whole (v + 3) (omega arith) (omega arith)) in
+    omega arith
+
+text_same : (l : LiteralView) (v n : ℕ) → IsWhole l v → text_of l v n ≡ text_of l v 0
+text_same l v n whole =
+    let b0 = byte_same l v (n % 2) (whole v (omega arith) (omega arith)) in
+    let behind = behind_same l v n whole in
+    omega arith
+
+pub returns-clause-listed : goal.returns-clause-listed
+returns-clause-listed c is n few =
+    let l : LiteralView = c.args.literal.now in
+    let v : ℕ = c.args.window in
+    let end = c.loop-choice-test.false in
+    let P : ℕ → ℕ → Type 0 = IsListed c.loop-choice.marks c.loop-choice.slots c.args.id in
+    elim c.text_count-choice-end.ensures.all [
+      | inl all ↦ c.loop-choice.invariant.listed n (omega arith)
+      | inr one ↦ (
+          let count = one.0 in
+          let first = c.loop-choice.invariant.listed 0 (omega arith) in
+          subst (λ t. P t (behind_of l v n)) (sym (text_same l v n one.1)) (subst (λ b. P (text_of l v 0) b) (sym (behind_same l v n one.1)) first))
+    ]
 
 pub loop-choice-preserved : goal.loop-choice-preserved
 loop-choice-preserved c =

@@ -1,69 +1,133 @@
-use Rattle.std.proofs.Common.{◌≡◌, ◌∙◌, ◌<◌, ◌≤◌, ◌-◌, All, List, Some, ap, arith, inl, inr, sym, drop, get_or, length, subst}
-use Rattle.std.proofs.lemmas.List.{get_or_default}
+use Rattle.std.proofs.Common.{◌≡◌, ◌∙◌, ◌+◌, ◌++◌, ◌≤◌, ◌<◌, ◌⊎◌, All, Bool, List, ℕ, Some, ap, arith, drop, false, get_or, inl, inr, length, refl, subst, sym, take, true}
+use Rattle.std.proofs.Math.ListN.{set}
 use Rattle.std.proofs.lemmas.Option.{slice_get-get_or, slice_get_within}
-use Rattle.sig_table.proofs.Exports.{slice_get-within}
-use Rattle.sig_scan.specs.Scans.{IsShort, IsShortCourse, WaitsAt}
-use Rattle.sig_scan.specs.Stages.{StageView}
-use Rattle.sig_scan.specs.declared.state.State.{State}
-use Rattle.sig_scan.proofs.PassLemmas.{Waits-found}
-use Rattle.sig_scan.proofs.ScanLemmas.{All-course, AllMoved-set, AreDone-set, Waits-moved, slice_get-set_cases}
 use Rattle.std.specs.List.{slice_get}
+use Rattle.sig_scan.specs.Scans.{AllWait, AreDone, AreExcluded, IsBase, IsShortCourse, first_of}
+use Rattle.sig_scan.specs.declared.frontier.Frontier.{Frontier}
+use Rattle.sig_scan.specs.declared.state.State.{State}
+use Rattle.sig_scan.proofs.MarkedLemmas.{sequences-count, sequences-fit, sequences-next}
+use Rattle.sig_scan.proofs.SignatureLemmas.{AllMoved, AllMoved-excluded, AllMoved-here, AllMoved-next, AreExcluded-next}
+use Rattle.sig_table.proofs.Exports.{slice_get-within}
 use Rattle.sig_scan.proofs.scan.settle_all.Goals as goal
+use Rattle.sig_scan.proofs.scan.settle_all.Goals.{then-may_hit-index, else-may_hit-index}
 
-pub settle-settled-requires-clause-done : goal.settle-settled-requires-clause-done
-settle-settled-requires-clause-done c =
-    let k = c.loop-k.k in
-    let states = c.loop-k.states in
-    let courses = c.args.program.now in
-    let within : k < length states = omega arith in
-    let inside : k < length courses = omega arith in
-    let course = slice_get-within courses k inside in
-    let state = slice_get-get_or states k (record { done = 0; from = 0 }) within in
-    let done = c.loop-k.invariant.done k course.0 _ course.1 state in
-    rw (c.stages_of-stages.ensures course.0 course.1) done
+pub loop-index-init : goal.loop-index-init
+loop-index-init c = record {
+  room = refl;
+  first = refl;
+  few = omega arith;
+  done = c.requires.done;
+  kept = λ i low. refl;
+  wait = λ before base short all g h may signature. (λ near. absurd (omega arith), λ far. all g h may signature);
+  excluded = λ before base short all none. none;
+}
 
-pub loop-k-preserved : goal.loop-k-preserved
-loop-k-preserved c =
-    let k = c.loop-k.k in
-    let states = c.loop-k.states in
-    let courses = c.args.program.now in
+pub overflow_add-end : goal.overflow_add-end
+overflow_add-end c =
+    let few = c.sequences_of.ensures.few in
+    let limit = c.signature_count-index-end.ensures.limit in
+    let before = c.loop-index.invariant.few in
+    omega arith
+
+pub settle_signature-requires-clause-past : goal.settle_signature-requires-clause-past
+settle_signature-requires-clause-past c k x course t low at state least most =
+    c.requires.past k x course t (omega arith) at (sym (c.loop-index.invariant.kept k low) ∙ state) least most
+
+pub settle_signature-requires-clause-end : goal.settle_signature-requires-clause-end
+settle_signature-requires-clause-end c =
+    let table = c.args.table.now in
+    let index = c.loop-index.index in
+    let total = c.signature_count-index-end.ensures.count in
+    let g = slice_get-within table.signatures index (omega arith) in
+    let size = ap length (c.sequences_of.ensures.of_view g.0 g.1) in
+    let fits = sequences-fit table index c.loop-index.first g.0 g.1 c.loop-index.invariant.first in
+    let count = sequences-count table c.args.program.now.courses c.requires.program in
+    omega arith
+
+pub settle_signature-requires-clause-room : goal.settle_signature-requires-clause-room
+settle_signature-requires-clause-room c = subst (λ n. length c.args.bytes.now ≤ n) (sym c.loop-index.invariant.room) c.requires.room
+
+pub settle_signature-requires-clause-count : goal.settle_signature-requires-clause-count
+settle_signature-requires-clause-count c = c.loop-index.auto.states ∙ c.requires.count
+
+pub loop-index-preserved : goal.loop-index-preserved
+loop-index-preserved c =
+    let table = c.args.table.now in
+    let courses = c.args.program.now.courses in
     let bytes = c.args.bytes.now in
     let limit = c.args.limit in
-    let reach = c.args.reach in
-    let within : k < length states = omega arith in
-    let old : State = get_or states k (record { done = 0; from = 0 }) in
-    let is : old ≡ get_or states k old = get_or_default states k (record { done = 0; from = 0 }) old within in
-    let next : State = c.settle-settled.result in
-    let v : State = record { done = next.done; from = next.from - limit } in
+    let index = c.loop-index.index in
+    let first = c.loop-index.first in
+    let total = c.signature_count-index-end.ensures.count in
+    let within : index < length table.signatures = omega arith in
+    let g = slice_get-within table.signatures index within in
+    let size = ap length (c.sequences_of.ensures.of_view g.0 g.1) in
+    let next = sequences-next table index first g.0 g.1 c.loop-index.invariant.first in
+    let eight = c.sequences_of.ensures.few in
+    let few = c.loop-index.invariant.few in
+    let end : ℕ = first + length c.sequences_of.result.now in
+    let old = c.loop-index.states in
+    let flags = c.loop-index.may_hit in
+    let long = c.loop-index.auto.may_hit in
+    let same_len = c.requires.may_hit in
+    let inside : index < length flags = omega arith in
+    let At : List State → List Bool → Type 0 = λ ts l. AreDone courses ts × ((i : ℕ) → end ≤ i → slice_get ts i ≡ slice_get c.args.states.now i)
+    × ((before : List ℕ) → IsBase before c.args.base → All (IsShortCourse c.args.reach) courses
+    → AllWait table c.args.may_hit.now courses before bytes c.args.states.now → AllMoved (index + 1) limit table l courses before bytes ts)
+    × ((before : List ℕ) → IsBase before c.args.base → All (IsShortCourse c.args.reach) courses
+    → AllWait table c.args.may_hit.now courses before bytes c.args.states.now → AreExcluded table c.args.may_hit.now (before ++ bytes)
+    → AreExcluded table l (before ++ bytes)) in
+    let at : At c.if-may_hit-index.states c.if-may_hit-index.may_hit × (c.if-may_hit-index.frontier ≡ c.args.frontier.now) =
+    elim c.if-may_hit-index.branch [
+      | then-may_hit-index w ↦ (
+          let may : slice_get flags index ≡ Some true =
+          slice_get-get_or flags index false inside ∙ ap (λ (x : Bool). Some x) w.if-may_hit-index.true in
+          let b : Bool = w.settle_signature.result in
+          let new : List State = w.settle_signature.new.states in
+          let step = w.settle_signature.ensures in (
+            subst (λ l. At c.if-may_hit-index.states l) (sym w.may_hit-is) (subst (λ ts. At ts (set flags index b)) (sym w.states-is) (
+              step.done,
+              λ i low. step.others i (inr low) ∙ c.loop-index.invariant.kept i (omega arith),
+              λ before base short all.
+                  AllMoved-next index limit first end table flags courses before bytes old new g.0 b inside within may g.1 c.loop-index.invariant.first
+                  (omega arith) step.others (λ yes. step.wait yes _ before base short) (c.loop-index.invariant.wait before base short all),
+              λ before base short all none.
+                  AreExcluded-next table flags (before ++ bytes) index first end g.0 b inside g.1 c.loop-index.invariant.first (omega arith)
+                  (λ no. step.never no _ before base short (AllMoved-here index limit first end table flags courses before bytes old g.0 may g.1
+                  c.loop-index.invariant.first (omega arith) (c.loop-index.invariant.wait before base short all)))
+                  (c.loop-index.invariant.excluded before base short all none),
+            )),
+            w.frontier-is ∙ step.room ∙ c.loop-index.invariant.room,
+          ))
+      | else-may_hit-index w ↦ (
+          let none : slice_get flags index ≡ Some false =
+          slice_get-get_or flags index false inside ∙ ap (λ (x : Bool). Some x) w.if-may_hit-index.false in (
+            subst (λ l. At c.if-may_hit-index.states l) (sym w.may_hit-is) (subst (λ ts. At ts flags) (sym w.states-is) (
+              c.loop-index.invariant.done,
+              λ i low. c.loop-index.invariant.kept i (omega arith),
+              λ before base short all. AllMoved-excluded index limit table flags courses before bytes old none (c.loop-index.invariant.wait before base short all),
+              c.loop-index.invariant.excluded,
+            )),
+            w.frontier-is ∙ c.loop-index.invariant.room,
+          ))
+    ] in
     record {
-      room = c.settle-settled.ensures.room ∙ c.loop-k.invariant.room;
-      done = AreDone-set courses states k v within
-          (λ course at. subst (λ (l : List StageView). next.done ≤ length l) (c.stages_of-stages.ensures course at) c.settle-settled.ensures.done)
-          c.loop-k.invariant.done;
-      kept = λ i t low at.
-          elim (slice_get-set_cases states k i v t within at) [
-            | inl here ↦ (let same = here.0 in absurd (omega arith))
-            | inr there ↦ c.loop-k.invariant.kept i t (omega arith) there.1
-          ];
-      wait = λ sequences before base short all.
-          AllMoved-set k limit sequences courses before bytes states old v within is
-          (λ s course at waits.
-          let few = All-course (IsShortCourse reach) courses k course at short in
-          let same = c.stages_of-stages.ensures course at in
-          let P : List StageView → Type 0 = λ l. All (IsShort reach) l → WaitsAt s before bytes c.max-from.result (drop old.done l) course.tail
-          → WaitsAt s before bytes next.from (drop next.done l) course.tail in
-          let from = c.max-from.result in
-          let now : slice_get states k ≡ Some old = slice_get-get_or states k old within ∙ ap (λ (x : State). Some x) (sym is) in
-          let first = c.loop-k.invariant.kept k old (omega arith) now in
-          let went = Waits-found s course.stages course.tail before bytes old.done old.from (get_or c.look.new.found k 0) limit from reach few.stages
-          c.requires.sight (omega arith)
-          (λ x low high. c.look.ensures k x course old at first low high) waits in
-          let on = subst P same (λ each w. c.settle-settled.ensures.waits s before course.tail base each few.tail w) few.stages went in
-          Waits-moved s before bytes next.from limit (drop next.done course.stages) course.tail c.settle-settled.ensures.settled (omega arith) on)
-          (c.loop-k.invariant.wait sequences before base short all);
+      room = at.1;
+      first = omega arith;
+      few = omega arith;
+      done = at.0.0;
+      kept = at.0.1;
+      wait = at.0.2;
+      excluded = at.0.3;
     }
 
 pub returns-clause-wait : goal.returns-clause-wait
-returns-clause-wait c sequences before base short all i s course t sequence at state =
-    let inside = slice_get_within c.loop-k.states i t state in
-    (c.loop-k.invariant.wait sequences before base short all i s course t sequence at state).0 (omega arith)
+returns-clause-wait c before base short all g h may signature =
+    let inside = slice_get_within c.loop-index.may_hit g true may in
+    let long = c.loop-index.auto.may_hit in
+    let total = c.signature_count-index-end.ensures.count in
+    let size = c.requires.may_hit in
+    (c.loop-index.invariant.wait before base short all g h may signature).0 (omega arith)
+
+pub returns-clause-excluded : goal.returns-clause-excluded
+returns-clause-excluded c = c.loop-index.invariant.excluded

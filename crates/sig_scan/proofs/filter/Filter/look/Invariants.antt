@@ -8,8 +8,8 @@ abbrev pub invariant-places : goal.invariant-places
 invariant-places l = record {
   even : l.place % 2 ≡ 0;
   few : l.place < 2 ^ 63 + 8;
-  owned : AreOwned l.self l.waits l.found;
-  passed : ArePassedBelow l.self l.bytes l.waits l.place l.found;
+  owned : AreOwned l.self l.states l.found;
+  passed : ArePassedBelow l.self l.bytes l.states l.place l.found;
 }
 
 abbrev pub decreases-places : goal.decreases-places

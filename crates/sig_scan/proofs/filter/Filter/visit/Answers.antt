@@ -11,19 +11,19 @@ use Rattle.sig_scan.proofs.filter.Filter.visit.Goals.{then-id-gt0+then-id-len, e
 pub loop-slot-preserved : goal.loop-slot-preserved
 loop-slot-preserved c =
     let bytes = c.args.bytes.now in
-    let waits = c.args.waits.now in
+    let states = c.args.states.now in
     let place = c.args.place in
     let slots = c.self.inside.slots.items in
     let entries = c.self.inside.entries.items in
     let slot = c.loop-slot.slot in
     let list = 8 * c.list_of-list.result in
     let old = c.loop-slot.found in
-    let before : AreCompared entries slots bytes waits place list slot old =
-    subst (λ (es : List Entry). AreCompared es slots bytes waits place list slot old) (sym c.self.view_is) c.loop-slot.invariant.passed in
-    let Step : List ℕ → Type 0 = λ new. (i : ℕ) (e : Entry) → get_or slots slot 0 ≡ i + 1 → slice_get entries i ≡ Some e → IsPassedAt e bytes waits place new in
-    let on : (new : List ℕ) → AreLowered old new → Step new → AreCompared c.args.self.now slots bytes waits place list (slot + 1) new = λ new lower step.
-    subst (λ (es : List Entry). AreCompared es slots bytes waits place list (slot + 1) new) c.self.view_is
-    (AreCompared-next entries slots bytes waits place list slot old new lower step before) in
+    let before : AreCompared entries slots bytes states place list slot old =
+    subst (λ (es : List Entry). AreCompared es slots bytes states place list slot old) (sym c.self.view_is) c.loop-slot.invariant.passed in
+    let Step : List ℕ → Type 0 = λ new. (i : ℕ) (e : Entry) → get_or slots slot 0 ≡ i + 1 → slice_get entries i ≡ Some e → IsPassedAt e bytes states place new in
+    let on : (new : List ℕ) → AreLowered old new → Step new → AreCompared c.args.self.now slots bytes states place list (slot + 1) new = λ new lower step.
+    subst (λ (es : List Entry). AreCompared es slots bytes states place list (slot + 1) new) c.self.view_is
+    (AreCompared-next entries slots bytes states place list slot old new lower step before) in
     let len = c.self.invariant.slots_len in
     let few = c.list_of-list.ensures.few in
     let inside : slot < length slots = omega arith in
@@ -35,14 +35,14 @@ loop-slot-preserved c =
           let step : Step new = λ i e id at. (
           let here : c.index.result.now - 1 ≡ i = omega arith in
           let same : f ≡ e = w.index-then-id-len.ensures ∙ ap (λ n. get_or entries n f) here ∙ get_or_from_slice_get entries i e f at in
-          subst (λ (g : Entry). IsPassedAt g bytes waits place new) same w.compare.ensures.passed) in
+          subst (λ (g : Entry). IsPassedAt g bytes states place new) same w.compare.ensures.passed) in
           let lower : AreLowered c.args.found.now new = λ k. (
           let first = c.loop-slot.invariant.lowered k in
           let then = w.compare.ensures.lowered k in
           omega arith) in
           record {
             lowered = subst (AreLowered c.args.found.now) (sym w.found-is) lower;
-            passed = subst (λ (l : List ℕ). AreCompared c.args.self.now slots bytes waits place list (slot + 1) l) (sym w.found-is)
+            passed = subst (λ (l : List ℕ). AreCompared c.args.self.now slots bytes states place list (slot + 1) l) (sym w.found-is)
                 (on new w.compare.ensures.lowered step);
           })
       | else-id-gt0 w ↦ (
@@ -55,7 +55,7 @@ loop-slot-preserved c =
           ]) in
           record {
             lowered = subst (AreLowered c.args.found.now) (sym w.found-is) c.loop-slot.invariant.lowered;
-            passed = subst (λ (l : List ℕ). AreCompared c.args.self.now slots bytes waits place list (slot + 1) l) (sym w.found-is) (on old lower step);
+            passed = subst (λ (l : List ℕ). AreCompared c.args.self.now slots bytes states place list (slot + 1) l) (sym w.found-is) (on old lower step);
           })
     ]
 
@@ -63,7 +63,7 @@ pub returns-clause-passed : goal.returns-clause-passed
 returns-clause-passed c i e at has =
     let entries = c.self.inside.entries.items in
     let here : slice_get entries i ≡ Some e = ap (λ (es : List Entry). slice_get es i) c.self.view_is ∙ at in
-    IsEntered-slot c.self.inside.marks.items c.self.inside.slots.items entries c.args.bytes.now c.args.place i e c.loop-slot.found c.args.waits.now
+    IsEntered-slot c.self.inside.marks.items c.self.inside.slots.items entries c.args.bytes.now c.args.place i e c.loop-slot.found c.args.states.now
     c.self.invariant here has
     (λ slot j f low high id some.
     let four = c.four.ensures in

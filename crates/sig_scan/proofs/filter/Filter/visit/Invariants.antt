@@ -9,5 +9,5 @@ abbrev pub invariant-loop-slot : goal.invariant-loop-slot
 invariant-loop-slot l = record {
   lowered : AreLowered l.fn.found l.found;
   passed : (slot i : ℕ) (e : Entry) → l.list ≤ slot → slot < l.slot → slice_index l.self-inside.slots.items slot ≡ i + 1 → slice_get l.self i ≡ Some e
-      → IsPassedAt e l.bytes l.waits l.place l.found;
+      → IsPassedAt e l.bytes l.states l.place l.found;
 }

@@ -1,6 +1,7 @@
 use Rattle.std.proofs.lemmas.List.Elements.{All-same}
-use Rattle.std.proofs.Common.{map, sym}
+use Rattle.std.proofs.Common.{ap, map, sym}
 use Rattle.sig_scan.specs.Courses.{IsHeld, course_in}
+use Rattle.sig_scan.specs.Heads.{ProgramView}
 use Rattle.sig_scan.proofs.HeldLemmas.{IsHeld-each}
 use Rattle.sig_scan.proofs.program.Program.keep.Goals as goal
 
@@ -8,5 +9,5 @@ pub returns-clause-holds : goal.returns-clause-holds
 returns-clause-holds c =
     let stages = c.self.inside.stages.items in
     let courses = c.self.inside.courses.items in
-    All-same (IsHeld c.self.inside.keep) c.args.self.now (map (course_in stages) courses) (sym c.self.view_is)
-    (IsHeld-each c.self.inside.keep stages courses c.self.invariant.held)
+    All-same (IsHeld c.self.inside.keep) c.args.self.now.courses (map (course_in stages) courses) (ap (λ (v : ProgramView). v.courses) (sym c.self.view_is))
+    (IsHeld-each c.self.inside.keep stages courses c.self.invariant.0.held)

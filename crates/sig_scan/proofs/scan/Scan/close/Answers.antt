@@ -1,39 +1,36 @@
-use Rattle.std.proofs.Common.{◌≡◌, ◌∙◌, ◌++◌, ◌∷◌, [], List, ℕ, ap, arith, length, subst, sym, take}
-use Rattle.std.proofs.lemmas.List.{take-append-le, take_all, with_items_is}
+use Rattle.std.proofs.Common.{◌≡◌, ◌∙◌, ◌++◌, ◌∷◌, [], ℕ, Bool, List, ap, length, subst, sym}
+use Rattle.std.proofs.lemmas.List.{with_items_is}
 use Rattle.sig_scan.specs.Passes.{ArePast}
-use Rattle.sig_scan.specs.Scans.{AreRaised, IsEndOf, IsScanOf}
+use Rattle.sig_scan.specs.Scans.{IsEndOf, IsScanOf}
 use Rattle.sig_scan.specs.Stages.{CourseView}
 use Rattle.sig_scan.specs.declared.state.State.{State}
-use Rattle.sig_scan.proofs.PassLemmas.{IsEndOf-raised}
+use Rattle.sig_scan.proofs.PassLemmas.{IsEndOf-found}
+use Rattle.sig_table.specs.Views.{TableView}
 use Rattle.sig_scan.proofs.scan.Scan.close.Goals as goal
-
--- what is written over all of a list
-written : (to back : List ℕ) (len : ℕ) → length to ≡ len → take len (to ++ back) ≡ to
-written to back len all = take-append-le len to back (omega arith) ∙ take_all len to (omega arith)
 
 pub returns-clause-closed : goal.returns-clause-closed
 returns-clause-closed c table file of =
-    let courses : List CourseView = c.self.inside.program.now in
+    let own : TableView = c.self.inside.table.now in
+    let courses : List CourseView = c.self.inside.program.now.courses in
     let keep = c.self.inside.keep in
     let base = c.self.inside.base in
-    let room = c.self.inside.buffer.room in
-    let bytes : List ℕ = c.self.inside.buffer.bytes in
+    let buffer = c.self.inside.buffer in
     let seen : List ℕ = c.with_one_more-bytes.result.now in
     let byte = c.with_one_more-bytes.ensures.0 in
     let states : List State = c.self.inside.states.items in
-    let next : List State = c.raise.new.states in
+    let may_hit : List Bool = c.self.inside.may_hit.items in
+    let old : List ℕ = c.self.inside.found.items in
     let found : List ℕ = c.look.new.found in
-    let past : ArePast courses states (bytes ++ byte ∷ []) found =
-    subst (λ (l : List ℕ). ArePast courses states l found) c.with_one_more-bytes.ensures.1
-    (subst (λ (l : List State). ArePast courses l seen found) c.deref.ensures.value c.look.ensures) in
-    let same : c.deref-2.result.now ≡ found =
-    c.deref-2.ensures.value ∙ written found _ _ (c.look.auto.found ∙ c.deref_mut-2.ensures.len) in
-    let raised : AreRaised states found next =
-    subst (λ (l : List State). AreRaised l found next) c.deref_mut-3.ensures.value
-    (subst (λ (l : List ℕ). AreRaised c.deref_mut-3.result.now l next) same c.raise.ensures) in
-    let was = subst (IsScanOf table file) (sym c.self.view_is) of in
-    let ended = IsEndOf-raised table file courses keep base room bytes states next byte found past raised was in
-    let Q : List State → Type 0 = λ l. IsEndOf table file (record { courses = courses; keep = keep; base = base; buffer = c.self.inside.buffer; states = l }) in
-    let long : length next ≡ length states = c.raise.auto.states ∙ ap length c.deref_mut-3.ensures.value in
-    let items = with_items_is c.self.inside.states next (long ∙ sym c.self.inside.states.ok.0) in
-    subst Q (sym items) ended
+    let past : ArePast 0 courses states (buffer.bytes ++ byte ∷ []) found =
+    subst (λ (l : List ℕ). ArePast 0 courses states l found) c.with_one_more-bytes.ensures.1
+    (subst (λ (l : List State). ArePast 0 courses l seen found) c.deref.ensures.value c.look.ensures) in
+    let Of : TableView → Type 0 = λ t. IsScanOf t file (record
+    { table = own; courses = courses; keep = keep; base = base; buffer = buffer; states = states; may_hit = may_hit; found = old }) in
+    let End : TableView → List ℕ → Type 0 = λ t l. IsEndOf t file (record
+    { table = own; courses = courses; keep = keep; base = base; buffer = buffer; states = states; may_hit = may_hit; found = l }) in
+    let was : Of table = subst (IsScanOf table file) (sym c.self.view_is) (c.exclude.ensures.excluded table file of) in
+    let mine : Of own = subst Of (sym was.is_table) was in
+    let now : End own found = IsEndOf-found own file courses keep base buffer states may_hit byte old found past mine in
+    let long : length found ≡ length old = c.look.auto.found ∙ ap length c.deref_mut.ensures.value in
+    let items = with_items_is c.self.inside.found found (long ∙ sym c.self.inside.found.ok.0) in
+    subst (End table) (sym items) (subst (λ t. End t found) was.is_table now)

@@ -1,16 +1,21 @@
-use Rattle.std.proofs.Common.{◌≤◌, ◌<◌, List, arith, length, refl, subst, sym}
+use Rattle.std.proofs.Common.{◌≡◌, ◌∙◌, ◌≤◌, ◌<◌, ℕ, Bool, List, Some, ap, arith, get_or, length, max, refl, subst, sym, true}
+use Rattle.std.proofs.lemmas.List.{get_or_default}
 use Rattle.std.proofs.lemmas.Option.{slice_get_read}
-use Rattle.sig_scan.specs.Scans.{ScanView, IsEndOf}
+use Rattle.std.specs.List.{slice_get}
+use Rattle.std.specs.Prelude.{slice_index}
+use Rattle.sig_scan.specs.Courses.{courses_of}
+use Rattle.sig_scan.specs.Scans.{IsEndOf, ScanView}
 use Rattle.sig_scan.specs.Stages.{CourseView, StageView}
 use Rattle.sig_scan.specs.declared.state.State.{State}
 use Rattle.sig_scan.proofs.MarkedLemmas.{Stands-judged}
 use Rattle.sig_table.proofs.Exports.{slice_get-within}
+use Rattle.sig_table.specs.Views.{TableView}
 use Rattle.sig_scan.proofs.scan.Scan.stands.Goals as goal
 
 pub stands-requires-clause-done : goal.stands-requires-clause-done
 stands-requires-clause-done c =
     let k = c.args.sequence in
-    let courses : List CourseView = c.self.inside.program.now in
+    let courses : List CourseView = c.self.inside.program.now.courses in
     let states : List State = c.self.inside.states.items in
     let t : State = c.index-state.result.now in
     let count = c.self.invariant.count in
@@ -21,16 +26,35 @@ stands-requires-clause-done c =
     (c.self.invariant.done k course.0 t course.1 state)
 
 pub returns-clause-stands : goal.returns-clause-stands
-returns-clause-stands c table file s of sequence =
+returns-clause-stands c table file g h s of may signature low high sequence =
     let k = c.args.sequence in
-    let courses : List CourseView = c.self.inside.program.now in
+    let own : TableView = c.self.inside.table.now in
+    let courses : List CourseView = c.self.inside.program.now.courses in
     let states : List State = c.self.inside.states.items in
+    let flags : List Bool = c.self.inside.may_hit.items in
+    let found : List ℕ = c.self.inside.found.items in
     let t : State = c.index-state.result.now in
     let count = c.self.invariant.count in
+    let size = c.self.invariant.found_len in
     let inside : k < length courses = subst (λ (v : ScanView). k < length v.courses) (sym c.self.view_is) c.requires in
     let course = slice_get-within courses k inside in
     let state = slice_get_read states (length states) k t refl (omega arith) c.index-state.ensures in
-    Stands-judged table file courses c.self.inside.keep c.self.inside.base c.self.inside.buffer.room c.self.inside.buffer.bytes states k s t course.0
-    c.stands.result c.stages_of-stages.result.now c.tail_of-tail.result.now c.as_bytes-bytes.result.now c.self.invariant.held course.1 state
-    (c.stages_of-stages.ensures course.0 course.1) (c.tail_of-tail.ensures course.0 course.1) c.as_bytes-bytes.ensures.bytes c.stands.ensures.stands
-    (subst (IsEndOf table file) (sym c.self.view_is) of) sequence
+    let n : ℕ = c.index.result.now in
+    let n_is : n ≡ slice_index found k = c.index.ensures ∙ sym (get_or_default found k 0 n (omega arith)) in
+    let from : c.max-from.result ≡ max t.from (slice_index found k) = c.max-from.ensures ∙ ap (λ (m : ℕ). max t.from m) n_is in
+    let scan : ScanView = record {
+      table = own;
+      courses = courses;
+      keep = c.self.inside.keep;
+      base = c.self.inside.base;
+      buffer = c.self.inside.buffer;
+      states = states;
+      may_hit = flags;
+      found = found;
+    } in
+    let was : IsEndOf table file scan = subst (IsEndOf table file) (sym c.self.view_is) of in
+    let is = subst (λ (x : TableView). courses ≡ courses_of x) was.is_table c.self.invariant.program.courses in
+    Stands-judged table file scan g h k c.max-from.result s t course.0 c.stands.result c.stages_of-stages.result.now c.tail_of-tail.result.now
+    c.as_bytes-bytes.result.now is c.self.invariant.held course.1 state (c.stages_of-stages.ensures course.0 course.1)
+    (c.tail_of-tail.ensures course.0 course.1) c.as_bytes-bytes.ensures.bytes from c.stands.ensures.stands was
+    (subst (λ (v : ScanView). slice_get v.may_hit g ≡ Some true) (sym c.self.view_is) may) signature low high sequence

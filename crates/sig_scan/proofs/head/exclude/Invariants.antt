@@ -1,0 +1,13 @@
+use Rattle.std.proofs.Common.{◌≡◌, ℕ, Some, true}
+use Rattle.std.specs.List.{slice_get}
+use Rattle.sig_scan.specs.Heads.{AreHeadsOf}
+use Rattle.sig_scan.specs.Scans.{AreExcluded}
+use Rattle.sig_table.specs.Views.{TableView}
+use Rattle.sig_scan.proofs.head.exclude.Given as goal
+
+-- what is excluded hits no such file
+abbrev pub invariant-loop-head : goal.invariant-loop-head
+invariant-loop-head l = record {
+  excluded : (table : TableView) → AreHeadsOf table l.heads → AreExcluded table l.fn.may_hit l.bytes → AreExcluded table l.may_hit l.bytes;
+  still : (g : ℕ) → slice_get l.may_hit g ≡ Some true → slice_get l.fn.may_hit g ≡ Some true;
+}

@@ -1,0 +1,20 @@
+use Rattle.std.proofs.Common.{◌≡◌, ◌∙◌, Some, ap, subst, sym}
+use Rattle.std.proofs.lemmas.List.Elements.{All-push, All-same}
+use Rattle.std.specs.List.{slice_get}
+use Rattle.sig_scan.specs.Heads.{IsHeadOf}
+use Rattle.sig_table.specs.Standing.{Hits}
+use Rattle.sig_table.specs.Views.{SignatureView}
+use Rattle.sig_scan.proofs.program.add_head.Goals as goal
+
+pub returns-in_ok-push : goal.returns-in_ok-push
+returns-in_ok-push c table g at hit heads =
+    let h = c.in-Some.head in
+    let same = c.in-Some.ensures.signature in
+    All-same (IsHeadOf table) _ _ c.in_ok-push.ensures.items
+    (All-push (IsHeadOf table) c.args.heads.now.items h heads
+    (λ v there file bytes hits.
+    c.in-Some.ensures.has file (hit file bytes
+    (let here = ap (λ n. slice_get table.signatures n) (sym same) ∙ there in
+    let both : Some g ≡ Some v = sym at ∙ here in
+    let is : g ≡ v = cc in
+    subst (λ (x : SignatureView). Hits x file) (sym is) hits))))

@@ -1,0 +1,13 @@
+use Rattle.std.proofs.Common.{List, subst}
+use Rattle.std.proofs.lemmas.Result.{on_ok_weaker}
+use Rattle.sig_scan.specs.Literals.{IsLiteralOf}
+use Rattle.sig_scan.specs.Stages.{StageView}
+use Rattle.sig_scan.proofs.FilterLemmas.{AreLiteralsOf-added}
+use Rattle.sig_scan.proofs.program.add_literal.Goals as goal
+
+pub returns : goal.returns
+returns c courses stage literals =
+    let is = subst (λ (s : StageView). IsLiteralOf s.items c.stage.inside.literal) c.stage.view_is c.stage.invariant in
+    on_ok_weaker c.add.result
+    (λ adds. AreLiteralsOf-added courses c.args.filter.now c.add.new.self c.stage.inside.literal c.args.stage.now c.args.sequence c.args.done adds is stage literals)
+    c.add.ensures
