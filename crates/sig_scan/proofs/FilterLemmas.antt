@@ -395,18 +395,22 @@ pub AreOwned-lowered : (entries : List Entry) (states : List State) (old new : L
 AreOwned-lowered entries states old new lower owned k some = let less = lower k in owned k (omega arith)
 
 -- the element at a place of a list with one more at its end
-push_cases : {X : Type 0} (xs : List X) (x y : X) (i : ℕ) → slice_get (xs ++ x ∷ []) i ≡ Some y → (slice_get xs i ≡ Some y) ⊎ (x ≡ y)
+pub push_cases : {X : Type 0} (xs : List X) (x y : X) (i : ℕ) → slice_get (xs ++ x ∷ []) i ≡ Some y
+    → ((i < length xs) × (slice_get xs i ≡ Some y)) ⊎ ((i ≡ length xs) × (x ≡ y))
 push_cases {X} xs x y i at =
     elim (cases_lt i (length xs)) [
       | inl old ↦ (
           let value : get_or xs i y ≡ y = sym (get_or_append_left xs (x ∷ []) y i old) ∙ get_or_from_slice_get (xs ++ x ∷ []) i y y at in
-          inl (slice_get-get_or xs i y old ∙ ap (λ (g : X). Some g) value))
+          inl (old, slice_get-get_or xs i y old ∙ ap (λ (g : X). Some g) value))
       | inr new ↦ (
           let within = slice_get_within (xs ++ x ∷ []) i y at in
           let len = length-append xs (x ∷ []) in
           let end : length xs + 0 ≡ i = omega arith in
-          inr (sym (get_or-append-add xs (x ∷ []) 0 y) ∙ ap (λ k. get_or (xs ++ x ∷ []) k y) end
-          ∙ get_or_from_slice_get (xs ++ x ∷ []) i y y at))
+          inr (
+            omega arith,
+            sym (get_or-append-add xs (x ∷ []) 0 y) ∙ ap (λ k. get_or (xs ++ x ∷ []) k y) end
+                ∙ get_or_from_slice_get (xs ++ x ∷ []) i y y at,
+          ))
     ]
 
 -- the literal of one stage more
@@ -417,8 +421,8 @@ AreLiteralsOf-added courses old new l u sequence done (inl same) is stage litera
     subst (AreLiteralsOf courses) (sym same) literals i f c at course
 AreLiteralsOf-added courses old new l u sequence done (inr (e, new_is, literal, of, number)) is stage literals i f c at course =
     elim (push_cases old e f i (ap (λ (es : List Entry). slice_get es i) (sym new_is) ∙ at)) [
-      | inl before ↦ literals i f c before course
-      | inr same ↦ (
+      | inl before ↦ literals i f c before.1 course
+      | inr (_, same) ↦ (
           let here : slice_get courses sequence ≡ Some c =
           ap (slice_get courses) (sym of ∙ ap (λ (x : Entry). x.sequence) same) ∙ course in
           let P : Entry → Type 0 = λ x. (v : StageView) × (slice_get c.stages x.done ≡ Some v) × IsLiteralOf v.items x.literal in

@@ -1,77 +1,87 @@
 -- Heads: which files have them, and which signatures they close.
-use Rattle.std.proofs.Common.{◌≡◌, ◌≢◌, ◌∙◌, ℕ, ◌+◌, ◌≤◌, ◌<◌, inl, inr, All, Bool, List, [], ◌∷◌, ◌++◌, Option, Some, None, ap, arith, false, true, get_or, length, map, refl, subst, sym}
+use Rattle.std.proofs.Common.{◌≡◌, ◌≢◌, ◌∙◌, ℕ, ◌+◌, ◌≤◌, ◌<◌, inl, inr, All, Bool, List, [], ◌∷◌, ◌++◌, Some, add-zero, ap, append_assoc, arith, false, true, get_or, length, length-append, subst, sym}
 use Rattle.std.proofs.Math.ListN.{set}
 use Rattle.std.proofs.lemmas.Bool.{false≢true}
-use Rattle.std.proofs.lemmas.List.{get_or_append_left, nil_from_length}
-use Rattle.std.proofs.lemmas.List.Elements.{All-append}
-use Rattle.std.proofs.lemmas.Option.{get_or_from_slice_get}
+use Rattle.std.proofs.lemmas.List.{get_or-append-add, get_or_append_left, nil_from_length}
+use Rattle.std.proofs.lemmas.Option.{get_or_from_slice_get, slice_get_within}
 use Rattle.std.specs.List.{slice_get}
-use Rattle.sig_bits.specs.Bytes.{IsBytes}
-use Rattle.sig_expr.specs.Words.{IsAtMost}
 use Rattle.sig_expr.specs.declared.item.Item.{Item}
-use Rattle.sig_scan.specs.Courses.{AddsCourse, course_in}
 use Rattle.sig_scan.specs.Heads.{AreHeadsOf, HasHead, IsHeadOf}
-use Rattle.sig_scan.specs.Literals.{IsLiteralOf, LiteralView}
-use Rattle.sig_scan.specs.Placed.{Lies}
-use Rattle.sig_scan.specs.Scans.{AreExcluded, BufferView, IsScanOf}
-use Rattle.sig_scan.specs.Stages.{CourseStands, CourseView, InTurn, StageView, TailView, course_of}
+use Rattle.sig_scan.specs.Literals.{IsEitherOf}
+use Rattle.sig_scan.specs.Scans.{AreExcluded, BufferView, IsScanOf, NeverStands}
+use Rattle.sig_scan.specs.Stages.{CourseView}
 use Rattle.sig_scan.specs.declared.head.Head.{Head}
-use Rattle.sig_scan.specs.declared.program.Course.{Course}
 use Rattle.sig_scan.specs.declared.state.State.{State}
-use Rattle.sig_scan.proofs.CutLemmas.{Stands-in_turn}
-use Rattle.sig_scan.proofs.ProgramLemmas.{course-added}
 use Rattle.sig_scan.proofs.ScanLemmas.{slice_get-set_cases}
-use Rattle.sig_table.specs.Standing.{Hits, Stands}
+use Rattle.sig_table.specs.Standing.{Hits, Stands, StandsAt}
+use Rattle.sig_table.specs.declared.position.Position.TheVariants as position
 use Rattle.sig_table.specs.Views.{SequenceView, SignatureView, TableView}
 
--- the word of a stage that may begin at one offset alone begins there
-pub InTurn-at : (file : List ℕ) (from until : ℕ) (t : StageView) (later : List StageView) (tail : Option TailView) → t.until ≡ Some until → until ≡ from
-    → InTurn file from (t ∷ later) tail → (end : ℕ) × Lies t.items file from end
-InTurn-at file from until t later tail is same turn =
-    let ends = turn.1 in
-    let most : ends.start ≤ until = subst (λ (o : Option ℕ). IsAtMost o ends.start) is ends.not_behind in
-    let least = ends.not_before in
-    let here : ends.start ≡ from = omega arith in
-    (turn.0, subst (λ n. Lies t.items file n turn.0) here ends.lies)
+-- the first byte of a word is a byte of the file
+first-byte : (front w rest : List ℕ) (x : ℕ) → w ≡ x ∷ [] → (length front < length (front ++ (w ++ rest))) × (get_or (front ++ (w ++ rest)) (length front) 0 ≡ x)
+first-byte front w rest x is =
+    let P : List ℕ → Type 0 = λ l. (length front < length (front ++ (l ++ rest))) × (get_or (front ++ (l ++ rest)) (length front) 0 ≡ x) in
+    let len = length-append front (x ∷ rest) in
+    let at = ap (λ n. get_or (front ++ x ∷ rest) n 0) (add-zero (length front)) in
+    subst P (sym is) (omega arith, sym at ∙ get_or-append-add front (x ∷ rest) 0 0)
 
--- a place of its literal is a head
-pub HasHead-literal : (items : List Item) (l : LiteralView) (file : List ℕ) (from end place : ℕ) (h : Head) → IsLiteralOf items l → place < length l.text
-    → h.at ≡ from + l.at + place → h.text ≡ get_or l.text place 0 → h.other ≡ get_or l.other place 0 → Lies items file from end → HasHead h file
-HasHead-literal items l file from end place h is inside at text other lies =
-    let there = is.stands file from end lies in
-    let within = there.within in
-    let fits = there.fits place inside in
-    record {
-      within = omega arith;
-      fits = elim fits [
-        | inl one ↦ inl (ap (λ n. get_or file n 0) at ∙ one ∙ sym text)
-        | inr two ↦ inr (ap (λ n. get_or file n 0) at ∙ two ∙ sym other)
-      ];
-    }
+-- each file that a sequence stands in which may begin at one offset alone, and begins with one of two bytes, has its head
+pub HasHead-first : (min max : ℕ) (i : Item) (later : List Item) (file : List ℕ) (h : Head) (a b : ℕ) → min ≡ max → IsEitherOf i a b → h.at ≡ min
+    → h.text ≡ a → h.other ≡ b → StandsAt (position.Bof min max) (i ∷ later) file → HasHead h file
+HasHead-first min max i later file h a b same either at text other (c, least, most) =
+    let u : List ℕ = c.is_word.0 in
+    let v : List ℕ = c.is_word.1 in
+    let cut : c.word ≡ u ++ v = c.is_word.2 in
+    let is_word = c.is_word.3 in
+    let here : length c.front ≡ h.at = omega arith in
+    let whole : file ≡ c.front ++ (u ++ (v ++ c.back)) =
+    c.cut ∙ append_assoc c.front c.word c.back ∙ ap (λ (l : List ℕ). c.front ++ l) (ap (λ (w : List ℕ). w ++ c.back) cut ∙ append_assoc u v c.back) in
+    let Has : ℕ → Type 0 = λ x. (length c.front < length file) × (get_or file (length c.front) 0 ≡ x) in
+    let has : (x : ℕ) → u ≡ x ∷ [] → Has x = λ x is.
+    subst (λ (l : List ℕ). (length c.front < length l) × (get_or l (length c.front) 0 ≡ x)) (sym whole) (first-byte c.front u (v ++ c.back) x is) in
+    let byte = ap (λ n. get_or file n 0) (sym here) in
+    elim (either u is_word) [
+      | inl one ↦ (let known = has a one in let low = known.0 in
+          record { within = omega arith; fits = inl (byte ∙ known.1 ∙ sym text) })
+      | inr two ↦ (let known = has b two in let low = known.0 in
+          record { within = omega arith; fits = inr (byte ∙ known.1 ∙ sym other) })
+    ]
 
--- a file that the signature hits has the course of each of its sequences
-pub CourseStands-hit : (old new : List StageView) (c : Course) (g : SignatureView) (i : ℕ) (x : SequenceView) → i < length g.sequences
-    → x ≡ get_or g.sequences i x → AddsCourse old new c (course_of x) → (file : List ℕ) → IsBytes file → Hits g file → CourseStands (course_in new c) file
-CourseStands-hit old new c g i x within is adds file bytes hits =
-    let stands : Stands x file = subst (λ (s : SequenceView). Stands s file) (sym is) (hits i x within) in
-    subst (λ (v : CourseView). CourseStands v file) (sym (course-added old new c (course_of x) adds))
-    ((Stands-in_turn x.position x.items file bytes).0 stands)
+-- no file that begins with these bytes has a head that does not stand in them
+pub HasHead-never : (h : Head) (bytes more : List ℕ) → h.at < length bytes → get_or bytes h.at 0 ≢ h.text → get_or bytes h.at 0 ≢ h.other
+    → ¬ HasHead h (bytes ++ more)
+HasHead-never h bytes more at text other has =
+    let same = get_or_append_left bytes more 0 h.at at in
+    elim has.fits [
+      | inl one ↦ text (sym same ∙ one)
+      | inr two ↦ other (sym same ∙ two)
+    ]
 
 -- a signature is excluded whose head does not stand
-pub AreExcluded-set : (table : TableView) (may_hit : List Bool) (bytes : List ℕ) (h : Head) → IsBytes bytes → h.signature < length may_hit → IsHeadOf table h
+pub AreExcluded-set : (table : TableView) (may_hit : List Bool) (bytes : List ℕ) (h : Head) → h.signature < length may_hit → IsHeadOf table h
     → h.at < length bytes → get_or bytes h.at 0 ≢ h.text → get_or bytes h.at 0 ≢ h.other → AreExcluded table may_hit bytes
     → AreExcluded table (set may_hit h.signature false) bytes
-AreExcluded-set table may_hit bytes h are within is at text other closed g v exclude signature more more_are hits =
+AreExcluded-set table may_hit bytes h within is at text other closed g v exclude signature more more_are hits =
     elim (slice_get-set_cases may_hit h.signature g false false within exclude) [
       | inl here ↦ (
           let there : slice_get table.signatures h.signature ≡ Some v = subst (λ n. slice_get table.signatures n ≡ Some v) here.0 signature in
-          let has = is v there (bytes ++ more) (All-append (λ b. b < 256) bytes more are more_are) hits in
-          let same = get_or_append_left bytes more 0 h.at at in
-          elim has.fits [
-            | inl one ↦ text (sym same ∙ one)
-            | inr two ↦ other (sym same ∙ two)
-          ])
+          HasHead-never h bytes more at text other (is v there (bytes ++ more) hits))
       | inr there ↦ closed g v there.1 signature more more_are hits
+    ]
+
+-- so is one of which a sequence never stands
+pub AreExcluded-never : (table : TableView) (may_hit : List Bool) (bytes : List ℕ) (index i : ℕ) (g : SignatureView) (s : SequenceView)
+    → index < length may_hit → slice_get table.signatures index ≡ Some g → i < length g.sequences → s ≡ get_or g.sequences i s → NeverStands s bytes
+    → AreExcluded table may_hit bytes → AreExcluded table (set may_hit index false) bytes
+AreExcluded-never table may_hit bytes index i g s within at inside is never excluded k v out signature more are hits =
+    elim (slice_get-set_cases may_hit index k false false within out) [
+      | inl here ↦ (
+          let there : slice_get table.signatures index ≡ Some v = subst (λ n. slice_get table.signatures n ≡ Some v) here.0 signature in
+          let both : Some v ≡ Some g = sym there ∙ at in
+          let same : v ≡ g = cc in
+          let all = subst (λ (x : SignatureView). Hits x (bytes ++ more)) same hits in
+          never more are (subst (λ (x : SequenceView). Stands x (bytes ++ more)) (sym is) (all i s inside)))
+      | inr there ↦ excluded k v there.1 signature more are hits
     ]
 
 -- no other signature may hit
@@ -102,3 +112,10 @@ IsScanOf-excluded table file courses heads keep base buffer states old new found
       wait = λ g h may signature. of.wait g h (still g may) signature;
       excluded = subst (AreExcluded table new) (sym all) (step are (subst (AreExcluded table old) all of.excluded));
     }
+
+-- where all may be hit none is excluded
+pub AreExcluded-none : (table : TableView) (may_hit : List Bool) (file : List ℕ) → All (λ b. b ≡ true) may_hit → AreExcluded table may_hit file
+AreExcluded-none table may_hit file all g h out signature more are hits =
+    let within = slice_get_within may_hit g false out in
+    let value = get_or_from_slice_get may_hit g false false out in
+    absurd (false≢true (sym value ∙ all g false within))

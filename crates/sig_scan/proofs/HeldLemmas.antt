@@ -1,17 +1,17 @@
 -- How many bytes hold the words of a compiled table.
-use Rattle.std.proofs.Common.{◌≡◌, ℕ, ◌+◌, ◌-◌, ◌≤◌, ◌<◌, List, [], ◌∷◌, ◌++◌, length, get_or, map, take, drop, Option, None, Some, refl, subst, sym, ◌∙◌, arith}
+use Rattle.std.proofs.Common.{◌≡◌, ℕ, ◌+◌, ◌-◌, ◌≤◌, ◌<◌, Bool, false, true, List, [], ◌∷◌, ◌++◌, length, get_or, map, take, drop, Option, None, Some, refl, subst, sym, ◌∙◌, arith}
 use Rattle.std.specs.Prelude.{All, IfSome}
 use Rattle.std.specs.Option.{ForSome}
-use Rattle.std.proofs.lemmas.List.Elements.{All-append, All-drop, All-map, All-more, All-push, All-same, All-take, All-weaker}
+use Rattle.std.proofs.lemmas.List.Elements.{All-append, All-drop, All-map, All-more, All-nil, All-push, All-same, All-take, All-weaker}
 use Rattle.sig_expr.specs.declared.item.Item.{Item}
 use Rattle.sig_table.specs.declared.position.Position.{Position}
 use Rattle.sig_table.specs.declared.position.Position.TheVariants as position
 use Rattle.sig_table.specs.Tables.{IsSequence}
 use Rattle.sig_table.specs.Views.{SequenceView}
 use Rattle.sig_scan.specs.declared.program.Course.{Course}
-use Rattle.sig_scan.specs.Courses.{AddsCourse, AreHeld, IsHeld, course_in}
+use Rattle.sig_scan.specs.Courses.{AddsCourse, AreHeld, IsHeld, course_if, course_in}
 use Rattle.sig_scan.specs.Lengths.{span}
-use Rattle.sig_scan.specs.Stages.{StageView, TailView, course_of, last_items, stages_of}
+use Rattle.sig_scan.specs.Stages.{StageView, TailView, last_items, stages_of}
 use Rattle.sig_scan.proofs.ProgramLemmas.{last_is}
 use Rattle.sig_scan.proofs.ShortLemmas.{stages-short, tail-short}
 
@@ -32,15 +32,22 @@ AreHeld-more n m stages cs more held = record {
   tails = All-weaker (IsHeldCourse n) (IsHeldCourse m) (λ c h t is. let within = h t is in omega arith) cs held.tails;
 }
 
--- the stages and the tail of one sequence more
-pub AreHeld-push : (old new : List StageView) (cs : List Course) (c : Course) (s : SequenceView) → AreHeld 65535 old cs → AddsCourse old new c (course_of s)
-    → IsSequence s → AreHeld 65535 new (cs ++ c ∷ [])
-AreHeld-push old new cs c s held adds is = record {
-  stages = All-same (IsHeldStage 65535) new (old ++ (course_of s).stages) adds.stages
-      (All-append (IsHeldStage 65535) old (course_of s).stages held.stages (stages-short s.position s.items is));
-  tails = All-push (IsHeldCourse 65535) cs c held.tails
-      (λ t some. subst (λ (o : Option TailView). IfSome o (IsHeldTail 65535)) (sym adds.tail ∙ some) (tail-short s.position s.items is));
-}
+-- the stages and the tail of a course
+course_if-short : (b : Bool) (s : SequenceView) → IsSequence s → All (IsHeldStage 65535) (course_if b s).stages × IfSome (course_if b s).tail (IsHeldTail 65535)
+course_if-short true s is = (stages-short s.position s.items is, tail-short s.position s.items is)
+course_if-short false s is = (All-nil (IsHeldStage 65535), tt)
+
+-- those of one more
+pub AreHeld-push : (old new : List StageView) (cs : List Course) (c : Course) (b : Bool) (s : SequenceView) → AreHeld 65535 old cs
+    → AddsCourse old new c (course_if b s) → IsSequence s → AreHeld 65535 new (cs ++ c ∷ [])
+AreHeld-push old new cs c b s held adds is =
+    let short = course_if-short b s is in
+    record {
+      stages = All-same (IsHeldStage 65535) new (old ++ (course_if b s).stages) adds.stages
+          (All-append (IsHeldStage 65535) old (course_if b s).stages held.stages short.0);
+      tails = All-push (IsHeldCourse 65535) cs c held.tails
+          (λ t some. subst (λ (o : Option TailView). IfSome o (IsHeldTail 65535)) (sym adds.tail ∙ some) short.1);
+    }
 
 -- one course more
 pub AreHeld-course : (n m : ℕ) (stages : List StageView) (cs : List Course) (i : ℕ) (x : Course) → i < length cs → x ≡ get_or cs i x → n ≤ m

@@ -28,3 +28,4 @@ mod ScanLemmas
 mod MarkedLemmas
 mod HeadLemmas
 mod SignatureLemmas
+mod CompiledLemmas

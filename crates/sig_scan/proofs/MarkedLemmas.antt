@@ -9,39 +9,30 @@ use Rattle.std.proofs.lemmas.Option.{get_or_from_slice_get, slice_get-get_or, sl
 use Rattle.std.specs.List.{flat_map, slice_get}
 use Rattle.std.specs.Option.{option_map}
 use Rattle.std.specs.Prelude.{◌↔◌, IsTrue, slice_index}
-use Rattle.sig_scan.specs.Courses.{IsHeld, courses_of}
-use Rattle.sig_scan.specs.Scans.{AllStand, AreExcluded, AreFirst, AreMarked, HasLastBytes, InTurnAt, IsBase, IsEndOf, IsScanOf, IsShort, IsShortCourse, ScanView, TailIsShort, WaitsAt, first_of, sequences_of}
-use Rattle.sig_scan.specs.Stages.{CourseView, StageView, TailView, Waits, course_of}
+use Rattle.sig_bits.specs.Bytes.{IsBytes}
+use Rattle.sig_scan.specs.Courses.{AreCoursesOf, IsBoundedCourse, IsHeld, first_of, sequences_of}
+use Rattle.sig_scan.specs.Scans.{AllStand, AreExcluded, AreFirst, AreMarked, BufferView, HasLastBytes, InTurnAt, IsBase, IsEndOf, IsScanOf, IsShort, IsShortCourse, ScanView, TailIsShort, WaitsAt}
+use Rattle.sig_scan.specs.Stages.{CourseView, StageView, TailView, Waits}
 use Rattle.sig_scan.specs.declared.state.State.{State}
-use Rattle.sig_scan.proofs.ScanLemmas.{All-course, courses_of-map, table-short}
-use Rattle.sig_scan.proofs.WaitLemmas.{Waits-fresh}
+use Rattle.sig_scan.proofs.ScanLemmas.{All-course, courses-short}
+use Rattle.sig_scan.proofs.WaitLemmas.{Waits-fed, Waits-fresh}
 use Rattle.sig_table.specs.Standing.{Hits, Stands}
 use Rattle.sig_table.specs.Views.{SequenceView, SignatureView, TableView}
 
--- the course of a sequence of the table
-course-at : (table : TableView) (courses : List CourseView) (i : ℕ) (s : SequenceView) (c : CourseView) → courses ≡ courses_of table
-    → slice_get (sequences_of table) i ≡ Some s → slice_get courses i ≡ Some c → course_of s ≡ c
-course-at table courses i s c is sequence course =
-    let same : courses ≡ map course_of (sequences_of table) = is ∙ courses_of-map table.signatures in
-    let mapped : slice_get courses i ≡ option_map course_of (slice_get (sequences_of table) i) =
-    ap (λ (l : List CourseView). slice_get l i) same ∙ slice_get-map course_of (sequences_of table) i in
-    let both : Some (course_of s) ≡ Some c = ap (λ (o : Option SequenceView). option_map course_of o) (sym sequence) ∙ sym mapped ∙ course in
-    (cc)
-
--- a scan of an empty file, with all signatures may_hit
-pub IsScanOf-fresh : (table : TableView) (courses : List CourseView) (keep room : ℕ) (states : List State) (may_hit : List Bool) (found : List ℕ)
-    → courses ≡ courses_of table → AreFirst courses states → All (λ b. b ≡ true) may_hit
-    → IsScanOf table [] (record {
+-- a scan of the bytes at hand, of which no word is looked for yet
+pub IsScanOf-fresh : (table : TableView) (courses : List CourseView) (keep : ℕ) (buffer : BufferView) (states : List State) (may_hit : List Bool)
+    (found : List ℕ) → AreCoursesOf table may_hit courses → AreFirst courses states → IsBytes buffer.bytes → AreExcluded table may_hit buffer.bytes
+    → IsScanOf table buffer.bytes (record {
       table = table;
       courses = courses;
       keep = keep;
       base = 0;
-      buffer = record { room = room; bytes = [] };
+      buffer = buffer;
       states = states;
       may_hit = may_hit;
       found = found;
     })
-IsScanOf-fresh table courses keep room states may_hit found is first all_open = record {
+IsScanOf-fresh table courses keep buffer states may_hit found is first are excluded = record {
   before = [];
   bytes = refl;
   base = refl;
@@ -49,21 +40,16 @@ IsScanOf-fresh table courses keep room states may_hit found is first all_open = 
   is_table = refl;
   wait = λ g h may signature i s c t low high sequence course state.
       let t_is = first i c t course state in
-      let c_is = course-at table courses i s c is sequence course in
-      let P : State → Type 0 = λ x. WaitsAt s [] [] x.from (drop x.done c.stages) c.tail in
+      let below = slice_get_within table.signatures g h signature in
+      let c_is = sym (is.each g h below may signature i s c low high sequence course) in
+      let P : State → Type 0 = λ x. WaitsAt s [] buffer.bytes x.from (drop x.done c.stages) c.tail in
       let Q : CourseView → Type 0 = λ d. Waits s [] d.from d.stages d.tail in
       let fresh : Waits s [] c.from c.stages c.tail = subst Q c_is (Waits-fresh s) in
+      let fed = Waits-fed s [] buffer.bytes c.from c.stages c.tail are fresh in
       let zero : c.from ≡ length {A = ℕ} [] + c.from = omega arith in
-      subst P (sym t_is) (subst (λ (n : ℕ). Waits s [] n c.stages c.tail) zero fresh);
-  excluded = λ g h exclude signature more are hits.
-      let within = slice_get_within may_hit g false exclude in
-      let value = get_or_from_slice_get may_hit g false false exclude in
-      absurd (false≢true (sym value ∙ all_open g false within));
+      subst P (sym t_is) (subst (λ (n : ℕ). Waits s buffer.bytes n c.stages c.tail) zero fed);
+  excluded = excluded;
 }
-
--- there are as many courses as sequences
-pub sequences-count : (table : TableView) (courses : List CourseView) → courses ≡ courses_of table → length courses ≡ length (sequences_of table)
-sequences-count table courses is = ap length (is ∙ courses_of-map table.signatures) ∙ length-map (sequences_of table) course_of
 
 -- the sequences of one signature among those of all
 abbrev pub sequences : List SignatureView → List SequenceView
@@ -78,7 +64,7 @@ signatures-cut signatures index g at =
     rw (add-one) (drop-cons signatures index g within ∙ ap (λ (v : SignatureView). v ∷ drop (suc index) signatures) is) in
     sym (take-append-drop index signatures) ∙ ap (λ (l : List SignatureView). take index signatures ++ l) next
 
-sequences-cut : (signatures : List SignatureView) (index : ℕ) (g : SignatureView) → slice_get signatures index ≡ Some g
+pub sequences-cut : (signatures : List SignatureView) (index : ℕ) (g : SignatureView) → slice_get signatures index ≡ Some g
     → sequences signatures ≡ sequences (take index signatures) ++ (g.sequences ++ sequences (drop (index + 1) signatures))
 sequences-cut signatures index g at =
     ap sequences (signatures-cut signatures index g at)
@@ -107,7 +93,7 @@ sequences-next table index first g at is =
     omega arith
 
 -- an element of the middle part
-middle : (front part back all : List SequenceView) (j : ℕ) (d : SequenceView) → all ≡ front ++ (part ++ back) → j < length part
+pub middle : (front part back all : List SequenceView) (j : ℕ) (d : SequenceView) → all ≡ front ++ (part ++ back) → j < length part
     → get_or all (length front + j) d ≡ get_or part j d
 middle front part back all j d is within =
     ap (λ (l : List SequenceView). get_or l (length front + j) d) is ∙ get_or-append-add front (part ++ back) j d ∙ get_or_append_left part back d j within
@@ -162,7 +148,7 @@ JudgedBy keep base done from b stages tail bytes = (before : List ℕ) → IsBas
 -- a sequence of a signature that the file may hit is judged
 pub Stands-judged : (table : TableView) (file : List ℕ) (scan : ScanView) (g : ℕ) (h : SignatureView) (k from : ℕ)
     (s : SequenceView) (t : State) (c : CourseView) (b : Bool) (stages : List StageView) (tail : Option TailView) (seen : List ℕ)
-    → scan.courses ≡ courses_of table → All (IsHeld scan.keep) scan.courses → slice_get scan.courses k ≡ Some c → slice_get scan.states k ≡ Some t
+    → All IsBoundedCourse scan.courses → All (IsHeld scan.keep) scan.courses → slice_get scan.courses k ≡ Some c → slice_get scan.states k ≡ Some t
     → stages ≡ c.stages → tail ≡ c.tail → seen ≡ scan.buffer.bytes → from ≡ max t.from (slice_index scan.found k)
     → JudgedBy scan.keep scan.base t.done from b stages tail seen → IsEndOf table file scan
     → slice_get scan.may_hit g ≡ Some true → slice_get table.signatures g ≡ Some h → first_of table g ≤ k → k < first_of table g + length h.sequences
@@ -172,7 +158,7 @@ Stands-judged table file scan g h k from s t c b stages tail seen is held course
     let keep = scan.keep in
     let base = scan.base in
     let bytes = scan.buffer.bytes in
-    let few = All-course (IsShortCourse keep) scan.courses k c course (table-short keep table scan.courses is held) in
+    let few = All-course (IsShortCourse keep) scan.courses k c course (courses-short keep scan.courses is held) in
     let here : JudgedBy keep base t.done from b c.stages c.tail bytes =
     subst (λ (l : List ℕ). JudgedBy keep base t.done from b c.stages c.tail l) seen_is
     (subst (λ (o : Option TailView). JudgedBy keep base t.done from b c.stages o seen) tail_is

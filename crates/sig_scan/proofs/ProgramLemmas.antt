@@ -15,7 +15,7 @@ use Rattle.sig_table.specs.declared.position.Position.TheVariants as position
 use Rattle.sig_table.specs.Views.{SequenceView, SignatureView}
 use Rattle.sig_table.proofs.Exports.{slice_get-within}
 use Rattle.sig_scan.specs.declared.program.Course.{Course}
-use Rattle.sig_scan.specs.Courses.{AddsCourse, AreCourses, StandsIn, course_in, signature_courses}
+use Rattle.sig_scan.specs.Courses.{AddsCourse, AreCourses, StandsIn, course_in}
 use Rattle.sig_scan.specs.Stages.{CourseView, StageView, TailView, all_but_last, course_of, last_items, stages_of}
 use Rattle.sig_scan.proofs.CutLemmas.{stages_of-some}
 
@@ -161,23 +161,3 @@ AreCourses-push old new cs courses c course are adds =
       within = All-push (StandsIn new) cs c (All-weaker (StandsIn old) (StandsIn new) (λ d below. (below.0, omega arith)) cs are.within)
           (omega arith, omega arith);
     }
-
--- the courses of one sequence more of a signature
-pub courses-next : (front : List CourseView) (sequences : List SequenceView) (i : ℕ) (x : SequenceView) → i < length sequences → x ≡ get_or sequences i x
-    → (front ++ map course_of (take i sequences)) ++ course_of x ∷ [] ≡ front ++ map course_of (take (i + 1) sequences)
-courses-next front sequences i x at is =
-    append_assoc front (map course_of (take i sequences)) (course_of x ∷ [])
-    ∙ ap (λ (y : SequenceView). front ++ (map course_of (take i sequences) ++ course_of y ∷ [])) is
-    ∙ ap (λ (l : List CourseView). front ++ l) (sym (map_more course_of sequences i x at))
-
--- the courses of all sequences of one signature more
-pub courses-signature : (signatures : List SignatureView) (sequences : List SequenceView) (i j : ℕ) → i < length signatures
-    → ((s : SignatureView) → slice_get signatures i ≡ Some s → sequences ≡ s.sequences) → length sequences ≤ j
-    → flat_map signature_courses (take i signatures) ++ map course_of (take j sequences) ≡ flat_map signature_courses (take (i + 1) signatures)
-courses-signature signatures sequences i j at known done =
-    let s = slice_get-within signatures i at in
-    let member : get_or signatures i s.0 ≡ s.0 = get_or_from_slice_get signatures i s.0 s.0 s.1 in
-    ap (λ (l : List SequenceView). flat_map signature_courses (take i signatures) ++ map course_of l) (take_all j sequences done ∙ known s.0 s.1)
-    ∙ flat_map_more signature_courses [] (take i signatures) s.0
-    ∙ ap (λ (y : SignatureView). flat_map signature_courses (take i signatures ++ y ∷ [])) (sym member)
-    ∙ ap (flat_map signature_courses) (sym (take_more signatures i s.0 at))

@@ -1,5 +1,5 @@
 -- The states of all sequences: one after the other is settled.
-use Rattle.std.proofs.Common.{◌≡◌, ◌∙◌, ℕ, ◌+◌, ◌-◌, ◌≤◌, ◌<◌, ◌⊎◌, ◌^◌, inl, inr, All, Bool, List, [], ◌∷◌, ◌++◌, ap, append_assoc, arith, drop, get_or, get_or-set_other, get_or-set_same, length, length-append, map, min, None, Option, refl, Some, subst, sym, take}
+use Rattle.std.proofs.Common.{◌≡◌, ◌∙◌, ℕ, ◌+◌, ◌-◌, ◌≤◌, ◌<◌, ◌⊎◌, ◌^◌, inl, inr, All, Bool, List, [], ◌∷◌, ◌++◌, ap, append_assoc, arith, drop, get_or, get_or-set_other, get_or-set_same, length, length-append, map, min, None, Option, refl, Some, subst, sym, take, true}
 use Rattle.std.proofs.Math.ListN.{get_or-map, length-set, set}
 use Rattle.std.proofs.lemmas.Bool.{cases_eq, cases_lt}
 use Rattle.std.proofs.lemmas.List.{length-drop, length-map, length-take-le, map-append, take-append-drop}
@@ -8,12 +8,11 @@ use Rattle.std.proofs.lemmas.Option.{get_or_from_slice_get, slice_get-get_or, sl
 use Rattle.std.specs.List.{flat_map, slice_get}
 use Rattle.std.specs.Prelude.{IfSome}
 use Rattle.sig_bits.specs.Bytes.{IsBytes}
-use Rattle.sig_scan.specs.Courses.{IsHeld, courses_of, signature_courses}
+use Rattle.sig_scan.specs.Courses.{AreCoursesOf, IsBoundedCourse, IsHeld}
 use Rattle.sig_scan.specs.Lengths.{AreBounded, span}
-use Rattle.sig_scan.specs.Scans.{AllWait, AreExcluded, AreDone, IsBase, IsScanOf, IsShortCourse, ScanView, TailIsShort, WaitsAt, sequences_of}
-use Rattle.sig_scan.specs.Stages.{CourseView, StageView, TailView, Waits, course_of}
+use Rattle.sig_scan.specs.Scans.{AllWait, AreExcluded, AreDone, IsBase, IsScanOf, IsShortCourse, ScanView, TailIsShort, WaitsAt}
+use Rattle.sig_scan.specs.Stages.{CourseView, StageView, TailView, Waits}
 use Rattle.sig_scan.specs.declared.state.State.{State}
-use Rattle.sig_scan.proofs.CutLemmas.{stages-bounded, tail-bounded}
 use Rattle.sig_scan.proofs.WaitLemmas.{Waits-fed}
 use Rattle.sig_table.proofs.Exports.{slice_get-within}
 use Rattle.sig_table.specs.Standing.{Hits}
@@ -101,41 +100,33 @@ pub All-course : (P : CourseView → Type 0) (courses : List CourseView) (k : �
 All-course P courses k c at all =
     subst P (get_or_from_slice_get courses k c c at) (All-get_or P courses k c (slice_get_within courses k c at) all)
 
--- the courses of a table are those of its sequences
-pub courses_of-map : (signatures : List SignatureView) → flat_map signature_courses signatures ≡ map course_of (flat_map (λ s. s.sequences) signatures)
-courses_of-map [] = refl
-courses_of-map (s ∷ later) =
-    ap (λ (l : List CourseView). map course_of s.sequences ++ l) (courses_of-map later)
-    ∙ sym (map-append course_of s.sequences (flat_map (λ (s : SignatureView). s.sequences) later))
-
 tail-short_of : (reach : ℕ) (o : Option TailView) → IfSome o (λ (t : TailView). AreBounded t.items) → IfSome o (λ (t : TailView). span t.items + t.max ≤ reach)
     → TailIsShort reach o
 tail-short_of reach None bounded few = tt
 tail-short_of reach (Some t) bounded few = (bounded, few)
 
--- so none of their words is without bound
-courses-short : (reach : ℕ) (sequences : List SequenceView) → All (IsHeld reach) (map course_of sequences)
-    → All (IsShortCourse reach) (map course_of sequences)
-courses-short reach sequences held =
-    All-map (IsShortCourse reach) course_of sequences
-    (λ k d within.
-    let s = get_or sequences k d in
-    let inside : k < length (map course_of sequences) = rw length-map within in
-    let here : IsHeld reach (course_of s) = subst (IsHeld reach) (get_or-map course_of sequences k d) (held k (course_of d) inside) in
+-- no word of bounded courses is without bound
+pub courses-short : (reach : ℕ) (courses : List CourseView) → All IsBoundedCourse courses → All (IsHeld reach) courses → All (IsShortCourse reach) courses
+courses-short reach courses bounded held k d within =
+    let b = bounded k d within in
+    let h = held k d within in
     record {
-      stages = λ j e at. record { bounded = stages-bounded s.position s.items j e at; few = here.stages j e at };
-      tail = tail-short_of reach (course_of s).tail (tail-bounded s.position s.items) here.tail;
-    })
+      stages = λ j e at. record { bounded = b.stages j e at; few = h.stages j e at };
+      tail = tail-short_of reach (get_or courses k d).tail b.tail h.tail;
+    }
 
-pub table-short : (reach : ℕ) (table : TableView) (courses : List CourseView) → courses ≡ courses_of table → All (IsHeld reach) courses
-    → All (IsShortCourse reach) courses
-table-short reach table courses is held =
-    let same : courses ≡ map course_of (sequences_of table) = is ∙ courses_of-map table.signatures in
-    subst (All (IsShortCourse reach)) (sym same) (courses-short reach (sequences_of table) (subst (All (IsHeld reach)) same held))
+-- the courses of fewer signatures
+pub AreCoursesOf-fewer : (table : TableView) (old new : List Bool) (courses : List CourseView)
+    → ((g : ℕ) → slice_get new g ≡ Some true → slice_get old g ≡ Some true) → AreCoursesOf table old courses → AreCoursesOf table new courses
+AreCoursesOf-fewer table old new courses still are = record {
+  count = are.count;
+  bounded = are.bounded;
+  each = λ g h below may at. are.each g h below (still g may) at;
+}
 
 -- a scan, settled up to the limit
 pub IsScanOf-settled : (table : TableView) (file : List ℕ) (courses : List CourseView) (keep base later room limit : ℕ) (bytes : List ℕ)
-    (states next : List State) (may_hit exclude : List Bool) (old found : List ℕ) → courses ≡ courses_of table
+    (states next : List State) (may_hit exclude : List Bool) (old found : List ℕ) → All IsBoundedCourse courses
     → All (IsHeld keep) courses → limit + keep ≡ length bytes → later ≡ min (base + limit) (2 ^ 64 - 1)
     → ((before : List ℕ) → IsBase before base → All (IsShortCourse keep) courses → AllWait table may_hit courses before bytes states
     → AllWait table exclude courses (before ++ take limit bytes) (drop limit bytes) next)
@@ -170,7 +161,7 @@ IsScanOf-settled table file courses keep base later room limit bytes states next
     let all = length-append before (take limit bytes) in
     let left = length-drop limit bytes in
     let counted = of.base in
-    let short = table-short keep table courses is held in
+    let short = courses-short keep courses is held in
     let closed = close before of.base short of.wait (subst (AreExcluded table may_hit) of.bytes of.excluded) in
     record {
       before = before ++ take limit bytes;

@@ -7,7 +7,8 @@ use Rattle.std.proofs.lemmas.List.Folds.{length-flat_map-take}
 use Rattle.std.proofs.lemmas.Option.{get_or_from_slice_get, slice_get-get_or, slice_get_within}
 use Rattle.std.specs.List.{slice_get}
 use Rattle.sig_bits.specs.Bytes.{IsBytes}
-use Rattle.sig_scan.specs.Scans.{AreExcluded, AreWaiting, SomeNeverStands, first_of, sequences_of}
+use Rattle.sig_scan.specs.Courses.{first_of, sequences_of}
+use Rattle.sig_scan.specs.Scans.{AreExcluded, AreWaiting, SomeNeverStands}
 use Rattle.sig_scan.specs.Stages.{CourseView}
 use Rattle.sig_scan.specs.declared.state.State.{State}
 use Rattle.sig_scan.proofs.MarkedLemmas.{AllStand-hits, sequences, sequences-fit}
@@ -17,7 +18,7 @@ use Rattle.sig_table.specs.Standing.{Hits}
 use Rattle.sig_table.specs.Views.{SignatureView, TableView}
 
 -- the sequences of a signature end before those of a later one begin
-first_of-order : (table : TableView) (a b : ℕ) (h : SignatureView) → a < b → b ≤ length table.signatures → slice_get table.signatures a ≡ Some h
+pub first_of-order : (table : TableView) (a b : ℕ) (h : SignatureView) → a < b → b ≤ length table.signatures → slice_get table.signatures a ≡ Some h
     → first_of table a + length h.sequences ≤ first_of table b
 first_of-order table a b h order within at =
     let all = table.signatures in
@@ -127,4 +128,13 @@ AreExcluded-next table may_hit file index first end v b inside at first_is end_i
           let all = (AllStand-hits table (file ++ more) index (first_of table index) v at refl).1 (subst (λ (x : SignatureView). Hits x (file ++ more)) is hits) in
           some.3 s.0 s.1 more are (all some.0 s.0 (omega arith) (omega arith) s.1))
       | inr there ↦ closed g h there.1 signature more are hits
+    ]
+
+-- a signature that the file may hit at last could be hit before
+pub still-set : (may_hit : List Bool) (k g : ℕ) (b : Bool) → k < length may_hit → slice_get may_hit k ≡ Some true → slice_get (set may_hit k b) g ≡ Some true
+    → slice_get may_hit g ≡ Some true
+still-set may_hit k g b within may at =
+    elim (slice_get-set_cases may_hit k g b true within at) [
+      | inl here ↦ ap (slice_get may_hit) here.0 ∙ may
+      | inr there ↦ there.1
     ]

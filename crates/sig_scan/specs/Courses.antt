@@ -1,22 +1,44 @@
 -- A compiled table: the courses of its sequences, and how the stages of all of them stand in one
 -- list.
-use Rattle.std.specs.Prelude.{◌≡◌, ℕ, ◌+◌, ◌≤◌, List, ◌++◌, length, map, All, IfSome, slice_range}
-use Rattle.std.specs.List.{flat_map}
+use Rattle.std.specs.Prelude.{◌≡◌, ℕ, ◌+◌, ◌<◌, ◌≤◌, Bool, false, true, List, [], ◌++◌, length, map, take, All, IfSome, None, Some, slice_range}
+use Rattle.std.specs.List.{flat_map, slice_get}
 use Rattle.std.specs.Option.{ForSome}
-use Rattle.sig_table.specs.Views.{SignatureView, TableView}
+use Rattle.sig_table.specs.Views.{SequenceView, SignatureView, TableView}
 use Rattle.sig_scan.specs.declared.filter.Entry.{Entry}
 use Rattle.sig_scan.specs.declared.program.Course.{Course}
 use Rattle.sig_scan.specs.Filters.{AreLiteralsOf}
-use Rattle.sig_scan.specs.Lengths.{span}
+use Rattle.sig_scan.specs.Lengths.{AreBounded, span}
 use Rattle.sig_scan.specs.Stages.{CourseView, StageView, TailView, course_of}
 
--- the courses of a signature's sequences, in order
-abbrev pub signature_courses : SignatureView → List CourseView
-signature_courses s = map course_of s.sequences
+-- the course of a sequence, or nothing to look for
+abbrev pub course_if : Bool → SequenceView → CourseView
+course_if true s = course_of s
+course_if false s = record { from = 0; stages = []; tail = None }
 
--- the courses of all sequences of a table, in the order of its signatures
-abbrev pub courses_of : TableView → List CourseView
-courses_of table = flat_map signature_courses table.signatures
+-- the sequences of a table, in the order of its signatures
+abbrev pub sequences_of : TableView → List SequenceView
+sequences_of table = flat_map (λ s. s.sequences) table.signatures
+
+-- how many of them the signatures before this one have
+abbrev pub first_of : TableView → ℕ → ℕ
+first_of table index = length (flat_map (λ s. s.sequences) (take index table.signatures))
+
+-- no item of the course is an unbounded gap
+pub record IsBoundedCourse (course : CourseView) : Type 0 where
+  pub stages : All (λ (t : StageView). AreBounded t.items) course.stages
+  pub tail : IfSome course.tail (λ (t : TailView). AreBounded t.items)
+
+-- the courses are those of the sequences of each signature before this one that is to be hit
+abbrev pub AreBefore : ℕ → TableView → List Bool → List CourseView → Type 0
+AreBefore index table may_hit courses = (g : ℕ) (h : SignatureView) → g < index → slice_get may_hit g ≡ Some true → slice_get table.signatures g ≡ Some h
+    → (i : ℕ) (s : SequenceView) (c : CourseView) → first_of table g ≤ i → i < first_of table g + length h.sequences
+    → slice_get (sequences_of table) i ≡ Some s → slice_get courses i ≡ Some c → c ≡ course_of s
+
+-- of each signature of the table that is to be hit the courses of its sequences, and as many of the others
+pub record AreCoursesOf (table : TableView) (may_hit : List Bool) (courses : List CourseView) : Type 0 where
+  pub count : length courses ≡ length (sequences_of table)
+  pub bounded : All IsBoundedCourse courses
+  pub each : AreBefore (length table.signatures) table may_hit courses
 
 -- the course, of which the list has the stages
 abbrev pub course_in : List StageView → Course → CourseView

@@ -1,8 +1,7 @@
 -- A byte that each file which a signature hits has at one place, and a compiled table that has some.
-use Rattle.std.specs.Prelude.{◌≡◌, ◌⊎◌, ℕ, ◌<◌, All, List, Some, length, slice_index}
+use Rattle.std.specs.Prelude.{◌≡◌, ◌⊎◌, ℕ, ◌<◌, All, Bool, List, Some, length, slice_index}
 use Rattle.std.specs.List.{slice_get}
-use Rattle.sig_bits.specs.Bytes.{IsBytes}
-use Rattle.sig_scan.specs.Courses.{courses_of}
+use Rattle.sig_scan.specs.Courses.{AreCoursesOf}
 use Rattle.sig_scan.specs.Stages.{CourseView}
 use Rattle.sig_scan.specs.declared.head.Head.{Head}
 use Rattle.sig_table.specs.Standing.{Hits}
@@ -15,7 +14,7 @@ pub record HasHead (h : Head) (file : List ℕ) : Type 0 where
 
 -- each file that its signature hits has the head
 abbrev pub IsHeadOf : TableView → Head → Type 0
-IsHeadOf table h = (g : SignatureView) → slice_get table.signatures h.signature ≡ Some g → (file : List ℕ) → IsBytes file → Hits g file → HasHead h file
+IsHeadOf table h = (g : SignatureView) → slice_get table.signatures h.signature ≡ Some g → (file : List ℕ) → Hits g file → HasHead h file
 
 abbrev pub AreHeadsOf : TableView → List Head → Type 0
 AreHeadsOf table heads = All (IsHeadOf table) heads
@@ -25,7 +24,11 @@ pub record ProgramView : Type 0 where
   pub courses : List CourseView
   pub heads : List Head
 
--- it is that of the table
-pub record IsProgramOf (table : TableView) (program : ProgramView) : Type 0 where
-  pub courses : program.courses ≡ courses_of table
+-- it has the signatures of the table that are to be hit
+pub record IsProgramOf (table : TableView) (may_hit : List Bool) (program : ProgramView) : Type 0 where
+  pub courses : AreCoursesOf table may_hit program.courses
   pub heads : AreHeadsOf table program.heads
+
+-- it has all of them
+pub record IsWholeProgramOf (table : TableView) (program : ProgramView) : Type 0 where
+  pub any : (may_hit : List Bool) → IsProgramOf table may_hit program

@@ -5,8 +5,8 @@ use Rattle.sig_bits.specs.Bytes.{IsBytes}
 use Rattle.sig_bits.specs.Device.{Gives}
 use Rattle.sig_expr.specs.declared.item.Item.{Item}
 use Rattle.sig_scan.specs.Frontiers.{EndsAt}
-use Rattle.sig_scan.specs.Courses.{IsHeld}
-use Rattle.sig_scan.specs.Heads.{IsProgramOf}
+use Rattle.sig_scan.specs.Courses.{AreCoursesOf, IsHeld, first_of, sequences_of}
+use Rattle.sig_scan.specs.Heads.{AreHeadsOf}
 use Rattle.sig_scan.specs.Lengths.{AreBounded, span}
 use Rattle.sig_scan.specs.Placed.{Lies}
 use Rattle.sig_scan.specs.Stages.{CourseView, InTurn, StageView, TailView, Waits}
@@ -71,14 +71,6 @@ NeverStands sequence file = (more : List ℕ) → IsBytes more → ¬ Stands seq
 abbrev pub SomeNeverStands : List SequenceView → List ℕ → ℕ → ℕ → Type 0
 SomeNeverStands sequences file first end = (k : ℕ) × (first ≤ k) × (k < end) × ((s : SequenceView) → slice_get sequences k ≡ Some s → NeverStands s file)
 
--- the sequences of a table, in the order of its signatures
-abbrev pub sequences_of : TableView → List SequenceView
-sequences_of table = flat_map (λ s. s.sequences) table.signatures
-
--- how many of them the signatures before this one have
-abbrev pub first_of : TableView → ℕ → ℕ
-first_of table index = length (flat_map (λ s. s.sequences) (take index table.signatures))
-
 -- the sequences of each signature that the file may hit wait for what their states say
 abbrev pub AllWait : TableView → List Bool → List CourseView → List ℕ → List ℕ → List State → Type 0
 AllWait table may_hit courses before bytes states = (g : ℕ) (h : SignatureView) → slice_get may_hit g ≡ Some true → slice_get table.signatures g ≡ Some h
@@ -125,7 +117,8 @@ pub record ScanView : Type 0 where
 
 -- what is true of every scan, with room in its frontier for so many bytes, and these heads in its program
 pub record IsScan (room : ℕ) (heads : List Head) (scan : ScanView) : Type 0 where
-  pub program : IsProgramOf scan.table (record { courses = scan.courses; heads = heads })
+  pub courses : AreCoursesOf scan.table scan.may_hit scan.courses
+  pub are_heads : AreHeadsOf scan.table heads
   pub may_hit_len : length scan.may_hit ≡ length scan.table.signatures
   pub found_len : length scan.found ≡ length scan.courses
   pub sets : room ≡ scan.buffer.room

@@ -7,13 +7,15 @@
 //!
 //! The memory is that of a program and of one scan, however long the file is.
 
-ghost use Rattle.std.specs.Prelude.{◌≡◌, ◌<◌, ℕ, List, false, true, IfOk, IfSome, IsErrOf, OnOk};
-ghost use Rattle.sig_bits.specs.Device.{IsAtEnd};
+ghost use Rattle.std.specs.Prelude.{◌≡◌, ◌<◌, ◌≤◌, ℕ, Bool, List, Option, false, true, IfOk, IfSome, IsErrOf, OnOk, length};
+ghost use Rattle.sig_bits.specs.Bytes.{IsBytes};
+ghost use Rattle.sig_bits.specs.Device.{Gives, IsAtEnd};
 ghost use Rattle.sig_core.specs.Hits.{HitFormats, HitFormatsOfSome};
-ghost use Rattle.sig_scan.specs.Heads.{IsProgramOf};
-ghost use Rattle.sig_scan.specs.Scans.{IsScanOf};
+ghost use Rattle.sig_scan.specs.Heads.{IsProgramOf, IsWholeProgramOf};
+ghost use Rattle.sig_scan.specs.Scans.{AreExcluded, IsScanOf};
 
 use crate::buffer::Buffer;
+use crate::head::exclude_all;
 use crate::program::Program;
 use crate::scan::Scan;
 use sig_bits::Input;
@@ -41,14 +43,14 @@ pub struct BlockCore {
 
 impl Model for BlockCore {
     ghost use Rattle.std.specs.Prelude.{◌<◌, IfSome};
-    ghost use Rattle.sig_scan.specs.Heads.{IsProgramOf};
+    ghost use Rattle.sig_scan.specs.Heads.{IsWholeProgramOf};
     ghost use Rattle.sig_table.specs.Views.{TableView};
 
     ghost Value = { TableView };
 
     ghost view = { λ c. c.table };
 
-    ghost invariant = { λ c. IfSome c.program (IsProgramOf c.table) × (0 < c.block) };
+    ghost invariant = { λ c. IfSome c.program (IsWholeProgramOf c.table) × (0 < c.block) };
 }
 
 impl BlockCore {
@@ -77,7 +79,7 @@ impl BlockCore {
     pub fn prepared(alloc: Global, table: Table) -> BlockCore
         ensures { result ≡ table }
     {
-        let program = Program::of(alloc, &table).ok();
+        let program = compiled(alloc, &table).ok();
         BlockCore {
             table,
             alloc,
@@ -95,14 +97,7 @@ impl DroidCore for BlockCore {
     }
 
     fn match_binary_signatures<R: Input>(&self, input: &mut R) -> Result<Results, CoreError> {
-        let block = self.block;
-        match &self.program {
-            Some(program) => scan_input(self.alloc, &self.table, program, block, input),
-            None => {
-                let program = Program::of(self.alloc, &self.table)?;
-                scan_input(self.alloc, &self.table, &program, block, input)
-            }
-        }
+        scan_input(self.alloc, &self.table, &self.program, self.block, input)
     }
 
     fn remove_lower_priority_hits(&self, results: &mut Results) {
@@ -115,15 +110,24 @@ impl DroidCore for BlockCore {
     }
 }
 
-// The formats that the input hits, which is read to its end.
+// A table compiled for any file.
+fn compiled(alloc: Global, table: &Table) -> Result<Program, AllocError>
+    ensures { IfOk result (IsWholeProgramOf table.now) }
+{
+    let all = vec![in alloc; true; table.signature_count()]?;
+    Program::of(alloc, table, &all)
+}
+
+// The formats that the input hits, which is read to its end. Without a program the table is compiled for
+// this file, as far as its first bytes leave signatures that it may hit.
 fn scan_input<R: Input>(
     alloc: Global,
     table: &Table,
-    program: &Program,
+    program: &Option<Program>,
     block: u32,
     input: &mut R,
 ) -> Result<Results, CoreError>
-    requires program { IsProgramOf table.now program.now }
+    requires program { IfSome program.now (IsWholeProgramOf table.now) }
     requires block { 0 < block }
     ensures hits { IfOk result (HitFormatsOfSome table.now (R.to_come input.old)) }
     ensures at_end { OnOk result (IsAtEnd (R.to_come input.new)) }
@@ -131,15 +135,50 @@ fn scan_input<R: Input>(
     ensures read { IsErrOf result CoreError.Read → R.failed input.new ≡ true }
     ensures memory { IsErrOf result CoreError.OutOfMemory → R.failed input.new ≡ R.failed input.old }
 {
-    let keep = program.keep();
-    let room = keep + block as usize;
-    let mut buffer = Buffer::new(alloc, room.min(FIRST_ROOM))?;
+    let mut buffer = Buffer::new(alloc, FIRST_ROOM.min(block as usize))?;
     buffer.fill(input)?;
+    let mut may_hit = vec![in alloc; true; table.signature_count()]?;
+    match program {
+        Some(program) => scan_on(alloc, table, program, may_hit, block, buffer, input),
+        None => {
+            exclude_all(table, buffer.as_bytes(), &mut may_hit);
+            let program = Program::of(alloc, table, &may_hit)?;
+            scan_on(alloc, table, &program, may_hit, block, buffer, input)
+        }
+    }
+}
+
+// The formats that a file hits of which the buffer has the first bytes, and the input the others.
+fn scan_on<R: Input>(
+    alloc: Global,
+    table: &Table,
+    program: &Program,
+    may_hit: Vec<bool>,
+    block: u32,
+    buffer: Buffer,
+    input: &mut R,
+) -> Result<Results, CoreError>
+    requires program { IsProgramOf table.now may_hit.items program.now }
+    requires may_hit { length may_hit.items ≡ length table.now.signatures }
+    requires excluded { AreExcluded table.now may_hit.items buffer.bytes }
+    requires block { 0 < block }
+    requires room { buffer.room ≤ block }
+    requires bytes { IsBytes buffer.bytes }
+    requires at_end { length buffer.bytes < buffer.room → IsAtEnd (R.to_come input.old) }
+    requires sound { R.failed input.old ≡ false }
+    ensures hits { (before : Option (List ℕ)) → Gives before buffer.bytes (R.to_come input.old) → IfOk result (HitFormatsOfSome table.now before) }
+    ensures at_end { OnOk result (IsAtEnd (R.to_come input.new)) }
+    ensures sound { OnOk result (R.failed input.new ≡ false) }
+    ensures read { IsErrOf result CoreError.Read → R.failed input.new ≡ true }
+    ensures memory { IsErrOf result CoreError.OutOfMemory → R.failed input.new ≡ false }
+{
+    let keep = program.keep();
     if !buffer.is_full() {
-        let mut scan = Scan::new(alloc, table, program, keep, buffer.trimmed())?;
+        let mut scan = Scan::new(alloc, table, program, may_hit, keep, buffer.trimmed())?;
         return Ok(results_of(alloc, table, &mut scan)?);
     }
-    let mut scan = Scan::new(alloc, table, program, keep, buffer.grown(room)?)?;
+    let buffer = buffer.grown(keep + block as usize)?;
+    let mut scan = Scan::new(alloc, table, program, may_hit, keep, buffer)?;
     'reads: loop {
         if !scan.read_on(input)? {
             return Ok(results_of(alloc, table, &mut scan)?);

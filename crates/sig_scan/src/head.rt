@@ -1,16 +1,23 @@
-//! A head: a byte that each file which a signature hits has at one place of its beginning.
+//! A head: the first byte of a sequence that may begin at one offset alone.
 //!
-//! Of `504B0304` at the beginning of a file the head is `50` at offset 0; of `??(48|68)54` it is `54` at
-//! offset 2, the rarer of two places. So one look at a byte of the first block excludes most signatures,
-//! and none of their sequences is looked for.
+//! Of `504B0304` at the beginning of a file the head is `50` at offset 0; of `(48|68)54` sixteen bytes
+//! behind it, it is `48` or `68` at offset 16. Each file that the signature hits has it. So one look at a
+//! byte of the first block excludes most signatures, and none of their sequences is looked for, nor even
+//! compiled where the table is compiled for one file.
 //!
-//! It leaves out sequences that may begin at more than one offset.
+//! It leaves out sequences that may begin at several offsets, and those that do not begin with one byte or
+//! one of two.
 
-ghost use Rattle.std.specs.Prelude.{◌≡◌, ◌≢◌, ◌<◌, List, ℕ, Some, false, true, length, slice_index};
+ghost use Rattle.std.specs.Prelude.{◌≡◌, ◌≢◌, ◌<◌, IfSome, List, ℕ, Some, false, true, length, slice_index};
 ghost use Rattle.std.specs.List.{slice_get};
-ghost use Rattle.sig_scan.specs.Heads.{AreHeadsOf};
-ghost use Rattle.sig_scan.specs.Scans.{AreExcluded};
+ghost use Rattle.sig_bits.specs.Bytes.{IsBytes};
+ghost use Rattle.sig_scan.specs.Heads.{AreHeadsOf, HasHead};
+ghost use Rattle.sig_scan.specs.Scans.{AreExcluded, NeverStands};
+ghost use Rattle.sig_table.specs.Standing.{Stands};
 ghost use Rattle.sig_table.specs.Views.{TableView};
+
+use crate::literal::bytes_of;
+use sig_table::{Position, Sequence, SigId, Table};
 
 /// The byte that stands so many bytes behind the beginning of each file that the signature hits, or
 /// another one in its place.
@@ -22,26 +29,73 @@ pub(crate) struct Head {
     pub(crate) other: u8,
 }
 
-/// Excludes each signature with a head that a file does not have which begins with these bytes.
+impl Head {
+    /// That of a sequence of the signature, if it has one.
+    pub(crate) fn of(sequence: &Sequence, signature: usize) -> Option<Head>
+        ensures signature { IfSome result (λ h. h.signature ≡ signature) }
+        ensures has { IfSome result (λ h. (file : List ℕ) → Stands sequence.now file → HasHead h file) }
+    {
+        let Position::Bof { min, max } = sequence.position() else {
+            return None;
+        };
+        if min != max {
+            return None;
+        }
+        let first = sequence.expr().items().first()?;
+        let (text, other) = bytes_of(first)?;
+        Some(Head {
+            signature,
+            at: usize::from(min),
+            text,
+            other,
+        })
+    }
+
+    // Whether it stands in these bytes, or may stand behind them.
+    fn may_stand(self, bytes: &[u8]) -> bool
+        ensures { result ≡ false → (self.at < length bytes.now) × (slice_index bytes.now self.at ≢ self.text) × (slice_index bytes.now self.at ≢ self.other) }
+    {
+        if self.at >= bytes.len() {
+            return true;
+        }
+        let byte = bytes[self.at];
+        byte == self.text || byte == self.other
+    }
+}
+
+/// Excludes each signature with one of these heads that a file does not have which begins with the bytes.
 pub(crate) fn exclude(heads: &[Head], bytes: &[u8], may_hit: &mut [bool])
     ensures excluded { (table : TableView) → AreHeadsOf table heads.now → AreExcluded table may_hit.old bytes.now → AreExcluded table may_hit.new bytes.now }
     ensures still { (g : ℕ) → slice_get may_hit.new g ≡ Some true → slice_get may_hit.old g ≡ Some true }
 {
     for head in heads {
         let k = head.signature;
-        if k < may_hit.len() && !may_stand(*head, bytes) {
+        if k < may_hit.len() && !head.may_stand(bytes) {
             may_hit[k] = false;
         }
     }
 }
 
-// Whether the head stands in these bytes, or may stand behind them.
-fn may_stand(head: Head, bytes: &[u8]) -> bool
-    ensures { result ≡ false → (head.at < length bytes.now) × (slice_index bytes.now head.at ≢ head.text) × (slice_index bytes.now head.at ≢ head.other) }
+/// The same with all heads of a table that is not compiled.
+pub(crate) fn exclude_all(table: &Table, bytes: &[u8], may_hit: &mut [bool])
+    requires { length may_hit.old ≡ length table.now.signatures }
+    ensures { AreExcluded table.now may_hit.old bytes.now → AreExcluded table.now may_hit.new bytes.now }
 {
-    if head.at >= bytes.len() {
-        return true;
+    for index in 0..table.signature_count() {
+        for sequence in table.sequences_of(SigId(index as u16)) {
+            if !may_begin(sequence, bytes) {
+                may_hit[index] = false;
+            }
+        }
     }
-    let byte = bytes[head.at];
-    byte == head.text || byte == head.other
+}
+
+// Whether the sequence may stand in a file that begins with these bytes, as far as its head tells.
+fn may_begin(sequence: &Sequence, bytes: &[u8]) -> bool
+    ensures { result ≡ false → NeverStands sequence.now bytes.now }
+{
+    match Head::of(sequence, 0) {
+        Some(head) => head.may_stand(bytes),
+        None => true,
+    }
 }

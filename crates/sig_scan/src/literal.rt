@@ -399,8 +399,8 @@ fn copy_run(items: &[Item], text: &mut [u8], other: &mut [u8]) -> usize
     most
 }
 
-// Two bytes, one of which is each word of the item; the same twice where it has one word.
-fn bytes_of(item: &Item) -> Option<(u8, u8)>
+/// Two bytes, one of which is each word of the item; the same twice where it has one word.
+pub(crate) fn bytes_of(item: &Item) -> Option<(u8, u8)>
     ensures { IfSome result (λ p. IsEitherOf item.now p.0 p.1) }
 {
     match item {

@@ -8,17 +8,15 @@
 
 ghost use Rattle.std.specs.Prelude.{◌≡◌, ◌≤◌, ◌<◌, ◌++◌, ◌∷◌, [], ℕ, All, List, IfOk, IfSome, OnOk, MatchOption, None, Some, length, map};
 ghost use Rattle.sig_expr.specs.declared.item.Item.TheVariants.{Gap};
-ghost use Rattle.sig_bits.specs.Bytes.{IsBytes};
-ghost use Rattle.sig_scan.specs.Courses.{AddsCourse, AreHeld, IsHeld, StandsIn, course_in};
+ghost use Rattle.sig_scan.specs.Courses.{AddsCourse, AreHeld, IsHeld, course_if, course_in};
 ghost use Rattle.sig_scan.specs.Filters.{AreLiteralsOf};
-ghost use Rattle.sig_scan.specs.Heads.{AreHeadsOf, HasHead, IsProgramOf};
+ghost use Rattle.sig_scan.specs.Heads.{AreHeadsOf, IsProgramOf};
 ghost use Rattle.sig_scan.specs.Lengths.{IsBoundedItem};
 ghost use Rattle.sig_scan.specs.Passes.{ArePast};
-ghost use Rattle.sig_scan.specs.Placed.{Lies};
 ghost use Rattle.sig_scan.specs.Scans.{AreFirst};
-ghost use Rattle.sig_scan.specs.Stages.{CourseStands, CourseView, StageView, course_of, stages_of};
+ghost use Rattle.sig_scan.specs.Stages.{CourseView, StageView, course_of, stages_of};
 ghost use Rattle.std.specs.List.{slice_get};
-ghost use Rattle.sig_table.specs.Standing.{Hits};
+ghost use Rattle.sig_table.specs.Standing.{Hits, Stands};
 ghost use Rattle.sig_table.specs.Tables.{IsSequence};
 ghost use Rattle.sig_table.specs.Views.{SignatureView, TableView};
 
@@ -178,18 +176,20 @@ impl Model for Program {
 }
 
 impl Program {
-    // Compiles a table.
-    pub(crate) fn of(alloc: Global, table: &Table) -> Result<Program, AllocError>
-        ensures { IfOk result (IsProgramOf table.now) }
+    // Compiles those signatures of a table that the file may hit. Of the others no sequence is looked for.
+    pub(crate) fn of(alloc: Global, table: &Table, may_hit: &[bool]) -> Result<Program, AllocError>
+        requires { length may_hit.now ≡ length table.now.signatures }
+        ensures { IfOk result (IsProgramOf table.now may_hit.now) }
     {
-        let mut stages = Vec::new(alloc);
-        let mut courses = Vec::new(alloc);
+        let most = 2 * table.signature_count();
+        let mut stages = Vec::with_capacity(alloc, most)?;
+        let mut courses = Vec::with_capacity(alloc, most)?;
         let mut heads = Vec::new(alloc);
         for index in 0..table.signature_count() {
             for sequence in table.sequences_of(SigId(index as u16)) {
-                let course = add_stages(alloc, sequence, index, &mut stages)?;
-                add_head(&mut heads, &course, &stages, index)?;
+                let course = add_course(alloc, sequence, index, may_hit[index], &mut stages)?;
                 courses.push(course)?;
+                add_head(&mut heads, sequence, index)?;
             }
         }
         let states = first_states(alloc, &stages, &courses)?;
@@ -281,54 +281,15 @@ fn first_states(
     Ok(states)
 }
 
-// Adds the head of a signature, if the sequence may begin at one offset alone and has a literal.
-fn add_head(
-    heads: &mut Vec<Head>,
-    course: &Course,
-    stages: &[Stage],
-    signature: usize,
-) -> Result<(), AllocError>
-    requires { StandsIn stages.now course.now }
+// Adds the head of a sequence of the signature, if it has one.
+fn add_head(heads: &mut Vec<Head>, sequence: &Sequence, signature: usize) -> Result<(), AllocError>
     ensures { (table : TableView) (g : SignatureView) → slice_get table.signatures signature ≡ Some g
-        → ((file : List ℕ) → IsBytes file → Hits g file → CourseStands (course_in stages.now course.now) file)
-        → AreHeadsOf table heads.old.items → OnOk result (AreHeadsOf table heads.new.items) }
+        → ((file : List ℕ) → Hits g file → Stands sequence.now file) → AreHeadsOf table heads.old.items → OnOk result (AreHeadsOf table heads.new.items) }
 {
-    if let Some(head) = head_of(course, stages, signature) {
+    if let Some(head) = Head::of(sequence, signature) {
         heads.push(head)?;
     }
     Ok(())
-}
-
-// The head of a sequence that may begin at one offset alone and has a literal.
-fn head_of(course: &Course, stages: &[Stage], signature: usize) -> Option<Head>
-    requires { StandsIn stages.now course.now }
-    ensures signature { IfSome result (λ h. h.signature ≡ signature) }
-    ensures has { IfSome result (λ h. (file : List ℕ) → CourseStands (course_in stages.now course.now) file → HasHead h file) }
-{
-    let first = stages[course.first..course.end].first()?;
-    if first.until != Some(u32::from(course.from)) {
-        return None;
-    }
-    head_at(first, usize::from(course.from), signature)
-}
-
-// The head of a stage that begins at this offset.
-fn head_at(stage: &Stage, from: usize, signature: usize) -> Option<Head>
-    requires { from ≤ 65535 }
-    ensures signature { IfSome result (λ h. h.signature ≡ signature) }
-    ensures has { IfSome result (λ h. (file : List ℕ) (end : ℕ) → Lies stage.now.items file from end → HasHead h file) }
-{
-    let literal = &stage.literal;
-    if literal.text().is_empty() {
-        return None;
-    }
-    let place = literal.rarest();
-    Some(Head {
-        signature,
-        at: from + literal.at() + place,
-        text: literal.byte(place, 0),
-        other: literal.byte(place, 1),
-    })
 }
 
 // The literals of all stages that may begin anywhere.
@@ -384,6 +345,30 @@ fn keep_of(stages: &[Stage], courses: &[Course]) -> usize
         }
     }
     longest
+}
+
+// The course of a sequence, and nothing to look for if its signature is not to be hit.
+fn add_course(
+    alloc: Global,
+    sequence: &Sequence,
+    signature: usize,
+    may_hit: bool,
+    stages: &mut Vec<Stage>,
+) -> Result<Course, AllocError>
+    ensures adds { IfOk result (λ course. AddsCourse stages.old.items stages.new.items course (course_if may_hit sequence.now)) }
+    ensures sequence { IsSequence sequence.now }
+{
+    if may_hit {
+        return add_stages(alloc, sequence, signature, stages);
+    }
+    let _ = sequence.expr();
+    Ok(Course {
+        signature,
+        from: 0,
+        first: stages.len(),
+        end: stages.len(),
+        tail: None,
+    })
 }
 
 // Adds the stages of a sequence to those of the sequences before it.

@@ -13,10 +13,10 @@
 ghost use Rattle.std.specs.Prelude.{◌≡◌, ℕ, ◌+◌, ◌<◌, ◌≤◌, ◌↔◌, ◌⊎◌, All, IfOk, IsTrue, List, OnOk, ◌++◌, Some, drop, false, is_err, length, take, true};
 ghost use Rattle.sig_bits.specs.Bytes.{IsBytes};
 ghost use Rattle.sig_bits.specs.Device.{IsAtEnd};
-ghost use Rattle.sig_scan.specs.Courses.{IsHeld, courses_of};
+ghost use Rattle.sig_scan.specs.Courses.{AreCoursesOf, IsHeld, first_of, sequences_of};
 ghost use Rattle.sig_scan.specs.Heads.{IsProgramOf};
 ghost use Rattle.sig_scan.specs.Passes.{ArePast};
-ghost use Rattle.sig_scan.specs.Scans.{AllWait, AreDone, AreExcluded, AreMarked, AreWaiting, HasRead, IsBase, IsEndOf, IsScanOf, IsShortCourse, SomeNeverStands, first_of, sequences_of};
+ghost use Rattle.sig_scan.specs.Scans.{AllWait, AreDone, AreExcluded, AreMarked, AreWaiting, HasRead, IsBase, IsEndOf, IsScanOf, IsShortCourse, SomeNeverStands};
 ghost use Rattle.std.specs.List.{slice_get};
 ghost use Rattle.sig_table.specs.Standing.{Hits, Stands};
 ghost use Rattle.sig_table.specs.Views.{SequenceView, SignatureView, TableView};
@@ -76,16 +76,19 @@ impl<'p> Model for Scan<'p> {
 }
 
 impl<'p> Scan<'p> {
-    // Of a file of which the buffer has all bytes that are read. So many bytes hold any word. All memory is
-    // asked for here.
+    // Of a file of which the buffer has all bytes that are read, for the signatures that it may hit. So many
+    // bytes hold any word. All memory is asked for here.
     pub(crate) fn new(
         alloc: Global,
         table: &'p Table,
         program: &'p Program,
+        may_hit: Vec<bool>,
         keep: usize,
         buffer: Buffer,
     ) -> Result<Scan<'p>, AllocError>
-        requires program { IsProgramOf table.now program.now }
+        requires program { IsProgramOf table.now may_hit.items program.now }
+        requires may_hit { length may_hit.items ≡ length table.now.signatures }
+        requires excluded { AreExcluded table.now may_hit.items buffer.bytes }
         requires held { All (IsHeld keep) program.now.courses }
         requires bytes { IsBytes buffer.bytes }
         ensures table { IfOk result (λ scan. scan.table ≡ table.now) }
@@ -94,7 +97,6 @@ impl<'p> Scan<'p> {
         ensures fresh { IfOk result (IsScanOf table.now buffer.bytes) }
     {
         let states = Vec::from_slice(alloc, program.first_states())?;
-        let may_hit = vec![in alloc; true; table.signature_count()]?;
         let found = vec![in alloc; 0; program.sequence_count()]?;
         let frontier = Frontier::new(alloc, buffer.room())?;
         Ok(Scan {
@@ -260,7 +262,7 @@ fn settle_all(
     reach: usize,
     frontier: &mut Frontier,
 )
-    requires program { program.now.courses ≡ courses_of table.now }
+    requires program { AreCoursesOf table.now may_hit.old program.now.courses }
     requires may_hit { length may_hit.old ≡ length table.now.signatures }
     requires count { length states.old ≡ length program.now.courses }
     requires found { length found.now ≡ length program.now.courses }
@@ -270,6 +272,7 @@ fn settle_all(
     requires room { length bytes.now ≤ frontier.old }
     ensures room { frontier.new ≡ frontier.old }
     ensures done { AreDone program.now.courses states.new }
+    ensures still { (g : ℕ) → slice_get may_hit.new g ≡ Some true → slice_get may_hit.old g ≡ Some true }
     ensures wait { (before : List ℕ) → IsBase before base → All (IsShortCourse reach) program.now.courses
         → AllWait table.now may_hit.old program.now.courses before bytes.now states.old
         → AllWait table.now may_hit.new program.now.courses (before ++ take limit bytes.now) (drop limit bytes.now) states.new }

@@ -4,7 +4,6 @@ use Rattle.std.proofs.lemmas.Bool.{false≢true}
 use Rattle.std.specs.List.{slice_get}
 use Rattle.sig_scan.specs.Scans.{AreExcluded}
 use Rattle.sig_scan.specs.declared.head.Head.{Head}
-use Rattle.sig_scan.proofs.GapLemmas.{IsBytes-from_slice}
 use Rattle.sig_scan.proofs.HeadLemmas.{AreExcluded-set, MayHit-set}
 use Rattle.sig_scan.proofs.head.exclude.Goals as goal
 use Rattle.sig_scan.proofs.head.exclude.Goals.{then-k-may_hit+then-not-may_stand, else-k-may_hit}
@@ -20,11 +19,10 @@ loop-head-preserved c =
       | then-k-may_hit+then-not-may_stand w ↦ (
           let no = w.may_stand.ensures w.if-not-may_stand.true in
           let inside = w.if-k-may_hit.true in
-          let are = IsBytes-from_slice bytes c.type_inv.bytes in
           let within : index < length heads = omega arith in
           record {
             excluded = λ table of was. subst (λ l. AreExcluded table l bytes) (sym w.may_hit-is)
-                (AreExcluded-set table old bytes h are inside (of index _ within) no.0 no.1 no.2 (c.loop-head.invariant.excluded table of was));
+                (AreExcluded-set table old bytes h inside (of index _ within) no.0 no.1 no.2 (c.loop-head.invariant.excluded table of was));
             still = λ g at. c.loop-head.invariant.still g
                 (MayHit-set old h.signature g inside (subst (λ l. slice_get l g ≡ Some true) w.may_hit-is at));
           })

@@ -12,8 +12,8 @@ returns-in_ok-push c table g at hit heads =
     let same = c.in-Some.ensures.signature in
     All-same (IsHeadOf table) _ _ c.in_ok-push.ensures.items
     (All-push (IsHeadOf table) c.args.heads.now.items h heads
-    (λ v there file bytes hits.
-    c.in-Some.ensures.has file (hit file bytes
+    (λ v there file hits.
+    c.in-Some.ensures.has file (hit file
     (let here = ap (λ n. slice_get table.signatures n) (sym same) ∙ there in
     let both : Some g ≡ Some v = sym at ∙ here in
     let is : g ≡ v = cc in

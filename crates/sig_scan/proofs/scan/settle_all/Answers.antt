@@ -2,11 +2,12 @@ use Rattle.std.proofs.Common.{◌≡◌, ◌∙◌, ◌+◌, ◌++◌, ◌≤◌
 use Rattle.std.proofs.Math.ListN.{set}
 use Rattle.std.proofs.lemmas.Option.{slice_get-get_or, slice_get_within}
 use Rattle.std.specs.List.{slice_get}
-use Rattle.sig_scan.specs.Scans.{AllWait, AreDone, AreExcluded, IsBase, IsShortCourse, first_of}
+use Rattle.sig_scan.specs.Courses.{first_of}
+use Rattle.sig_scan.specs.Scans.{AllWait, AreDone, AreExcluded, IsBase, IsShortCourse}
 use Rattle.sig_scan.specs.declared.frontier.Frontier.{Frontier}
 use Rattle.sig_scan.specs.declared.state.State.{State}
-use Rattle.sig_scan.proofs.MarkedLemmas.{sequences-count, sequences-fit, sequences-next}
-use Rattle.sig_scan.proofs.SignatureLemmas.{AllMoved, AllMoved-excluded, AllMoved-here, AllMoved-next, AreExcluded-next}
+use Rattle.sig_scan.proofs.MarkedLemmas.{sequences-fit, sequences-next}
+use Rattle.sig_scan.proofs.SignatureLemmas.{AllMoved, AllMoved-excluded, AllMoved-here, AllMoved-next, AreExcluded-next, still-set}
 use Rattle.sig_table.proofs.Exports.{slice_get-within}
 use Rattle.sig_scan.proofs.scan.settle_all.Goals as goal
 use Rattle.sig_scan.proofs.scan.settle_all.Goals.{then-may_hit-index, else-may_hit-index}
@@ -18,6 +19,7 @@ loop-index-init c = record {
   few = omega arith;
   done = c.requires.done;
   kept = λ i low. refl;
+  still = λ g at. at;
   wait = λ before base short all g h may signature. (λ near. absurd (omega arith), λ far. all g h may signature);
   excluded = λ before base short all none. none;
 }
@@ -41,7 +43,7 @@ settle_signature-requires-clause-end c =
     let g = slice_get-within table.signatures index (omega arith) in
     let size = ap length (c.sequences_of.ensures.of_view g.0 g.1) in
     let fits = sequences-fit table index c.loop-index.first g.0 g.1 c.loop-index.invariant.first in
-    let count = sequences-count table c.args.program.now.courses c.requires.program in
+    let count = c.requires.program.count in
     omega arith
 
 pub settle_signature-requires-clause-room : goal.settle_signature-requires-clause-room
@@ -71,7 +73,7 @@ loop-index-preserved c =
     let long = c.loop-index.auto.may_hit in
     let same_len = c.requires.may_hit in
     let inside : index < length flags = omega arith in
-    let At : List State → List Bool → Type 0 = λ ts l. AreDone courses ts × ((i : ℕ) → end ≤ i → slice_get ts i ≡ slice_get c.args.states.now i)
+    let At : List State → List Bool → Type 0 = λ ts l. ((g : ℕ) → slice_get l g ≡ Some true → slice_get c.args.may_hit.now g ≡ Some true) × AreDone courses ts × ((i : ℕ) → end ≤ i → slice_get ts i ≡ slice_get c.args.states.now i)
     × ((before : List ℕ) → IsBase before c.args.base → All (IsShortCourse c.args.reach) courses
     → AllWait table c.args.may_hit.now courses before bytes c.args.states.now → AllMoved (index + 1) limit table l courses before bytes ts)
     × ((before : List ℕ) → IsBase before c.args.base → All (IsShortCourse c.args.reach) courses
@@ -86,6 +88,7 @@ loop-index-preserved c =
           let new : List State = w.settle_signature.new.states in
           let step = w.settle_signature.ensures in (
             subst (λ l. At c.if-may_hit-index.states l) (sym w.may_hit-is) (subst (λ ts. At ts (set flags index b)) (sym w.states-is) (
+              λ k at. c.loop-index.invariant.still k (still-set flags index k b inside may at),
               step.done,
               λ i low. step.others i (inr low) ∙ c.loop-index.invariant.kept i (omega arith),
               λ before base short all.
@@ -103,6 +106,7 @@ loop-index-preserved c =
           let none : slice_get flags index ≡ Some false =
           slice_get-get_or flags index false inside ∙ ap (λ (x : Bool). Some x) w.if-may_hit-index.false in (
             subst (λ l. At c.if-may_hit-index.states l) (sym w.may_hit-is) (subst (λ ts. At ts flags) (sym w.states-is) (
+              c.loop-index.invariant.still,
               c.loop-index.invariant.done,
               λ i low. c.loop-index.invariant.kept i (omega arith),
               λ before base short all. AllMoved-excluded index limit table flags courses before bytes old none (c.loop-index.invariant.wait before base short all),
@@ -115,10 +119,11 @@ loop-index-preserved c =
       room = at.1;
       first = omega arith;
       few = omega arith;
-      done = at.0.0;
-      kept = at.0.1;
-      wait = at.0.2;
-      excluded = at.0.3;
+      still = at.0.0;
+      done = at.0.1;
+      kept = at.0.2;
+      wait = at.0.3;
+      excluded = at.0.4;
     }
 
 pub returns-clause-wait : goal.returns-clause-wait

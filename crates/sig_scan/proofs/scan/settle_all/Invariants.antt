@@ -1,6 +1,7 @@
-use Rattle.std.proofs.Common.{◌≡◌, ◌≤◌, ◌*◌, ◌++◌, All, List, ℕ}
+use Rattle.std.proofs.Common.{◌≡◌, ◌≤◌, ◌*◌, ◌++◌, All, List, Some, ℕ, true}
 use Rattle.std.specs.List.{slice_get}
-use Rattle.sig_scan.specs.Scans.{AllWait, AreDone, AreExcluded, IsBase, IsShortCourse, first_of}
+use Rattle.sig_scan.specs.Courses.{first_of}
+use Rattle.sig_scan.specs.Scans.{AllWait, AreDone, AreExcluded, IsBase, IsShortCourse}
 use Rattle.sig_scan.proofs.SignatureLemmas.{AllMoved}
 use Rattle.sig_scan.proofs.scan.settle_all.Given as goal
 
@@ -12,6 +13,7 @@ invariant-loop-index l = record {
   few : l.first ≤ 8 * l.index;
   done : AreDone l.program.courses l.states;
   kept : (i : ℕ) → l.first ≤ i → slice_get l.states i ≡ slice_get l.fn.states i;
+  still : (g : ℕ) → slice_get l.may_hit g ≡ Some true → slice_get l.fn.may_hit g ≡ Some true;
   wait : (before : List ℕ) → IsBase before l.base → All (IsShortCourse l.reach) l.program.courses
       → AllWait l.table l.fn.may_hit l.program.courses before l.bytes l.fn.states
       → AllMoved l.index l.limit l.table l.may_hit l.program.courses before l.bytes l.states;

@@ -1,51 +1,78 @@
-use Rattle.std.proofs.Common.{◌≡◌, ◌++◌, ◌∷◌, [], ◌<◌, ℕ, List, map, arith, get_or, length, subst, sym, take}
-use Rattle.std.specs.List.{flat_map}
-use Rattle.sig_bits.specs.Bytes.{IsBytes}
-use Rattle.sig_scan.specs.Courses.{AreCourses, course_in, signature_courses}
-use Rattle.sig_scan.specs.Stages.{CourseStands, CourseView, StageView, course_of}
-use Rattle.sig_scan.proofs.ProgramLemmas.{AreCourses-push, courses-next, courses-signature}
-use Rattle.sig_table.proofs.Exports.{slice_get-within}
-use Rattle.sig_table.specs.Standing.{Hits}
-use Rattle.sig_table.specs.Views.{SequenceView}
-use Rattle.sig_scan.proofs.HeadLemmas.{CourseStands-hit}
+use Rattle.std.proofs.Common.{◌≡◌, ◌∙◌, ◌++◌, ◌∷◌, [], ◌+◌, ◌<◌, ◌≤◌, ℕ, All, Bool, List, Some, ap, arith, false, get_or, length, length-append, map, refl, subst, sym, true}
+use Rattle.std.proofs.lemmas.List.{length-map}
+use Rattle.std.proofs.lemmas.List.Elements.{All-push}
+use Rattle.std.specs.List.{slice_get}
+use Rattle.sig_scan.specs.Courses.{AreBefore, AreCourses, IsBoundedCourse, course_if, course_in, first_of}
+use Rattle.sig_scan.specs.Stages.{CourseView, StageView}
+use Rattle.sig_scan.proofs.CompiledLemmas.{AreBefore-next, AreBefore-push, AreSoFar, AreSoFar-push, course_if-bounded}
 use Rattle.sig_scan.proofs.HeldLemmas.{AreHeld-push}
+use Rattle.sig_scan.proofs.MarkedLemmas.{sequences-next}
+use Rattle.sig_scan.proofs.ProgramLemmas.{AreCourses-push}
+use Rattle.sig_table.proofs.Exports.{slice_get-within}
+use Rattle.sig_table.specs.Standing.{Hits, Stands}
+use Rattle.sig_table.specs.Views.{SequenceView}
 use Rattle.sig_scan.proofs.program.Program.of.Goals as goal
 
 pub loop-sequence-preserved : goal.loop-sequence-preserved
 loop-sequence-preserved c =
-    let front = flat_map signature_courses (take c.loop-index.index c.args.table.now.signatures) in
+    let table = c.args.table.now in
+    let flags = c.args.may_hit.now in
+    let index = c.loop-index.index in
     let sequences = c.sequences_of-sequence-items.result.now in
     let i = c.loop-sequence.sequence-index in
     let x = c.sequence-item.result in
-    let stages = c.add_stages.new.stages.items in
-    let next = courses-next front sequences i x c.loop-sequence-test.true c.sequence-item.is in
-    let more = AreCourses-push c.loop-sequence.stages.items stages c.loop-sequence.courses.items (front ++ map course_of (take i sequences))
-    c.in_ok-course.course (course_of x) c.loop-sequence.invariant.are c.in_ok-course.ensures.adds in
-    let held = AreHeld-push c.loop-sequence.stages.items stages c.loop-sequence.courses.items c.in_ok-course.course x c.loop-sequence.invariant.held
-    c.in_ok-course.ensures.adds c.in_ok-course.ensures.sequence in
-    let within : c.loop-index.index < length c.args.table.now.signatures = omega arith in
-    let g = slice_get-within c.args.table.now.signatures c.loop-index.index within in
+    let b : Bool = get_or flags index false in
+    let old : List StageView = c.loop-sequence.stages.items in
+    let stages : List StageView = c.add_course.new.stages.items in
+    let cs = c.loop-sequence.courses.items in
+    let course = c.in_ok-course.course in
+    let courses : List CourseView = map (course_in old) cs in
+    let size : length courses ≡ length cs = length-map cs (course_in old) in
+    let count = c.loop-sequence.invariant.count in
+    let within : index < length table.signatures = omega arith in
+    let g = slice_get-within table.signatures index within in
     let same = c.sequences_of-sequence-items.ensures.of_view g.0 g.1 in
-    let hit = subst (λ (l : List SequenceView). (l ≡ g.0.sequences) → (i < length l) → (x ≡ get_or l i x) → (i < length g.0.sequences) × (x ≡ get_or g.0.sequences i x))
-    (sym same) (λ _ low is. (low, is)) same c.loop-sequence-test.true c.sequence-item.is in
-    record {
-      heads = c.in_ok-add_head.ensures c.args.table.now g.0 g.1
-          (subst (λ (l : List StageView). (file : List ℕ) → IsBytes file → Hits g.0 file → CourseStands (course_in l c.in_ok-course.course) file)
-          (sym c.deref.ensures.value)
-          (CourseStands-hit c.loop-sequence.stages.items stages c.in_ok-course.course g.0 i x hit.0 hit.1 c.in_ok-course.ensures.adds))
-          c.loop-sequence.invariant.heads;
-      are = rw c.in_ok-push.ensures.items (subst (λ (l : List CourseView). AreCourses stages
-          (c.loop-sequence.courses.items ++ c.in_ok-course.course ∷ []) l) next more);
-      held = rw c.in_ok-push.ensures.items held;
-    }
+    let more = AreCourses-push old stages cs courses course (course_if b x) (record { same = refl; within = c.loop-sequence.invariant.within })
+    c.in_ok-course.ensures.adds in
+    let held = AreHeld-push old stages cs course b x c.loop-sequence.invariant.held c.in_ok-course.ensures.adds c.in_ok-course.ensures.sequence in
+    let all = length-append cs (course ∷ []) in
+    let bounded = All-push IsBoundedCourse courses (course_if b x) c.loop-sequence.invariant.bounded (course_if-bounded b x) in
+    let before = AreBefore-push index table flags courses (course_if b x) (omega arith) (omega arith) c.loop-sequence.invariant.before in
+    let so_far = AreSoFar-push index i table flags sequences courses x (omega arith) c.loop-sequence-test.true c.sequence-item.is
+    c.loop-sequence.invariant.so_far in
+    let hit = subst (λ (l : List SequenceView). (i < length l) → (x ≡ get_or l i x) → (file : List ℕ) → Hits g.0 file → Stands x file)
+    (sym same) (λ low is file hits. subst (λ (s : SequenceView). Stands s file) (sym is) (hits i x low)) c.loop-sequence-test.true c.sequence-item.is in
+    let Now : List CourseView → Type 0 = λ l. All IsBoundedCourse l × AreBefore index table flags l × AreSoFar index (i + 1) table flags sequences l in
+    let now : Now (map (course_in stages) (cs ++ course ∷ [])) = subst Now (sym more.same) (bounded, before, so_far) in
+    rw c.in_ok-push.ensures.items (record {
+      within = more.within;
+      count = omega arith;
+      held = held;
+      bounded = now.0;
+      before = now.1;
+      so_far = now.2;
+      heads = c.in_ok-add_head.ensures table g.0 g.1 hit c.loop-sequence.invariant.heads;
+    })
 
 pub loop-index-preserved : goal.loop-index-preserved
 loop-index-preserved c =
+    let table = c.args.table.now in
+    let index = c.loop-index.index in
     let sequences = c.sequences_of-sequence-items.result.now in
-    let all = courses-signature c.args.table.now.signatures sequences c.loop-index.index c.loop-sequence.sequence-index (omega arith)
-    (λ s at. c.sequences_of-sequence-items.ensures.of_view s at) c.loop-sequence-test.false in
+    let i = c.loop-sequence.sequence-index in
+    let within : index < length table.signatures = omega arith in
+    let g = slice_get-within table.signatures index within in
+    let same = c.sequences_of-sequence-items.ensures.of_view g.0 g.1 in
+    let size = ap length same in
+    let next = sequences-next table index (first_of table index) g.0 g.1 refl in
+    let count = c.loop-sequence.invariant.count in
+    let done = c.loop-sequence-test.false in
+    let most = c.loop-sequence.auto.sequence-index-end in
     record {
-      are = subst (λ (l : List CourseView). AreCourses c.loop-sequence.stages.items c.loop-sequence.courses.items l) all c.loop-sequence.invariant.are;
+      within = c.loop-sequence.invariant.within;
+      count = omega arith;
       held = c.loop-sequence.invariant.held;
+      bounded = c.loop-sequence.invariant.bounded;
+      before = AreBefore-next index i table c.args.may_hit.now sequences _ g.0 g.1 same done c.loop-sequence.invariant.so_far c.loop-sequence.invariant.before;
       heads = c.loop-sequence.invariant.heads;
     }

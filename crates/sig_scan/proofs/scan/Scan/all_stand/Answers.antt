@@ -1,7 +1,8 @@
 use Rattle.std.proofs.Common.{◌≡◌, ◌∙◌, ◌+◌, ◌≤◌, ◌<◌, ℕ, Some, arith, inl, inr, length, refl, subst, sym, true}
 use Rattle.std.proofs.lemmas.Bool.{cases_eq, false≢true}
 use Rattle.std.specs.List.{slice_get}
-use Rattle.sig_scan.specs.Scans.{IsEndOf, ScanView, first_of, sequences_of}
+use Rattle.sig_scan.specs.Courses.{first_of, sequences_of}
+use Rattle.sig_scan.specs.Scans.{IsEndOf, ScanView}
 use Rattle.sig_scan.proofs.MarkedLemmas.{AllStand-hits, sequences-fit}
 use Rattle.sig_table.proofs.Exports.{slice_get-within}
 use Rattle.sig_table.specs.Standing.{Stands}

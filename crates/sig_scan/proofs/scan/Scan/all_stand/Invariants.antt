@@ -1,6 +1,7 @@
 use Rattle.std.proofs.Common.{◌≡◌, ◌+◌, ◌≤◌, List, Some, ℕ, length, true}
 use Rattle.std.specs.List.{slice_get}
-use Rattle.sig_scan.specs.Scans.{AllStand, IsEndOf, first_of}
+use Rattle.sig_scan.specs.Courses.{first_of}
+use Rattle.sig_scan.specs.Scans.{AllStand, IsEndOf}
 use Rattle.sig_table.specs.Views.{SignatureView, TableView}
 use Rattle.sig_scan.proofs.scan.Scan.all_stand.Given as goal
 

@@ -33,6 +33,6 @@ returns-then-self-eq0-clause-excluded c table file of =
     let still = subst (λ (l : List Bool). (g : ℕ) → slice_get new g ≡ Some true → slice_get l g ≡ Some true) c.deref_mut.ensures.value c.exclude.ensures.still in
     let long : length new ≡ length old = c.exclude.auto.may_hit ∙ ap length c.deref_mut.ensures.value in
     let items = with_items_is c.self.inside.may_hit new (long ∙ sym c.self.inside.may_hit.ok.0) in
-    let now : Of own new = IsScanOf-excluded own file courses heads keep base buffer states old new found c.if-self-eq0.true c.self.invariant.program.heads
+    let now : Of own new = IsScanOf-excluded own file courses heads keep base buffer states old new found c.if-self-eq0.true c.self.invariant.are_heads
     step still mine in
     subst (Of table) (sym items) (subst (λ t. Of t new) was.is_table now)

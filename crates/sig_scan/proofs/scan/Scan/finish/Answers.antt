@@ -4,9 +4,10 @@ use Rattle.std.proofs.lemmas.Bool.{false≢true}
 use Rattle.std.proofs.lemmas.Option.{slice_get_read}
 use Rattle.std.specs.List.{slice_get}
 use Rattle.std.specs.Prelude.{◌↔◌, IsTrue}
-use Rattle.sig_scan.specs.Scans.{AreMarked, IsEndOf, IsScanOf, ScanView, first_of}
+use Rattle.sig_scan.specs.Courses.{first_of}
+use Rattle.sig_scan.specs.Scans.{AreMarked, IsEndOf, IsScanOf, ScanView}
 use Rattle.sig_scan.specs.Stages.{CourseView}
-use Rattle.sig_scan.proofs.MarkedLemmas.{AreMarked-set, Hits-never, sequences-count, sequences-fit, sequences-next}
+use Rattle.sig_scan.proofs.MarkedLemmas.{AreMarked-set, Hits-never, sequences-fit, sequences-next}
 use Rattle.sig_table.proofs.Exports.{slice_get-within}
 use Rattle.sig_table.specs.Standing.{Hits}
 use Rattle.sig_table.specs.Views.{SignatureView, TableView}
@@ -56,7 +57,7 @@ all_stand-requires c =
     let first : c.loop-index.first ≡ first_of table index =
     subst (λ (t : TableView). c.loop-index.first ≡ first_of t index) (sym same) c.loop-index.invariant.first in
     let fits = sequences-fit table index c.loop-index.first g.0 g.1 first in
-    let count = sequences-count table courses c.self-in-loop-index.invariant.program.courses in
+    let count = c.self-in-loop-index.invariant.courses.count in
     subst (λ (v : ScanView). c.loop-index.first + length c.sequences_of.result.now ≤ length v.courses) c.self-in-loop-index.view_is (omega arith)
 
 pub loop-index-preserved : goal.loop-index-preserved

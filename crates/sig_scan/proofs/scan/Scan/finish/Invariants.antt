@@ -1,5 +1,6 @@
 use Rattle.std.proofs.Common.{◌≡◌, ◌≤◌, ◌*◌, List, ℕ, length}
-use Rattle.sig_scan.specs.Scans.{AreMarked, IsEndOf, IsScanOf, first_of}
+use Rattle.sig_scan.specs.Courses.{first_of}
+use Rattle.sig_scan.specs.Scans.{AreMarked, IsEndOf, IsScanOf}
 use Rattle.sig_table.specs.Views.{TableView}
 use Rattle.sig_scan.proofs.scan.Scan.finish.Given as goal
 

@@ -69,7 +69,7 @@ returns-clause-settled c table file of =
     }) in
     let was : Of table = subst (IsScanOf table file) (sym c.self.view_is) (c.exclude.ensures.excluded table file of) in
     let mine : Of own = subst Of (sym was.is_table) was in
-    let settled = IsScanOf-settled own file courses keep base later room limit bytes states next old new before_found found c.self.invariant.program.courses
+    let settled = IsScanOf-settled own file courses keep base later room limit bytes states next old new before_found found c.self.invariant.courses.bounded
     c.self.invariant.held (omega arith) c.saturating_add-self-inside.ensures waits excludes mine in
     let New : TableView → BufferView → List State → List Bool → List ℕ → Type 0 = λ t b ts flags ns. IsScanOf t file (record {
       table = own;

@@ -3,7 +3,6 @@ use Rattle.std.proofs.lemmas.List.{get_or_default}
 use Rattle.std.proofs.lemmas.Option.{slice_get_read}
 use Rattle.std.specs.List.{slice_get}
 use Rattle.std.specs.Prelude.{slice_index}
-use Rattle.sig_scan.specs.Courses.{courses_of}
 use Rattle.sig_scan.specs.Scans.{IsEndOf, ScanView}
 use Rattle.sig_scan.specs.Stages.{CourseView, StageView}
 use Rattle.sig_scan.specs.declared.state.State.{State}
@@ -53,8 +52,7 @@ returns-clause-stands c table file g h s of may signature low high sequence =
       found = found;
     } in
     let was : IsEndOf table file scan = subst (IsEndOf table file) (sym c.self.view_is) of in
-    let is = subst (λ (x : TableView). courses ≡ courses_of x) was.is_table c.self.invariant.program.courses in
     Stands-judged table file scan g h k c.max-from.result s t course.0 c.stands.result c.stages_of-stages.result.now c.tail_of-tail.result.now
-    c.as_bytes-bytes.result.now is c.self.invariant.held course.1 state (c.stages_of-stages.ensures course.0 course.1)
+    c.as_bytes-bytes.result.now c.self.invariant.courses.bounded c.self.invariant.held course.1 state (c.stages_of-stages.ensures course.0 course.1)
     (c.tail_of-tail.ensures course.0 course.1) c.as_bytes-bytes.ensures.bytes from c.stands.ensures.stands was
     (subst (λ (v : ScanView). slice_get v.may_hit g ≡ Some true) (sym c.self.view_is) may) signature low high sequence

@@ -1,14 +1,15 @@
-use Rattle.std.proofs.Common.{◌≡◌, ◌<◌, false}
+use Rattle.std.proofs.Common.{◌≡◌, ◌<◌, List, Option, ℕ, false}
+use Rattle.sig_bits.specs.Device.{Gives}
 use Rattle.sig_scan.proofs.ReadLemmas.{IsRead}
-use Rattle.sig_scan.proofs.block_core.scan_input.Given as goal
+use Rattle.sig_scan.proofs.block_core.scan_on.Given as goal
 
 -- what is read is what the input has given
 abbrev pub invariant-reads : goal.invariant-reads
 invariant-reads g l = record {
-  read : IsRead l.scan l.table (g.R.Input.to_come l.fn.input) (g.R.Input.to_come l.input);
+  read : (before : Option (List ℕ)) → Gives before l.fn.buffer.bytes (g.R.Input.to_come l.fn.input)
+      → IsRead l.scan l.table before (g.R.Input.to_come l.input);
   room : l.scan.keep < l.scan.buffer.room;
   table : l.scan.table ≡ l.table;
-  before : g.R.Input.failed l.fn.input ≡ false;
 }
 
 -- each block but the last lowers what may still come
