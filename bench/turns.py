@@ -4,8 +4,8 @@
     python3 bench/turns.py OLD NEW [ROW..] [--seed S] [--runs N] [--real MB]
 
 Each is called as `PROGRAM match SIGNATURES PRIORITIES FILE..`. A line has the milliseconds of the
-quickest run of each, without those of an empty file but for the rows `small` and `start`, and how many
-times as fast NEW is. Both run one after the other, so many times, and print the same or the script
+quickest run of each, without those of the file's first KiB but for the rows `small`, `start` and
+`samples`, and how many times as fast NEW is. Both run one after the other, so many times, and print the same or the script
 ends with status 1. With names of rows only these are run.
 
 Rows: `registry` and `long` are the 1,500 signatures of `bench/scan.py` over 10 and 256 MiB, `small`
@@ -32,6 +32,7 @@ import scan
 KIB = 1 << 10
 COMMON = os.path.join(os.path.dirname(os.path.abspath(__file__)), "..", "examples", "common")
 FEW = ["dense", "end", "end-spaced", "long-gap", "mid-gap"]
+WHOLE = ["small", "start", "samples"]
 MARKS = ["mime-version: 1.0", "content-type: text", "received: from"]
 
 
@@ -115,6 +116,12 @@ def run(program, table, priorities, files, limit=60):
     return time.perf_counter() - begin, done.stdout
 
 
+def first_kib(folder, files):
+    """The beginning of the first file: what a program does once takes as long with it."""
+    with open(files[0], "rb") as file:
+        return write(os.path.join(folder, "first"), file.read(KIB))
+
+
 def quickest(programs, table, priorities, files, runs):
     """The seconds of the quickest run of each program, in turns, and what it wrote."""
     found = [(float("inf"), None)] * len(programs)
@@ -135,14 +142,13 @@ def main():
     programs, differ = [os.path.abspath(it) for it in asked.programs], 0
     with tempfile.TemporaryDirectory() as folder:
         priorities = write(os.path.join(folder, "priorities.csv"), b"higher,lower\n")
-        empty = write(os.path.join(folder, "empty"), b"")
         print(f"{'':20} {'old ms':>10} {'new ms':>10} {'times':>7}")
         for name, table, files in rows_of(folder, asked.seed, asked.real):
             if asked.rows and name.split()[0] not in asked.rows:
                 continue
             lists = os.path.join(COMMON, "priorities.csv") if "common" in table else priorities
             found = quickest(programs, table, lists, files, asked.runs)
-            start = quickest(programs, table, lists, [empty], asked.runs) if name not in ("small", "start", "samples") else [(0, None)] * 2
+            start = quickest(programs, table, lists, [first_kib(folder, files)], asked.runs) if name not in WHOLE else [(0, None)] * 2
             times = [max(one[0] - other[0], 1e-5) for one, other in zip(found, start)]
             said = [one for _, one in found]
             same = said[0] == said[1] or None in said
