@@ -1,8 +1,8 @@
 -- The prefilter: where the four bytes of an entry stand, its marks and its list are found.
-use Rattle.std.proofs.Common.{◌≡◌, ◌≢◌, ◌⊎◌, inl, inr, ℕ, ◌+◌, ◌*◌, ◌-◌, ◌%◌, ◌/◌, ◌≤◌, ◌<◌, List, [], ◌∷◌, ◌++◌, length, get_or, ap, ◌∙◌, sym, subst, refl, arith, add-zero, Some, get_or-set_other, get_or-set_same, length-append}
+use Rattle.std.proofs.Common.{◌≡◌, ◌≢◌, ◌⊎◌, inl, inr, ℕ, ◌+◌, ◌*◌, ◌-◌, ◌%◌, ◌/◌, ◌≤◌, ◌<◌, List, [], ◌∷◌, ◌++◌, length, min, get_or, ap, ◌∙◌, sym, subst, refl, take, arith, add-zero, Some, get_or-set_other, get_or-set_same, length-append}
 use Rattle.std.proofs.Math.ListN.{set}
 use Rattle.std.proofs.Math.Nat.{add-mul-mod_self_right}
-use Rattle.std.proofs.lemmas.List.{get_or-append-add, get_or_append_left, get_or_past, length-set}
+use Rattle.std.proofs.lemmas.List.{get_or-append-add, get_or_append_left, get_or-take, get_or_past, length-set, length-take-le}
 use Rattle.std.proofs.lemmas.Option.{get_or_from_slice_get, slice_get-get_or, slice_get_within}
 use Rattle.std.proofs.lemmas.Bool.{cases_eq, cases_lt}
 use Rattle.std.specs.List.{slice_get}
@@ -220,12 +220,25 @@ pub ArePassedBelow-first : (entries : List Entry) (bytes : List ℕ) (states : L
 ArePassedBelow-first entries bytes states place found inside none i w e at high room x v wait stage low small is occurs =
     none i w e at (omega arith) high room (HasWindow-stands e bytes x w (inside i e at) is occurs)
 
--- at the end each literal is missed
-pub AreMissed-last : (entries : List Entry) (bytes : List ℕ) (states : List State) (place : ℕ) (found : List ℕ)
+-- a literal that ends in the first bytes stands in them
+StandsAt-front : (literal : LiteralView) (bytes : List ℕ) (n start : ℕ) → start + length literal.text ≤ n → n ≤ length bytes → StandsAt literal bytes start
+    → StandsAt literal (take n bytes) start
+StandsAt-front literal bytes n start few within stands =
+    let len = length-take-le n bytes within in
+    record {
+      within = omega arith;
+      fits = λ k low. subst (Fits literal k) (sym (get_or-take n bytes (start + k) 0 (omega arith))) (stands.fits k low);
+    }
+
+-- at the end of the first bytes, as far as they have to be looked at, each literal is missed
+pub AreMissed-last : (entries : List Entry) (bytes : List ℕ) (states : List State) (place end : ℕ) (old found : List ℕ)
     → ((i : ℕ) (e : Entry) → slice_get entries i ≡ Some e → e.window + 4 ≤ length e.literal.text)
-    → length bytes < place + 4 → AreOwned entries states found → ArePassedBelow entries bytes states place found → AreMissed entries bytes states found
-AreMissed-last entries bytes states place found inside end owned passed k x w at low high =
+    → end ≤ length bytes → end < place + 4 → AreOwned entries states (length bytes) end old found
+    → ArePassedBelow entries (take end bytes) states place found → AreMissed entries bytes states old found
+AreMissed-last entries bytes states place end old found inside within last owned passed k x w at low more high =
     let own = owned k (omega arith) in
+    let reach = own.7 in
+    let len = length-take-le end bytes within in
     let e : Entry = own.0 in
     let i : ℕ = own.1 in
     let v : State = own.2 in
@@ -240,7 +253,8 @@ AreMissed-last entries bytes states place found inside end owned passed k x w at
       own.3,
       own.4,
       stage,
-      λ room occurs. passed i (x + e.literal.at + e.window) e own.3 (omega arith) (omega arith) x w here stage low few refl occurs,
+      λ room occurs. passed i (x + e.literal.at + e.window) e own.3 (omega arith) (omega arith) x w here stage low few refl
+          (StandsAt-front e.literal bytes end (x + e.literal.at) (omega arith) within occurs),
     )
 
 -- the entries of one slot more are compared
@@ -390,9 +404,38 @@ IsFilter-added marks slots entries e filter is = record {
 pub AreLowered-twice : (a b d : List ℕ) → AreLowered a b → AreLowered b d → AreLowered a d
 AreLowered-twice a b d first second k = let x = first k in let y = second k in omega arith
 
-pub AreOwned-lowered : (entries : List Entry) (states : List State) (old new : List ℕ) → AreLowered old new → AreOwned entries states old
-    → AreOwned entries states new
-AreOwned-lowered entries states old new lower owned k some = let less = lower k in owned k (omega arith)
+pub AreOwned-lowered : (entries : List Entry) (states : List State) (len end : ℕ) (first old new : List ℕ) → AreLowered old new
+    → AreOwned entries states len end first old → AreOwned entries states len end first new
+AreOwned-lowered entries states len end first old new lower owned k some =
+    let less = lower k in
+    let own = owned k (omega arith) in
+    let reach = own.7 in
+    (own.0, own.1, own.2, own.3, own.4, own.5, own.6, omega arith)
+
+-- where a literal is looked for, as far as it stands behind the offsets of its stage, an entry has it
+pub AreOwned-set : (entries : List Entry) (states : List State) (len end to : ℕ) (first old : List ℕ) (i n : ℕ) (e : Entry) (v : State)
+    → i < length entries → e ≡ get_or entries i e → e.sequence < length states → e.sequence < length old → v ≡ get_or states e.sequence v
+    → e.done ≡ v.done → end ≤ to → min len (n + e.literal.at + length e.literal.text) ≤ to
+    → AreOwned entries states len end first old → AreOwned entries states len to first (set old e.sequence n)
+AreOwned-set entries states len end to first old i n e v within e_is states_has found_has v_is stage more reach owned k some =
+    elim (cases_eq k e.sequence) [
+      | inl same ↦ (
+          let here = same_byte (set old e.sequence n) k e.sequence same ∙ get_or-set_same old e.sequence n 0 found_has in (
+            e,
+            i,
+            v,
+            slice_get-get_or entries i e within ∙ ap (λ (g : Entry). Some g) (sym e_is),
+            sym same,
+            ap (slice_get states) same ∙ slice_get-get_or states e.sequence v states_has ∙ ap (λ (t : State). Some t) (sym v_is),
+            stage,
+            omega arith,
+          ))
+      | inr other ↦ (
+          let here = get_or-set_other old e.sequence k n 0 other in
+          let own = owned k (omega arith) in
+          let before = own.7 in
+          (own.0, own.1, own.2, own.3, own.4, own.5, own.6, omega arith))
+    ]
 
 -- the element at a place of a list with one more at its end
 pub push_cases : {X : Type 0} (xs : List X) (x y : X) (i : ℕ) → slice_get (xs ++ x ∷ []) i ≡ Some y

@@ -1,13 +1,11 @@
 -- Sequences go on to what the prefilter found.
-use Rattle.std.proofs.Common.{◌≡◌, ◌∙◌, ℕ, ◌+◌, ◌-◌, ◌≤◌, ◌<◌, ◌^◌, inl, inr, All, Bool, List, [], ◌∷◌, ◌++◌, ap, arith, drop, get_or, length, length-append, map, max, min, Option, refl, Some, subst, sym, take}
-use Rattle.std.proofs.Math.ListN.{set}
+use Rattle.std.proofs.Common.{◌≡◌, ◌∙◌, ℕ, ◌+◌, ◌-◌, ◌≤◌, ◌<◌, inl, inr, All, Bool, List, [], ◌∷◌, ◌++◌, ap, arith, drop, get_or, length, length-append, map, max, min, Option, refl, Some, subst, sym, take}
 use Rattle.std.specs.List.{slice_get}
 use Rattle.std.specs.Option.{option_map}
 use Rattle.std.specs.Prelude.{◌↔◌, slice_index, slice_range}
 use Rattle.std.proofs.lemmas.Bool.{cases_lt}
 use Rattle.std.proofs.lemmas.List.{get_or-drop, get_or-take, length-drop, length-map, length-take-le, take_all}
 use Rattle.std.proofs.lemmas.Option.{get_or_from_slice_get, slice_get-get_or, slice_get-map, slice_get_within}
-use Rattle.sig_table.proofs.Exports.{slice_get-within}
 use Rattle.sig_table.specs.Views.{SequenceView, TableView}
 use Rattle.sig_scan.specs.declared.filter.Entry.{Entry}
 use Rattle.sig_scan.specs.declared.program.Course.{Course}
@@ -21,12 +19,10 @@ use Rattle.sig_scan.specs.Scans.{BufferView, InTurnAt, IsEndOf, IsScanOf, IsShor
 use Rattle.sig_scan.specs.Stages.{CourseView, StageView, TailView}
 use Rattle.sig_scan.proofs.AttemptLemmas.{Lies-take}
 use Rattle.sig_scan.proofs.LengthLemmas.{Lies-span}
-use Rattle.sig_scan.proofs.ScanLemmas.{slice_get-set_cases}
 use Rattle.sig_scan.proofs.LiesLemmas.{Lies-seen_both}
 use Rattle.sig_scan.proofs.StateLemmas.{Lies-at_hand, Waits-skipped, stages-next}
 use Rattle.sig_scan.proofs.TurnLemmas.{InTurn-past}
 use Rattle.sig_scan.proofs.WaitLemmas.{Waits-judged}
-use Rattle.sig_table.specs.Standing.{Stands}
 
 -- a place of a mapped list
 pub within_map : (cs : List Course) (k : ℕ) (c : CourseView) (stages : List StageView) → slice_get (map (course_in stages) cs) k ≡ Some c → k < length cs
@@ -78,18 +74,22 @@ Lies-missed u l bytes x end is missed before lies =
     missed (omega arith) (is.stands bytes x end lies)
 
 -- before the offset that was found for a sequence, no word of its stage begins
-pub ArePast-missed : (entries : List Entry) (courses : List CourseView) (bytes : List ℕ) (states : List State) (found : List ℕ)
-    → AreLiteralsOf courses entries → AreMissed entries bytes states found → ArePast 0 courses states bytes found
-ArePast-missed entries courses bytes states found literals missed k x c t least course state low high =
-    let miss = missed k x t state low high in
-    let e : Entry = miss.1 in
-    let here : slice_get courses e.sequence ≡ Some c = ap (slice_get courses) miss.3 ∙ course in
-    let stage = literals miss.0 e c miss.2 here in
-    let u : StageView = stage.0 in (
-      u,
-      subst (λ n. slice_get c.stages n ≡ Some u) miss.4 stage.1,
-      λ end before. Lies-missed u e.literal bytes x end stage.2 miss.5 before,
-    )
+pub ArePast-missed : (entries : List Entry) (courses : List CourseView) (bytes : List ℕ) (states : List State) (old found : List ℕ)
+    → AreLiteralsOf courses entries → AreMissed entries bytes states old found → ArePast 0 courses states bytes old → ArePast 0 courses states bytes found
+ArePast-missed entries courses bytes states old found literals missed past k x c t least course state low high =
+    elim (cases_lt x (slice_index old k)) [
+      | inl before ↦ past k x c t least course state low before
+      | inr behind ↦ (
+          let miss = missed k x t state low behind high in
+          let e : Entry = miss.1 in
+          let here : slice_get courses e.sequence ≡ Some c = ap (slice_get courses) miss.3 ∙ course in
+          let stage = literals miss.0 e c miss.2 here in
+          let u : StageView = stage.0 in (
+            u,
+            subst (λ n. slice_get c.stages n ≡ Some u) miss.4 stage.1,
+            λ end before. Lies-missed u e.literal bytes x end stage.2 miss.5 before,
+          ))
+    ]
 
 -- so a sequence goes on to the offset that was found, or the limit
 pub Waits-found : (s : SequenceView) (stages : List StageView) (tail : Option TailView) (before bytes : List ℕ) (done from found limit to reach : ℕ)

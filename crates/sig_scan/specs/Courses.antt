@@ -72,9 +72,10 @@ pub record IsHeld (bytes : ℕ) (course : CourseView) : Type 0 where
   pub tail : IfSome course.tail (λ (t : TailView). span t.items + t.max ≤ bytes)
 
 -- a compiled table: its courses stand in the list, these bytes, 65,535 at most, hold any word, and the literals of the
--- prefilter are those of stages
-pub record IsCompiled (bytes : ℕ) (entries : List Entry) (stages : List StageView) (cs : List Course) : Type 0 where
+-- prefilters are those of stages
+pub record IsCompiled (bytes : ℕ) (early late : List Entry) (stages : List StageView) (cs : List Course) : Type 0 where
   pub held : AreHeld bytes stages cs
   pub few : bytes ≤ 65535
   pub within : All (StandsIn stages) cs
-  pub literals : AreLiteralsOf (map (course_in stages) cs) entries
+  pub early_literals : AreLiteralsOf (map (course_in stages) cs) early
+  pub late_literals : AreLiteralsOf (map (course_in stages) cs) late

@@ -1,5 +1,5 @@
 -- A table of literals, found by four bytes of each, and the offsets that one look passes over.
-use Rattle.std.specs.Prelude.{◌≡◌, ◌≢◌, ◌⊎◌, ℕ, ◌+◌, ◌*◌, ◌%◌, ◌/◌, ◌^◌, ◌<◌, ◌≤◌, List, [], ◌∷◌, ◌++◌, Some, length, slice_index}
+use Rattle.std.specs.Prelude.{◌≡◌, ◌≢◌, ◌⊎◌, ℕ, ◌+◌, ◌*◌, ◌%◌, ◌/◌, ◌^◌, ◌<◌, ◌≤◌, List, [], ◌∷◌, ◌++◌, Some, length, min, slice_index}
 use Rattle.std.specs.List.{slice_get}
 use Rattle.sig_scan.specs.Literals.{Fits, IsLiteralOf, LiteralView, StandsAt, byte_of}
 use Rattle.sig_scan.specs.Stages.{CourseView, StageView}
@@ -79,14 +79,17 @@ abbrev pub IsPassedAt : Entry → List ℕ → List State → ℕ → List ℕ �
 IsPassedAt e bytes states place found = (x : ℕ) (t : State) → slice_get states e.sequence ≡ Some t → e.done ≡ t.done → t.from ≤ x
     → x < slice_index found e.sequence → x + e.literal.at + e.window ≡ place → ¬ StandsAt e.literal bytes (x + e.literal.at)
 
--- where something may be found, an entry is of the sequence and of the stage that it waits in
-abbrev pub AreOwned : List Entry → List State → List ℕ → Type 0
-AreOwned entries states found = (k : ℕ) → 0 < slice_index found k
+-- where more is found than before, an entry is of the sequence and of the stage that it waits in, and where its literal stands behind
+-- an offset before the one that is found, it ends in the first bytes, up to this place, or at the end of all, which are so many
+abbrev pub AreOwned : List Entry → List State → ℕ → ℕ → List ℕ → List ℕ → Type 0
+AreOwned entries states len end old found = (k : ℕ) → slice_index old k < slice_index found k
     → (e : Entry) × (i : ℕ) × (t : State) × (slice_get entries i ≡ Some e) × (e.sequence ≡ k) × (slice_get states k ≡ Some t) × (e.done ≡ t.done)
+    × (min len (slice_index found k + e.literal.at + length e.literal.text) ≤ end)
 
--- at each offset at which a sequence may go on, before the one that was found, the literal of an entry of its stage is missed
-abbrev pub AreMissed : List Entry → List ℕ → List State → List ℕ → Type 0
-AreMissed entries bytes states found = (k x : ℕ) (t : State) → slice_get states k ≡ Some t → t.from ≤ x → x < slice_index found k
+-- at each offset at which a sequence may go on, from the one that was found before up to the one that is found now, the literal of an entry
+-- of its stage is missed
+abbrev pub AreMissed : List Entry → List ℕ → List State → List ℕ → List ℕ → Type 0
+AreMissed entries bytes states old found = (k x : ℕ) (t : State) → slice_get states k ≡ Some t → t.from ≤ x → slice_index old k ≤ x → x < slice_index found k
     → (i : ℕ) × (e : Entry) × (slice_get entries i ≡ Some e) × (e.sequence ≡ k) × (e.done ≡ t.done) × IsMissed bytes e x
 
 -- each literal is that of its stage

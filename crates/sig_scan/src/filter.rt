@@ -1,4 +1,4 @@
-//! The prefilter: one look at a block for the literals of all stages.
+//! The prefilter: one look at a block for the literals of many stages.
 //!
 //! Of each literal four bytes in a row are entered, say `50 4B 03 04`. Every second place of a block is
 //! looked at, so one of the threes `50 4B 03` and `4B 03 04` begins at such a place: both are marked in
@@ -7,6 +7,9 @@
 //! are compared. What is found is the first offset of the block at which each sequence may go on. Where
 //! one of two bytes may stand, as in a word in either case, all texts of the four places are entered,
 //! sixteen at most.
+//!
+//! The literal of a stage that has a greatest offset is looked for only as far as it may stand, and not
+//! at all once that offset is passed.
 //!
 //! It leaves out literals of less than four bytes, those that find a list full, and which of its
 //! four bytes make a literal rare: that is a guess.
@@ -18,7 +21,7 @@ ghost use Rattle.sig_scan.specs.Literals.{StandsAt, byte_of};
 ghost use Rattle.sig_scan.specs.declared.filter.Entry.{Entry};
 
 use crate::literal::Literal;
-use crate::state::State;
+use crate::state::{State, offsets_up_to};
 use std::alloc::{AllocError, Global};
 use std::marker::Model;
 
@@ -36,12 +39,13 @@ const ENTRIES: usize = 65_535;
 // How many texts four places of two bytes each have.
 const TEXTS: u32 = 16;
 
-/// A literal, where in it the four bytes are by which it is found, and whose it is: that of the stage of
-/// a sequence that has so many before it.
+/// A literal, where in it the four bytes are by which it is found, the greatest offset at which its stage
+/// may begin, and whose it is: that of the stage of a sequence that has so many before it.
 #[derive(Debug, Drop)]
 pub(crate) struct Entry {
     pub(crate) literal: Literal,
     pub(crate) window: usize,
+    pub(crate) until: Option<u32>,
     pub(crate) signature: usize,
     pub(crate) sequence: usize,
     pub(crate) done: usize,
@@ -85,6 +89,7 @@ impl Filter {
     pub(crate) fn add(
         &mut self,
         literal: &Literal,
+        until: Option<u32>,
         signature: usize,
         sequence: usize,
         done: usize,
@@ -104,6 +109,7 @@ impl Filter {
         self.entries.push(Entry {
             literal: literal.copy(),
             window,
+            until,
             signature,
             sequence,
             done,
@@ -112,21 +118,27 @@ impl Filter {
     }
 
     /// Finds for each sequence of a signature that the file may hit that waits in the stage of an entry an offset before
-    /// which its literal stands behind none of those at which it may go on. Of the others nothing is
-    /// known, which is 0.
-    pub(crate) fn look(&self, bytes: &[u8], states: &[State], may_hit: &[bool], found: &mut [usize])
-        ensures { AreMissed self.now bytes.now states.now found.new }
+    /// which its literal stands behind none of those at which it may go on. What was found of the others
+    /// stays.
+    pub(crate) fn look(
+        &self,
+        bytes: &[u8],
+        base: u64,
+        states: &[State],
+        may_hit: &[bool],
+        found: &mut [usize],
+    )
+        ensures { AreMissed self.now bytes.now states.now found.old found.new }
     {
-        if !begin(&self.entries, bytes.len(), states, may_hit, found) {
-            return;
-        }
-        let mut place = self.next_listed(bytes, 0);
-        'places: while place + 4 <= bytes.len() {
-            self.visit(bytes, place, states, found);
+        let end = begin(&self.entries, bytes.len(), base, states, may_hit, found);
+        let front = &bytes[..end];
+        let mut place = self.next_listed(front, 0);
+        'places: while place + 4 <= front.len() {
+            self.visit(front, place, states, found);
             if place > 0 {
-                self.visit(bytes, place - 1, states, found);
+                self.visit(front, place - 1, states, found);
             }
-            place = self.next_listed(bytes, place + 2);
+            place = self.next_listed(front, place + 2);
         }
     }
 
@@ -196,29 +208,31 @@ fn first_of(entry: &Entry, bytes: &[u8], place: usize, state: State, found: usiz
     offset
 }
 
-// Takes it that nothing is found, and answers whether a sequence of a signature that the file may hit waits in the stage
-// of an entry.
+// Takes it that of no sequence of a signature that the file may hit that waits in the stage of an entry the literal
+// stands. Answers how many of the bytes at hand, of which there are so many, a look has to see for this.
 fn begin(
     entries: &[Entry],
     len: usize,
+    base: u64,
     states: &[State],
     may_hit: &[bool],
     found: &mut [usize],
-) -> bool
-    ensures owned { AreOwned entries.now states.now found.new }
-    ensures none { result ≡ false → (k : ℕ) → slice_index found.new k ≡ 0 }
+) -> usize
+    requires { len < 2 ^ 63 }
+    ensures within { result ≤ len }
+    ensures owned { AreOwned entries.now states.now len result found.old found.new }
 {
-    found.fill(0);
-    let mut some = false;
+    let mut end: usize = 0;
     for entry in entries {
         let k = entry.sequence;
         let is_wanted = entry.signature < may_hit.len() && may_hit[entry.signature];
         if is_wanted && k < states.len() && k < found.len() && states[k].done == entry.done {
-            found[k] = len;
-            some = true;
+            let offsets = offsets_up_to(entry.until, base, len);
+            found[k] = offsets;
+            end = len.min(end.max(offsets + entry.literal.at() + entry.literal.text().len()));
         }
     }
-    some
+    end
 }
 
 // Where in the literal the rarest four bytes are, by a guess.

@@ -4,7 +4,9 @@
 //! `43`; at the end of a file the second one is the tail. The items are copied, so that a program serves
 //! for as long as it is wanted. The stages of all sequences stand in one list, and a course says which
 //! of them are those of its sequence. Beside them stand what is looked for in all at once: the heads of
-//! signatures (`head`), and the literals of stages (`filter`).
+//! signatures (`head`), and the literals of stages (`filter`). Those of stages that may begin at several
+//! offsets from the beginning of a file have a filter of their own, so that what is looked for anywhere
+//! is not slowed down by them.
 
 ghost use Rattle.std.specs.Prelude.{◌≡◌, ◌≤◌, ◌<◌, ◌++◌, ◌∷◌, [], ℕ, All, List, IfOk, IfSome, OnOk, MatchOption, None, Some, length, map};
 ghost use Rattle.sig_expr.specs.declared.item.Item.TheVariants.{Gap};
@@ -157,7 +159,10 @@ pub(crate) struct Program {
     // Of each sequence, what is known of it at the beginning of a file.
     states: Vec<State>,
     heads: Vec<Head>,
-    filter: Filter,
+    // The literals of stages that may begin at several offsets from the beginning of a file, and of those
+    // that may begin anywhere.
+    early: Filter,
+    late: Filter,
     keep: usize,
 }
 
@@ -171,7 +176,7 @@ impl Model for Program {
 
     ghost view = { λ p. record { courses = map (course_in p.stages.items) p.courses.items; heads = p.heads.items } };
 
-    ghost invariant = { λ p. IsCompiled p.keep p.filter p.stages.items p.courses.items
+    ghost invariant = { λ p. IsCompiled p.keep p.early p.late p.stages.items p.courses.items
         × (length p.states.items ≡ length p.courses.items) × AreFirst (map (course_in p.stages.items) p.courses.items) p.states.items };
 }
 
@@ -193,14 +198,16 @@ impl Program {
             }
         }
         let states = first_states(alloc, &stages, &courses)?;
-        let filter = filter_of(alloc, &stages, &courses)?;
+        let early = filter_of(alloc, &stages, &courses, true)?;
+        let late = filter_of(alloc, &stages, &courses, false)?;
         let keep = keep_of(&stages, &courses);
         Ok(Program {
             stages,
             courses,
             states,
             heads,
-            filter,
+            early,
+            late,
             keep,
         })
     }
@@ -254,11 +261,20 @@ impl Program {
     }
 
     // Finds for each sequence of a signature that the file may hit an offset before which no word of the stage that it
-    // waits in begins, as far as the prefilter tells.
-    pub(crate) fn look(&self, bytes: &[u8], states: &[State], may_hit: &[bool], found: &mut [usize])
+    // waits in begins, as far as the prefilters tell.
+    pub(crate) fn look(
+        &self,
+        bytes: &[u8],
+        base: u64,
+        states: &[State],
+        may_hit: &[bool],
+        found: &mut [usize],
+    )
         ensures { ArePast 0 self.now.courses states.now bytes.now found.new }
     {
-        self.filter.look(bytes, states, may_hit, found);
+        found.fill(0);
+        self.early.look(bytes, base, states, may_hit, found);
+        self.late.look(bytes, base, states, may_hit, found);
     }
 }
 
@@ -292,8 +308,14 @@ fn add_head(heads: &mut Vec<Head>, sequence: &Sequence, signature: usize) -> Res
     Ok(())
 }
 
-// The literals of all stages that may begin anywhere.
-fn filter_of(alloc: Global, stages: &[Stage], courses: &[Course]) -> Result<Filter, AllocError>
+// The literals of all stages that may begin at several offsets from the beginning of a file, or of those
+// that may begin anywhere.
+fn filter_of(
+    alloc: Global,
+    stages: &[Stage],
+    courses: &[Course],
+    is_early: bool,
+) -> Result<Filter, AllocError>
     ensures { IfOk result (AreLiteralsOf (map (course_in stages.now) courses.now)) }
 {
     let mut filter = Filter::new(alloc)?;
@@ -303,30 +325,43 @@ fn filter_of(alloc: Global, stages: &[Stage], courses: &[Course]) -> Result<Filt
             add_literal(
                 &mut filter,
                 &stages[stage],
-                course.signature,
+                course,
                 sequence,
                 done,
+                is_early,
             )?;
         }
     }
     Ok(filter)
 }
 
-// Adds the literal of a stage, if it has enough bytes.
+// Adds the literal of a stage, if it is one of these and has enough bytes. A stage that may begin at one
+// offset alone is judged by a head.
 fn add_literal(
     filter: &mut Filter,
     stage: &Stage,
-    signature: usize,
+    course: &Course,
     sequence: usize,
     done: usize,
+    is_early: bool,
 ) -> Result<(), AllocError>
     ensures { (courses : List CourseView) → ((c : CourseView) → slice_get courses sequence ≡ Some c → slice_get c.stages done ≡ Some stage.now)
         → AreLiteralsOf courses filter.old → OnOk result (AreLiteralsOf courses filter.new) }
 {
-    if stage.until.is_some() || stage.literal.text().len() < 4 {
+    let is_wanted = match stage.until {
+        Some(until) => is_early && until != u32::from(course.from),
+        None => !is_early,
+    };
+    if !is_wanted || stage.literal.text().len() < 4 {
         return Ok(());
     }
-    filter.add(&stage.literal, signature, sequence, done)
+    filter.add(
+        &stage.literal,
+        stage.until,
+        course.signature,
+        sequence,
+        done,
+    )
 }
 
 // The same of these stages and tails.

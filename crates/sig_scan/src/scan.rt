@@ -145,8 +145,13 @@ impl<'p> Scan<'p> {
         self.exclude();
         let bytes = self.buffer.as_bytes();
         let limit = bytes.len() - self.keep;
-        self.program
-            .look(bytes, &self.states, &self.may_hit, &mut self.found);
+        self.program.look(
+            bytes,
+            self.base,
+            &self.states,
+            &self.may_hit,
+            &mut self.found,
+        );
         settle_all(
             self.table,
             self.program,
@@ -200,8 +205,13 @@ impl<'p> Scan<'p> {
     {
         self.exclude();
         let bytes = self.buffer.with_one_more();
-        self.program
-            .look(bytes, &self.states, &self.may_hit, &mut self.found);
+        self.program.look(
+            bytes,
+            self.base,
+            &self.states,
+            &self.may_hit,
+            &mut self.found,
+        );
     }
 
     // Whether these sequences, those of a signature that the file may hit, stand in the file.

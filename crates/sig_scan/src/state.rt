@@ -57,8 +57,8 @@ fn attempt_stage(
     }
 }
 
-// How many of the first offsets of the bytes at hand are at most this one of the file.
-fn offsets_up_to(until: Option<u32>, base: u64, all: usize) -> usize
+/// How many of the first offsets of the bytes at hand are at most this one of the file.
+pub(crate) fn offsets_up_to(until: Option<u32>, base: u64, all: usize) -> usize
     ensures within { result ≤ all }
     ensures many { (before : List ℕ) (x : ℕ) → IsBase before base → x < all → (x < result) ↔ IsAtMost until (length before + x) }
 {

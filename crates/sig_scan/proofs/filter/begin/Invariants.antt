@@ -1,10 +1,10 @@
-use Rattle.std.proofs.Common.{◌≡◌, ℕ, false, slice_index}
+use Rattle.std.proofs.Common.{◌≤◌}
 use Rattle.sig_scan.specs.Filters.{AreOwned}
 use Rattle.sig_scan.proofs.filter.begin.Given as goal
 
--- what may be found is found for a sequence that states in a stage of an entry
+-- what more may be found is found for a sequence that waits in the stage of an entry
 abbrev pub invariant-loop-entry : goal.invariant-loop-entry
 invariant-loop-entry l = record {
-  owned : AreOwned l.entries l.states l.found;
-  none : l.some ≡ false → (k : ℕ) → slice_index l.found k ≡ 0;
+  within : l.end ≤ l.len;
+  owned : AreOwned l.entries l.states l.len l.end l.initial.found l.found;
 }

@@ -51,7 +51,7 @@ invariant_of-self-2 c =
     let l : LiteralView = c.args.literal.now in
     let count : c.len-place.result ≡ length entries = search rules in
     let Of : LiteralView → Type 0 = λ x. IsEntered new_m new_s (length entries)
-    (record { literal = x; window = w; signature = c.args.signature; sequence = c.args.sequence; done = c.args.done }) in
+    (record { literal = x; window = w; until = c.args.until; signature = c.args.signature; sequence = c.args.sequence; done = c.args.done }) in
     let is : Of c.copy.result = subst Of (sym c.copy.ensures) (record {
       inside = c.window_of-window.ensures.inside;
       each = λ n few. subst (λ k. IsListed new_m new_s (k + 1) (text_of l w n) (behind_of l w n)) count

@@ -1,4 +1,5 @@
-use Rattle.std.proofs.Common.{◌≡◌, ◌∙◌, ◌+◌, ◌≤◌, List, Some, ℕ, ap, arith, length, subst, sym}
+use Rattle.std.proofs.Common.{◌≡◌, ◌∙◌, ◌+◌, ◌≤◌, List, Some, ℕ, ap, arith, length, subst, sym, take}
+use Rattle.std.proofs.lemmas.List.{length-take-le}
 use Rattle.std.specs.List.{slice_get}
 use Rattle.sig_scan.specs.Filters.{AreOwned, IsFilter}
 use Rattle.sig_scan.specs.declared.filter.Entry.{Entry}
@@ -15,8 +16,9 @@ pub places-init : goal.places-init
 places-init c = record {
   even = c.next_listed-place.ensures.even;
   few = c.next_listed-place.ensures.few;
-  owned = subst (λ (es : List Entry). AreOwned es c.args.states.now c.begin.new.found) (c.deref.ensures.value ∙ c.self.view_is) c.begin.ensures.owned;
-  passed = ArePassedBelow-first c.args.self.now c.args.bytes.now c.args.states.now c.next_listed-place.result c.begin.new.found
+  owned = subst (λ (es : List Entry). AreOwned es c.args.states.now (length c.args.bytes.now) c.begin-end.result c.args.found.now c.begin-end.new.found)
+      (c.deref.ensures.value ∙ c.self.view_is) c.begin-end.ensures.owned;
+  passed = ArePassedBelow-first c.args.self.now (take c.begin-end.result c.args.bytes.now) c.args.states.now c.next_listed-place.result c.begin-end.new.found
       (windows c.self.inside.marks.items c.self.inside.slots.items c.self.inside.entries.items c.args.self.now c.self.invariant c.self.view_is)
       (λ i w e at low high room has. c.next_listed-place.ensures.passed i w e at low high room has);
 }
@@ -24,21 +26,24 @@ places-init c = record {
 pub places-preserved : goal.places-preserved
 places-preserved c =
     let entries = c.args.self.now in
-    let bytes = c.args.bytes.now in
+    let bytes = take c.begin-end.result c.args.bytes.now in
+    let len : ℕ = length c.args.bytes.now in
+    let end = c.begin-end.result in
+    let first = c.args.found.now in
     let states = c.args.states.now in
     let place = c.places.place in
     let next = c.next_listed-place-in-places.result in
     let old = c.places.found in
     let middle = c.visit.new.found in
     let inside = windows c.self.inside.marks.items c.self.inside.slots.items c.self.inside.entries.items entries c.self.invariant c.self.view_is in
-    let Now : List ℕ → Type 0 = λ l. AreOwned entries states l × ArePassedBelow entries bytes states next l in
+    let Now : List ℕ → Type 0 = λ l. AreOwned entries states len end first l × ArePassedBelow entries bytes states next l in
     let now : Now c.if-place-gt0.found =
     elim c.if-place-gt0.branch [
       | then-place-gt0 w ↦ (
           let new = w.visit-then-place-gt0.new.found in
           let lower = AreLowered-twice old middle new c.visit.ensures.lowered w.visit-then-place-gt0.ensures.lowered in
           subst Now (sym w.found-is) (
-            AreOwned-lowered entries states old new lower c.places.invariant.owned,
+            AreOwned-lowered entries states len end first old new lower c.places.invariant.owned,
             ArePassedBelow-next entries bytes states place next old new lower
                 (λ i e at has. IsPassedAt-lowered e bytes states place middle new w.visit-then-place-gt0.ensures.lowered (c.visit.ensures.passed i e at has))
                 (λ i e some at has. w.visit-then-place-gt0.ensures.passed i e at has) inside c.next_listed-place-in-places.ensures.passed
@@ -47,7 +52,7 @@ places-preserved c =
       | else-place-gt0 w ↦ (
           let none = w.if-place-gt0.false in
           subst Now (sym w.found-is) (
-            AreOwned-lowered entries states old middle c.visit.ensures.lowered c.places.invariant.owned,
+            AreOwned-lowered entries states len end first old middle c.visit.ensures.lowered c.places.invariant.owned,
             ArePassedBelow-next entries bytes states place next old middle c.visit.ensures.lowered c.visit.ensures.passed
                 (λ i e some at has. absurd (omega arith)) inside c.next_listed-place-in-places.ensures.passed c.places.invariant.passed,
           ))
@@ -56,6 +61,7 @@ places-preserved c =
 
 pub returns : goal.returns
 returns c =
-    AreMissed-last c.args.self.now c.args.bytes.now c.args.states.now c.places.place c.places.found
+    let len = length-take-le c.begin-end.result c.args.bytes.now c.begin-end.ensures.within in
+    AreMissed-last c.args.self.now c.args.bytes.now c.args.states.now c.places.place c.begin-end.result c.args.found.now c.places.found
     (windows c.self.inside.marks.items c.self.inside.slots.items c.self.inside.entries.items c.args.self.now c.self.invariant c.self.view_is)
-    (omega arith) c.places.invariant.owned c.places.invariant.passed
+    c.begin-end.ensures.within (omega arith) c.places.invariant.owned c.places.invariant.passed

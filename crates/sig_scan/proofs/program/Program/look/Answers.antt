@@ -1,4 +1,6 @@
-use Rattle.std.proofs.Common.{List, ap, map, subst}
+use Rattle.std.proofs.Common.{List, arith, inl, inr, length, map, subst}
+use Rattle.std.proofs.lemmas.Bool.{cases_lt}
+use Rattle.std.proofs.lemmas.List.{get_or_past}
 use Rattle.sig_scan.specs.Courses.{course_in}
 use Rattle.sig_scan.specs.Heads.{ProgramView}
 use Rattle.sig_scan.specs.Passes.{ArePast}
@@ -9,6 +11,16 @@ use Rattle.sig_scan.proofs.program.Program.look.Goals as goal
 pub returns : goal.returns
 returns c =
     let courses : List CourseView = map (course_in c.self.inside.stages.items) c.self.inside.courses.items in
-    let found = c.look.new.found in
-    subst (λ (v : ProgramView). ArePast 0 v.courses c.args.states.now c.args.bytes.now found) c.self.view_is
-    (ArePast-missed c.self.inside.filter courses c.args.bytes.now c.args.states.now found c.self.invariant.0.literals c.look.ensures)
+    let bytes = c.args.bytes.now in
+    let states = c.args.states.now in
+    let none = c.fill.new.self in
+    let early = c.look.new.found in
+    let late = c.look-2.new.found in
+    let compiled = c.self.invariant.0 in
+    subst (λ (v : ProgramView). ArePast 0 v.courses states bytes late) c.self.view_is
+    (ArePast-missed c.self.inside.late courses bytes states early late compiled.late_literals c.look-2.ensures
+    (ArePast-missed c.self.inside.early courses bytes states none early compiled.early_literals c.look.ensures
+    (λ k x d t least course state low high. elim (cases_lt k (length none)) [
+      | inl inside ↦ absurd (omega arith)
+      | inr outside ↦ (let past = get_or_past none k 0 outside in absurd (omega arith))
+    ])))

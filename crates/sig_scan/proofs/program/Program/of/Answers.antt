@@ -1,16 +1,19 @@
-use Rattle.std.proofs.Common.{◌≡◌, ◌∙◌, ◌++◌, ◌∷◌, [], ◌+◌, ◌<◌, ◌≤◌, ℕ, All, Bool, List, Some, ap, arith, false, get_or, length, length-append, map, refl, subst, sym, true}
-use Rattle.std.proofs.lemmas.List.{length-map}
+use Rattle.std.proofs.Common.{◌≡◌, ◌∙◌, ◌++◌, ◌∷◌, [], ◌+◌, ◌<◌, ◌≤◌, ℕ, All, Bool, List, Some, ap, arith, false, get_or, length, length-append, map, refl, rules, subst, sym, true}
+use Rattle.std.proofs.lemmas.List.{length-map, take_all}
 use Rattle.std.proofs.lemmas.List.Elements.{All-push}
 use Rattle.std.specs.List.{slice_get}
-use Rattle.sig_scan.specs.Courses.{AreBefore, AreCourses, IsBoundedCourse, course_if, course_in, first_of}
+use Rattle.sig_scan.specs.Courses.{AreBefore, AreCourses, IsBoundedCourse, course_if, course_in, first_of, sequences_of}
+use Rattle.sig_scan.specs.Filters.{AreLiteralsOf}
+use Rattle.sig_scan.specs.Scans.{AreFirst}
+use Rattle.sig_scan.specs.declared.program.Course.{Course}
 use Rattle.sig_scan.specs.Stages.{CourseView, StageView}
 use Rattle.sig_scan.proofs.CompiledLemmas.{AreBefore-next, AreBefore-push, AreSoFar, AreSoFar-push, course_if-bounded}
 use Rattle.sig_scan.proofs.HeldLemmas.{AreHeld-push}
-use Rattle.sig_scan.proofs.MarkedLemmas.{sequences-next}
+use Rattle.sig_scan.proofs.MarkedLemmas.{sequences, sequences-next}
 use Rattle.sig_scan.proofs.ProgramLemmas.{AreCourses-push}
 use Rattle.sig_table.proofs.Exports.{slice_get-within}
 use Rattle.sig_table.specs.Standing.{Hits, Stands}
-use Rattle.sig_table.specs.Views.{SequenceView}
+use Rattle.sig_table.specs.Views.{SequenceView, SignatureView}
 use Rattle.sig_scan.proofs.program.Program.of.Goals as goal
 
 pub loop-sequence-preserved : goal.loop-sequence-preserved
@@ -75,4 +78,44 @@ loop-index-preserved c =
       bounded = c.loop-sequence.invariant.bounded;
       before = AreBefore-next index i table c.args.may_hit.now sequences _ g.0 g.1 same done c.loop-sequence.invariant.so_far c.loop-sequence.invariant.before;
       heads = c.loop-sequence.invariant.heads;
+    }
+
+pub invariant_of-result : goal.invariant_of-result
+invariant_of-result c =
+    let stages = c.loop-index.stages.items in
+    let courses = c.loop-index.courses.items in
+    let Early : List StageView → List Course → Type 0 = λ l cs. AreLiteralsOf (map (course_in l) cs) c.in_ok-early.early in
+    let Late : List StageView → List Course → Type 0 = λ l cs. AreLiteralsOf (map (course_in l) cs) c.in_ok-late.late in
+    let First : List StageView → List Course → Type 0 = λ l cs. AreFirst (map (course_in l) cs) c.in_ok-states.states.items in (
+      record {
+        held = search rules;
+        few = search rules;
+        within = c.loop-index.invariant.within;
+        early_literals = subst (λ l. Early l courses) c.deref-3.ensures.value (subst (Early c.deref-3.result.now) c.deref-4.ensures.value c.in_ok-early.ensures);
+        late_literals = subst (λ l. Late l courses) c.deref-5.ensures.value (subst (Late c.deref-5.result.now) c.deref-6.ensures.value c.in_ok-late.ensures);
+      },
+      search rules,
+      subst (λ l. First l courses) c.deref.ensures.value (subst (First c.deref.result.now) c.deref-2.ensures.value c.in_ok-states.ensures.first),
+    )
+
+pub returns : goal.returns
+returns c =
+    let table = c.args.table.now in
+    let index = c.loop-index.index in
+    let stages = c.loop-index.stages.items in
+    let cs = c.loop-index.courses.items in
+    let total = c.signature_count-index-end.ensures.count in
+    let most = c.loop-index.auto.index-end in
+    let done = c.loop-index-test.false in
+    let end : index ≡ length table.signatures = omega arith in
+    let size = length-map cs (course_in stages) in
+    let whole : first_of table index ≡ length (sequences_of table) =
+    ap (λ (l : List SignatureView). length (sequences l)) (take_all index table.signatures (omega arith)) in
+    record {
+      courses = record {
+        count = size ∙ c.loop-index.invariant.count ∙ whole;
+        bounded = c.loop-index.invariant.bounded;
+        each = subst (λ n. AreBefore n table c.args.may_hit.now (map (course_in stages) cs)) end c.loop-index.invariant.before;
+      };
+      heads = c.loop-index.invariant.heads;
     }
