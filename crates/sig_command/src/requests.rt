@@ -19,7 +19,7 @@ use sig_engines::{
     CutShort, FileFault, RunError, Store, SystemFiles, TablePaths, run_check, run_find, run_match,
     run_match_many, run_show, run_witness, settle,
 };
-use sig_match::StreamCore;
+use sig_scan::BlockCore;
 use sig_table::Table;
 use std::alloc::Global;
 use std::rt::{Env, Files};
@@ -209,7 +209,7 @@ fn match_file<'a, S: Store, W: Output>(
     ensures untouched { IfErr result (λ fault. fault ≢ Fault.Run RunError.Write → out.new ≡ out.old) }
     ensures whole { IfErr result (λ fault. W.failed out.new ≡ false → out.new ≡ out.old) }
 {
-    let core = StreamCore::new(alloc, load(store, alloc, table)?);
+    let core = BlockCore::new(alloc, load(store, alloc, table)?);
     let mut file = open(store, name)?;
     match run_match(alloc, &core, all, &mut file, out) {
         Ok(()) => Ok(true),
@@ -240,7 +240,7 @@ fn match_many<'m, 'a, S: Store, W: Output, E: Output>(
         (Request.MatchMany all table.entry files.entry) W.failed W.written out.old out.new) }
 {
     let table = load(store, alloc, table)?;
-    let core = StreamCore::prepared(alloc, table);
+    let core = BlockCore::prepared(alloc, table);
     match run_match_many(alloc, store, &core, all, files, out, err) {
         Ok(true) => Ok(true),
         Ok(false) => Err(Fault::SomeFiles),
