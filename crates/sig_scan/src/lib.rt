@@ -12,13 +12,14 @@
 //!
 //! Where words lie stands in `specs/Placed.antt`, how long they are in `specs/Lengths.antt`, what
 //! stands in turn in `specs/Stages.antt`, and what a scan knows in `specs/Scans.antt`. `program` compiles a
-//! table into stages, of copies of its items (`copy`), and `lengths` says how long their words are.
-//! `literal` says which bytes each word of a stage has (a required literal), and passes over offsets
+//! table into stages (`stage`), of copies of its items (`copy`), and `lengths` says how long their words
+//! are. `literal` says which bytes each word of a stage has (a required literal), and passes over offsets
 //! behind which they do not stand; `filter` finds those of many stages in one look at a block (a literal
-//! prefilter), and `head` says by one byte which signatures hit no file that begins as this one. `frontier` finds the offsets at which the words of items end, item by item, as a set of
-//! bits (`offsets`), and `attempt` the first end of a stage. `state` is what is known of one sequence,
-//! `buffer` the bytes at hand, and `scan` goes over a file with both. `block_core` reads a file and
-//! answers which formats it hits: `BlockCore` is a `DroidCore` of `sig_core`, as every matcher is.
+//! prefilter), and `head` says by one byte which signatures hit no file that begins as this one.
+//! `frontier` finds the offsets at which the words of items end, item by item, as a set of bits
+//! (`offsets`), and `attempt` the first end of a stage. `state` is what is known of one sequence, `buffer`
+//! the bytes at hand, and `scan` goes over a file with both. `block_core` reads a file and answers which
+//! formats it hits: `BlockCore` is a `DroidCore` of `sig_core`, as every matcher is.
 //!
 //! Gaps and `??` at the ends of a stage are not made delays, and a literal has no place of more than two
 //! bytes.
@@ -39,6 +40,7 @@ mod offsets;
 mod part;
 mod program;
 mod scan;
+mod stage;
 mod state;
 #[cfg(test)]
 mod tests;

@@ -15,7 +15,7 @@ ghost use Rattle.sig_table.specs.Views.{SequenceView};
 
 use crate::attempt::attempt;
 use crate::frontier::Frontier;
-use crate::program::{Stage, Tail};
+use crate::stage::{Stage, Tail};
 
 // So many offsets are tried at once, or as many as the longest word has bytes.
 const AT_ONCE: usize = 1024;
