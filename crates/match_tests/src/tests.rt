@@ -1,26 +1,18 @@
 mod agreeing;
-mod awake;
 mod cuts;
-mod ends;
-mod first_piece;
 mod hits;
 mod items;
 mod long_gaps;
 mod offsets;
-mod plain;
 mod random;
-mod runs;
-mod spaced;
-mod waiting;
 mod worked;
 
 ghost use Rattle.std.specs.Prelude.{◌<◌, length};
 
-use crate::tests::plain::PlainScan;
 use sig_bits::FromRead;
 use sig_core::{Hit, Results};
-use sig_match::Scan;
-use sig_table::{FormatId, Sequence, SigId, Table};
+use sig_match::{Scan, left_in};
+use sig_table::{FormatId, SigId, Table};
 use std::alloc::{AllocError, Global};
 use std::test::Fail;
 
@@ -112,116 +104,49 @@ fn repeated(alloc: Global, pattern: &[u8], len: usize) -> Result<Vec<u8>, AllocE
     Ok(bytes)
 }
 
-// What a scan answers that has gone through each of these pieces when it was fed.
+// What a scan answers that is fed these pieces.
 fn scanned(alloc: Global, table: &Table, pieces: &[&[u8]]) -> Result<Results, AllocError> {
-    let mut scan = Scan::with_room(alloc, table, 0)?;
+    let mut scan = Scan::new(alloc, table)?;
     for piece in pieces {
         scan.feed(piece);
     }
     Ok(scan.finish())
 }
 
-// The same of a file that is fed in pieces of this length, or byte by byte.
+// The same of a file that is fed in pieces of this length.
 fn scanned_by(
     alloc: Global,
     table: &Table,
     file: &[u8],
     piece: usize,
 ) -> Result<Results, AllocError> {
-    let mut scan = Scan::with_room(alloc, table, 0)?;
+    let mut scan = Scan::new(alloc, table)?;
     for bytes in file.chunks(piece.max(1)) {
         scan.feed(bytes);
     }
     Ok(scan.finish())
 }
 
-// Whether the sequence stands in the file, by the plain scan.
-fn stands_plainly(alloc: Global, sequence: &Sequence, file: &[u8]) -> Result<bool, AllocError> {
-    let mut plain = PlainScan::of(alloc, sequence)?;
-    plain.feed(file);
-    Ok(plain.stands())
-}
-
-// Whether each of these sequences does.
-fn stand_plainly(alloc: Global, sequences: &[Sequence], file: &[u8]) -> Result<bool, AllocError> {
-    for sequence in sequences {
-        if !stands_plainly(alloc, sequence, file)? {
-            return Ok(false);
-        }
-    }
-    Ok(true)
-}
-
-// Whether the signature is named.
-fn has_hit(results: &Results, signature: SigId) -> bool {
-    for hit in results.hits() {
-        if hit.signature == signature {
-            return true;
-        }
-    }
-    false
-}
-
-// Whether the results name just the signatures that the plain scans say, where each is of a format of its own.
-fn are_plain(
+// Whether the search of the whole file answers these results, where no format outranks another.
+fn are_searched(
     alloc: Global,
     table: &Table,
     file: &[u8],
     results: &Results,
-) -> Result<bool, AllocError> {
-    for index in 0..table.signature_count() {
-        let signature = SigId(index as u16);
-        let stand = stand_plainly(alloc, table.sequences_of(signature), file)?;
-        if stand != has_hit(results, signature) {
-            return Ok(false);
-        }
-    }
-    Ok(true)
+) -> Result<bool, Fail> {
+    Ok(left_in(alloc, table, file)?.hits() == results.hits())
 }
 
-// Whether a scan of these pieces, which make up the file, agrees with the plain ones.
-fn is_plain(
-    alloc: Global,
-    table: &Table,
-    file: &[u8],
-    pieces: &[&[u8]],
-) -> Result<bool, AllocError> {
-    let results = scanned(alloc, table, pieces)?;
-    are_plain(alloc, table, file, &results)
-}
-
-// Whether a scan agrees with the plain ones behind each of these pieces: a new one for each front of them.
-fn pieces_agree(alloc: Global, table: &Table, pieces: &[&[u8]]) -> Result<bool, AllocError> {
-    let mut file = Vec::new(alloc);
-    for count in 0..pieces.len() {
-        file.extend_from_slice(pieces[count])?;
-        if !is_plain(alloc, table, &file, &pieces[..count + 1])? {
-            return Ok(false);
-        }
-    }
-    Ok(true)
-}
-
-// Whether it agrees with them on a file that is fed in pieces of this length.
-fn is_plain_by(
-    alloc: Global,
-    table: &Table,
-    file: &[u8],
-    piece: usize,
-) -> Result<bool, AllocError> {
+// Whether a scan of the file in pieces of this length answers what the search of it does.
+fn agrees_by(alloc: Global, table: &Table, file: &[u8], piece: usize) -> Result<bool, Fail> {
     let results = scanned_by(alloc, table, file, piece)?;
-    are_plain(alloc, table, file, &results)
+    are_searched(alloc, table, file, &results)
 }
 
 // Whether it does behind each front of the file.
-fn fronts_agree_by(
-    alloc: Global,
-    table: &Table,
-    file: &[u8],
-    piece: usize,
-) -> Result<bool, AllocError> {
+fn fronts_agree_by(alloc: Global, table: &Table, file: &[u8], piece: usize) -> Result<bool, Fail> {
     for len in 0..file.len() + 1 {
-        if !is_plain_by(alloc, table, &file[..len], piece)? {
+        if !agrees_by(alloc, table, &file[..len], piece)? {
             return Ok(false);
         }
     }
@@ -232,7 +157,7 @@ fn fronts_agree_by(
 const PIECES: &[usize] = &[1, 2, 3, 7, 1024];
 
 // Whether it does in pieces of several lengths.
-fn fronts_agree(alloc: Global, table: &Table, file: &[u8]) -> Result<bool, AllocError> {
+fn fronts_agree(alloc: Global, table: &Table, file: &[u8]) -> Result<bool, Fail> {
     for piece in PIECES {
         if !fronts_agree_by(alloc, table, file, *piece)? {
             return Ok(false);

@@ -1,11 +1,12 @@
 -- A file has a run that ends in a state, or it has none: which of the two is told by a search over the states before.
-use Rattle.std.proofs.Common.{◌⊎◌, ℕ, zero, suc, ◌+◌, ◌/◌, ◌%◌, ◌<◌, ◌≤◌, List, [], ◌∷◌, ◌++◌, slice_index, append_assoc, subst, sym, ◌∙◌, inl, inr, arith}
+use Rattle.std.proofs.Common.{◌==◌, ◌⊎◌, if◌then◌else◌, ℕ, zero, suc, ◌+◌, ◌/◌, ◌%◌, ◌<◌, ◌≤◌, List, [], ◌∷◌, ◌++◌, slice_index, append_assoc, subst, sym, ◌∙◌, inl, inr, arith}
 use Rattle.std.specs.Int.{bit_at}
 use Rattle.std.proofs.lemmas.Bool.{cases_Bool, cases_eq, false≢true, ne_eqb}
 use Rattle.std.proofs.lemmas.List.{append-nil}
+use Rattle.sig_auto.specs.Local.{is_last, is_nullable}
 use Rattle.sig_auto.specs.Runs.{EndsIn, FollowsOn, IsStepOf}
 use Rattle.sig_auto.specs.Successions.{succeeds}
-use Rattle.sig_auto.specs.Tracks.{Follows}
+use Rattle.sig_auto.specs.Tracks.{Accepting, Follows}
 use Rattle.sig_auto.specs.Trees.{Tree}
 use Rattle.sig_auto.specs.TreeSlots.{Takes, slots_of}
 use Rattle.sig_auto.specs.Trim.{IsTrim}
@@ -13,16 +14,16 @@ use Rattle.sig_auto.proofs.EndLemmas.{begin_only, ends_before, ends_further}
 use Rattle.sig_auto.proofs.LocalLemmas.{follows-slots}
 use Rattle.sig_auto.proofs.RunLemmas.{follows_shown}
 use Rattle.sig_auto.proofs.SuccessorLemmas.{follows_and_takes}
-use Rattle.sig_auto.proofs.TrimLemmas.{follows_exact}
+use Rattle.sig_auto.proofs.TrimLemmas.{accepting_exact, follows_exact}
 use Rattle.sig_bits.specs.BitSets.{HasBit}
 
 -- ---- a search over numbers
 
 -- some number below the bound has the property
-record SomeBelow (P : ℕ → Type 0) (bound : ℕ) : Type 0 where
-  number : ℕ
-  within : number < bound
-  holds : P number
+pub record SomeBelow (P : ℕ → Type 0) (bound : ℕ) : Type 0 where
+  pub number : ℕ
+  pub within : number < bound
+  pub holds : P number
 
 one_more : (P : ℕ → Type 0) (n : ℕ) → SomeBelow P n → SomeBelow P (suc n)
 one_more P n found = let within = found.within in record { number = found.number; within = omega arith; holds = found.holds }
@@ -33,7 +34,7 @@ none_more P n fails none found = elim (cases_eq found.number n) [
   | inr other ↦ none (let within = found.within in record { number = found.number; within = omega arith; holds = found.holds })
 ]
 
-some_or_none : (P : ℕ → Type 0) → ((k : ℕ) → P k ⊎ ¬ P k) → (n : ℕ) → SomeBelow P n ⊎ ¬ SomeBelow P n
+pub some_or_none : (P : ℕ → Type 0) → ((k : ℕ) → P k ⊎ ¬ P k) → (n : ℕ) → SomeBelow P n ⊎ ¬ SomeBelow P n
 some_or_none P each zero = inr (λ found. let within = found.within in omega arith)
 some_or_none P each (suc n) = elim (each n) [
   | inl holds ↦ inl (record { number = n; within = omega arith; holds = holds })
@@ -55,6 +56,15 @@ follows_or_not tree p b q trim =
     elim (cases_Bool (succeeds tree p b q)) [
       | inl passes ↦ inl (exact.0 passes)
       | inr fails ↦ inr (λ step. false≢true (sym fails ∙ exact.1 step))
+    ]
+
+-- some track ends with the state, or none does
+pub accepting_or_not : (tree : Tree) → IsTrim tree → (q : ℕ) → Accepting tree q ⊎ ¬ Accepting tree q
+accepting_or_not tree trim q =
+    let exact = accepting_exact tree trim q in
+    elim (cases_Bool (if q == 0 then is_nullable tree else is_last tree 0 q)) [
+      | inl passes ↦ inl (exact.0 passes)
+      | inr fails ↦ inr (λ ends. false≢true (sym fails ∙ exact.1 ends))
     ]
 
 leads_or_not : (tree : Tree) (P : ℕ → Type 0) (b q p : ℕ) → IsTrim tree → P p ⊎ ¬ P p → Leads tree P b q p ⊎ ¬ Leads tree P b q p

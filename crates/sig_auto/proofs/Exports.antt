@@ -1,7 +1,2 @@
 -- What other crates use of the lemmas of this one.
-pub use Rattle.sig_auto.proofs.RunLaws.{accepts_by_an_end, ends_in_a_slot, follows_above_the_start, follows_to_a_slot, runs_accept_what_stands, runs_begin, runs_end_or_not, runs_go_on, sets_lead_or_not, slots_are_counted}
-pub use Rattle.sig_auto.proofs.EndOrNotLemmas.{followed_is_state}
-pub use Rattle.sig_auto.proofs.MovesLemmas.{at_set, has_at, none_at}
-pub use Rattle.sig_auto.proofs.TakenLemmas.{length_classes}
-pub use Rattle.sig_auto.proofs.PassingLemmas.{Passes, runs_pass}
-pub use Rattle.sig_auto.proofs.WholeLemmas.{Long, Long-append, long_above, long_below, long_between}
+pub use Rattle.sig_auto.proofs.RunLaws.{accepts_by_an_end, ends_in_a_slot, follows_above_the_start, follows_to_a_slot, runs_accept_what_stands, runs_begin, runs_end_or_not, runs_go_on, sets_lead_or_not, slots_are_counted, stands_or_not}

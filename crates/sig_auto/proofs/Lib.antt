@@ -9,11 +9,6 @@ mod EndOrNotLemmas
 pub mod Exports
 mod LaterLemmas
 mod LocalLemmas
-mod LongGapLemmas
-mod MoveTreeLemmas
-mod MovesLemmas
-mod NextLemmas
-mod PassingLemmas
 mod PruneLemmas
 mod RowLemmas
 mod RowPushLemmas
@@ -21,10 +16,8 @@ mod RunLaws
 mod RunLemmas
 mod RunTreeLemmas
 mod SameLemmas
-mod ShortLemmas
 mod SideLemmas
 mod SpelledLemmas
-mod StateSetLemmas
 mod StepLemmas
 mod SuccessorLemmas
 mod TakenLemmas

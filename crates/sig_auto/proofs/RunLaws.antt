@@ -1,5 +1,5 @@
 -- The laws of the automaton, for proofs of other crates.
-use Rattle.std.proofs.Common.{◌≡◌, ◌↔◌, ◌⊎◌, ℕ, ◌<◌, ◌≤◌, List, [], ◌∷◌, ◌++◌, arith}
+use Rattle.std.proofs.Common.{◌≡◌, ◌↔◌, ◌⊎◌, ℕ, ◌+◌, ◌<◌, ◌≤◌, List, [], ◌∷◌, ◌++◌, inl, inr, arith}
 use Rattle.sig_auto.specs.Runs.{Accepts, EndsIn, IsStepOf}
 use Rattle.sig_auto.specs.Tracks.{Accepting, Follows}
 use Rattle.sig_auto.specs.Trees.{Tree, whole_tree}
@@ -10,7 +10,7 @@ use Rattle.sig_table.specs.Standing.{Stands}
 use Rattle.sig_table.specs.Tables.{IsSequence}
 use Rattle.sig_table.specs.Views.{SequenceView}
 use Rattle.sig_auto.proofs.EndLemmas.{begin_only, ends_before, ends_further, last_is_slot, next_is_slot}
-use Rattle.sig_auto.proofs.EndOrNotLemmas.{ends_or_not, step_or_not}
+use Rattle.sig_auto.proofs.EndOrNotLemmas.{accepting_or_not, ends_or_not, some_or_none, step_or_not}
 use Rattle.sig_auto.proofs.RunLemmas.{accepts_is_taken, run_states}
 use Rattle.sig_auto.proofs.TakenLemmas.{taken_is_word}
 use Rattle.sig_auto.proofs.WholeLemmas.{whole_is_trim, whole_slots}
@@ -63,3 +63,27 @@ runs_end_or_not s file q is = ends_or_not (whole_tree s) file (whole_is_trim s i
 -- some state of a set leads on, or none does
 pub sets_lead_or_not : (s : SequenceView) (set : List ℕ) (b q : ℕ) → IsSequence s → IsStepOf (whole_tree s) set b q ⊎ ¬ IsStepOf (whole_tree s) set b q
 sets_lead_or_not s set b q is = step_or_not (whole_tree s) set b q (whole_is_trim s is)
+
+-- a run of a file ends in an accepting state, or it does not end in this one or this one is none
+accepting_end_or_not : (s : SequenceView) (file : List ℕ) → IsSequence s → (q : ℕ) → (EndsIn (whole_tree s) file q × Accepting (whole_tree s) q) ⊎ ¬ (EndsIn (whole_tree s) file q × Accepting (whole_tree s) q)
+accepting_end_or_not s file is q = elim (runs_end_or_not s file q is) [
+  | inl ends ↦ elim (accepting_or_not (whole_tree s) (whole_is_trim s is) q) [
+    | inl accepting ↦ inl (ends, accepting)
+    | inr fails ↦ inr (λ both. fails both.1)
+  ]
+  | inr none ↦ inr (λ both. none both.0)
+]
+
+-- a sequence stands in a file, or it does not
+pub stands_or_not : (s : SequenceView) (file : List ℕ) → IsSequence s → IsBytes file → Stands s file ⊎ ¬ Stands s file
+stands_or_not s file is bytes =
+    let tree = whole_tree s in
+    let law = runs_accept_what_stands s file is bytes in
+    let ends = accepts_by_an_end tree file in
+    elim (some_or_none (λ q. EndsIn tree file q × Accepting tree q) (accepting_end_or_not s file is) (slots_of tree + 1)) [
+      | inl found ↦ inl (law.0 (ends.1 (found.number, found.holds.0, found.holds.1)))
+      | inr none ↦ inr (λ stands.
+          let end = ends.0 (law.1 stands) in
+          let slot = ends_in_a_slot tree file end.0 end.1 in
+          none (record { number = end.0; within = omega arith; holds = (end.1, end.2) }))
+    ]

@@ -10,7 +10,6 @@ use Rattle.sig_auto.specs.Stepping.{IsStepped, Leads}
 use Rattle.sig_auto.specs.Successions.{BeginsOn, GoesOn, IsLeastAbove, NoneLater}
 use Rattle.sig_auto.specs.Trees.{Tree, Slot, Then, row_tree}
 use Rattle.sig_auto.specs.TreeSlots.{classes_of, class_of, slots_of}
-use Rattle.sig_bits.specs.BitSets.{HasBit}
 use Rattle.sig_auto.proofs.LocalLemmas.{IsSlot, both, first_then, follows_then, last_then}
 use Rattle.sig_auto.proofs.StepLemmas.{stepped_then}
 
@@ -21,10 +20,6 @@ row_slots (c ∷ cs) = let more = row_slots cs in omega arith
 row_classes : (cs : List Class) → classes_of (row_tree cs) ≡ cs
 row_classes [] = refl
 row_classes (c ∷ cs) = ap (λ l. c ∷ l) (row_classes cs)
-
--- the classes of a run
-pub run_classes : (tree : Tree) (cs : List Class) → tree ≡ row_tree cs → classes_of tree ≡ cs
-run_classes tree cs is = ap classes_of is ∙ row_classes cs
 
 pub row_class : (tree : Tree) (cs : List Class) (k : ℕ) → tree ≡ row_tree cs → class_of tree k ≡ get_or cs (k - 1) any
 row_class tree cs k is = ap (λ t. class_of t k) is ∙ ap (λ l. get_or l (k - 1) any) (row_classes cs)
@@ -137,22 +132,6 @@ run_stops tree cs before n p is many stops r =
       λ h. absurd (false≢true h),
       λ h. let goes = law.0 h in absurd (stops (goes.0, omega arith)),
     )
-    )
-
--- what stands behind it is entered where a state of the set is the last slot
-pub run_leads : (tree : Tree) (cs : List Class) (before n : ℕ) (enter r : Bool) (from : List ℕ) → tree ≡ row_tree cs → n ≡ slots_of tree → 0 < length cs → (IsTrue r ↔ HasBit from (before + n)) → IsTrue r ↔ Leads tree before enter from
-run_leads tree cs before n enter r from is many some bit =
-    let all = run_counts tree cs is in
-    let empty = row_nullable cs in
-    rw is (
-      λ h. inr (before + n, bit.0 h, (row_last cs before (before + n)).1 (omega arith, omega arith)),
-      λ h. elim h [
-        | inl skipped ↦ absurd (let none = empty.0 skipped.1 in omega arith)
-        | inr ended ↦
-            let last = (row_last cs before ended.0).0 ended.2 in
-            let same : ended.0 ≡ before + n = omega arith in
-            bit.1 (subst (HasBit from) same ended.1)
-      ],
     )
 
 -- the one slot that begins it, and the one that goes behind p

@@ -1,13 +1,11 @@
 -- What is known of a node that spells a sequence.
-use Rattle.std.proofs.Common.{[], ◌∷◌, ◌≡◌, ◌↔◌, ◌+◌, ◌/◌, ◌<◌, ◌≤◌, ℕ, List, subst, sym, ap, arith, ◌∙◌}
+use Rattle.std.proofs.Common.{◌≡◌, ◌↔◌, ◌+◌, ◌/◌, ◌<◌, ◌≤◌, ℕ, List, length, subst, sym, ap, arith, ◌∙◌}
 use Rattle.sig_auto.proofs.SameLemmas.{same_accepting, same_follows, same_takes}
 use Rattle.sig_auto.proofs.WholeLemmas.{whole_is_trim, whole_slots}
 use Rattle.sig_auto.specs.declared.node.Node.{Node}
-use Rattle.sig_auto.specs.Reaching.{IsReached, Reaches}
-use Rattle.sig_auto.specs.Runs.{StepsAlone}
 use Rattle.sig_auto.specs.Same.{IsSame}
 use Rattle.sig_auto.specs.Seen.{seen}
-use Rattle.sig_auto.specs.Spelled.{Spells}
+use Rattle.sig_auto.specs.Spelled.{IsAutoOf, Spells}
 use Rattle.sig_auto.specs.Tracks.{Accepting, Follows}
 use Rattle.sig_auto.specs.Trees.{Tree, whole_tree}
 use Rattle.sig_auto.specs.TreeSlots.{Takes, set_len, slots_of}
@@ -75,11 +73,23 @@ stepped a b from q byte same h =
       λ x. h.1 (x.0, x.1, (same_follows a b x.0 q same).1 x.2, takes.1 x.3),
     )
 
-pub some_accepted : {P : Type 0} (a b : Tree) (set : List ℕ) → IsSame a b → (P ↔ ((p : ℕ) × HasBit set p × Accepting a p)) → P ↔ ((p : ℕ) × HasBit set p × Accepting b p)
-some_accepted a b set same h = (
-  λ x. (let all = h.0 x in (all.0, all.1, (same_accepting a b all.0 same).0 all.2)),
-  λ x. h.1 (x.0, x.1, (same_accepting a b x.0 same).1 x.2),
-)
+-- the set of the accepting states of the node's tree is that of the sequence's
+pub auto_of : (root : Node) (accepting : List ℕ) (s : SequenceView) → Spells root s → length accepting ≡ set_len (seen root) → ((p : ℕ) → HasBit accepting p ↔ Accepting (seen root) p) → IsAutoOf root accepting s
+auto_of root accepting s spells len is = record {
+  spells = spells;
+  accepting_len = len ∙ ap (λ n. (n + 8) / 8) spells.same.slots;
+  accepting_is = λ p. accepted (seen root) (whole_tree s) p spells.same (is p);
+}
+
+-- a set has something in common with that of the accepting states
+pub some_accepted : {P : Type 0} (s now : SequenceView) (set accepting list : List ℕ) → s ≡ now → list ≡ accepting → ((p : ℕ) → HasBit accepting p ↔ Accepting (whole_tree s) p) → (P ↔ ((p : ℕ) × (HasBit set p × HasBit list p))) → P ↔ ((p : ℕ) × HasBit set p × Accepting (whole_tree now) p)
+some_accepted s now set accepting list same is has asked =
+    let Q : SequenceView → Type 0 = λ t. (p : ℕ) → HasBit accepting p ↔ Accepting (whole_tree t) p in
+    let R : List ℕ → Type 0 = λ l. (p : ℕ) → HasBit l p ↔ Accepting (whole_tree now) p in
+    let at = subst R (sym is) (subst Q same has) in (
+      λ x. let common = asked.0 x in (common.0, common.1.0, (at common.0).0 common.1.1),
+      λ x. asked.1 (x.0, (x.1, (at x.0).1 x.2)),
+    )
 
 -- the bytes that no slot of the one tells apart
 abbrev NotApart : Tree → ℕ → ℕ → Type 0
@@ -101,25 +111,3 @@ not_apart_back a b x y same h q low high =
 
 pub told_apart : {P : Type 0} (a b : Tree) (x y : ℕ) → IsSame a b → (P ↔ NotApart a x y) → P ↔ NotApart b x y
 told_apart a b x y same h = (λ p. not_apart a b x y same (h.0 p), λ n. h.1 (not_apart_back a b x y same n))
-
-pub stepped_alone : (a b : Tree) (p byte : ℕ) → IsSame a b → StepsAlone a p byte → StepsAlone b p byte
-stepped_alone a b p byte same alone = record {
-  step = λ q c small follows takes. alone.step q c small ((same_follows a b p q same).1 follows) ((same_takes a b q c same).1 takes);
-  small = alone.small;
-}
-
--- the same bytes lead on
-reached : (a b : Tree) (bytes : List ℕ) (p q : ℕ) → IsSame a b → Reaches a p bytes q → Reaches b p bytes q
-reached a b [] p q same h = h
-reached a b (c ∷ bytes) p q same h = (h.0, (same_follows a b p h.0 same).0 h.1, (same_takes a b h.0 c same).0 h.2, reached a b bytes h.0 q same h.3)
-
-reached_back : (a b : Tree) (bytes : List ℕ) (p q : ℕ) → IsSame a b → Reaches b p bytes q → Reaches a p bytes q
-reached_back a b [] p q same h = h
-reached_back a b (c ∷ bytes) p q same h = (h.0, (same_follows a b p h.0 same).1 h.1, (same_takes a b h.0 c same).1 h.2, reached_back a b bytes h.0 q same h.3)
-
--- two sets that lead to the same, each by its bytes
-pub led_alike : (a b : Tree) (set other left right : List ℕ) (q : ℕ) → IsSame a b → (IsReached a set left q ↔ IsReached a other right q) → IsReached b set left q ↔ IsReached b other right q
-led_alike a b set other left right q same h = (
-  λ x. (let on = h.0 (x.0, x.1, reached_back a b left x.0 q same x.2) in (on.0, on.1, reached a b right on.0 q same on.2)),
-  λ x. (let on = h.1 (x.0, x.1, reached_back a b right x.0 q same x.2) in (on.0, on.1, reached a b left on.0 q same on.2)),
-)

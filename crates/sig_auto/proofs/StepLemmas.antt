@@ -1,7 +1,7 @@
 -- What a set of states does on a byte, from the branches of a tree to the tree.
-use Rattle.std.proofs.Common.{◌≡◌, ◌↔◌, ◌⊎◌, ℕ, ◌+◌, ◌-◌, ◌<◌, ◌≤◌, ◌==◌, Bool, true, nat_lt, List, ◌++◌, get_or, replicate, Option, Some, None, IsTrue, subst, sym, ap, ◌∙◌, refl, inl, inr, arith}
+use Rattle.std.proofs.Common.{◌≡◌, ◌↔◌, ◌⊎◌, ℕ, ◌+◌, ◌-◌, ◌<◌, ◌≤◌, ◌==◌, Bool, true, nat_lt, List, ◌++◌, get_or, length, replicate, take, Option, Some, None, IsTrue, subst, sym, ap, ◌∙◌, refl, inl, inr, arith}
 use Rattle.std.proofs.lemmas.Bool.{and_parts, cases_eq, cases_lt, eq-eqb, ne_eqb, eqb-true, false≢true}
-use Rattle.std.proofs.lemmas.List.{get_or_past, get_or-append_right, get_or-replicate, get_or_append_left, length-replicate}
+use Rattle.std.proofs.lemmas.List.{get_or_past, get_or-append_right, get_or-replicate, get_or_append_left, length-replicate, take-append-le, take_all}
 use Rattle.sig_auto.specs.Classes.{InClass, any}
 use Rattle.sig_auto.specs.Local.{is_first, follows, loops}
 use Rattle.sig_auto.specs.Stepping.{IsNext, IsNextInGap, IsStepped, Leads}
@@ -15,7 +15,7 @@ use Rattle.sig_table.specs.Slots.{gap_slots}
 use Rattle.sig_auto.proofs.TakenLemmas.{length_classes}
 use Rattle.sig_auto.proofs.LocalLemmas.{IsSlot, first_or, first_then, follows_or, follows_then, is_first-slot, is_last-slot, gap_begins, gap_goes_none, gap_goes_some, gap_next, gap_stays, follows-slots}
 use Rattle.sig_auto.proofs.RunLemmas.{accepting_shown, follows_shown}
-use Rattle.sig_auto.proofs.TrimLemmas.{accepting_exact, follows_exact}
+use Rattle.sig_auto.proofs.TrimLemmas.{follows_exact}
 
 -- a slot has its class from its branch
 class_left : (a b : Tree) (before q : ℕ) → IsSlot a before q → get_or (classes_of a ++ classes_of b) (q - before - 1) any ≡ class_of a (q - before)
@@ -223,6 +223,10 @@ added_to_none zeros n q none is same = (
   λ h. is.1 (inr (same.1 h)),
 )
 
+-- what is written over a whole buffer
+pub written : (to back : List ℕ) (len : ℕ) → length to ≡ len → take len (to ++ back) ≡ to
+written to back len all = take-append-le len to back (omega arith) ∙ take_all len to (omega arith)
+
 -- one bit that is set in none
 pub alone : {New : Type 0} (zeros : List ℕ) (n q i : ℕ) → zeros ≡ replicate n 0 → (New ↔ ((q ≡ i) ⊎ HasBit zeros q)) → New ↔ (q ≡ i)
 alone zeros n q i none is = (
@@ -230,19 +234,48 @@ alone zeros n q i none is = (
   λ same. is.1 (inl same),
 )
 
--- what leads out of the whole tree is an accepting state of the set
-pub led_whole : (tree : Tree) (enter : Bool) (from : List ℕ) → IsTrim tree → (IsTrue enter ↔ HasBit from 0) → Leads tree 0 enter from ↔ ((p : ℕ) × HasBit from p × Accepting tree p)
-led_whole tree enter from trim start = (
-  λ h. elim h [
-    | inl skipped ↦ (0, start.0 skipped.0, (accepting_exact tree trim 0).0 skipped.1)
-    | inr ended ↦
-        let slot = is_last-slot tree 0 ended.0 ended.2 in
-        let other : ended.0 ≡ 0 → ⊥ = λ e. omega arith in
-        (ended.0, ended.1, (accepting_exact tree trim ended.0).0 (rw (ne_eqb ended.0 0 other) ended.2))
+-- the accepting states below a limit are added
+abbrev pub AddsBelow : Tree → ℕ → List ℕ → List ℕ → Type 0
+AddsBelow tree n old new = (q : ℕ) → HasBit new q ↔ (HasBit old q ⊎ ((q < n) × Accepting tree q))
+
+-- none is added yet
+pub adds_none : (tree : Tree) (old : List ℕ) → AddsBelow tree 0 old old
+adds_none tree old q = (λ h. inl h, λ h. elim h [ inl before ↦ before | inr added ↦ absurd (omega (arith, added.0)) ])
+
+-- the next state is added where it accepts
+pub adds_next : (tree : Tree) (n : ℕ) (old mid new : List ℕ) (wanted : Bool) → (IsTrue wanted ↔ Accepting tree n) → ((q : ℕ) → HasBit new q ↔ (HasBit mid q ⊎ ((q ≡ n) × IsTrue wanted))) → AddsBelow tree n old mid → AddsBelow tree (n + 1) old new
+adds_next tree n old mid new wanted accepts step below q = (
+  λ h. elim ((step q).0 h) [
+    | inl had ↦ elim ((below q).0 had) [ inl before ↦ inl before | inr added ↦ inr (omega (arith, added.0), added.1) ]
+    | inr is ↦ inr (omega (arith, is.0), subst (Accepting tree) (sym is.0) (accepts.0 is.1))
   ],
-  λ h. elim (cases_eq h.0 0) [
-    | inl none ↦ inl (start.1 (subst (HasBit from) none h.1), rw (eq-eqb h.0 0 none) at (accepting_shown tree h.0 h.2))
-    | inr other ↦ inr (h.0, h.1, rw (ne_eqb h.0 0 other) at (accepting_shown tree h.0 h.2))
+  λ h. elim h [
+    | inl before ↦ (step q).1 (inl ((below q).1 (inl before)))
+    | inr added ↦
+        elim (cases_lt q n) [
+          | inl low ↦ (step q).1 (inl ((below q).1 (inr (low, added.1))))
+          | inr last ↦
+              let same : q ≡ n = omega (arith, added.0, last) in
+              (step q).1 (inr (same, accepts.1 (subst (Accepting tree) same added.1)))
+        ]
+  ],
+)
+
+-- an accepting state is the start or a slot
+accepting_within : (tree : Tree) (q : ℕ) → Accepting tree q → q ≤ slots_of tree
+accepting_within tree q h =
+    elim (cases_eq q 0) [
+      | inl none ↦ omega (arith, none)
+      | inr other ↦ let slot = is_last-slot tree 0 q (rw (ne_eqb q 0 other) at (accepting_shown tree q h)) in omega (arith, slot.1)
+    ]
+
+-- all are added
+pub adds_all : (tree : Tree) (n q : ℕ) (old new : List ℕ) → slots_of tree < n → AddsBelow tree n old new → HasBit new q ↔ (HasBit old q ⊎ Accepting tree q)
+adds_all tree n q old new all below = (
+  λ h. elim ((below q).0 h) [ inl before ↦ inl before | inr added ↦ inr added.1 ],
+  λ h. elim h [
+    | inl before ↦ (below q).1 (inl before)
+    | inr accepts ↦ let within = accepting_within tree q accepts in (below q).1 (inr (omega (arith, within, all), accepts))
   ],
 )
 

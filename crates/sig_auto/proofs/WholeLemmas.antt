@@ -154,12 +154,6 @@ length_between (x ∷ xs) (y ∷ ys) =
     length_by (nat_eq x y) (behind x (between xs ys)) (split_rows x y xs ys) (between_rows xs ys) (above_rows xs + below_rows ys + inner_row x y + 2)
     (length_behind x (between xs ys) ∙ length_between xs ys) (length_split x y xs ys)
 
-pub slots_below : (xs : List ℕ) → slots_of (rows_tree (below xs)) ≡ length xs * below_rows xs
-slots_below xs = slots_rows (length xs) (below xs) (long_below xs) ∙ ap (λ n. length xs * n) (length_below xs)
-
-pub slots_above : (xs : List ℕ) → slots_of (rows_tree (above xs)) ≡ length xs * above_rows xs
-slots_above xs = slots_rows (length xs) (above xs) (long_above xs) ∙ ap (λ n. length xs * n) (length_above xs)
-
 pub slots_between : (xs ys : List ℕ) → length xs ≡ length ys → slots_of (rows_tree (between xs ys)) ≡ length xs * between_rows xs ys
 slots_between xs ys h = slots_rows (length xs) (between xs ys) (long_between xs ys h) ∙ ap (λ n. length xs * n) (length_between xs ys)
 
@@ -371,10 +365,6 @@ whole_is_trim s h =
     let front = front_sound s.position h.offsets in
     let others = whole_sound s h in
     (front.trim, others.trim, front.track, others.track)
-
--- it has a track
-pub whole_has_track : (s : SequenceView) → IsSequence s → HasTrack (whole_tree s)
-whole_has_track s h = ((front_sound s.position h.offsets).track, (whole_sound s h).track)
 
 -- it has as many slots as are counted
 pub whole_slots : (s : SequenceView) → IsSequence s → slots_of (whole_tree s) ≡ slot_count s

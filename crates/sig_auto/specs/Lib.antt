@@ -7,10 +7,6 @@ pub mod Tracks
 pub mod Runs
 pub mod ByteCuts
 pub mod Remaining
-pub mod Reaching
-pub mod Moves
-pub mod StateSets
-pub mod LongGaps
 -- These are words of the proofs.
 pub mod Begins
 pub mod Counted
@@ -18,7 +14,6 @@ pub mod Cuts
 pub mod Local
 pub mod Same
 pub mod Seen
-pub mod Shorts
 pub mod Sides
 pub mod Spelled
 pub mod Stepping

@@ -1,5 +1,5 @@
 -- Runs of the position automaton over a file.
-use Rattle.std.specs.Prelude.{◌≡◌, ◌↔◌, ◌+◌, ◌<◌, ◌≤◌, ℕ, List, [], ◌∷◌, ◌++◌, ⊤}
+use Rattle.std.specs.Prelude.{◌≡◌, ◌↔◌, ◌<◌, ◌≤◌, ℕ, List, [], ◌∷◌, ◌++◌, ⊤}
 use Rattle.sig_auto.specs.Trees.{Tree}
 use Rattle.sig_auto.specs.TreeSlots.{Takes, slots_of}
 use Rattle.sig_auto.specs.Tracks.{Accepting, Follows}
@@ -44,11 +44,6 @@ FollowsOn tree p byte q = Follows tree p q × Takes tree q byte
 -- some state follows p and takes the byte
 abbrev pub LeadsOn : Tree → ℕ → ℕ → Type 0
 LeadsOn tree p byte = (q : ℕ) × Follows tree p q × Takes tree q byte
-
--- the next state alone follows p, and takes this byte alone
-pub record StepsAlone (tree : Tree) (p byte : ℕ) : Type 0 where
-  pub step : (q b : ℕ) → b < 256 → Follows tree p q → Takes tree q b → (b ≡ byte) × (q ≡ p + 1)
-  pub small : p < 65535
 
 -- the same states follow p on both bytes
 abbrev pub LeadsAlike : Tree → ℕ → ℕ → ℕ → Type 0

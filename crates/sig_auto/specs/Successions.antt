@@ -1,9 +1,9 @@
 -- The slots that follow a state on a byte, in order.
-use Rattle.std.specs.Prelude.{◌≡◌, ◌↔◌, ℕ, zero, suc, ◌+◌, ◌-◌, ◌<◌, ◌==◌, ◌&&◌, ◌||◌, nat_le, nat_lt, Bool, true, false, if◌then◌else◌, List, [], ◌∷◌, Option, Some, None, MatchOption}
+use Rattle.std.specs.Prelude.{◌≡◌, ℕ, zero, suc, ◌+◌, ◌-◌, ◌<◌, ◌==◌, ◌&&◌, ◌||◌, nat_le, nat_lt, Bool, true, if◌then◌else◌, List, [], ◌∷◌, Option, Some, None, MatchOption}
 use Rattle.sig_auto.specs.declared.class.Class.{Class}
 use Rattle.sig_auto.specs.declared.class.Class.TheVariants.{Within, Outside}
 use Rattle.sig_auto.specs.Classes.{InClass}
-use Rattle.sig_auto.specs.Local.{is_first, is_last, follows}
+use Rattle.sig_auto.specs.Local.{is_first, follows}
 use Rattle.sig_auto.specs.Trees.{Tree}
 use Rattle.sig_auto.specs.TreeSlots.{class_of, slots_of}
 
@@ -23,12 +23,6 @@ BeginsOn tree before byte q = (is_first tree before q ≡ true) × InClass (clas
 -- slot q goes behind slot p and takes the byte
 abbrev pub GoesOn : Tree → ℕ → ℕ → ℕ → ℕ → Type 0
 GoesOn tree before p byte q = (follows tree before p q ≡ true) × InClass (class_of tree (q - before)) byte
-
--- one slot alone goes behind slot p, the next one, which has this class; and no track ends with p
-pub record GoesToNext (tree : Tree) (before p : ℕ) (class : Class) : Type 0 where
-  pub goes : (b q : ℕ) → GoesOn tree before p b q ↔ ((q ≡ p + 1) × InClass class b)
-  pub more : is_last tree before p ≡ false
-  pub within : p < before + slots_of tree
 
 -- the test whether a byte is in a class
 abbrev pub in_class : Class → ℕ → Bool

@@ -1,5 +1,8 @@
-//! Slots that go on alike: those that follow the one are those that follow the other. So do the last
-//! slots of the alternatives of a list.
+//! States with the same successors: a test that may miss some, and is right whenever it is true.
+//!
+//! In `41(42|43)44` the slots of 42 and of 43 lead to that of 44 alone, and so do the last slots of
+//! all alternatives of a list. Most questions end where the ways to the two part in the tree. Two
+//! slots of one gap, or of one run, are never found alike; whoever asks then expands both.
 
 ghost use Rattle.std.specs.Prelude.{◌≡◌, ◌+◌, ◌≤◌, ℕ, IsTrue};
 ghost use Rattle.sig_auto.specs.Counted.{IsCounted};
@@ -11,9 +14,9 @@ use crate::node::Node;
 use crate::run::goes_in_run;
 
 impl Node {
-    // Whether the slots that follow p are found to be those that follow q. A slot that the tree does
-    // not have goes nowhere in it. Of two slots of a gap nothing is found, nor of two that stand one
-    // behind the other: most questions end where the ways to the two part.
+    // Whether the slots that follow p are found to be those that follow q. A slot that the tree
+    // does not have goes nowhere in it. Of two slots of a gap nothing is found, nor of two that
+    // stand one behind the other: most questions end where the ways to the two part.
     pub(crate) fn go_on_alike(&self, before: usize, p: usize, q: usize) -> bool
         requires counted { IsCounted self.now }
         requires few { before + slots_of (seen self.now) ≤ 65535 }

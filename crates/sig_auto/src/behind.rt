@@ -1,24 +1,20 @@
 //! The bytes on which a state has successors, and the cuts between them: the bytes on which its
-//! successors are others than on the byte below. So from a cut up to the next one, all bytes lead to
-//! the same states.
+//! successors are others than on the byte below. So from a cut up to the next one, all bytes lead
+//! to the same states.
 
-ghost use Rattle.std.specs.Prelude.{◌≡◌, ◌↔◌, ℕ, ◌+◌, ◌≤◌, ◌<◌, IfSome};
+ghost use Rattle.std.specs.Prelude.{◌≡◌, ◌↔◌, ℕ, ◌+◌, ◌≤◌, ◌<◌};
 ghost use Rattle.sig_auto.specs.Counted.{IsCounted};
 ghost use Rattle.sig_auto.specs.Cuts.{AddsAllCuts, AddsAlone, AddsCuts, AddsLive};
 ghost use Rattle.sig_auto.specs.Local.{is_last};
 ghost use Rattle.sig_auto.specs.Seen.{seen};
-ghost use Rattle.sig_auto.specs.Runs.{StepsAlone};
-ghost use Rattle.sig_auto.specs.Successions.{BeginsOn, GoesOn, GoesToNext};
+ghost use Rattle.sig_auto.specs.Successions.{BeginsOn, GoesOn};
 ghost use Rattle.sig_auto.specs.Tracks.{Follows};
 ghost use Rattle.sig_auto.specs.TreeSlots.{Takes, slots_of};
 ghost use Rattle.sig_auto.specs.Trim.{IsTrim};
 ghost use Rattle.sig_bits.specs.ByteClasses.{Holds};
 
-use crate::class::Class;
 use crate::node::{Node, ends_gap};
-use crate::run::{
-    add_all_alone, add_all_cuts, add_begin_run, add_behind_run, class_behind, ends_run,
-};
+use crate::run::{add_all_alone, add_all_cuts, add_begin_run, add_behind_run, ends_run};
 use sig_bits::ByteClass;
 
 impl Node {
@@ -69,48 +65,6 @@ impl Node {
         live
     }
 
-    // The byte on which alone a slot follows the state, which is then the next one, where the state stands in a run
-    // and does not end it.
-    pub(crate) fn byte_behind(&self, state: usize) -> Option<u8>
-        requires counted { IsCounted self.now }
-        requires trim { IsTrim (seen self.now) }
-        requires few { slots_of (seen self.now) ≤ 65535 }
-        ensures { IfSome result (StepsAlone (seen self.now) state) }
-    {
-        if state == 0 {
-            return None;
-        }
-        self.class_behind(0, state)?.lone_byte()
-    }
-
-    // The class of the slot behind p, where p stands in a run and does not end it: that slot alone goes behind p.
-    fn class_behind(&self, before: usize, p: usize) -> Option<Class>
-        requires counted { IsCounted self.now }
-        requires few { before + slots_of (seen self.now) ≤ 65535 }
-        ensures { IfSome result (GoesToNext (seen self.now) before p) }
-    {
-        match self {
-            Node::Never | Node::Empty | Node::Slot(_) | Node::Gap { .. } => None,
-            Node::Run(classes) => class_behind(classes.as_slice(), before, p),
-            Node::Then(both, _) => {
-                let between = before + both.first.slots();
-                if between < p {
-                    both.second.class_behind(between, p)
-                } else {
-                    both.first.class_behind(before, p)
-                }
-            }
-            Node::Or(both, _) => {
-                let between = before + both.first.slots();
-                if between < p {
-                    both.second.class_behind(between, p)
-                } else {
-                    both.first.class_behind(before, p)
-                }
-            }
-        }
-    }
-
     // Adds the bytes on which a slot begins the tree, and the cuts between them.
     fn add_begin(&self, live: &mut ByteClass, cuts: &mut ByteClass)
         requires counted { IsCounted self.now }
@@ -143,8 +97,8 @@ impl Node {
         }
     }
 
-    // Adds the bytes on which a slot goes behind p, and the cuts between them. Answers whether some track
-    // ends with p.
+    // Adds the bytes on which a slot goes behind p, and the cuts between them. Answers whether some
+    // track ends with p.
     fn add_behind(
         &self,
         before: usize,

@@ -1,4 +1,8 @@
-//! The bytes that a slot takes.
+//! The bytes that a slot takes, its class: a span of bytes, or all bytes outside one.
+//!
+//! Each item gives such classes: `41` the span 41 to 41, `??` 00 to FF, and `[!41:43]` what is
+//! outside 41 to 43. So a class takes three bytes, and it separates a byte from the one below only
+//! at the ends of its span. Callers of this crate get a `ByteClass`.
 
 ghost use Rattle.std.specs.Prelude.{◌≡◌, ◌↔◌, ◌≢◌, ℕ, ◌+◌, ◌<◌, IfSome, IsTrue};
 ghost use Rattle.sig_auto.specs.Classes.{InClass, IsSpelled};
@@ -39,23 +43,8 @@ impl Class {
         }
     }
 
-    /// The byte of a class that is spelled with one, and has it alone.
-    pub fn lone_byte(self) -> Option<u8>
-        ensures { IfSome result (λ byte. (b : ℕ) → InClass self b → b ≡ byte) }
-    {
-        match self {
-            Class::Within(first, last) => {
-                if first < last {
-                    return None;
-                }
-                Some(first)
-            }
-            Class::Outside(_, _) => None,
-        }
-    }
-
-    /// Adds its first byte and the byte behind its last: at any other, it has both that byte and the
-    /// one below, or neither.
+    /// Adds its first byte and the byte behind its last: at any other, it has both that byte and
+    /// the one below, or neither.
     pub fn add_cuts(self, cuts: &mut ByteClass)
         ensures { (b : ℕ) → b + 1 < 256 → ¬ Holds cuts.new (b + 1) → (¬ Holds cuts.old (b + 1)) × SameSide self b (b + 1) }
     {

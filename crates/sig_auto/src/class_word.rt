@@ -1,4 +1,8 @@
-//! Brackets of several bytes as rows of classes.
+//! Brackets of several bytes as rows of classes, one class for each byte.
+//!
+//! `[4142:4241]` has the rows `41 42`, `41 43-FF`, `42 00-40` and `42 41`, each an alternative of
+//! the tree. They are made once, with the automaton, so a step looks at classes alone; the limit of
+//! slots bounds them. Their order numbers the slots, and certificates name slots by number.
 
 ghost use Rattle.std.specs.Prelude.{◌≡◌, ◌++◌, ◌+◌, ◌≤◌, ◌<◌, [], ◌∷◌, OnOk, drop, length, map, slice_index, take, IfOk};
 ghost use Rattle.sig_auto.specs.Rows.{above, behind_these, below, between, inner_at, only_these, rest};
@@ -51,7 +55,8 @@ fn push_above(
     Ok(())
 }
 
-// Adds the row of the words that agree with the bytes before place j, and are there between the two.
+// Adds the row of the words that agree with the bytes before place j, and are there between the
+// two.
 fn push_inner(
     alloc: Global,
     rows: &mut Vec<ClassWord>,

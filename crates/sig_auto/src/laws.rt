@@ -1,4 +1,8 @@
-//! Laws of the automaton.
+//! Laws of the automaton: what its runs say of files.
+//!
+//! `runs_accept_what_stands` is what it is for: some run of a file accepts exactly if the sequence
+//! occurs in the file. The others say how runs begin, go on by a byte and end, as the subset
+//! construction takes them, and that it can be decided in which states the runs of a file end.
 
 ghost use Rattle.std.specs.Prelude.{◌≡◌, ◌↔◌, ◌⊎◌, ◌<◌, ◌≤◌, ℕ, List, [], ◌∷◌, ◌++◌};
 ghost use Rattle.sig_auto.specs.Runs.{Accepts, EndsIn, GoesOnTo, IsStepOf};
@@ -43,9 +47,10 @@ pub fn states_are_slots()
     ensures above { (tree : Tree) (p q : ℕ) → Follows tree p q → 0 < q }
 {}
 
-/// For a sequence of a table it can be told whether some run of a file ends in a state, and whether a state of a set leads
-/// to it on a byte.
+/// For a sequence of a table it can be told whether some run of a file ends in a state, whether
+/// a state of a set leads to it on a byte, and so whether the sequence stands in a file.
 pub fn runs_are_decided()
     ensures ends { (s : SequenceView) (file : List ℕ) (q : ℕ) → IsSequence s → EndsIn (whole_tree s) file q ⊎ ¬ EndsIn (whole_tree s) file q }
     ensures steps { (s : SequenceView) (set : List ℕ) (b q : ℕ) → IsSequence s → IsStepOf (whole_tree s) set b q ⊎ ¬ IsStepOf (whole_tree s) set b q }
+    ensures stands { (s : SequenceView) (file : List ℕ) → IsSequence s → IsBytes file → Stands s file ⊎ ¬ Stands s file }
 {}

@@ -9,13 +9,9 @@ mod behind;
 mod class;
 mod class_word;
 mod laws;
-mod long_gap;
-mod moves;
 mod node;
 mod run;
-mod short;
 mod start;
-mod state_set;
 mod step;
 mod successors;
 mod unroll;
@@ -25,8 +21,5 @@ pub use laws::{
     accepts_by_an_end, runs_accept_what_stands, runs_are_decided, runs_begin, runs_go_on,
     slots_are_counted, states_are_slots,
 };
-pub use long_gap::LongGap;
-pub use moves::Moves;
 pub use start::{accepts_empty, first_bytes};
-pub use state_set::{FourWords, StateSet};
 pub use successors::Successors;

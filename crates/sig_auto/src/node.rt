@@ -1,7 +1,9 @@
 //! The tree of a sequence: its slots, and in which order bytes take them.
 //!
-//! After Glushkov: whether it is nullable, which slots may be the first and the last, and which follow
-//! each other. A question about a slot passes over the branches that do not have it.
+//! After Glushkov: whether it is nullable, which slots may be the first and the last, and which
+//! follow each other. A question about a slot passes over the branches that do not have it. Each
+//! branch keeps its count of slots, and `unroll` groups branches near their middle, so a walk is
+//! about as deep as the logarithm of the expression's length, and needs little stack.
 
 ghost use Rattle.std.specs.Prelude.{◌≡◌, ◌↔◌, ◌+◌, ◌-◌, ◌<◌, ◌≤◌, ◌&&◌, nat_le, nat_lt, IfOk, IsTrue, min};
 ghost use Rattle.sig_auto.specs.Counted.{IsCounted};

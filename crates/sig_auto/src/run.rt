@@ -112,8 +112,8 @@ pub(crate) fn add_behind_run(
     }
 }
 
-// Adds the slots of the run that follow a state of `from` and take the byte, and the first where the
-// run is entered. Says whether what stands behind it is entered.
+// Adds the slots of the run that follow a state of `from` and take the byte, and the first where
+// the run is entered. Says whether what stands behind it is entered.
 pub(crate) fn step_run(
     classes: &[Class],
     before: usize,
@@ -135,7 +135,8 @@ pub(crate) fn step_run(
     led
 }
 
-// Adds the slot where it is entered and takes the byte. Says whether what stands behind it is entered.
+// Adds the slot where it is entered and takes the byte. Says whether what stands behind it is
+// entered.
 pub(crate) fn step_slot(
     class: Class,
     before: usize,

@@ -1,4 +1,4 @@
-//! What a sequence does at the start of a file, told without its automaton.
+//! What a sequence does at the start of a file, found without its automaton.
 //!
 //! Only a gap can be skipped, and each gap has a slot that takes any byte: so the first item tells
 //! with which bytes an expression begins.
@@ -32,7 +32,8 @@ pub fn first_bytes(sequence: &Sequence) -> ByteClass
     }
 }
 
-/// Whether the start of the sequence's automaton is accepting: the sequence stands in the empty file.
+/// Whether the start of the sequence's automaton is accepting: the sequence stands in the empty
+/// file.
 pub fn accepts_empty(sequence: &Sequence) -> bool
     ensures { IsTrue result ↔ Accepting (whole_tree sequence.now) 0 }
 {

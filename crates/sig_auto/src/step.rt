@@ -1,14 +1,15 @@
-//! Sets of states on a byte, without memory of their own.
+//! Sets of states: what a byte leads to, without memory of its own, and which states accept.
 //!
 //! One walk over the tree from left to right carries one bit: whether what stands next is entered,
 //! since a state of the set ends what stands before it. So the work is that of the slots, however
 //! many states the set has.
 
-ghost use Rattle.std.specs.Prelude.{◌≡◌, ◌+◌, ◌*◌, ◌<◌, ◌≤◌, ◌↔◌, ◌⊎◌, ℕ, IsTrue, length};
+ghost use Rattle.std.specs.Prelude.{◌≡◌, ◌+◌, ◌*◌, ◌<◌, ◌≤◌, ◌↔◌, ◌⊎◌, ℕ, IfOk, IsTrue, length};
 ghost use Rattle.sig_auto.specs.Counted.{IsCounted};
-ghost use Rattle.sig_auto.specs.Runs.{HasAccepting, IsStepOf};
+ghost use Rattle.sig_auto.specs.Runs.{IsStepOf};
 ghost use Rattle.sig_auto.specs.Seen.{seen};
 ghost use Rattle.sig_auto.specs.Stepping.{IsNextInGap, IsStepped, Leads, LeadsInGap};
+ghost use Rattle.sig_auto.specs.Tracks.{Accepting};
 ghost use Rattle.sig_auto.specs.TreeSlots.{set_len, slots_of};
 ghost use Rattle.sig_auto.specs.Trim.{IsTrim};
 ghost use Rattle.sig_bits.specs.BitSets.{HasBit};
@@ -16,6 +17,7 @@ ghost use Rattle.sig_bits.specs.BitSets.{HasBit};
 use crate::node::Node;
 use crate::run::{step_run, step_slot};
 use sig_bits::{any_between, clear, get_bit, set_bit, shift_into};
+use std::alloc::{AllocError, Global};
 
 impl Node {
     // Makes `to` the set of all states that follow a state of `from` and take the byte.
@@ -31,15 +33,44 @@ impl Node {
         self.step(0, get_bit(from, 0), byte, from, to);
     }
 
-    // Whether some state of the set is accepting.
-    pub(crate) fn any_accepting(&self, set: &[u8]) -> bool
+    // The set of the accepting states.
+    pub(crate) fn accepting_set(&self, alloc: Global) -> Result<Vec<u8>, AllocError>
         requires counted { IsCounted self.now }
         requires trim { IsTrim (seen self.now) }
         requires few { slots_of (seen self.now) ≤ 65535 }
-        requires set_len { length set.now ≡ set_len (seen self.now) }
-        ensures { IsTrue result ↔ HasAccepting (seen self.now) set.now }
+        ensures len { IfOk result (λ set. length set.items ≡ set_len (seen self.now)) }
+        ensures states { IfOk result (λ set. (p : ℕ) → HasBit set.items p ↔ Accepting (seen self.now) p) }
     {
-        self.goes_on(0, get_bit(set, 0), set)
+        let mut set = vec![in alloc; 0; (self.slots() + 8) / 8]?;
+        self.add_accepting(&mut set);
+        Ok(set)
+    }
+
+    // Adds the accepting states.
+    fn add_accepting(&self, to: &mut [u8])
+        requires counted { IsCounted self.now }
+        requires trim { IsTrim (seen self.now) }
+        requires few { slots_of (seen self.now) ≤ 65535 }
+        requires to_len { length to.old ≡ set_len (seen self.now) }
+        ensures { (p : ℕ) → HasBit to.new p ↔ (HasBit to.old p ⊎ Accepting (seen self.now) p) }
+    {
+        for p in 0..self.slots() + 1 {
+            add_if(to, p, self.is_accepting(p));
+        }
+    }
+
+    // Whether some track ends with p, or the empty track is one where p is the start.
+    pub(crate) fn is_accepting(&self, p: usize) -> bool
+        requires counted { IsCounted self.now }
+        requires trim { IsTrim (seen self.now) }
+        requires few { slots_of (seen self.now) ≤ 65535 }
+        ensures { IsTrue result ↔ Accepting (seen self.now) p }
+    {
+        if p == 0 {
+            self.is_nullable()
+        } else {
+            self.is_last(0, p)
+        }
     }
 
     // Adds the slots that follow a state of `from` and take the byte, and those that begin the tree
@@ -82,42 +113,11 @@ impl Node {
             }
         }
     }
-
-    // Whether what stands behind the tree is entered.
-    pub(crate) fn goes_on(&self, before: usize, enter: bool, from: &[u8]) -> bool
-        requires counted { IsCounted self.now }
-        requires slots { before + slots_of (seen self.now) ≤ 65535 }
-        requires from_len { before + slots_of (seen self.now) < 8 * length from.now }
-        ensures { IsTrue result ↔ Leads (seen self.now) before enter from.now }
-    {
-        match self {
-            Node::Never => false,
-            Node::Empty => enter,
-            Node::Slot(_) => get_bit(from, before + 1),
-            Node::Run(classes) => {
-                if classes.is_empty() {
-                    enter
-                } else {
-                    get_bit(from, before + self.slots())
-                }
-            }
-            Node::Gap { min, .. } => gap_leads(before, self.slots(), *min, enter, from),
-            Node::Then(both, _) => {
-                let led = both.first.goes_on(before, enter, from);
-                both.second.goes_on(before + both.first.slots(), led, from)
-            }
-            Node::Or(both, _) => {
-                both.first.goes_on(before, enter, from)
-                    || both
-                        .second
-                        .goes_on(before + both.first.slots(), enter, from)
-            }
-        }
-    }
 }
 
-// Adds the slots of a gap in the same way: the first where the gap is entered, each other behind the
-// one before, and the last behind itself where the gap has no greatest length. They take any byte.
+// Adds the slots of a gap in the same way: the first where the gap is entered, each other behind
+// the one before, and the last behind itself where the gap has no greatest length. They take any
+// byte.
 fn step_gap(before: usize, slots: usize, max: Option<u32>, enter: bool, from: &[u8], to: &mut [u8])
     requires slots { before + slots ≤ 65535 }
     requires from_len { before + slots < 8 * length from.now }
@@ -143,7 +143,8 @@ fn add_if(to: &mut [u8], q: usize, wanted: bool)
     }
 }
 
-// Whether what stands behind a gap is entered: no byte is needed, or one of its slots may be its last.
+// Whether what stands behind a gap is entered: no byte is needed, or one of its slots may be its
+// last.
 fn gap_leads(before: usize, slots: usize, min: u32, enter: bool, from: &[u8]) -> bool
     requires slots { before + slots ≤ 65535 }
     requires from_len { before + slots < 8 * length from.now }

@@ -1,9 +1,9 @@
 //! The states that follow one state on a byte, in order, without memory of their own.
 //!
 //! The next one is found from the tree's root, past the branches that have no slot above the one
-//! before. At most one slot begins a gap, and at most one of its slots goes behind another, so no gap is
-//! walked slot by slot. A walk tells whether it passed a branch that may have a later one, and where it
-//! did not, the next call needs no walk.
+//! before. At most one slot begins a gap, and at most one of its slots goes behind another, so no
+//! gap is walked slot by slot. A walk tells whether it passed a branch that may have a later one,
+//! and where it did not, the next call needs no walk.
 
 ghost use Rattle.std.specs.Prelude.{◌≡◌, ◌↔◌, ℕ, ◌+◌, ◌≤◌, [], None, Some, Contains, IfSome, IsTrue};
 ghost use Rattle.sig_auto.specs.Counted.{IsCounted, IsCounted-prop};
@@ -192,8 +192,8 @@ impl Node {
         }
     }
 
-    // The least slot above this one that goes behind p and takes the byte, and whether some track ends
-    // with p.
+    // The least slot above this one that goes behind p and takes the byte, and whether some track
+    // ends with p.
     fn next_gone(&self, before: usize, p: usize, byte: u8, above: usize) -> (Next, bool)
         requires counted { IsCounted self.now }
         requires few { before + slots_of (seen self.now) ≤ 65535 }

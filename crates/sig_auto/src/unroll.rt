@@ -1,10 +1,9 @@
 //! From a sequence to its tree: the whole-file expression, with each bracket of several bytes
-//! unfolded into rows of classes.
+//! unfolded into rows of classes (`class_word`).
 //!
-//! Slots that go next to each other make one run. Branches are grouped near their middle, so that no
-//! walk over the tree is deep.
-//!
-//! `[4142:4241]` has the rows `41 42`, `41 43-FF`, `42 00-40` and `42 41`.
+//! Slots that follow one another make one run. Branches are grouped near their middle, so that no
+//! walk over the tree is deep. The definition's tree leans right; `IsSame` says that grouping
+//! changes no slot and no track. At offset 0, `41??42` is one run and a gap for whatever follows.
 
 ghost use Rattle.std.specs.Prelude.{◌≡◌, ◌<◌, ◌≤◌, IfOk, IfSome, IsTrue, None, Some, length, map};
 ghost use Rattle.sig_auto.specs.Counted.{IsCounted};
@@ -36,7 +35,8 @@ pub(crate) fn whole_node(
     Node::then(alloc, front(position), later)
 }
 
-// Whether nothing may stand before the expression.
+// Whether nothing may stand before the expression. Then the gap before it has no slot, and no
+// node is made for it.
 fn is_at_start(position: Position) -> bool
     ensures { IsTrue result → front_tree position ≡ Gap 0 (Some 0) }
 {
@@ -87,8 +87,8 @@ fn anything() -> Node
     Node::Gap { min: 0, max: None }
 }
 
-// The items, one after the other, cut near the middle: after two cuts no part but a run has more than
-// half of them.
+// The items, one after the other, cut near the middle: after two cuts no part but a run has more
+// than half of them.
 fn items_node(alloc: Global, items: &[Item]) -> Result<Node, AllocError>
     ensures tree { IfOk result (λ node. IsSame (seen node) (thens item_tree items.now)) }
     ensures counted { IfOk result IsCounted }
@@ -134,8 +134,8 @@ fn are_slots(items: &[Item]) -> bool {
     true
 }
 
-// Where to cut the items in two: at the first place behind the middle that does not part two items of
-// one slot each, or else at the last before it. So a run stays whole.
+// Where to cut the items in two: at the first place behind the middle that does not part two items
+// of one slot each, or else at the last before it. So a run stays whole.
 fn cut(items: &[Item]) -> usize
     requires { 2 ≤ length items.now }
     ensures before { 0 < result }

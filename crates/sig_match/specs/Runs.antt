@@ -1,5 +1,5 @@
 -- Runs of fixed bytes, and how long words can be.
-use Rattle.std.specs.Prelude.{◌≡◌, ℕ, ◌≤◌, List, [], ◌∷◌, length, map, take, ⊤}
+use Rattle.std.specs.Prelude.{◌≡◌, ℕ, ◌≤◌, List, length, map, take}
 use Rattle.sig_expr.specs.declared.item.Item.{Item}
 use Rattle.sig_expr.specs.declared.item.Item.TheVariants as item
 
@@ -15,9 +15,3 @@ IsThis run w = w ≡ run
 -- no word is longer
 abbrev pub Bounds : (List ℕ → Type 0) → ℕ → Type 0
 Bounds IsWord n = (w : List ℕ) → IsWord w → length w ≤ n
-
--- the items begin with these bytes, one by one
-abbrev pub BeginsWith : List Item → List ℕ → Type 0
-BeginsWith items [] = ⊤
-BeginsWith [] (b ∷ bytes) = ⊥
-BeginsWith (i ∷ items) (b ∷ bytes) = (i ≡ item.Byte b) × BeginsWith items bytes

@@ -1,16 +1,18 @@
-//! Laws of scans.
+//! Laws of hits and of what is reported of them.
+//!
+//! A file has one list of hit formats and one of those that are reported, and the relations that
+//! define them leave no choice. Where a format is hit one is reported, since priorities have no
+//! cycle.
 
-ghost use Rattle.std.specs.Prelude.{◌≡◌, ◌<◌, ◌↔◌, ℕ, IsTrue, List};
-ghost use Rattle.sig_auto.specs.Runs.{EndsIn};
-ghost use Rattle.sig_auto.specs.Trees.{whole_tree};
-ghost use Rattle.sig_match.specs.Ends.{end_at, is_short};
-ghost use Rattle.sig_match.specs.Scans.{IsTableScanOf, TableScanView};
-ghost use Rattle.sig_table.specs.Tables.{IsSequence};
-ghost use Rattle.sig_table.specs.Views.{SequenceView};
+ghost use Rattle.std.specs.Prelude.{◌≡◌, ◌<◌, ◌↔◌, ℕ, Contains, List, length};
+ghost use Rattle.sig_bits.specs.Bytes.{IsBytes};
+ghost use Rattle.sig_core.specs.Hits.{HitFormats, IsNotOutranked, Left, kept_hits};
+ghost use Rattle.sig_core.specs.declared.results.Hit.{Hit};
+ghost use Rattle.sig_table.specs.Tables.{IsTable};
+ghost use Rattle.sig_table.specs.Views.{TableView};
 
-/// A scan of a file tells of each sequence in which states the runs of the file end: of a long one by its current set, and
-/// of a short one by its ends, whose runs end in the same states.
-pub fn ends_tell_runs()
-    ensures { (scan : TableScanView) (file : List ℕ) (s : SequenceView) (q : ℕ) → IsTableScanOf scan file → IsSequence s → IsTrue (is_short s)
-        → EndsIn (whole_tree s) (end_at s.position scan.ends) q ↔ EndsIn (whole_tree s) file q }
+/// Every file has hit formats, and so what is left of them.
+pub fn every_file_has_hit_formats()
+    ensures hits { (table : TableView) (file : List ℕ) → IsTable table → IsBytes file → (hits : List Hit) × HitFormats table file hits }
+    ensures left { (table : TableView) (file : List ℕ) → IsTable table → IsBytes file → (left : List Hit) × Left table file left }
 {}

@@ -1,123 +1,128 @@
-//! One pass over a file, piece by piece.
+//! One pass over a file, piece by piece, that keeps no byte of it.
 //!
-//! What a byte does is in `table_scan`: it leads each sequence of a table from one set of states to the
-//! next, and no byte is kept for it but those at the ends of the file. A `Scan` also takes pieces of any length at one cost a byte: to go
-//! through a piece takes a look at each sequence, however short it is, so short ones wait until there is
-//! some length of them.
+//! For each sequence of a table there is its position automaton and a set of its states: those in
+//! which runs of the bytes so far end. A byte leads from each set to the next one, so it makes no
+//! difference where a file is cut. The file ends where no more is fed, and a sequence then stands in
+//! it exactly where some state of its set accepts. Of `41{1-2}42` at the start of a file the bytes
+//! `41 42 42` lead through the sets {0}, {1}, {2} and {3, 4}, and 4 accepts.
+//!
+//! This is the subset construction, walked and not built. Nothing is passed over: each byte costs a
+//! step of each set.
 
-ghost use Rattle.std.specs.Prelude.{◌≡◌, ◌++◌, ℕ, ◌≤◌, [], List, IfOk, length};
+ghost use Rattle.std.specs.Prelude.{◌≡◌, ◌++◌, ℕ, [], List, IfOk, length};
+ghost use Rattle.sig_bits.specs.Bytes.{IsBytes};
+ghost use Rattle.sig_core.specs.FirstHits.{MarksHits};
 ghost use Rattle.sig_core.specs.Hits.{HitFormats};
-ghost use Rattle.sig_match.specs.Scans.{IsScanOf};
+ghost use Rattle.sig_match.specs.Scans.{AreSignatureScansOf, IsScanOf};
+ghost use Rattle.sig_table.specs.Tables.{IsTable};
+ghost use Rattle.sig_table.specs.Views.{SignatureView, TableView};
 
-use sig_core::Results;
-use sig_table::Table;
+use sig_core::{Hit, Results, list_hits};
+use sig_table::{SigId, Table};
 use std::alloc::{AllocError, Global};
 use std::marker::Model;
 
-mod ends;
-mod entry;
-mod exits;
-mod fixed;
-mod gapped;
-mod lead;
-mod narrow;
-mod piece;
-mod place;
-mod rest;
 mod sequence_scan;
-mod sieve;
 mod signature_scan;
-mod slide;
-mod span;
-mod table_scan;
-mod way;
 
-pub(crate) use piece::Piece;
-pub(crate) use sieve::{STRIDE, Sieve};
-pub(crate) use table_scan::TableScan;
-pub(crate) use way::FRONT;
-
-// How many bytes wait at most, if the caller says nothing of it.
-const ROOM: usize = 1 << 12;
+use signature_scan::SignatureScan;
 
 /// A file on its way past a table.
 ///
-/// All memory is taken at the start: the room of the first and the last bytes of the file; for each sequence of
-/// which these do not tell its automaton with what it notes, three sets of a bit for each state, and its bytes
-/// if it is a long run of them; the sieve of fronts, and the room of the exits that many sequences share; the
-/// room of the answer; and that of the bytes that wait. The bytes of short pieces wait until a piece has no room beside them, and are then gone
-/// through as one.
+/// All memory is taken at the start: for each sequence its automaton and two sets of a bit for each
+/// state, and the room of the answer.
 #[derive(Debug, Drop)]
 pub struct Scan<'t> {
-    scan: TableScan<'t>,
-    waiting: Vec<u8>,
-    // How many bytes wait at most.
-    room: usize,
+    table: &'t Table,
+    signatures: Vec<SignatureScan>,
+    marks: Vec<bool>,
+    hits: Vec<Hit>,
 }
 
 impl<'t> Model for Scan<'t> {
-    ghost use Rattle.std.specs.Prelude.{◌≤◌};
-    ghost use Rattle.std.specs.Vec.{vec_capacity, vec_len};
+    ghost use Rattle.std.specs.Prelude.{◌≡◌, ◌≤◌, length};
+    ghost use Rattle.std.specs.Vec.{vec_capacity};
     ghost use Rattle.sig_match.specs.Scans.{ScanView};
+    ghost use Rattle.sig_table.specs.Tables.{IsTable};
 
     ghost Value = { ScanView };
 
-    ghost view = { λ s. record { passed = s.scan; waiting = s.waiting.items; room = s.room } };
+    ghost view = { λ s. record { table = s.table.now; signatures = s.signatures.items } };
 
-    ghost invariant = { λ s. (vec_len s.waiting ≤ s.room) × (s.room ≤ vec_capacity s.waiting) };
+    ghost invariant = { λ s. IsTable s.table.now
+        × (length s.signatures.items ≡ length s.table.now.signatures)
+        × (length s.marks.items ≡ length s.table.now.signatures)
+        × (length s.table.now.formats ≤ vec_capacity s.hits) };
 }
 
 impl<'t> Scan<'t> {
-    /// At the start of a file, with room for 4 KiB that wait.
+    /// At the start of a file.
     pub fn new(alloc: Global, table: &'t Table) -> Result<Scan<'t>, AllocError>
-        ensures table { IfOk result (λ scan. scan.passed.table ≡ table.now) }
-        ensures room { IfOk result (λ scan. scan.room ≡ 4096) }
+        ensures table { IfOk result (λ scan. scan.table ≡ table.now) }
         ensures empty { IfOk result (λ scan. IsScanOf scan []) }
     {
-        Scan::with_room(alloc, table, ROOM)
-    }
-
-    /// The same, with room for so many bytes that wait. With none each piece is gone through when it is fed,
-    /// however short it is, and the current sets are always those of the whole file so far.
-    pub fn with_room(alloc: Global, table: &'t Table, room: usize) -> Result<Scan<'t>, AllocError>
-        ensures table { IfOk result (λ scan. scan.passed.table ≡ table.now) }
-        ensures room { IfOk result (λ scan. scan.room ≡ room) }
-        ensures empty { IfOk result (λ scan. IsScanOf scan []) }
-    {
+        let count = table.signature_count();
         Ok(Scan {
-            scan: TableScan::new(alloc, table)?,
-            waiting: Vec::with_capacity(alloc, room)?,
-            room,
+            table,
+            signatures: scans_of(alloc, table)?,
+            marks: vec![in alloc; false; count]?,
+            hits: Vec::with_capacity(alloc, table.format_count())?,
         })
     }
 
     /// Goes on by the next bytes of the file. It takes no memory.
     pub fn feed(&mut self, piece: &[u8])
-        ensures table { self.new.passed.table ≡ self.old.passed.table }
-        ensures room { self.new.room ≡ self.old.room }
-        ensures waits { length self.new.waiting ≤ self.new.room }
+        ensures table { self.new.table ≡ self.old.table }
         ensures goes_on { (file : List ℕ) → IsScanOf self.old file → IsScanOf self.new (file ++ piece.now) }
     {
-        if piece.len() <= self.room - self.waiting.len() {
-            self.waiting.extend_from_slice(piece).unwrap();
-            return;
-        }
-        self.scan.feed(&self.waiting);
-        self.waiting.clear();
-        self.scan.feed(piece);
+        feed_each(&mut self.signatures, piece);
     }
 
     /// Answers which formats the file hits, each with its first signature that hits. It takes no
     /// memory.
     pub fn finish(self) -> Results
-        ensures exact { (file : List ℕ) → IsScanOf self.entry file → HitFormats self.entry.passed.table file result }
+        ensures { (file : List ℕ) → IsScanOf self.entry file → HitFormats self.entry.table file result }
     {
         let Scan {
-            mut scan,
-            waiting,
-            room: _,
+            table,
+            signatures,
+            mut marks,
+            mut hits,
         } = self;
-        scan.feed(&waiting);
-        scan.finish()
+        mark_hits(&signatures, &mut marks);
+        list_hits(table, &marks, &mut hits).unwrap();
+        Results::new(hits)
+    }
+}
+
+// A scan of each signature, at the start of a file.
+fn scans_of(alloc: Global, table: &Table) -> Result<Vec<SignatureScan>, AllocError>
+    ensures { IfOk result (λ scans. AreSignatureScansOf [] table.now.signatures scans.items) }
+{
+    let count = table.signature_count();
+    let mut scans = Vec::with_capacity(alloc, count)?;
+    for index in 0..count {
+        let sequences = table.sequences_of(SigId(index as u16));
+        scans.push(SignatureScan::of(alloc, sequences)?)?;
+    }
+    Ok(scans)
+}
+
+// Goes on by the piece in each signature.
+fn feed_each(signatures: &mut [SignatureScan], piece: &[u8])
+    ensures { (file : List ℕ) (known : List SignatureView) → AreSignatureScansOf file known signatures.old → AreSignatureScansOf (file ++ piece.now) known signatures.new }
+{
+    for signature in signatures.iter_mut() {
+        signature.feed(piece);
+    }
+}
+
+// Marks each signature that hits the file, if it ends here.
+fn mark_hits(signatures: &[SignatureScan], marks: &mut [bool])
+    requires { length marks.old ≡ length signatures.now }
+    ensures { (table : TableView) (file : List ℕ) → IsTable table → IsBytes file → AreSignatureScansOf file table.signatures signatures.now → MarksHits table file marks.new }
+{
+    for (index, signature) in signatures.iter().enumerate() {
+        marks[index] = signature.hits();
     }
 }

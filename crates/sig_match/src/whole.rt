@@ -1,23 +1,19 @@
 //! The matcher that keeps the file in memory.
 //!
-//! Of most signatures one byte tells that they do not hit (`ready`, `crate::outlook`), and of sequences
-//! that may begin at several offsets one look at the file tells which fronts it does not have
-//! (`fronts`). Each other sequence is searched by itself, from a frontier of offsets to the next
-//! (`frontier`). A run of fixed bytes is looked for whole, and any other item, or part of an
-//! alternative, costs at most the file's length, whatever the table and the file. An EOF sequence whose
-//! words are bounded is looked for near the end of the file alone. A frontier has at most about half as
-//! many intervals as the file has bytes, of sixteen bytes each; two stand at a time, and three more
-//! within a list of alternatives.
+//! Each sequence is searched by itself, from a frontier of offsets to the next (`frontier`), and a
+//! signature is given up at its first sequence that does not stand. A run of fixed bytes is looked
+//! for whole, and any other item, or part of an alternative, costs at most the file's length,
+//! whatever the table and the file. An EOF sequence whose words are bounded is looked for near the
+//! end of the file alone. A frontier has at most about half as many intervals as the file has bytes,
+//! of sixteen bytes each; two stand at a time, and three more within a list of alternatives.
 
 ghost use Rattle.std.specs.Prelude.{◌≡◌, ◌<◌, ◌↔◌, IfOk, IfErr, IsTrue, length};
 ghost use Rattle.sig_bits.specs.Bytes.{IsBytes};
 ghost use Rattle.sig_core.specs.Hits.{HitFormats, HitsOf, Left};
-ghost use Rattle.sig_match.specs.Readies.{AreBegins};
 ghost use Rattle.sig_table.specs.Views.{TableView};
 
-use crate::scan::TableScan;
 use sig_bits::{Input, ReadWholeError, read_whole};
-use sig_core::{CoreError, DroidCore, Results, list_hits};
+use sig_core::{CoreError, DroidCore, Results};
 use sig_table::{Puid, SigId, Table};
 use std::alloc::{AllocError, Global};
 use std::marker::Model;
@@ -25,18 +21,11 @@ use std::marker::Model;
 mod advance;
 mod anchored;
 mod frontier;
-mod fronts;
 mod longest;
 mod part;
-mod ready;
 mod run;
 mod search;
 
-pub(crate) use anchored::stands;
-pub(crate) use fronts::{fronts_of_offsets, number_behind, some_front_is_out};
-pub(crate) use longest::longest_of;
-pub(crate) use part::is_part_word;
-pub(crate) use ready::Ready;
 use search::{is_hit, which_hit};
 
 /// A matcher that reads a file whole before it searches it.
@@ -98,7 +87,7 @@ pub fn left_in(alloc: Global, table: &Table, file: &[u8]) -> Result<Results, Cor
     ensures left { IfOk result (λ left. Left table.now file.now left) }
     ensures memory { IfErr result (λ e. e ≡ CoreError.OutOfMemory) }
 {
-    let mut results = hits_in(alloc, table, file, usize::MAX).map_err(|_| CoreError::OutOfMemory)?;
+    let mut results = hits_in(alloc, table, file).map_err(|_| CoreError::OutOfMemory)?;
     results.remove_outranked(table);
     Ok(results)
 }
@@ -118,52 +107,19 @@ pub fn signature_hits(
     Ok(hits)
 }
 
-// The formats that these bytes hit.
+// The formats that a file hits.
+fn hits_in(alloc: Global, table: &Table, file: &[u8]) -> Result<Results, AllocError>
+    ensures { IfOk result (λ hits. HitFormats table.now file.now hits) }
+{
+    let marks = which_hit(alloc, table, file)?;
+    Results::of_marks(alloc, table, &marks)
+}
+
+// The same of the bytes that were read.
 fn hits_read(alloc: Global, table: &Table, file: &[u8]) -> Result<Results, CoreError>
     ensures bytes { IsBytes file.now }
     ensures hits { IfOk result (λ hits. HitFormats table.now file.now hits) }
     ensures memory { IfErr result (λ e. e ≡ CoreError.OutOfMemory) }
 {
-    hits_in(alloc, table, file, usize::MAX).map_err(|_| CoreError::OutOfMemory)
-}
-
-/// The formats that a file hits. Where to search for each sequence by itself may take more than so many steps,
-/// one for each item of a sequence and each byte, the file is scanned.
-pub(crate) fn hits_in(
-    alloc: Global,
-    table: &Table,
-    file: &[u8],
-    steps: usize,
-) -> Result<Results, AllocError>
-    ensures { IfOk result (λ hits. HitFormats table.now file.now hits) }
-{
-    let ready = Ready::of(alloc, table)?;
-    hits_by(alloc, table, &ready, file, steps)
-}
-
-/// The same, with what was made of the table before.
-pub(crate) fn hits_by(
-    alloc: Global,
-    table: &Table,
-    ready: &Ready,
-    file: &[u8],
-    steps: usize,
-) -> Result<Results, AllocError>
-    requires { AreBegins table.now ready.now.begins.items }
-    ensures { IfOk result (λ hits. HitFormats table.now file.now hits) }
-{
-    let Some(marks) = which_hit(alloc, table, ready, file, steps)? else {
-        return hits_by_scan(alloc, table, file);
-    };
-    let mut hits = Vec::new(alloc);
-    list_hits(table, &marks, &mut hits)?;
-    Ok(Results::new(hits))
-}
-
-// The same, by a scan.
-fn hits_by_scan(alloc: Global, table: &Table, file: &[u8]) -> Result<Results, AllocError>
-    ensures { IfOk result (λ hits. HitFormats table.now file.now hits) }
-{
-    let scan = TableScan::behind(alloc, table, file)?;
-    Ok(scan.finish())
+    hits_in(alloc, table, file).map_err(|_| CoreError::OutOfMemory)
 }

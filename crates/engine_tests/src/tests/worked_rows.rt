@@ -289,9 +289,9 @@ fn the_block_core_answers_the_worked_rows(rt: HostRuntime) -> Result<(), Fail> {
     Ok(())
 }
 
-// What a scan finds in a file that is fed in pieces of so many bytes, each of which it goes through when it gets it.
+// What a scan finds in a file that is fed in pieces of so many bytes.
 fn scanned(rt: &HostRuntime, table: &Table, file: &[u8], most: usize) -> Result<Results, Fail> {
-    let mut scan = Scan::with_room(rt.alloc(), table, 0)?;
+    let mut scan = Scan::new(rt.alloc(), table)?;
     for piece in file.chunks(most.max(1)) {
         scan.feed(piece);
     }

@@ -1,4 +1,4 @@
-//! Sequences of many kinds over files of few letters, held against the plain scan.
+//! Sequences of many kinds over files of few letters: a scan agrees with the search of the whole file.
 
 use crate::tests::{
     fronts_agree, letters, loaded, push_letters, push_repeated, repeated, table_of,
@@ -24,7 +24,7 @@ const MIXED: &[&str] = &[
 // Whether they agree on the sequence behind each front of the file.
 fn agrees(alloc: Global, sequence: &str, file: &[u8]) -> Result<bool, Fail> {
     let table = table_of(alloc, sequence)?;
-    Ok(fronts_agree(alloc, &table, file)?)
+    fronts_agree(alloc, &table, file)
 }
 
 // Whether they do on each of these sequences.
@@ -49,7 +49,7 @@ fn agree_on_letters(
 }
 
 #[test]
-fn the_plain_scan_agrees_on_files_of_few_letters(rt: HostRuntime) -> Result<(), Fail> {
+fn the_search_agrees_on_files_of_few_letters(rt: HostRuntime) -> Result<(), Fail> {
     for seed in 1..3 {
         assert!(rt; agree_on_letters(rt.alloc(), MIXED, seed, 120)?, "{seed}");
     }
@@ -65,7 +65,7 @@ const AT_END: &[&str] = &[
 ];
 
 #[test]
-fn the_plain_scan_agrees_at_the_end_of_a_file(rt: HostRuntime) -> Result<(), Fail> {
+fn the_search_agrees_at_the_end_of_a_file(rt: HostRuntime) -> Result<(), Fail> {
     for seed in 0..6 {
         assert!(rt; agree_on_letters(rt.alloc(), AT_END, seed, 100)?, "{seed}");
     }
@@ -80,13 +80,13 @@ fn with_end(alloc: Global) -> Result<Vec<u8>, Fail> {
 }
 
 #[test]
-fn the_plain_scan_agrees_where_a_word_may_always_have_begun(rt: HostRuntime) -> Result<(), Fail> {
+fn the_search_agrees_where_a_word_may_always_have_begun(rt: HostRuntime) -> Result<(), Fail> {
     let file = with_end(rt.alloc())?;
     assert!(rt; all_agree(rt.alloc(), AT_END, &file)?);
     Ok(())
 }
 
-// Sequences with more slots behind their words than go by words.
+// Sequences whose words may end far from the end of the file.
 const FAR_FROM_END: &[&str] = &[
     "EOF,0,300,4142",
     "EOF,5,290,41??4200",
@@ -109,15 +109,15 @@ fn agree_far_from_end(alloc: Global, seed: u32) -> Result<bool, Fail> {
 }
 
 #[test]
-fn the_plain_scan_agrees_where_words_move_away_from_the_end(rt: HostRuntime) -> Result<(), Fail> {
+fn the_search_agrees_where_words_move_away_from_the_end(rt: HostRuntime) -> Result<(), Fail> {
     for seed in 0..3 {
         assert!(rt; agree_far_from_end(rt.alloc(), seed)?, "{seed}");
     }
     Ok(())
 }
 
-// Signatures with fronts of several lengths, so many that one look at a piece is for all of them.
-const MANY_FRONTS: &str = "fmt/1,1,Variable,,,4142\n\
+// Signatures that begin alike, with words of several lengths.
+const MANY_WORDS: &str = "fmt/1,1,Variable,,,4142\n\
     fmt/2,2,Variable,,,41420000\n\
     fmt/3,3,Variable,,,4142420041414242\n\
     fmt/4,4,EOF,0,1,4241\n\
@@ -133,19 +133,16 @@ const MANY_FRONTS: &str = "fmt/1,1,Variable,,,4142\n\
     fmt/14,14,Variable,,,42410000\n";
 
 // Whether they agree on so many letters, with all of those at once.
-fn fronts_of_letters_agree(alloc: Global, table: &Table, seed: u32) -> Result<bool, Fail> {
+fn words_of_letters_agree(alloc: Global, table: &Table, seed: u32) -> Result<bool, Fail> {
     let file = letters(alloc, seed, 90)?;
-    Ok(fronts_agree(alloc, table, &file)?)
+    fronts_agree(alloc, table, &file)
 }
 
 #[test]
-fn many_fronts_are_told_apart_in_one_look(rt: HostRuntime) -> Result<(), Fail> {
-    let table = loaded(rt.alloc(), MANY_FRONTS)?;
+fn many_words_are_told_apart(rt: HostRuntime) -> Result<(), Fail> {
+    let table = loaded(rt.alloc(), MANY_WORDS)?;
     for seed in 0..6 {
-        assert!(rt;
-            fronts_of_letters_agree(rt.alloc(), &table, seed)?,
-            "{seed}"
-        );
+        assert!(rt; words_of_letters_agree(rt.alloc(), &table, seed)?, "{seed}");
     }
     Ok(())
 }

@@ -1,6 +1,7 @@
 //! Where a file is cut, which makes no difference.
 
 use crate::tests::{hit, scanned, table_of};
+use sig_core::Hit;
 use sig_match::Scan;
 use sig_table::Table;
 use std::alloc::Global;
@@ -107,27 +108,11 @@ const CUTS: &[(&str, &[&[u8]], bool)] = &[
     ("BOF,0,,41*4243", &[b"\x00A\x00\x00\x00B", b"C"], false),
 ];
 
-// Whether the one signature hits what is fed in these pieces, with room for so many bytes that wait.
-fn hits_pieces(alloc: Global, room: usize, table: &Table, pieces: &[&[u8]]) -> Result<bool, Fail> {
-    let mut scan = Scan::with_room(alloc, table, room)?;
-    for piece in pieces {
-        scan.feed(piece);
-    }
-    Ok(scan.finish().hits() == [hit(0, 0)].as_slice())
-}
-
-// Room for so many bytes that wait.
-const ROOMS: &[usize] = &[0, 1, 5, 4096];
-
-// Whether the one sequence stands in what these pieces make up, or does not, whatever the room.
+// Whether the one sequence stands in what these pieces make up, or does not.
 fn is_told(alloc: Global, sequence: &str, pieces: &[&[u8]], stands: bool) -> Result<bool, Fail> {
     let table = table_of(alloc, sequence)?;
-    for room in ROOMS {
-        if hits_pieces(alloc, *room, &table, pieces)? != stands {
-            return Ok(false);
-        }
-    }
-    Ok(true)
+    let wants: &[Hit] = if stands { &[hit(0, 0)] } else { &[] };
+    Ok(scanned(alloc, &table, pieces)?.hits() == wants)
 }
 
 #[test]
@@ -141,9 +126,10 @@ fn a_cut_makes_no_difference(rt: HostRuntime) -> Result<(), Fail> {
     Ok(())
 }
 
-// Whether the one signature hits a byte 41, so many zeros and a byte 42, fed one by one.
-fn hits_zeros(alloc: Global, table: &Table, room: usize, zeros: usize) -> Result<bool, Fail> {
-    let mut scan = Scan::with_room(alloc, table, room)?;
+// Whether `41{65530}42` hits a byte 41, so many zeros and a byte 42, fed one by one.
+fn hits_behind_zeros(alloc: Global, zeros: usize) -> Result<bool, Fail> {
+    let table = table_of(alloc, "BOF,0,,41{65530}42")?;
+    let mut scan = Scan::new(alloc, &table)?;
     scan.feed(b"A");
     for _ in 0..zeros {
         scan.feed(b"\x00");
@@ -152,25 +138,15 @@ fn hits_zeros(alloc: Global, table: &Table, room: usize, zeros: usize) -> Result
     Ok(scan.finish().hits().len() == 1)
 }
 
-// Whether `41{65530}42` does.
-fn hits_behind_zeros(alloc: Global, room: usize, zeros: usize) -> Result<bool, Fail> {
-    let table = table_of(alloc, "BOF,0,,41{65530}42")?;
-    hits_zeros(alloc, &table, room, zeros)
-}
-
 #[test]
 fn a_long_gap_is_passed(rt: HostRuntime) -> Result<(), Fail> {
-    for room in [0, 4096] {
-        assert!(rt; hits_behind_zeros(rt.alloc(), room, 65_530)?, "{room}");
-    }
+    assert!(rt; hits_behind_zeros(rt.alloc(), 65_530)?);
     Ok(())
 }
 
 #[test]
 fn a_long_gap_is_not_left_a_byte_early(rt: HostRuntime) -> Result<(), Fail> {
-    for room in [0, 4096] {
-        assert!(rt; !hits_behind_zeros(rt.alloc(), room, 65_529)?, "{room}");
-    }
+    assert!(rt; !hits_behind_zeros(rt.alloc(), 65_529)?);
     Ok(())
 }
 

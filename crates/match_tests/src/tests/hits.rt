@@ -80,7 +80,7 @@ fn a_file_of_several_mib_is_searched(rt: HostRuntime) -> Result<(), Fail> {
     Ok(())
 }
 
-// Sequences that may begin at several offsets, enough of them for a sieve of their fronts.
+// Sequences that begin alike, and may begin at several offsets.
 const RANGES: &str = "fmt/1,1,BOF,0,2,41424344\n\
     fmt/2,2,BOF,1,3,41424344\n\
     fmt/3,3,EOF,0,1,41424344\n\
@@ -116,7 +116,7 @@ fn are_left_of(alloc: Global, table: &Table, file: &[u8], indexes: &[u16]) -> Re
 }
 
 #[test]
-fn a_front_that_is_there_is_asked_for_its_offset(rt: HostRuntime) -> Result<(), Fail> {
+fn a_word_that_is_there_is_asked_for_its_offset(rt: HostRuntime) -> Result<(), Fail> {
     let table = loaded(rt.alloc(), RANGES)?;
     for (file, indexes) in RANGED {
         assert!(rt; are_left_of(rt.alloc(), &table, file, indexes)?, "{file:?}");
@@ -131,8 +131,8 @@ fn core_finds(core: &StreamCore, file: &[u8], indexes: &[u16]) -> Result<bool, F
 }
 
 #[test]
-fn a_core_for_many_files_asks_for_it_too(rt: HostRuntime) -> Result<(), Fail> {
-    let core = StreamCore::prepared(rt.alloc(), loaded(rt.alloc(), RANGES)?);
+fn a_core_that_streams_asks_for_it_too(rt: HostRuntime) -> Result<(), Fail> {
+    let core = StreamCore::new(rt.alloc(), loaded(rt.alloc(), RANGES)?);
     for (file, indexes) in RANGED {
         assert!(rt; core_finds(&core, file, indexes)?, "{file:?}");
     }

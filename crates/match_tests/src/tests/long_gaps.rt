@@ -1,6 +1,6 @@
-//! Sequences with a long gap, over files in which they do not rest.
+//! Sequences with a long gap.
 
-use crate::tests::{loaded, scanned};
+use crate::tests::{are_searched, loaded, scanned};
 use std::alloc::{AllocError, Global};
 use std::test::Fail;
 
@@ -140,7 +140,7 @@ const FILES: &[(&str, u8, &[(usize, u8)], bool)] = &[
     ("fmt/1,1,EOF,0,4000,4142\n", 0x41, &[(11_999, 0x42)], true),
 ];
 
-// Whether the sequence stands in the file, whole and in two pieces.
+// Whether the scan says so of the file, cut in two, and the search does.
 fn is_told(
     alloc: Global,
     row: &str,
@@ -151,10 +151,9 @@ fn is_told(
     let table = loaded(alloc, row)?;
     let file = file_of(alloc, fill, others)?;
     let (front, back) = file.split_at(CUT.min(file.len()));
-    let whole = scanned(alloc, &table, &[&file])?.hits().len();
-    let cut = scanned(alloc, &table, &[front, back])?.hits().len();
+    let results = scanned(alloc, &table, &[front, back])?;
     let wanted = if stands { 1 } else { 0 };
-    Ok(whole == wanted && cut == wanted)
+    Ok(results.hits().len() == wanted && are_searched(alloc, &table, &file, &results)?)
 }
 
 #[test]

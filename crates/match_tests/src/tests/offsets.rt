@@ -1,9 +1,6 @@
 //! Sequences that may begin at many offsets from the start of a file.
 
-use crate::tests::{is_plain_by, letters, loaded, repeated, scanned, scanned_by};
-use sig_bits::FromRead;
-use sig_core::{DroidCore, Results};
-use sig_match::StreamCore;
+use crate::tests::{agrees_by, are_searched, letters, loaded, repeated, scanned};
 use sig_table::Table;
 use std::alloc::{AllocError, Global};
 use std::test::Fail;
@@ -160,19 +157,12 @@ const FILES: &[(&str, &[u8], &[(usize, &[u8])], bool)] = &[
     ("BOF,0,20000,41424344", b"", &[], false),
 ];
 
-// Whether the scan says so of the file: whole, cut in two, and in pieces of these lengths.
-fn is_told(alloc: Global, table: &Table, file: &[u8], stands: bool) -> Result<bool, AllocError> {
+// Whether the scan says so of the file, cut in two, and the search does.
+fn is_told(alloc: Global, table: &Table, file: &[u8], stands: bool) -> Result<bool, Fail> {
     let wanted = if stands { 1 } else { 0 };
     let (front, back) = file.split_at(CUT.min(file.len()));
-    if scanned(alloc, table, &[front, back])?.hits().len() != wanted {
-        return Ok(false);
-    }
-    for piece in [7, 1_024, LEN] {
-        if scanned_by(alloc, table, file, piece)?.hits().len() != wanted {
-            return Ok(false);
-        }
-    }
-    Ok(true)
+    let results = scanned(alloc, table, &[front, back])?;
+    Ok(results.hits().len() == wanted && are_searched(alloc, table, file, &results)?)
 }
 
 #[test]
@@ -203,79 +193,11 @@ const LETTERS: &str = "fmt/1,1,BOF,0,5000,4142414241424142\n\
     fmt/10,10,BOF,4900,4999,(4142|0041)00\n";
 
 #[test]
-fn many_offsets_agree_with_the_plain_scan(rt: HostRuntime) -> Result<(), Fail> {
+fn many_offsets_agree_with_the_search(rt: HostRuntime) -> Result<(), Fail> {
     let table = loaded(rt.alloc(), LETTERS)?;
     for seed in 0..6 {
         let file = letters(rt.alloc(), seed, 5_100)?;
-        for piece in [1, 7, 1_024, 5_100] {
-            assert!(rt;
-                is_plain_by(rt.alloc(), &table, &file, piece)?,
-                "{seed} {piece}"
-            );
-        }
+        assert!(rt; agrees_by(rt.alloc(), &table, &file, 1_024)?, "{seed}");
     }
-    Ok(())
-}
-
-// So many formats, each of which may begin at 60,001 offsets.
-const MANY: u8 = 70;
-
-// What stands where: the fourth byte tells the format.
-const PLACES: &[(usize, &[u8])] = &[
-    (0, b"ABC\x07"),
-    (30_000, b"ABC\x45"),
-    (60_000, b"ABC\x03"),
-    (60_004, b"ABC\x05"),
-    (261_000, b"ABC\x0a"),
-];
-
-// The rows of the formats: their numbers rise as their fourth bytes do, and are of one length.
-fn many_rows(alloc: Global) -> Result<String, AllocError> {
-    let mut rows = String::new(alloc);
-    for format in 0..MANY {
-        let number = format as u32 + 101;
-        let row = format!(in alloc; "fmt/{number},{number},BOF,0,60000,414243{format:02X}\n")?;
-        rows.push_str(&row)?;
-    }
-    Ok(rows)
-}
-
-// A file of zeros, longer than a piece, but for these places.
-fn long_file(alloc: Global) -> Result<Vec<u8>, AllocError> {
-    let mut file = vec![in alloc; 0; 263_000]?;
-    for (place, bytes) in PLACES {
-        put(&mut file, *place, bytes);
-    }
-    Ok(file)
-}
-
-// Whether these formats and no others are hit.
-fn are_hit(results: &Results, formats: &[u16]) -> bool {
-    let hits = results.hits();
-    if hits.len() != formats.len() {
-        return false;
-    }
-    for (hit, format) in hits.iter().zip(formats) {
-        if hit.format.0 != *format {
-            return false;
-        }
-    }
-    true
-}
-
-#[test]
-fn one_look_tells_of_many_offsets(rt: HostRuntime) -> Result<(), Fail> {
-    let file = long_file(rt.alloc())?;
-    let core = StreamCore::new(rt.alloc(), loaded(rt.alloc(), &many_rows(rt.alloc())?)?);
-    let results = core.match_binary_signatures(&mut FromRead::new(&file[..]))?;
-    assert!(rt; are_hit(&results, &[3, 7, 69]));
-    Ok(())
-}
-
-#[test]
-fn a_scan_tells_of_many_offsets(rt: HostRuntime) -> Result<(), Fail> {
-    let file = long_file(rt.alloc())?;
-    let table = loaded(rt.alloc(), &many_rows(rt.alloc())?)?;
-    assert!(rt; are_hit(&scanned(rt.alloc(), &table, &[&file])?, &[3, 7, 69]));
     Ok(())
 }

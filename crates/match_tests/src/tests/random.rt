@@ -1,10 +1,9 @@
-//! Random tables over random files, cut anywhere: the scan, the scan by blocks, the search of a whole file and the plain
-//! scan agree.
+//! Random tables over random files, cut anywhere: a scan, the scan by blocks and the search of the whole file agree.
 
-use crate::tests::{are_plain, letters, loaded, next_state, scanned_by};
+use crate::tests::{agrees_by, are_searched, letters, loaded, next_state};
 use sig_bits::FromRead;
 use sig_core::{DroidCore, Results};
-use sig_match::{Scan, left_in};
+use sig_match::Scan;
 use sig_scan::BlockCore;
 use sig_table::Table;
 use std::alloc::{AllocError, Global};
@@ -49,7 +48,7 @@ fn item_of(state: u32) -> &'static str {
     }
 }
 
-// The same with words of four bytes, by which many sequences are looked for at once.
+// The same with words of four bytes.
 fn word_or_item_of(state: u32) -> &'static str {
     match (state >> 24) % 9 {
         0 => "41420041",
@@ -116,15 +115,15 @@ fn random_table(alloc: Global, seed: u32, has_words: bool) -> Result<Table, Fail
     loaded(alloc, &rows)
 }
 
-// What a scan answers that has gone through each piece when it was fed, where the lengths of the pieces come of the number:
-// one to nine bytes each, and none once the file has come to its end.
+// What a scan answers where the lengths of the pieces come of the number: one to nine bytes each, and none once the file
+// has come to its end.
 fn scanned_in_random_pieces(
     alloc: Global,
     table: &Table,
     file: &[u8],
     seed: u32,
 ) -> Result<Results, AllocError> {
-    let mut scan = Scan::with_room(alloc, table, 0)?;
+    let mut scan = Scan::new(alloc, table)?;
     let mut state = seed;
     let mut left = file;
     for _ in 0..file.len() {
@@ -137,21 +136,7 @@ fn scanned_in_random_pieces(
     Ok(scan.finish())
 }
 
-// Whether the search of the whole file answers these results, and the plain scan does.
-fn agree(alloc: Global, table: &Table, file: &[u8], results: &Results) -> Result<bool, Fail> {
-    Ok(
-        left_in(alloc, table, file)?.hits() == results.hits()
-            && are_plain(alloc, table, file, results)?,
-    )
-}
-
-// Whether all three agree on the file, which the scan gets in pieces of this length.
-fn agree_by(alloc: Global, table: &Table, file: &[u8], piece: usize) -> Result<bool, Fail> {
-    let results = scanned_by(alloc, table, file, piece)?;
-    agree(alloc, table, file, &results)
-}
-
-// Whether they do where the pieces have random lengths.
+// Whether they agree where the pieces have random lengths.
 fn agree_in_random_pieces(
     alloc: Global,
     table: &Table,
@@ -159,7 +144,7 @@ fn agree_in_random_pieces(
     seed: u32,
 ) -> Result<bool, Fail> {
     let results = scanned_in_random_pieces(alloc, table, file, seed)?;
-    agree(alloc, table, file, &results)
+    are_searched(alloc, table, file, &results)
 }
 
 // The lengths of pieces that fronts are fed in, beside random ones.
@@ -168,7 +153,7 @@ const PIECES: &[usize] = &[1, 2, 3, 7, 64];
 // Whether they do in pieces of each of these lengths, and of random ones.
 fn agree_however_cut(alloc: Global, table: &Table, file: &[u8], seed: u32) -> Result<bool, Fail> {
     for piece in PIECES {
-        if !agree_by(alloc, table, file, *piece)? {
+        if !agrees_by(alloc, table, file, *piece)? {
             return Ok(false);
         }
     }

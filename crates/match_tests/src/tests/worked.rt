@@ -123,7 +123,7 @@ fn answers(
     Ok(true)
 }
 
-// Whether it does so of the sequences of one signature, and agrees with the plain scans behind each front.
+// Whether it does so of the sequences of one signature, and agrees with the search behind each front.
 fn answers_one(
     alloc: Global,
     sequences: &str,

@@ -51,25 +51,6 @@ fn stream_core_match_binary_signatures_lacks_memory_or_is_right(
     Ok(())
 }
 
-// The core that is ready for many files wants memory for a file alone: what it is not ready for it does anew.
-fn prepared_core_reads(rt: &HostRuntime, case: &Case) -> Result<bool, Fail> {
-    let table = table_of(rt, case.rows)?;
-    begin(rt);
-    let core = StreamCore::prepared(rt.alloc(), table);
-    end(rt);
-    Ok(reads_or_lacks(rt, &core, case.file, case.hits))
-}
-
-#[test]
-fn prepared_core_match_binary_signatures_lacks_memory_or_is_right(
-    rt: HostRuntime,
-) -> Result<(), Fail> {
-    for case in CASES {
-        assert!(rt; prepared_core_reads(&rt, case)?);
-    }
-    Ok(())
-}
-
 fn block_core_reads(rt: &HostRuntime, case: &Case) -> Result<bool, Fail> {
     let core = BlockCore::new(rt.alloc(), table_of(rt, case.rows)?);
     Ok(reads_or_lacks(rt, &core, case.file, case.hits))
@@ -112,7 +93,7 @@ fn a_long_file_of_blocks_lacks_memory_or_is_right(rt: HostRuntime) -> Result<(),
     Ok(())
 }
 
-// A file of more than a piece, which is scanned behind its first piece: a word stands across the cut.
+// A file of more than a piece and more than a block: a word stands across the cut.
 fn long_file(rt: &HostRuntime) -> Result<Vec<u8>, Fail> {
     let mut file = vec![in rt.alloc(); 0u8; 262_142]?;
     file.extend_from_slice(b"ABCDE\0\0\0".as_slice())?;
@@ -130,7 +111,7 @@ fn a_long_file_lacks_memory_or_is_right(rt: HostRuntime) -> Result<(), Fail> {
 #[test]
 fn a_long_file_of_many_lacks_memory_or_is_right(rt: HostRuntime) -> Result<(), Fail> {
     let file = long_file(&rt)?;
-    let core = StreamCore::prepared(rt.alloc(), table_of(&rt, NINE_WORDS)?);
+    let core = BlockCore::prepared(rt.alloc(), table_of(&rt, NINE_WORDS)?);
     assert!(rt; reads_or_lacks(&rt, &core, &file, &[3, 8]));
     Ok(())
 }

@@ -1,10 +1,14 @@
-//! Whether a sequence stands in a file at its position.
+//! Whether a sequence occurs in a file that lies in memory, at its position.
+//!
+//! The search goes item by item from a set of offsets to the next (`frontier`). The position gives
+//! the first set and the test of the last one. If no word is longer than n, an EOF sequence with
+//! the greatest offset m begins in the last n + m bytes, so no others are searched. If all that
+//! remains is a run of bytes that may end anywhere, its first occurrence decides.
 
 ghost use Rattle.std.specs.Prelude.{◌≡◌, ◌-◌, ◌↔◌, ◌≤◌, ℕ, IsTrue, IfOk, MatchOption};
 ghost use Rattle.sig_match.specs.Frontiers.{IsWithin, MayBegin, MayEnd, Meets};
 ghost use Rattle.sig_table.specs.Standing.{Stands};
 
-use crate::outlook::is_never;
 use crate::whole::advance::advance;
 use crate::whole::frontier::{Interval, add};
 use crate::whole::longest::longest_of;
@@ -17,9 +21,6 @@ use std::mem::swap;
 pub(crate) fn stands(alloc: Global, file: &[u8], sequence: &Sequence) -> Result<bool, AllocError>
     ensures { IfOk result (λ b. IsTrue b ↔ Stands sequence.now file.now) }
 {
-    if is_never(file, sequence) {
-        return Ok(false);
-    }
     let position = sequence.position();
     let items = sequence.expr().items();
     let longest = longest_of(items);

@@ -1,8 +1,12 @@
 //! Frontiers: the offsets of a file at which the words so far may end, as ordered intervals.
 //!
-//! `41{1-2}42` over the bytes 41 42 42 from their start: the frontier is 0, then 1 behind `41`, then
-//! 2 to 3 behind the gap, then 3 behind `42`. All places that a gap allows stay in the frontier, so
+//! `41{1-2}42` over the bytes 41 42 42 from their start: the frontier is 0, then 1 after `41`, then
+//! 2 to 3 after the gap, then 3 after `42`. All offsets that a gap allows stay in the frontier, so
 //! the search never goes back.
+//!
+//! Most frontiers have a few intervals. At worst, with a word that ends at every second byte, one
+//! takes eight bytes for each byte of the file, and its vector up to twice as many. A bitmap would
+//! take less there, and more everywhere else.
 
 ghost use Rattle.std.specs.Prelude.{◌⊎◌, OnOk, IfOk};
 ghost use Rattle.sig_match.specs.Frontiers.{IsIn, IsWithin, Gains, HasExactly};
@@ -18,8 +22,8 @@ pub(crate) struct Interval {
 
 /// Adds an interval. Where it overlaps or touches the last one, the two become one.
 ///
-/// The intervals stay disjoint only where the caller adds them in order of their starts. The offsets
-/// are right in either case.
+/// The intervals stay disjoint only where the caller adds them in order of their starts. The
+/// offsets are right in either case.
 pub(crate) fn add(frontier: &mut Vec<Interval>, next: Interval) -> Result<(), AllocError>
     ensures { OnOk result (Gains (IsWithin next) frontier.old.items frontier.new.items) }
 {

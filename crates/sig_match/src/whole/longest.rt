@@ -1,4 +1,7 @@
-//! How long the words of an expression can be.
+//! A bound on the length of an expression's words: 6 for `41{1-3}(42|4344)`.
+//!
+//! With an unbounded gap there is none. The bound says how far before the end of a file an EOF
+//! sequence can begin.
 
 ghost use Rattle.std.specs.Prelude.{IfSome};
 ghost use Rattle.sig_expr.specs.Words.{AlternativeWord, Lang, Word};

@@ -1,4 +1,7 @@
-//! Parts of a fixed length: bytes and brackets.
+//! Parts of a fixed length: bytes and brackets of one to eight bytes.
+//!
+//! A bracket compares words byte by byte from the first, so `[4142:4241]` has the word `41 FF`.
+//! Here no bracket is unfolded into rows of classes, as the automaton does it.
 
 ghost use Rattle.std.specs.Prelude.{◌≡◌, ◌↔◌, ◌<◌, ◌≤◌, IsTrue, length};
 ghost use Rattle.sig_bits.specs.Bytes.{IsBytes};

@@ -1,4 +1,8 @@
-//! Runs of fixed bytes, which are looked for whole.
+//! Runs of literal bytes, which are searched whole, by `memmem`.
+//!
+//! `504B0304` is one search and not four steps. A run that overlaps itself and is not the last item
+//! may occur at every byte, and each occurrence costs its length: `414141` of `414141??42` in a
+//! file of 41.
 
 ghost use Rattle.std.specs.Prelude.{◌≡◌, ◌+◌, ◌<◌, ◌↔◌, IsTrue, OnOk, length};
 ghost use Rattle.memchr.specs.Find.{IsFirst, OccursAt};

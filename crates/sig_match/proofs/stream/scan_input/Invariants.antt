@@ -10,6 +10,6 @@ invariant-pieces g l = record {
   failed : g.R.Input.failed l.input ≡ g.R.Input.failed l.fn.input;
 }
 
--- each piece lowers what may still come
+-- each read lowers what may still come
 abbrev pub decreases-pieces : goal.decreases-pieces
 decreases-pieces g l = g.R.Input.limit l.input

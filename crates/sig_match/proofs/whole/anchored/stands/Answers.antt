@@ -1,11 +1,9 @@
 use Rattle.std.proofs.Common.{◌≡◌, ◌≤◌, ◌-◌, ℕ, List, [], ap, arith, length, map, take, drop, subst, sym, ◌∙◌, length-drop}
-use Rattle.std.proofs.lemmas.Bool.{false≢true}
-use Rattle.std.proofs.lemmas.List.{append-nil, nil_from_length, take_all}
+use Rattle.std.proofs.lemmas.List.{nil_from_length, take_all}
 use borrow.Author.Tests.{eqb-true}
 use Rattle.sig_expr.specs.declared.item.Item.{Item}
 use Rattle.sig_expr.specs.declared.item.Item.TheVariants as item
 use Rattle.sig_expr.specs.Words.{Lang}
-use Rattle.sig_table.specs.Standing.{Stands}
 use Rattle.sig_match.specs.Frontiers.{HasExactly, IsIn, Reaches}
 use Rattle.sig_match.specs.Runs.{IsRun}
 use Rattle.sig_match.proofs.StandLemmas.{StillToCome, StillToCome-all, StillToCome-done, StillToCome-more, StillToCome-none, stands_by_end, stands_by_run}
@@ -64,6 +62,3 @@ returns c =
     let ends = rw c.deref-2.ensures.value at c.has_end.ensures in
     let same : c.items-items.result.now ≡ c.args.sequence.now.items = c.items-items.ensures.items ∙ c.expr.ensures.items in
     rw (← same, ← c.position-position.ensures) (λ t. by_end.0 (ends.0 t), λ h. ends.1 (by_end.1 h))
-
-pub returns-then-is_never : goal.returns-then-is_never
-returns-then-is_never c = (λ t. absurd (false≢true t), λ stands. absurd (c.is_never.ensures c.if-is_never.true [] (subst (λ l. Stands c.args.sequence.now l) (sym (append-nil c.args.file.now)) stands)))

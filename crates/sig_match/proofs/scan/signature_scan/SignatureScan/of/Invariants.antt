@@ -1,8 +1,7 @@
 use Rattle.std.proofs.Common.{[], take}
-use Rattle.sig_match.specs.Ends.{long_of}
 use Rattle.sig_match.specs.Scans.{AreSequenceScansOf}
 use Rattle.sig_match.proofs.scan.signature_scan.SignatureScan.of.Given as goal
 
--- each long sequence so far has its scan
+-- each sequence so far has its scan
 abbrev pub invariant-loop-sequence : goal.invariant-loop-sequence
-invariant-loop-sequence l = AreSequenceScansOf [] (long_of (take l.sequence-index l.sequences)) l.scans.items
+invariant-loop-sequence l = AreSequenceScansOf [] (take l.sequence-index l.sequences) l.scans.items

@@ -1,5 +1,0 @@
-use Rattle.sig_match.proofs.ReadyLemmas.{out_of_hits}
-use Rattle.sig_match.proofs.whole.search.is_hit_by_byte.Goals as goal
-
-pub returns-then-is_out : goal.returns-then-is_out
-returns-then-is_out c = out_of_hits _ (λ hits. c.is_out.ensures c.if-is_out.true c.args.table.now c.requires.begins hits)
