@@ -1,5 +1,5 @@
 #!/usr/bin/env python3
-"""How fast a scan is over tables and files that keep it awake.
+"""How fast `match` is over tables and files in which words begin at many offsets and come to nothing.
 
     python3 bench/awake.py PROGRAM [TABLE..] [--signatures N] [--bytes N] [--seed S]
 
@@ -56,18 +56,12 @@ def seconds(words):
     return time.perf_counter() - begin
 
 
-def parser_of(text, size, seed):
-    """Of the words that this script and `feed.py` share, with these at first for the bytes and the seed."""
-    parser = argparse.ArgumentParser(description=text, formatter_class=argparse.RawDescriptionHelpFormatter)
+def main():
+    parser = argparse.ArgumentParser(description=__doc__, formatter_class=argparse.RawDescriptionHelpFormatter)
     parser.add_argument("program")
     parser.add_argument("tables", nargs="*", metavar="TABLE")
-    parser.add_argument("--bytes", type=int, default=size)
-    parser.add_argument("--seed", type=int, default=seed)
-    return parser
-
-
-def main():
-    parser = parser_of(__doc__, 1 << 20, 1)
+    parser.add_argument("--bytes", type=int, default=1 << 20)
+    parser.add_argument("--seed", type=int, default=1)
     parser.add_argument("--signatures", type=int, default=400)
     asked = parser.parse_args()
     rng = random.Random(asked.seed)
