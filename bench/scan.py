@@ -5,7 +5,7 @@
 
 PROGRAM is called as `PROGRAM match SIGNATURES PRIORITIES FILE`. The tables have 50, 300 and 1,500
 signatures like those of a registry: two of three begin the file with fixed bytes, some of these with
-a short gap; others begin within the first bytes, go on behind an open gap, stand at the end of the
+a short gap; others begin within the first bytes, go on behind an unbounded gap, stand at the end of the
 file, or anywhere. The files have 16 KiB, 10 MiB and as many MiB as `--large` says, at first 256:
 random bytes, words of text and zeros in turn, with the beginnings of some signatures among them.
 
@@ -17,7 +17,7 @@ tables and files stay in that folder. The same seed makes the same ones anywhere
 
 Where `yara` and `yarac` are installed, a second line has their MB/s, measured in the same way over the
 same files, with compiled rules that say what the table says. The few signatures with a range are left
-out of the rules, and of what stands behind an open gap only that it stands somewhere.
+out of the rules, and of what stands behind an unbounded gap only that it stands somewhere.
 """
 import argparse
 import os
