@@ -334,7 +334,7 @@ fn find_row(rt: &HostRuntime, row: &WorkedRow) -> Result<bool, Fail> {
     find_whole(rt, &core, row.2)
 }
 
-// A core scans only what is longer than its first piece, so the rows are fed to a scan by themselves.
+// The rows, fed to a scan in pieces.
 #[test]
 fn a_scan_answers_the_worked_rows(rt: HostRuntime) -> Result<(), Fail> {
     for (sequences, file, hits) in ONE_SIGNATURE {

@@ -15,7 +15,7 @@ const CUTS: &[(&str, &[&[u8]], bool)] = &[
     ("Variable,,,4142", &[b"A\x00", b"B\x00"], false),
     ("Variable,,,4142", &[], false),
     ("BOF,0,,(41|4142)43", &[b"A", b"", b"BC"], true),
-    // A front is cut anywhere.
+    // A word is cut anywhere.
     (
         "Variable,,,414243444546",
         &[b"\x00\x00\x00\x00ABC", b"DEF\x00"],
@@ -41,11 +41,11 @@ const CUTS: &[(&str, &[&[u8]], bool)] = &[
         &[b"\x00\x00\x00\x00ABC", b"ABDEF"],
         false,
     ),
-    // A front overlaps itself.
+    // A word begins again within itself.
     ("Variable,,,414142", &[b"\x00\x00\x00AA", b"AB"], true),
     ("Variable,,,414142", &[b"\x00\x00\x00AAAAB"], true),
     ("Variable,,,414142", &[b"\x00\x00\x00AA\x00AB"], false),
-    // A way out has several first bytes.
+    // A word has several first bytes.
     ("Variable,,,[41:42]43", &[b"\x00\x00\x00B", b"C"], true),
     (
         "Variable,,,[41:42]43",

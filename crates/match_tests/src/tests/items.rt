@@ -1,4 +1,4 @@
-//! At which places a word of one item ends, worked out by hand, and asked of both cores and of a scan.
+//! At which places a word of one item ends, worked out by hand, and asked of two cores and of a scan.
 
 use crate::tests::{loaded, scanned_by};
 use sig_match::{StreamCore, WholeCore};
