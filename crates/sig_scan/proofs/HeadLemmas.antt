@@ -1,5 +1,5 @@
 -- Heads: which files have them, and which signatures they close.
-use Rattle.std.proofs.Common.{◌≡◌, ◌≢◌, ◌∙◌, ℕ, ◌+◌, ◌≤◌, ◌<◌, inl, inr, All, Bool, List, [], ◌∷◌, ◌++◌, Some, add-zero, ap, append_assoc, arith, false, true, get_or, length, length-append, subst, sym}
+use Rattle.std.proofs.Common.{◌≡◌, ◌≢◌, ◌∙◌, ℕ, ◌<◌, inl, inr, All, Bool, List, [], ◌∷◌, ◌++◌, Some, add-zero, ap, append_assoc, arith, false, true, get_or, length, length-append, subst, sym}
 use Rattle.std.proofs.Math.ListN.{set}
 use Rattle.std.proofs.lemmas.Bool.{false≢true}
 use Rattle.std.proofs.lemmas.List.{get_or-append-add, get_or_append_left, nil_from_length}

@@ -3,6 +3,7 @@ mod LiesLemmas
 mod LengthLemmas
 mod LiteralLemmas
 mod FilterLemmas
+mod FirstLemmas
 mod TurnLemmas
 mod CutLemmas
 mod ProgramLemmas

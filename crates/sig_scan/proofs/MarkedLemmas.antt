@@ -1,17 +1,16 @@
 -- The beginning and the end of a scan: what it is of an empty file, and which signatures it marks.
-use Rattle.std.proofs.Common.{◌≡◌, ◌∙◌, ℕ, ◌+◌, ◌-◌, ◌≤◌, ◌<◌, inl, inr, All, Bool, List, [], ◌∷◌, ◌++◌, add-one, ap, arith, drop, drop-cons, false, true, get_or, get_or-set_other, get_or-set_same, length, length-append, map, max, Option, refl, Some, subst, suc, sym, take}
+use Rattle.std.proofs.Common.{◌≡◌, ◌∙◌, ℕ, ◌+◌, ◌-◌, ◌≤◌, ◌<◌, inl, inr, All, Bool, List, [], ◌∷◌, ◌++◌, add-one, ap, arith, drop, drop-cons, false, true, get_or, get_or-set_other, get_or-set_same, length, length-append, max, Option, refl, Some, subst, suc, sym, take}
 use Rattle.std.proofs.Math.ListN.{set}
-use Rattle.std.proofs.lemmas.Bool.{cases_eq, false≢true}
+use Rattle.std.proofs.lemmas.Bool.{cases_eq}
 use Rattle.std.proofs.lemmas.Grind.{flat_map-append}
-use Rattle.std.proofs.lemmas.List.{append-nil, get_or-append-add, get_or_append_left, length-map, take-append-drop, take_more}
+use Rattle.std.proofs.lemmas.List.{append-nil, get_or-append-add, get_or_append_left, take-append-drop, take_more}
 use Rattle.std.proofs.lemmas.List.Elements.{All-nil}
-use Rattle.std.proofs.lemmas.Option.{get_or_from_slice_get, slice_get-get_or, slice_get-map, slice_get_within}
+use Rattle.std.proofs.lemmas.Option.{get_or_from_slice_get, slice_get-get_or, slice_get_within}
 use Rattle.std.specs.List.{flat_map, slice_get}
-use Rattle.std.specs.Option.{option_map}
 use Rattle.std.specs.Prelude.{◌↔◌, IsTrue, slice_index}
 use Rattle.sig_bits.specs.Bytes.{IsBytes}
 use Rattle.sig_scan.specs.Courses.{AreCoursesOf, IsBoundedCourse, IsHeld, first_of, sequences_of}
-use Rattle.sig_scan.specs.Scans.{AllStand, AreExcluded, AreFirst, AreMarked, BufferView, HasLastBytes, InTurnAt, IsBase, IsEndOf, IsScanOf, IsShort, IsShortCourse, ScanView, TailIsShort, WaitsAt}
+use Rattle.sig_scan.specs.Scans.{AllStand, AreExcluded, AreFirst, AreMarked, BufferView, HasLastBytes, InTurnAt, IsBase, IsEndOf, IsScanOf, IsShort, IsShortCourse, ScanView, TailIsShort}
 use Rattle.sig_scan.specs.Stages.{CourseView, StageView, TailView, Waits}
 use Rattle.sig_scan.specs.declared.state.State.{State}
 use Rattle.sig_scan.proofs.ScanLemmas.{All-course, courses-short}
@@ -39,15 +38,20 @@ IsScanOf-fresh table courses keep buffer states may_hit found is first are exclu
   last = inl refl;
   is_table = refl;
   wait = λ g h may signature i s c t low high sequence course state.
-      let t_is = first i c t course state in
+      let left = (first i c t course state).left in
       let below = slice_get_within table.signatures g h signature in
       let c_is = sym (is.each g h below may signature i s c low high sequence course) in
-      let P : State → Type 0 = λ x. WaitsAt s [] buffer.bytes x.from (drop x.done c.stages) c.tail in
       let Q : CourseView → Type 0 = λ d. Waits s [] d.from d.stages d.tail in
       let fresh : Waits s [] c.from c.stages c.tail = subst Q c_is (Waits-fresh s) in
       let fed = Waits-fed s [] buffer.bytes c.from c.stages c.tail are fresh in
-      let zero : c.from ≡ length {A = ℕ} [] + c.from = omega arith in
-      subst P (sym t_is) (subst (λ (n : ℕ). Waits s buffer.bytes n c.stages c.tail) zero fed);
+      let zero : t.from ≡ length {A = ℕ} [] + t.from = omega arith in
+      let now : Waits s buffer.bytes t.from (drop t.done c.stages) c.tail = record {
+        residual = λ more later.
+            let known = fed.residual more later in
+            let is = left (buffer.bytes ++ more) in
+            (λ stands. is.0 (known.0 stands), λ turn. known.1 (is.1 turn));
+      } in
+      subst (λ (n : ℕ). Waits s buffer.bytes n (drop t.done c.stages) c.tail) zero now;
   excluded = excluded;
 }
 

@@ -1,11 +1,11 @@
 -- The states of all sequences: one after the other is settled.
-use Rattle.std.proofs.Common.{◌≡◌, ◌∙◌, ℕ, ◌+◌, ◌-◌, ◌≤◌, ◌<◌, ◌⊎◌, ◌^◌, inl, inr, All, Bool, List, [], ◌∷◌, ◌++◌, ap, append_assoc, arith, drop, get_or, get_or-set_other, get_or-set_same, length, length-append, map, min, None, Option, refl, Some, subst, sym, take, true}
-use Rattle.std.proofs.Math.ListN.{get_or-map, length-set, set}
+use Rattle.std.proofs.Common.{◌≡◌, ◌∙◌, ℕ, ◌+◌, ◌-◌, ◌≤◌, ◌<◌, ◌⊎◌, ◌^◌, inl, inr, All, Bool, List, ◌++◌, ap, append_assoc, arith, drop, get_or, get_or-set_other, get_or-set_same, length, length-append, min, None, Option, refl, Some, subst, sym, take, true}
+use Rattle.std.proofs.Math.ListN.{length-set, set}
 use Rattle.std.proofs.lemmas.Bool.{cases_eq, cases_lt}
-use Rattle.std.proofs.lemmas.List.{length-drop, length-map, length-take-le, map-append, take-append-drop}
-use Rattle.std.proofs.lemmas.List.Elements.{All-append, All-get_or, All-map}
+use Rattle.std.proofs.lemmas.List.{length-drop, length-take-le, take-append-drop}
+use Rattle.std.proofs.lemmas.List.Elements.{All-append, All-get_or}
 use Rattle.std.proofs.lemmas.Option.{get_or_from_slice_get, slice_get-get_or, slice_get_past, slice_get_within}
-use Rattle.std.specs.List.{flat_map, slice_get}
+use Rattle.std.specs.List.{slice_get}
 use Rattle.std.specs.Prelude.{IfSome}
 use Rattle.sig_bits.specs.Bytes.{IsBytes}
 use Rattle.sig_scan.specs.Courses.{AreCoursesOf, IsBoundedCourse, IsHeld}
@@ -16,7 +16,7 @@ use Rattle.sig_scan.specs.declared.state.State.{State}
 use Rattle.sig_scan.proofs.WaitLemmas.{Waits-fed}
 use Rattle.sig_table.proofs.Exports.{slice_get-within}
 use Rattle.sig_table.specs.Standing.{Hits}
-use Rattle.sig_table.specs.Views.{SequenceView, SignatureView, TableView}
+use Rattle.sig_table.specs.Views.{SequenceView, TableView}
 
 -- an element after a write
 pub slice_get-set_cases : {X : Type 0} (xs : List X) (k i : ℕ) (v t : X) → k < length xs → slice_get (set xs k v) i ≡ Some t

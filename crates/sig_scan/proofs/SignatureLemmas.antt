@@ -1,12 +1,11 @@
 -- The signatures of a table, one after the other: their sequences wait on, or one of them never stands.
 use Rattle.std.proofs.Common.{◌≡◌, ◌∙◌, ℕ, ◌+◌, ◌≤◌, ◌<◌, ◌⊎◌, inl, inr, Bool, List, ◌++◌, Some, ap, arith, drop, false, true, get_or, length, refl, subst, sym, take}
 use Rattle.std.proofs.Math.ListN.{set}
-use Rattle.std.proofs.lemmas.Bool.{cases_eq, cases_lt, false≢true}
+use Rattle.std.proofs.lemmas.Bool.{cases_eq, false≢true}
 use Rattle.std.proofs.lemmas.List.{get_or-take, length-take-le, take-append-drop, take-append-le}
 use Rattle.std.proofs.lemmas.List.Folds.{length-flat_map-take}
-use Rattle.std.proofs.lemmas.Option.{get_or_from_slice_get, slice_get-get_or, slice_get_within}
+use Rattle.std.proofs.lemmas.Option.{get_or_from_slice_get, slice_get_within}
 use Rattle.std.specs.List.{slice_get}
-use Rattle.sig_bits.specs.Bytes.{IsBytes}
 use Rattle.sig_scan.specs.Courses.{first_of, sequences_of}
 use Rattle.sig_scan.specs.Scans.{AreExcluded, AreWaiting, SomeNeverStands}
 use Rattle.sig_scan.specs.Stages.{CourseView}

@@ -1,6 +1,6 @@
 -- A scan: what it knows of a file of which the last bytes are at hand.
-use Rattle.std.specs.Prelude.{◌≡◌, ◌↔◌, Bool, false, true, IsTrue, slice_index_or, ℕ, ◌+◌, ◌-◌, ◌<◌, ◌≤◌, ◌^◌, ◌⊎◌, ⊤, All, Some, drop, max, min, slice_index, List, [], ◌∷◌, ◌++◌, length, take, Option, IfSome, MatchOption}
-use Rattle.std.specs.List.{flat_map, slice_get}
+use Rattle.std.specs.Prelude.{◌≡◌, ◌↔◌, Bool, false, true, IsTrue, slice_index_or, ℕ, ◌+◌, ◌-◌, ◌<◌, ◌≤◌, ◌^◌, ◌⊎◌, ⊤, All, Some, drop, max, min, slice_index, List, [], ◌∷◌, ◌++◌, length, Option, IfSome, MatchOption}
+use Rattle.std.specs.List.{slice_get}
 use Rattle.sig_bits.specs.Bytes.{IsBytes}
 use Rattle.sig_bits.specs.Device.{Gives}
 use Rattle.sig_expr.specs.declared.item.Item.{Item}
@@ -9,7 +9,7 @@ use Rattle.sig_scan.specs.Courses.{AreCoursesOf, IsHeld, first_of, sequences_of}
 use Rattle.sig_scan.specs.Heads.{AreHeadsOf}
 use Rattle.sig_scan.specs.Lengths.{AreBounded, span}
 use Rattle.sig_scan.specs.Placed.{Lies}
-use Rattle.sig_scan.specs.Stages.{CourseView, InTurn, StageView, TailView, Waits}
+use Rattle.sig_scan.specs.Stages.{CourseStands, CourseView, InTurn, StageView, TailView, Waits}
 use Rattle.sig_scan.specs.declared.head.Head.{Head}
 use Rattle.sig_scan.specs.declared.state.State.{State}
 use Rattle.sig_scan.specs.declared.state.Step.{Step}
@@ -165,10 +165,14 @@ pub record IsEndOf (table : TableView) (file : List ℕ) (scan : ScanView) : Typ
   pub left : AllLeft table scan.may_hit scan.courses before scan.buffer.bytes scan.states scan.found
   pub excluded : AreExcluded table scan.may_hit file
 
+-- in any file all of the course stands where what this state leaves of it does
+pub record IsFirst (course : CourseView) (t : State) : Type 0 where
+  pub done : t.done ≤ length course.stages
+  pub left : (file : List ℕ) → CourseStands course file ↔ InTurn file t.from (drop t.done course.stages) course.tail
+
 -- each sequence waits for all of its course
 abbrev pub AreFirst : List CourseView → List State → Type 0
-AreFirst courses states = (i : ℕ) (c : CourseView) (t : State) → slice_get courses i ≡ Some c → slice_get states i ≡ Some t
-    → t ≡ record { done = 0; from = c.from }
+AreFirst courses states = (i : ℕ) (c : CourseView) (t : State) → slice_get courses i ≡ Some c → slice_get states i ≡ Some t → IsFirst c t
 
 -- those of so many sequences of the table, from this one on, that there are all stand in the file
 abbrev pub AllStand : TableView → List ℕ → ℕ → ℕ → Type 0

@@ -15,7 +15,7 @@ ghost use Rattle.sig_scan.specs.Filters.{AreLiteralsOf};
 ghost use Rattle.sig_scan.specs.Heads.{AreHeadsOf, IsProgramOf};
 ghost use Rattle.sig_scan.specs.Lengths.{IsBoundedItem};
 ghost use Rattle.sig_scan.specs.Passes.{ArePast};
-ghost use Rattle.sig_scan.specs.Scans.{AreFirst};
+ghost use Rattle.sig_scan.specs.Scans.{AreFirst, IsFirst};
 ghost use Rattle.sig_scan.specs.Stages.{CourseView, StageView, course_of, stages_of};
 ghost use Rattle.std.specs.List.{slice_get};
 ghost use Rattle.sig_table.specs.Standing.{Hits, Stands};
@@ -181,12 +181,27 @@ fn first_states(
 {
     let mut states = Vec::with_capacity(alloc, courses.len())?;
     for course in courses {
-        states.push(State {
-            done: 0,
-            from: usize::from(course.from),
-        })?;
+        states.push(first_state(course, stages))?;
     }
     Ok(states)
+}
+
+// The state in which a sequence waits for all of its course. A stage of no byte that may begin anywhere, as that of
+// `*41`, ends where it begins, so the sequence waits behind it.
+fn first_state(course: &Course, stages: &[Stage]) -> State
+    ensures { IsFirst (course_in stages.now course.now) result }
+{
+    let from = usize::from(course.from);
+    if from == 0 && course.first < course.end.min(stages.len()) {
+        let stage = &stages[course.first];
+        if stage.until.is_none() && stage.items.is_empty() {
+            return State {
+                done: 1,
+                from: stage.delay as usize,
+            };
+        }
+    }
+    State { done: 0, from }
 }
 
 // Adds the head of a sequence of the signature, if it has one.

@@ -1,6 +1,4 @@
-use Rattle.std.proofs.Common.{◌≡◌, ◌<◌, ℕ, List, Bool, Some, arith, false, true, get_or, inl, inr, length, subst, sym}
-use Rattle.std.proofs.Math.ListN.{set}
-use Rattle.std.proofs.lemmas.Bool.{false≢true}
+use Rattle.std.proofs.Common.{◌≡◌, ◌<◌, Some, arith, true, get_or, length, subst, sym}
 use Rattle.std.specs.List.{slice_get}
 use Rattle.sig_scan.specs.Scans.{AreExcluded}
 use Rattle.sig_scan.specs.declared.head.Head.{Head}

@@ -1,4 +1,4 @@
-use Rattle.std.proofs.Common.{◌≡◌, ◌<◌, ℕ, Bool, List, ap, arith, get_or, length, subst, sym}
+use Rattle.std.proofs.Common.{◌≡◌, ◌<◌, Bool, List, arith, get_or, length, subst, sym}
 use Rattle.sig_scan.specs.Scans.{AreExcluded}
 use Rattle.sig_scan.proofs.HeadLemmas.{AreExcluded-never}
 use Rattle.sig_table.proofs.Exports.{slice_get-within}

@@ -1,4 +1,4 @@
-use Rattle.std.proofs.Common.{List, subst}
+use Rattle.std.proofs.Common.{subst}
 use Rattle.std.proofs.lemmas.Result.{on_ok_weaker}
 use Rattle.sig_scan.specs.Literals.{IsLiteralOf}
 use Rattle.sig_scan.specs.Stages.{StageView}

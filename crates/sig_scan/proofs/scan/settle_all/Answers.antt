@@ -1,10 +1,8 @@
-use Rattle.std.proofs.Common.{◌≡◌, ◌∙◌, ◌+◌, ◌++◌, ◌≤◌, ◌<◌, ◌⊎◌, All, Bool, List, ℕ, Some, ap, arith, drop, false, get_or, inl, inr, length, refl, subst, sym, take, true}
+use Rattle.std.proofs.Common.{◌≡◌, ◌∙◌, ◌+◌, ◌++◌, ◌≤◌, ◌<◌, All, Bool, List, ℕ, Some, ap, arith, false, inr, length, refl, subst, sym, true}
 use Rattle.std.proofs.Math.ListN.{set}
 use Rattle.std.proofs.lemmas.Option.{slice_get-get_or, slice_get_within}
 use Rattle.std.specs.List.{slice_get}
-use Rattle.sig_scan.specs.Courses.{first_of}
 use Rattle.sig_scan.specs.Scans.{AllWait, AreDone, AreExcluded, IsBase, IsShortCourse}
-use Rattle.sig_scan.specs.declared.frontier.Frontier.{Frontier}
 use Rattle.sig_scan.specs.declared.state.State.{State}
 use Rattle.sig_scan.proofs.MarkedLemmas.{sequences-fit, sequences-next}
 use Rattle.sig_scan.proofs.SignatureLemmas.{AllMoved, AllMoved-excluded, AllMoved-here, AllMoved-next, AreExcluded-next, still-set}

@@ -1,10 +1,9 @@
-use Rattle.std.proofs.Common.{◌≡◌, ◌∙◌, ◌-◌, ◌≤◌, ◌<◌, ◌⊎◌, All, List, Some, ap, arith, drop, get_or, inl, inr, length, refl, subst, sym}
-use Rattle.std.proofs.lemmas.Bool.{cases_eq}
+use Rattle.std.proofs.Common.{◌≡◌, ◌∙◌, ◌-◌, ◌≤◌, ◌<◌, All, List, Some, ap, arith, drop, get_or, inl, inr, length, refl, subst, sym}
 use Rattle.std.proofs.lemmas.List.{get_or_default}
-use Rattle.std.proofs.lemmas.Option.{slice_get-get_or, slice_get_within}
+use Rattle.std.proofs.lemmas.Option.{slice_get-get_or}
 use Rattle.std.specs.List.{slice_get}
 use Rattle.sig_scan.specs.Scans.{IsShort, IsShortCourse, WaitsAt}
-use Rattle.sig_scan.specs.Stages.{CourseView, StageView}
+use Rattle.sig_scan.specs.Stages.{StageView}
 use Rattle.sig_scan.specs.declared.state.State.{State}
 use Rattle.sig_scan.proofs.PassLemmas.{Waits-found}
 use Rattle.sig_scan.proofs.ScanLemmas.{All-course, AreDone-set, AreMoved-set, Waits-moved, slice_get-set_other}

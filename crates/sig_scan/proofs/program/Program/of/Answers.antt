@@ -1,8 +1,7 @@
-use Rattle.std.proofs.Common.{◌≡◌, ◌∙◌, ◌++◌, ◌∷◌, [], ◌+◌, ◌<◌, ◌≤◌, ℕ, All, Bool, List, Some, ap, arith, false, get_or, length, length-append, map, refl, rules, subst, sym, true}
+use Rattle.std.proofs.Common.{◌≡◌, ◌∙◌, ◌++◌, ◌∷◌, [], ◌+◌, ◌<◌, ℕ, All, Bool, List, ap, arith, false, get_or, length, length-append, map, refl, rules, subst, sym}
 use Rattle.std.proofs.lemmas.List.{length-map, take_all}
 use Rattle.std.proofs.lemmas.List.Elements.{All-push}
-use Rattle.std.specs.List.{slice_get}
-use Rattle.sig_scan.specs.Courses.{AreBefore, AreCourses, IsBoundedCourse, course_if, course_in, first_of, sequences_of}
+use Rattle.sig_scan.specs.Courses.{AreBefore, IsBoundedCourse, course_if, course_in, first_of, sequences_of}
 use Rattle.sig_scan.specs.Filters.{AreLiteralsOf}
 use Rattle.sig_scan.specs.Scans.{AreFirst}
 use Rattle.sig_scan.specs.declared.program.Course.{Course}

@@ -1,11 +1,10 @@
-use Rattle.std.proofs.Common.{◌≡◌, ◌∙◌, ◌+◌, ◌≤◌, ◌<◌, ℕ, Some, arith, inl, inr, length, refl, subst, sym, true}
+use Rattle.std.proofs.Common.{◌≡◌, ◌∙◌, Some, arith, inl, inr, refl, subst, sym, true}
 use Rattle.std.proofs.lemmas.Bool.{cases_eq, false≢true}
 use Rattle.std.specs.List.{slice_get}
-use Rattle.sig_scan.specs.Courses.{first_of, sequences_of}
+use Rattle.sig_scan.specs.Courses.{sequences_of}
 use Rattle.sig_scan.specs.Scans.{IsEndOf, ScanView}
 use Rattle.sig_scan.proofs.MarkedLemmas.{AllStand-hits, sequences-fit}
 use Rattle.sig_table.proofs.Exports.{slice_get-within}
-use Rattle.sig_table.specs.Standing.{Stands}
 use Rattle.sig_scan.proofs.scan.Scan.all_stand.Goals as goal
 
 pub loop-sequence-preserved : goal.loop-sequence-preserved

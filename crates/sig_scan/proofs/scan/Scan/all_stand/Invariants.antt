@@ -1,4 +1,4 @@
-use Rattle.std.proofs.Common.{◌≡◌, ◌+◌, ◌≤◌, List, Some, ℕ, length, true}
+use Rattle.std.proofs.Common.{◌≡◌, ◌+◌, List, Some, ℕ, length, true}
 use Rattle.std.specs.List.{slice_get}
 use Rattle.sig_scan.specs.Courses.{first_of}
 use Rattle.sig_scan.specs.Scans.{AllStand, IsEndOf}

@@ -1,4 +1,4 @@
-use Rattle.std.proofs.Common.{◌≡◌, ◌≤◌, ◌*◌, List, ℕ, length}
+use Rattle.std.proofs.Common.{◌≡◌, ◌≤◌, ◌*◌, List, ℕ}
 use Rattle.sig_scan.specs.Courses.{first_of}
 use Rattle.sig_scan.specs.Scans.{AreMarked, IsEndOf, IsScanOf}
 use Rattle.sig_table.specs.Views.{TableView}
