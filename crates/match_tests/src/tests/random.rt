@@ -1,6 +1,6 @@
 //! Random tables over random files, cut anywhere: a scan, the scan by blocks and the search of the whole file agree.
 
-use crate::tests::{agrees_by, are_searched, letters, loaded, next_state};
+use crate::tests::{agrees_by, are_searched, letters, loaded, next_state, scanned_by};
 use sig_bits::FromRead;
 use sig_core::{DroidCore, Results};
 use sig_match::Scan;
@@ -209,10 +209,11 @@ fn random_words_in_long_files_are_told_alike(rt: HostRuntime) -> Result<(), Fail
 // The lengths of blocks: with few bytes, words lie across many borders.
 const BLOCKS: &[u32] = &[1, 2, 3, 5, 8, 17, 64];
 
-// Whether a core that scans by blocks agrees on the file.
+// Whether a core that scans by blocks answers what the search of the whole file does, and what a scan does.
 fn core_agrees(alloc: Global, core: &BlockCore, file: &[u8]) -> Result<bool, Fail> {
     let results = core.match_binary_signatures(&mut FromRead::new(file))?;
-    agree(alloc, core.table(), file, &results)
+    let scanned = scanned_by(alloc, core.table(), file, 64)?;
+    Ok(scanned.hits() == results.hits() && are_searched(alloc, core.table(), file, &results)?)
 }
 
 // Whether it does on each front of the file whose length is a multiple of this one.
