@@ -1,7 +1,6 @@
 //! Where a file is cut, which makes no difference.
 
 use crate::tests::{hit, scanned, table_of};
-use sig_core::Hit;
 use sig_match::Scan;
 use sig_table::Table;
 use std::alloc::Global;
@@ -111,8 +110,8 @@ const CUTS: &[(&str, &[&[u8]], bool)] = &[
 // Whether the one sequence stands in what these pieces make up, or does not.
 fn is_told(alloc: Global, sequence: &str, pieces: &[&[u8]], stands: bool) -> Result<bool, Fail> {
     let table = table_of(alloc, sequence)?;
-    let wants: &[Hit] = if stands { &[hit(0, 0)] } else { &[] };
-    Ok(scanned(alloc, &table, pieces)?.hits() == wants)
+    let results = scanned(alloc, &table, pieces)?;
+    Ok((results.hits() == [hit(0, 0)].as_slice()) == stands)
 }
 
 #[test]
