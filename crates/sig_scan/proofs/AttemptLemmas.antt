@@ -1,13 +1,5 @@
 -- From the bytes in sight to the bytes at hand, and from the end of an entry to the first of all.
-use Rattle.std.proofs.Common.{◌≡◌, ℕ, ◌+◌, ◌≤◌, ◌⊎◌, inl, inr, List, length, min, take, drop, subst, sym, arith, Option, Some, None}
-use Rattle.std.proofs.lemmas.Bool.{cases_lt}
-use Rattle.std.proofs.lemmas.List.{length-take-le, take-append-drop}
-use Rattle.std.specs.Option.{unwrap_or}
-use Rattle.sig_expr.specs.declared.item.Item.{Item}
-use Rattle.sig_scan.specs.Frontiers.{EndsAt, IsLeastEnd}
-use Rattle.sig_scan.specs.Lengths.{AreBounded, span}
-use Rattle.sig_scan.specs.Placed.{Lies}
-use Rattle.sig_scan.specs.Scans.{IsFirstOf}
+use Rattle.sig_scan.proofs.Common.{◌≡◌, ℕ, ◌+◌, ◌≤◌, ◌⊎◌, inl, inr, List, length, min, take, drop, subst, sym, arith, Option, Some, None, cases_lt, length-take-le, take-append-drop, unwrap_or, Item, EndsAt, IsLeastEnd, AreBounded, span, Lies, IsFirstOf}
 use Rattle.sig_scan.proofs.LengthLemmas.{Lies-span}
 use Rattle.sig_scan.proofs.LiesLemmas.{Lies-seen_both}
 

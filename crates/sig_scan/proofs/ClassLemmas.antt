@@ -1,16 +1,5 @@
 -- Parts of one byte as classes, and the bits of a byte that two sets have.
-use Rattle.std.proofs.Common.{◌≡◌, ◌↔◌, ℕ, ◌/◌, ◌%◌, ◌<◌, List, [], ◌∷◌, length, get_or, min, bit_and, refl, sym, ◌∙◌, subst, ⊎_elim, arith}
-use Rattle.std.specs.Int.{bit_at}
-use Rattle.std.proofs.lemmas.Bool.{cases_lt}
-use Rattle.std.proofs.lemmas.List.{get_or_past}
-use Rattle.std.proofs.lemmas.Nat.Bits.{bit_at_and, bit_at-lt}
-use Rattle.sig_bits.specs.Bytes.{IsBytes}
-use Rattle.sig_bits.specs.BitSets.{HasBit}
-use Rattle.sig_expr.specs.declared.item.Atom.{Atom}
-use Rattle.sig_expr.specs.Words.{PartWord}
-use Rattle.sig_scan.specs.declared.class.Class.{Class}
-use Rattle.sig_scan.specs.Classes.{IsOneOf, Takes}
-use Rattle.sig_scan.specs.Lengths.{part_length}
+use Rattle.sig_scan.proofs.Common.{◌≡◌, ◌↔◌, ℕ, ◌/◌, ◌%◌, ◌<◌, List, [], ◌∷◌, length, get_or, min, bit_and, refl, sym, ◌∙◌, subst, ⊎_elim, arith, bit_at, cases_lt, get_or_past, bit_at_and, bit_at-lt, IsBytes, HasBit, Atom, PartWord, Class, IsOneOf, Takes, part_length}
 use Rattle.sig_scan.proofs.PartLemmas.{PartWord-length}
 
 -- a list of one

@@ -1,18 +1,9 @@
 -- A table that is compiled sequence by sequence: the courses of the signatures that are to be hit.
-use Rattle.std.proofs.Common.{◌≡◌, ◌∙◌, ℕ, ◌+◌, ◌-◌, ◌≤◌, ◌<◌, inl, inr, All, Bool, List, [], ◌∷◌, ◌++◌, Some, ap, arith, drop, false, true, get_or, length, subst, sym, take}
-use Rattle.std.proofs.lemmas.Bool.{cases_eq}
-use Rattle.std.proofs.lemmas.List.Elements.{All-nil}
-use Rattle.std.proofs.lemmas.Option.{get_or_from_slice_get, slice_get-get_or, slice_get_within}
-use Rattle.std.specs.List.{slice_get}
-use Rattle.sig_scan.specs.Courses.{AreBefore, IsBoundedCourse, course_if, first_of, sequences_of}
-use Rattle.sig_scan.specs.Heads.{IsProgramOf, IsWholeProgramOf, ProgramView}
-use Rattle.sig_scan.specs.Lengths.{AreBounded}
-use Rattle.sig_scan.specs.Stages.{CourseView, StageView, course_of}
+use Rattle.sig_scan.proofs.Common.{◌≡◌, ◌∙◌, ℕ, ◌+◌, ◌-◌, ◌≤◌, ◌<◌, inl, inr, All, Bool, List, [], ◌∷◌, ◌++◌, Some, ap, arith, drop, false, true, get_or, length, subst, sym, take, cases_eq, All-nil, get_or_from_slice_get, slice_get-get_or, slice_get_within, slice_get, AreBefore, IsBoundedCourse, course_if, first_of, sequences_of, IsProgramOf, IsWholeProgramOf, ProgramView, AreBounded, CourseView, StageView, course_of, SequenceView, SignatureView, TableView}
 use Rattle.sig_scan.proofs.CutLemmas.{stages-bounded, tail-bounded}
 use Rattle.sig_scan.proofs.FilterLemmas.{push_cases}
 use Rattle.sig_scan.proofs.MarkedLemmas.{middle, sequences, sequences-cut}
 use Rattle.sig_scan.proofs.SignatureLemmas.{first_of-order}
-use Rattle.sig_table.specs.Views.{SequenceView, SignatureView, TableView}
 
 -- no word of a course is without bound
 pub course_if-bounded : (b : Bool) (s : SequenceView) → IsBoundedCourse (course_if b s)

@@ -1,19 +1,8 @@
 -- A sequence stands where its stages stand in turn.
-use Rattle.std.proofs.Common.{◌≡◌, ℕ, ◌+◌, ◌-◌, ◌≤◌, List, [], ◌∷◌, ◌++◌, length, take, drop, Option, None, Some, refl, subst, sym, ap, ◌∙◌, arith, append_assoc, length-append}
-use Rattle.std.specs.Prelude.{◌↔◌, All, IfSome, slice_range, ⊤}
-use Rattle.std.proofs.lemmas.List.{append-nil, length-drop, length-take-le, take-append-drop, take_at, drop_at}
-use Rattle.std.proofs.lemmas.List.Elements.{All-cons, All-head, All-nil, All-push, All-tail}
-use Rattle.std.proofs.lemmas.List.Folds.{drop_split}
-use Rattle.sig_bits.specs.Bytes.{IsBytes}
-use Rattle.sig_expr.specs.declared.item.Item.{Item}
+use Rattle.sig_scan.proofs.Common.{◌≡◌, ℕ, ◌+◌, ◌-◌, ◌≤◌, List, [], ◌∷◌, ◌++◌, length, take, drop, Option, None, Some, refl, subst, sym, ap, ◌∙◌, arith, append_assoc, length-append, ◌↔◌, All, IfSome, slice_range, ⊤, append-nil, length-drop, length-take-le, take-append-drop, take_at, drop_at, All-cons, All-head, All-nil, All-push, All-tail, drop_split, IsBytes, Item, IsAtMost, Lang, Position, Cut, AreBounded, IsBoundedItem, Lies, InTurn, CourseStands, StageEnds, StageView, TailView, all_but_last, course_of, last_items, stages_of}
+use Rattle.sig_table.specs.Standing.{StandsAt}
 use Rattle.sig_expr.specs.declared.item.Item.TheVariants as item
-use Rattle.sig_expr.specs.Words.{IsAtMost, Lang}
-use Rattle.sig_table.specs.declared.position.Position.{Position}
 use Rattle.sig_table.specs.declared.position.Position.TheVariants as position
-use Rattle.sig_table.specs.Standing.{Cut, StandsAt}
-use Rattle.sig_scan.specs.Lengths.{AreBounded, IsBoundedItem}
-use Rattle.sig_scan.specs.Placed.{Lies}
-use Rattle.sig_scan.specs.Stages.{InTurn, CourseStands, StageEnds, StageView, TailView, all_but_last, course_of, last_items, stages_of}
 use Rattle.sig_scan.proofs.LiesLemmas.{Lies-behind_gap, Lies-gap, Lies-join, Lies-split}
 
 -- a word of the items lies in the file from `from` on, within a greatest offset, and ends at one of

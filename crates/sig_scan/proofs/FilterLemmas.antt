@@ -1,16 +1,5 @@
 -- The prefilter: where the four bytes of an entry stand, its marks and its list are found.
-use Rattle.std.proofs.Common.{◌≡◌, ◌≢◌, ◌⊎◌, inl, inr, ℕ, ◌+◌, ◌*◌, ◌-◌, ◌%◌, ◌/◌, ◌≤◌, ◌<◌, List, [], ◌∷◌, ◌++◌, length, min, get_or, ap, ◌∙◌, sym, subst, refl, take, arith, add-zero, Some, get_or-set_other, get_or-set_same, length-append}
-use Rattle.std.proofs.Math.ListN.{set}
-use Rattle.std.proofs.Math.Nat.{add-mul-mod_self_right}
-use Rattle.std.proofs.lemmas.List.{get_or-append-add, get_or_append_left, get_or-take, get_or_past, length-set, length-take-le}
-use Rattle.std.proofs.lemmas.Option.{get_or_from_slice_get, slice_get-get_or, slice_get_within}
-use Rattle.std.proofs.lemmas.Bool.{cases_eq, cases_lt}
-use Rattle.std.specs.List.{slice_get}
-use Rattle.sig_scan.specs.Filters.{AddsEntry, AreKept, AreLiteralsOf, AreLowered, AreMissed, AreOwned, HasWindow, IsEntered, IsFilter, IsListed, IsPassedAt, IsUnlisted, behind_of, four_at, list_of, mark_of, text_of}
-use Rattle.sig_scan.specs.Literals.{Fits, IsLiteralOf, LiteralView, StandsAt, byte_of}
-use Rattle.sig_scan.specs.Stages.{CourseView, StageView}
-use Rattle.sig_scan.specs.declared.filter.Entry.{Entry}
-use Rattle.sig_scan.specs.declared.state.State.{State}
+use Rattle.sig_scan.proofs.Common.{◌≡◌, ◌≢◌, ◌⊎◌, inl, inr, ℕ, ◌+◌, ◌*◌, ◌-◌, ◌%◌, ◌/◌, ◌≤◌, ◌<◌, List, [], ◌∷◌, ◌++◌, length, min, get_or, ap, ◌∙◌, sym, subst, refl, take, arith, add-zero, Some, get_or-set_other, get_or-set_same, length-append, set, add-mul-mod_self_right, get_or-append-add, get_or_append_left, get_or-take, get_or_past, length-set, length-take-le, get_or_from_slice_get, slice_get-get_or, slice_get_within, cases_eq, cases_lt, slice_get, AddsEntry, AreKept, AreLiteralsOf, AreLowered, AreMissed, AreOwned, HasWindow, IsEntered, IsFilter, IsListed, IsPassedAt, IsUnlisted, behind_of, four_at, list_of, mark_of, text_of, Fits, IsLiteralOf, LiteralView, StandsAt, byte_of, CourseView, StageView, Entry, State}
 
 -- the fourth byte does not count for a mark
 mark_of-four : (m d : ℕ) → mark_of (m + d * 16777216) ≡ mark_of m

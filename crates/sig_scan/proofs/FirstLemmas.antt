@@ -1,18 +1,6 @@
 -- The state in which a sequence waits at the beginning of a file.
-use Rattle.std.proofs.Common.{◌≡◌, ◌∙◌, ℕ, ◌+◌, ◌<◌, inl, inr, List, [], ◌∷◌, ◌++◌, ap, arith, drop, false, get_or, length, length-append, map, Option, None, refl, Some, subst, sym}
-use Rattle.std.proofs.Math.Seq.{get_or-append_seam}
-use Rattle.std.proofs.lemmas.Bool.{cases_lt, false≢true}
-use Rattle.std.proofs.lemmas.List.{get_or_append_left, nil_from_length}
-use Rattle.std.proofs.lemmas.Option.{get_or_from_slice_get, slice_get-get_or, slice_get-map, slice_get_within}
-use Rattle.std.specs.List.{slice_get}
-use Rattle.std.specs.Option.{option_map}
-use Rattle.std.specs.Prelude.{◌↔◌, is_some}
-use Rattle.sig_expr.specs.declared.item.Item.{Item}
-use Rattle.sig_scan.specs.Courses.{course_in}
-use Rattle.sig_scan.specs.Scans.{AreFirst, IsFirst}
-use Rattle.sig_scan.specs.Stages.{CourseView, InTurn, IsFirstEnd, StageView, TailView}
-use Rattle.sig_scan.specs.declared.program.Course.{Course}
-use Rattle.sig_scan.specs.declared.state.State.{State}
+use Rattle.sig_scan.proofs.Common.{◌≡◌, ◌∙◌, ℕ, ◌+◌, ◌<◌, inl, inr, List, [], ◌∷◌, ◌++◌, ap, arith, drop, false, get_or, length, length-append, map, Option, None, refl, Some, subst, sym, get_or-append_seam, cases_lt, false≢true, get_or_append_left, nil_from_length, get_or_from_slice_get, slice_get-get_or, slice_get-map, slice_get_within, slice_get, option_map, ◌↔◌, is_some, Item, course_in, AreFirst, CourseView, InTurn, IsFirstEnd, StageView, TailView, Course, State}
+use Rattle.sig_scan.specs.Scans.{IsFirst}
 use Rattle.sig_scan.proofs.StateLemmas.{stages-next}
 use Rattle.sig_scan.proofs.TurnLemmas.{InTurn-first}
 

@@ -1,13 +1,7 @@
 -- Where gaps end.
-use Rattle.std.proofs.Common.{◌≡◌, ◌↔◌, ◌⊎◌, ℕ, ◌+◌, ◌-◌, ◌≤◌, ◌<◌, List, length, arith, inl, inr, get_or, Fits, w8}
-use Rattle.std.specs.Prelude.{slice_range}
-use Rattle.std.proofs.lemmas.List.{get_or_default}
-use Rattle.std.proofs.lemmas.List.Elements.{All-drop, All-take}
-use Rattle.sig_bits.specs.Bytes.{IsBytes}
-use Rattle.sig_bits.specs.BitSets.{HasBit, IsShiftedBit}
+use Rattle.sig_scan.proofs.Common.{◌≡◌, ◌↔◌, ◌⊎◌, ℕ, ◌+◌, ◌-◌, ◌≤◌, ◌<◌, List, length, arith, inl, inr, get_or, w8, slice_range, get_or_default, All-drop, All-take, IsBytes, HasBit, IsShiftedBit, Word, GainsBits, Reaches}
+use Rattle.std.proofs.Common.{Fits}
 use Rattle.sig_expr.specs.declared.item.Item.TheVariants as item
-use Rattle.sig_expr.specs.Words.{Word}
-use Rattle.sig_scan.specs.Frontiers.{GainsBits, Reaches}
 use Rattle.sig_scan.proofs.ReachLemmas.{length-slice_range}
 
 -- the members of a slice of bytes are bytes

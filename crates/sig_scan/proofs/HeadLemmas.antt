@@ -1,21 +1,8 @@
 -- Heads: which files have them, and which signatures they close.
-use Rattle.std.proofs.Common.{◌≡◌, ◌≢◌, ◌∙◌, ℕ, ◌<◌, inl, inr, All, Bool, List, [], ◌∷◌, ◌++◌, Some, add-zero, ap, append_assoc, arith, false, true, get_or, length, length-append, subst, sym}
-use Rattle.std.proofs.Math.ListN.{set}
-use Rattle.std.proofs.lemmas.Bool.{false≢true}
-use Rattle.std.proofs.lemmas.List.{get_or-append-add, get_or_append_left, nil_from_length}
-use Rattle.std.proofs.lemmas.Option.{get_or_from_slice_get, slice_get_within}
-use Rattle.std.specs.List.{slice_get}
-use Rattle.sig_expr.specs.declared.item.Item.{Item}
-use Rattle.sig_scan.specs.Heads.{AreHeadsOf, HasHead, IsHeadOf}
-use Rattle.sig_scan.specs.Literals.{IsEitherOf}
-use Rattle.sig_scan.specs.Scans.{AreExcluded, BufferView, IsScanOf, NeverStands}
-use Rattle.sig_scan.specs.Stages.{CourseView}
-use Rattle.sig_scan.specs.declared.head.Head.{Head}
-use Rattle.sig_scan.specs.declared.state.State.{State}
+use Rattle.sig_scan.proofs.Common.{◌≡◌, ◌≢◌, ◌∙◌, ℕ, ◌<◌, inl, inr, All, Bool, List, [], ◌∷◌, ◌++◌, Some, add-zero, ap, append_assoc, arith, false, true, get_or, length, length-append, subst, sym, set, false≢true, get_or-append-add, get_or_append_left, nil_from_length, get_or_from_slice_get, slice_get_within, slice_get, Item, AreHeadsOf, HasHead, IsHeadOf, IsEitherOf, AreExcluded, BufferView, IsScanOf, NeverStands, CourseView, Head, State, Hits, Stands, SequenceView, SignatureView, TableView}
+use Rattle.sig_table.specs.Standing.{StandsAt}
 use Rattle.sig_scan.proofs.ScanLemmas.{slice_get-set_cases}
-use Rattle.sig_table.specs.Standing.{Hits, Stands, StandsAt}
 use Rattle.sig_table.specs.declared.position.Position.TheVariants as position
-use Rattle.sig_table.specs.Views.{SequenceView, SignatureView, TableView}
 
 -- the first byte of a word is a byte of the file
 first-byte : (front w rest : List ℕ) (x : ℕ) → w ≡ x ∷ [] → (length front < length (front ++ (w ++ rest))) × (get_or (front ++ (w ++ rest)) (length front) 0 ≡ x)

@@ -1,17 +1,6 @@
 -- How many bytes hold the words of a compiled table.
-use Rattle.std.proofs.Common.{◌≡◌, ℕ, ◌+◌, ◌-◌, ◌≤◌, ◌<◌, Bool, false, true, List, [], ◌∷◌, ◌++◌, length, get_or, map, take, drop, Option, None, Some, refl, subst, sym, ◌∙◌, arith}
-use Rattle.std.specs.Prelude.{All, IfSome}
-use Rattle.std.specs.Option.{ForSome}
-use Rattle.std.proofs.lemmas.List.Elements.{All-append, All-drop, All-map, All-more, All-nil, All-push, All-same, All-take, All-weaker}
-use Rattle.sig_expr.specs.declared.item.Item.{Item}
-use Rattle.sig_table.specs.declared.position.Position.{Position}
+use Rattle.sig_scan.proofs.Common.{◌≡◌, ℕ, ◌+◌, ◌-◌, ◌≤◌, ◌<◌, Bool, false, true, List, [], ◌∷◌, ◌++◌, length, get_or, map, take, drop, Option, None, Some, refl, subst, sym, ◌∙◌, arith, All, IfSome, ForSome, All-append, All-drop, All-map, All-more, All-nil, All-push, All-same, All-take, All-weaker, Item, Position, IsSequence, SequenceView, Course, AddsCourse, AreHeld, IsHeld, course_if, course_in, span, StageView, TailView, last_items, stages_of}
 use Rattle.sig_table.specs.declared.position.Position.TheVariants as position
-use Rattle.sig_table.specs.Tables.{IsSequence}
-use Rattle.sig_table.specs.Views.{SequenceView}
-use Rattle.sig_scan.specs.declared.program.Course.{Course}
-use Rattle.sig_scan.specs.Courses.{AddsCourse, AreHeld, IsHeld, course_if, course_in}
-use Rattle.sig_scan.specs.Lengths.{span}
-use Rattle.sig_scan.specs.Stages.{StageView, TailView, last_items, stages_of}
 use Rattle.sig_scan.proofs.ProgramLemmas.{last_is}
 use Rattle.sig_scan.proofs.ShortLemmas.{stages-short, tail-short}
 

@@ -1,12 +1,6 @@
 -- The ends of a gap, from one start to the next.
-use Rattle.std.proofs.Common.{◌≡◌, ◌⊎◌, ℕ, ◌+◌, ◌-◌, ◌≤◌, ◌<◌, List, length, min, inl, inr, arith, Option, Some, None}
-use Rattle.std.specs.Prelude.{MatchOption}
-use Rattle.std.proofs.lemmas.Bool.{cases_lt}
-use Rattle.sig_bits.specs.Bytes.{IsBytes}
-use Rattle.sig_bits.specs.BitSets.{HasBit}
+use Rattle.sig_scan.proofs.Common.{◌≡◌, ◌⊎◌, ℕ, ◌+◌, ◌-◌, ◌≤◌, ◌<◌, List, length, min, inl, inr, arith, Option, Some, None, MatchOption, cases_lt, IsBytes, HasBit, Word, GainsBits, IsLeast, IsNextStart, Reaches}
 use Rattle.sig_expr.specs.declared.item.Item.TheVariants as item
-use Rattle.sig_expr.specs.Words.{Word}
-use Rattle.sig_scan.specs.Frontiers.{GainsBits, IsLeast, IsNextStart, Reaches}
 use Rattle.sig_scan.proofs.GapLemmas.{IsBytes-slice_range}
 use Rattle.sig_scan.proofs.RangeLemmas.{Joins}
 use Rattle.sig_scan.proofs.ReachLemmas.{length-slice_range}

@@ -1,14 +1,6 @@
 -- From items and alternatives to their parts.
-use Rattle.std.proofs.Common.{◌≡◌, ℕ, ◌+◌, ◌≤◌, ◌<◌, List, [], ◌∷◌, ◌++◌, length, get_or, drop, subst, sym, ap, ◌∙◌, inl, inr, arith}
-use Rattle.std.specs.Prelude.{slice_range}
-use Rattle.std.proofs.lemmas.List.{drop_more, drop_all}
-use Rattle.std.proofs.lemmas.List.Elements.{Contains-append_left, Contains-push, Contains-push_cases}
-use Rattle.sig_bits.specs.BitSets.{HasBit}
-use Rattle.sig_expr.specs.declared.item.Atom.{Atom}
-use Rattle.sig_expr.specs.declared.item.Item.{Item}
+use Rattle.sig_scan.proofs.Common.{◌≡◌, ℕ, ◌+◌, ◌≤◌, ◌<◌, List, [], ◌∷◌, ◌++◌, length, get_or, drop, subst, sym, ap, ◌∙◌, inl, inr, arith, slice_range, drop_more, drop_all, Contains-append_left, Contains-push, Contains-push_cases, HasBit, Atom, Item, AlternativeWord, Lang, PartWord, Word, GainsBits, HasBits, Reaches}
 use Rattle.sig_expr.specs.declared.item.Item.TheVariants as item
-use Rattle.sig_expr.specs.Words.{AlternativeWord, Lang, PartWord, Word}
-use Rattle.sig_scan.specs.Frontiers.{GainsBits, HasBits, Reaches}
 use Rattle.sig_scan.proofs.ReachLemmas.{Carries, Carries-more, HasBits-from_carries, Reaches-words}
 use Rattle.sig_scan.proofs.SetLemmas.{GainsBits-more, GainsBits-none}
 

@@ -1,16 +1,7 @@
 -- How long words are.
-use Rattle.std.proofs.Common.{◌≡◌, ℕ, ◌+◌, ◌≤◌, ◌<◌, List, [], ◌∷◌, ◌++◌, length, get_or, take, drop, All, map, subst, sym, None, Some, zero, suc, ap, ◌∙◌, arith, length-append}
-use Rattle.std.specs.Prelude.{slice_range}
-use Rattle.std.proofs.lemmas.List.{drop_more, get_or-map, length-map, take_more}
-use Rattle.std.proofs.lemmas.List.Elements.{All-contains, All-head, All-push, All-tail}
-use Rattle.std.proofs.lemmas.List.Sums.{sum_by-cons}
-use Rattle.sig_expr.specs.declared.item.Atom.{Atom}
+use Rattle.sig_scan.proofs.Common.{◌≡◌, ℕ, ◌+◌, ◌≤◌, ◌<◌, List, [], ◌∷◌, ◌++◌, length, get_or, take, drop, All, map, subst, sym, None, Some, zero, suc, ap, ◌∙◌, arith, length-append, slice_range, drop_more, get_or-map, length-map, take_more, All-contains, All-head, All-push, All-tail, sum_by-cons, Atom, Item, AlternativeWord, Lang, PartWord, Word, AreBounded, HasLength, IsBoundedItem, item_span, longest_of, part_length, parts_length, span, Lies}
 use Rattle.sig_expr.specs.declared.item.Atom.TheVariants as atom
-use Rattle.sig_expr.specs.declared.item.Item.{Item}
 use Rattle.sig_expr.specs.declared.item.Item.TheVariants as item
-use Rattle.sig_expr.specs.Words.{AlternativeWord, Lang, PartWord, Word}
-use Rattle.sig_scan.specs.Lengths.{AreBounded, HasLength, IsBoundedItem, item_span, longest_of, part_length, parts_length, span}
-use Rattle.sig_scan.specs.Placed.{Lies}
 use Rattle.sig_scan.proofs.LiesLemmas.{Lies-seen_both, length-slice_range}
 
 length-PartWord : (p : Atom) (w : List ℕ) → PartWord p w → length w ≡ part_length p

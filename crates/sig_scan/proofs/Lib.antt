@@ -1,4 +1,5 @@
 -- Lemmas of this crate.
+mod Common
 mod LiesLemmas
 mod LengthLemmas
 mod LiteralLemmas

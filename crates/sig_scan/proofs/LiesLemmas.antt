@@ -1,15 +1,7 @@
 -- Where words lie: of two lists of items joined, behind a gap, and in a file of which only the
 -- first bytes are seen.
-use Rattle.std.proofs.Common.{◌≡◌, ℕ, ◌+◌, ◌-◌, ◌≤◌, ◌<◌, List, [], ◌∷◌, ◌++◌, length, take, drop, None, refl, subst, sym, ap, ◌∙◌, arith, append_assoc, length-append, take-add}
-use Rattle.std.specs.Prelude.{◌↔◌, slice_range}
-use Rattle.std.proofs.lemmas.List.{append-nil, drop-drop, length-take-le, length-drop, take_at, drop_at, drop-append-le, take-append-le}
-use Rattle.std.proofs.Math.Seq.{drop-append-add}
-use Rattle.std.proofs.lemmas.List.Elements.{All-drop, All-take}
-use Rattle.sig_bits.specs.Bytes.{IsBytes}
-use Rattle.sig_expr.specs.declared.item.Item.{Item}
+use Rattle.sig_scan.proofs.Common.{◌≡◌, ℕ, ◌+◌, ◌-◌, ◌≤◌, ◌<◌, List, [], ◌∷◌, ◌++◌, length, take, drop, None, refl, subst, sym, ap, ◌∙◌, arith, append_assoc, length-append, take-add, ◌↔◌, slice_range, append-nil, drop-drop, length-take-le, length-drop, take_at, drop_at, drop-append-le, take-append-le, drop-append-add, All-drop, All-take, IsBytes, Item, Lang, Word, Lies}
 use Rattle.sig_expr.specs.declared.item.Item.TheVariants as item
-use Rattle.sig_expr.specs.Words.{Lang, Word}
-use Rattle.sig_scan.specs.Placed.{Lies}
 
 -- a word of two lists of items is a word of the one and a word of the other
 Lang-append : (xs ys : List Item) (w : List ℕ) → Lang (xs ++ ys) w → (u v : List ℕ) × (w ≡ u ++ v) × Lang xs u × Lang ys v

@@ -1,17 +1,6 @@
 -- Where required literals stand: behind the beginning of each word, and so far from each other offset.
-use Rattle.std.proofs.Common.{◌≡◌, ◌⊎◌, ℕ, zero, suc, ◌+◌, ◌-◌, ◌≤◌, ◌<◌, true, eqb, eq-eqb, List, [], ◌∷◌, ◌++◌, length, get_or, take, drop, min, ap, ap₂, ◌∙◌, sym, subst, refl, arith, length-append, inl, inr, Option, Some, None}
-use Rattle.std.specs.Prelude.{slice_range}
-use Rattle.std.proofs.Math.ListN.{set}
-use Rattle.std.proofs.lemmas.Bool.{cases_eq, cases_lt, or_left, or_right}
-use Rattle.std.proofs.lemmas.List.{append-nil, get_or-drop, get_or-take, take-append-drop, take-take, take_at, take_more}
-use Rattle.memchr.specs.Find.{FindsNeedle, IsFirst, Nowhere, OccursAt, Passes, is_byte2}
+use Rattle.sig_scan.proofs.Common.{◌≡◌, ◌⊎◌, ℕ, zero, suc, ◌+◌, ◌-◌, ◌≤◌, ◌<◌, true, eqb, eq-eqb, List, [], ◌∷◌, ◌++◌, length, get_or, take, drop, min, ap, ap₂, ◌∙◌, sym, subst, refl, arith, length-append, inl, inr, Option, Some, None, slice_range, set, cases_eq, cases_lt, or_left, or_right, append-nil, get_or-drop, get_or-take, take-append-drop, take-take, take_at, take_more, FindsNeedle, IsFirst, Nowhere, OccursAt, Passes, is_byte2, Item, Lang, Word, HasLength, AreFixed, BeginsWith, Fits, IsEitherOf, IsLiteralOf, LiteralView, StandsAt, byte_of, Lies, IsFirstOf}
 use Rattle.memchr.proofs.lemmas.MatchLemmas.{OccursAt-from_part}
-use Rattle.sig_expr.specs.declared.item.Item.{Item}
-use Rattle.sig_expr.specs.Words.{Lang, Word}
-use Rattle.sig_scan.specs.Lengths.{HasLength}
-use Rattle.sig_scan.specs.Literals.{AreFixed, BeginsWith, Fits, IsEitherOf, IsLiteralOf, LiteralView, StandsAt, byte_of}
-use Rattle.sig_scan.specs.Placed.{Lies}
-use Rattle.sig_scan.specs.Scans.{IsFirstOf}
 use Rattle.sig_scan.proofs.LiesLemmas.{Lies-split, length-slice_range}
 
 -- a text with one of the two bytes at each place

@@ -1,22 +1,7 @@
 -- The beginning and the end of a scan: what it is of an empty file, and which signatures it marks.
-use Rattle.std.proofs.Common.{◌≡◌, ◌∙◌, ℕ, ◌+◌, ◌-◌, ◌≤◌, ◌<◌, inl, inr, All, Bool, List, [], ◌∷◌, ◌++◌, add-one, ap, arith, drop, drop-cons, false, true, get_or, get_or-set_other, get_or-set_same, length, length-append, max, Option, refl, Some, subst, suc, sym, take}
-use Rattle.std.proofs.Math.ListN.{set}
-use Rattle.std.proofs.lemmas.Bool.{cases_eq}
-use Rattle.std.proofs.lemmas.Grind.{flat_map-append}
-use Rattle.std.proofs.lemmas.List.{append-nil, get_or-append-add, get_or_append_left, take-append-drop, take_more}
-use Rattle.std.proofs.lemmas.List.Elements.{All-nil}
-use Rattle.std.proofs.lemmas.Option.{get_or_from_slice_get, slice_get-get_or, slice_get_within}
-use Rattle.std.specs.List.{flat_map, slice_get}
-use Rattle.std.specs.Prelude.{◌↔◌, IsTrue, slice_index}
-use Rattle.sig_bits.specs.Bytes.{IsBytes}
-use Rattle.sig_scan.specs.Courses.{AreCoursesOf, IsBoundedCourse, IsHeld, first_of, sequences_of}
-use Rattle.sig_scan.specs.Scans.{AllStand, AreExcluded, AreFirst, AreMarked, BufferView, HasLastBytes, InTurnAt, IsBase, IsEndOf, IsScanOf, IsShort, IsShortCourse, ScanView, TailIsShort}
-use Rattle.sig_scan.specs.Stages.{CourseView, StageView, TailView, Waits}
-use Rattle.sig_scan.specs.declared.state.State.{State}
+use Rattle.sig_scan.proofs.Common.{◌≡◌, ◌∙◌, ℕ, ◌+◌, ◌-◌, ◌≤◌, ◌<◌, inl, inr, All, Bool, List, [], ◌∷◌, ◌++◌, add-one, ap, arith, drop, drop-cons, false, true, get_or, get_or-set_other, get_or-set_same, length, length-append, max, Option, refl, Some, subst, suc, sym, take, set, cases_eq, flat_map-append, append-nil, get_or-append-add, get_or_append_left, take-append-drop, take_more, All-nil, get_or_from_slice_get, slice_get-get_or, slice_get_within, flat_map, slice_get, ◌↔◌, IsTrue, slice_index, IsBytes, AreCoursesOf, IsBoundedCourse, IsHeld, first_of, sequences_of, AllStand, AreExcluded, AreFirst, AreMarked, BufferView, HasLastBytes, InTurnAt, IsBase, IsEndOf, IsScanOf, IsShort, IsShortCourse, ScanView, TailIsShort, CourseView, StageView, TailView, Waits, State, Hits, Stands, SequenceView, SignatureView, TableView}
 use Rattle.sig_scan.proofs.ScanLemmas.{All-course, courses-short}
 use Rattle.sig_scan.proofs.WaitLemmas.{Waits-fed, Waits-fresh}
-use Rattle.sig_table.specs.Standing.{Hits, Stands}
-use Rattle.sig_table.specs.Views.{SequenceView, SignatureView, TableView}
 
 -- a scan of the bytes at hand, of which no word is looked for yet
 pub IsScanOf-fresh : (table : TableView) (courses : List CourseView) (keep : ℕ) (buffer : BufferView) (states : List State) (may_hit : List Bool)

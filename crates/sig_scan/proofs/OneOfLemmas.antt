@@ -1,11 +1,5 @@
 -- Where one byte of a class ends.
-use Rattle.std.proofs.Common.{◌≡◌, ◌↔◌, ◌⊎◌, ◌∙◌, ℕ, ◌+◌, ◌-◌, ◌≤◌, ◌<◌, List, length, get_or, drop, sym, ap, subst, inl, inr, arith}
-use Rattle.std.specs.Prelude.{slice_range}
-use Rattle.std.proofs.lemmas.List.{get_or-drop, get_or-take}
-use Rattle.sig_bits.specs.BitSets.{HasBit, IsShiftedBit}
-use Rattle.sig_scan.specs.declared.class.Class.{Class}
-use Rattle.sig_scan.specs.Classes.{IsOneOf, Takes, TakesAt}
-use Rattle.sig_scan.specs.Frontiers.{GainsBits, HasBits, Reaches}
+use Rattle.sig_scan.proofs.Common.{◌≡◌, ◌↔◌, ◌⊎◌, ◌∙◌, ℕ, ◌+◌, ◌-◌, ◌≤◌, ◌<◌, List, length, get_or, drop, sym, ap, subst, inl, inr, arith, slice_range, get_or-drop, get_or-take, HasBit, IsShiftedBit, Class, IsOneOf, Takes, TakesAt, GainsBits, HasBits, Reaches}
 use Rattle.sig_scan.proofs.ReachLemmas.{length-slice_range}
 
 -- the first byte of a part of a file

@@ -1,12 +1,6 @@
 -- Where words of one length stand, looked for end by end.
-use Rattle.std.proofs.Common.{◌≡◌, ◌≢◌, ◌↔◌, ◌⊎◌, ℕ, ◌+◌, ◌-◌, ◌≤◌, ◌<◌, List, length, subst, ap, ◌∙◌, sym, arith}
-use Rattle.std.specs.Prelude.{slice_range}
-use Rattle.sig_bits.specs.BitSets.{HasBit}
-use Rattle.sig_expr.specs.declared.item.Atom.{Atom}
+use Rattle.sig_scan.proofs.Common.{◌≡◌, ◌≢◌, ◌↔◌, ◌⊎◌, ℕ, ◌+◌, ◌-◌, ◌≤◌, ◌<◌, List, length, subst, ap, ◌∙◌, sym, arith, slice_range, HasBit, Atom, PartWord, GainsBits, Reaches, part_length}
 use Rattle.sig_expr.specs.declared.item.Atom.TheVariants as atom
-use Rattle.sig_expr.specs.Words.{PartWord}
-use Rattle.sig_scan.specs.Frontiers.{GainsBits, Reaches}
-use Rattle.sig_scan.specs.Lengths.{part_length}
 use Rattle.sig_scan.proofs.ReachLemmas.{length-slice_range}
 use Rattle.sig_scan.proofs.SetLemmas.{GainsBits-none, GainsBits-same, GainsBits-set}
 

@@ -1,22 +1,5 @@
 -- Sequences go on to what the prefilter found.
-use Rattle.std.proofs.Common.{◌≡◌, ◌∙◌, ℕ, ◌+◌, ◌-◌, ◌≤◌, ◌<◌, inl, inr, All, Bool, List, [], ◌∷◌, ◌++◌, ap, arith, drop, get_or, length, length-append, map, max, min, Option, refl, Some, subst, sym, take}
-use Rattle.std.specs.List.{slice_get}
-use Rattle.std.specs.Option.{option_map}
-use Rattle.std.specs.Prelude.{◌↔◌, slice_index, slice_range}
-use Rattle.std.proofs.lemmas.Bool.{cases_lt}
-use Rattle.std.proofs.lemmas.List.{get_or-drop, get_or-take, length-drop, length-map, length-take-le, take_all}
-use Rattle.std.proofs.lemmas.Option.{get_or_from_slice_get, slice_get-get_or, slice_get-map, slice_get_within}
-use Rattle.sig_table.specs.Views.{SequenceView, TableView}
-use Rattle.sig_scan.specs.declared.filter.Entry.{Entry}
-use Rattle.sig_scan.specs.declared.program.Course.{Course}
-use Rattle.sig_scan.specs.declared.state.State.{State}
-use Rattle.sig_scan.specs.Courses.{course_in}
-use Rattle.sig_scan.specs.Filters.{AreLiteralsOf, AreMissed}
-use Rattle.sig_scan.specs.Literals.{IsLiteralOf, LiteralView, StandsAt}
-use Rattle.sig_scan.specs.Passes.{ArePast}
-use Rattle.sig_scan.specs.Placed.{Lies}
-use Rattle.sig_scan.specs.Scans.{BufferView, InTurnAt, IsEndOf, IsScanOf, IsShort, WaitsAt}
-use Rattle.sig_scan.specs.Stages.{CourseView, StageView, TailView}
+use Rattle.sig_scan.proofs.Common.{◌≡◌, ◌∙◌, ℕ, ◌+◌, ◌-◌, ◌≤◌, ◌<◌, inl, inr, All, Bool, List, [], ◌∷◌, ◌++◌, ap, arith, drop, get_or, length, length-append, map, max, min, Option, refl, Some, subst, sym, take, slice_get, option_map, ◌↔◌, slice_index, slice_range, cases_lt, get_or-drop, get_or-take, length-drop, length-map, length-take-le, take_all, get_or_from_slice_get, slice_get-get_or, slice_get-map, slice_get_within, SequenceView, TableView, Entry, Course, State, course_in, AreLiteralsOf, AreMissed, IsLiteralOf, LiteralView, StandsAt, ArePast, Lies, BufferView, InTurnAt, IsEndOf, IsScanOf, IsShort, WaitsAt, CourseView, StageView, TailView}
 use Rattle.sig_scan.proofs.AttemptLemmas.{Lies-take}
 use Rattle.sig_scan.proofs.LengthLemmas.{Lies-span}
 use Rattle.sig_scan.proofs.LiesLemmas.{Lies-seen_both}

@@ -1,19 +1,7 @@
 -- The stages of a sequence, as a loop over its items finds them, and the courses of many.
-use Rattle.std.proofs.Common.{◌≡◌, ℕ, ◌+◌, ◌-◌, ◌≤◌, ◌<◌, List, [], ◌∷◌, ◌++◌, length, get_or, take, drop, Option, None, Some, map, refl, subst, sym, ap, ap₂, ◌∙◌, inl, inr, arith, append_assoc, length-append}
-use Rattle.std.specs.Prelude.{All, slice_range}
-use Rattle.std.proofs.lemmas.Bool.{cases_lt}
-use Rattle.std.proofs.lemmas.List.{drop-append-le, drop_all, drop_at, drop_more, length-drop, map_push, same_from_push, take-append-le, take_all}
-use Rattle.std.proofs.lemmas.List.Edits.{between_more, between_none}
-use Rattle.std.proofs.lemmas.List.Elements.{All-head, All-push, All-tail, All-weaker}
-use Rattle.sig_expr.specs.declared.item.Item.{Item}
+use Rattle.sig_scan.proofs.Common.{◌≡◌, ℕ, ◌+◌, ◌-◌, ◌≤◌, ◌<◌, List, [], ◌∷◌, ◌++◌, length, get_or, take, drop, Option, None, Some, map, refl, subst, sym, ap, ap₂, ◌∙◌, inl, inr, arith, append_assoc, length-append, All, slice_range, cases_lt, drop-append-le, drop_all, drop_at, drop_more, length-drop, map_push, same_from_push, take-append-le, take_all, between_more, between_none, All-head, All-push, All-tail, All-weaker, Item, IsBoundedItem, Position, SequenceView, Course, AddsCourse, AreCourses, StandsIn, course_in, CourseView, StageView, TailView, all_but_last, course_of, last_items, stages_of}
 use Rattle.sig_expr.specs.declared.item.Item.TheVariants as item
-use Rattle.sig_scan.specs.Lengths.{IsBoundedItem}
-use Rattle.sig_table.specs.declared.position.Position.{Position}
 use Rattle.sig_table.specs.declared.position.Position.TheVariants as position
-use Rattle.sig_table.specs.Views.{SequenceView}
-use Rattle.sig_scan.specs.declared.program.Course.{Course}
-use Rattle.sig_scan.specs.Courses.{AddsCourse, AreCourses, StandsIn, course_in}
-use Rattle.sig_scan.specs.Stages.{CourseView, StageView, TailView, all_but_last, course_of, last_items, stages_of}
 use Rattle.sig_scan.proofs.CutLemmas.{stages_of-some}
 
 stages_of-gap : (until : Option ℕ) (before later : List Item) (x : Item) (min : ℕ) → x ≡ item.Gap min None

@@ -1,9 +1,6 @@
 -- Ranges of offsets that join a set.
-use Rattle.std.proofs.Common.{◌≡◌, ◌≢◌, ◌⊎◌, ◌↔◌, ℕ, ◌+◌, ◌*◌, ◌/◌, ◌%◌, ◌≤◌, ◌<◌, List, length, get_or, set, get_or-set_same, get_or-set_other, inl, inr, ⊎_elim, arith}
-use Rattle.std.proofs.lemmas.Bool.{cases_eq, cases_lt}
-use Rattle.std.proofs.lemmas.Nat.Bits.{bit_at_ones}
-use Rattle.sig_bits.specs.BitSets.{HasBit}
-use Rattle.sig_scan.specs.Frontiers.{IsBetween}
+use Rattle.sig_scan.proofs.Common.{◌≡◌, ◌≢◌, ◌⊎◌, ◌↔◌, ℕ, ◌+◌, ◌*◌, ◌/◌, ◌%◌, ◌≤◌, ◌<◌, List, length, get_or, get_or-set_same, get_or-set_other, inl, inr, ⊎_elim, arith, cases_eq, cases_lt, bit_at_ones, HasBit, IsBetween}
+use Rattle.std.proofs.Common.{set}
 
 -- a set that a range has joined
 abbrev pub Joins : List ℕ → List ℕ → ℕ → ℕ → Type 0

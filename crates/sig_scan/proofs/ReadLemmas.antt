@@ -1,21 +1,6 @@
 -- A file that is read: what a scan has of it, and which hits its marks give.
 use borrow.Rule.Slice.PartMut.{post_of, put_mid}
-use Rattle.std.proofs.Common.{◌≡◌, ◌∙◌, ℕ, ◌+◌, ◌≤◌, ◌<◌, inl, inr, ap, append_assoc, arith, Bool, false, true, length, List, ◌++◌, None, Option, refl, Some, subst, sym, take}
-use Rattle.std.proofs.Math.Seq.{take-append-add}
-use Rattle.std.proofs.lemmas.Bool.{false≢true}
-use Rattle.std.proofs.lemmas.List.{append-nil, get_or_past, length-take-le, take-append-le, take_all}
-use Rattle.std.proofs.lemmas.List.Elements.{All-append}
-use Rattle.std.proofs.lemmas.Option.{slice_get_cases, slice_get_within}
-use Rattle.std.specs.List.{slice_get}
-use Rattle.std.specs.Prelude.{IfSome, IsSomeAnd}
-use Rattle.sig_bits.specs.Bytes.{IsBytes}
-use Rattle.sig_bits.specs.Device.{Gives, IsAtEnd}
-use Rattle.sig_core.specs.FirstHits.{MarksHits}
-use Rattle.sig_core.specs.Hits.{HitFormats, HitFormatsOfSome}
-use Rattle.sig_core.specs.declared.results.Hit.{Hit}
-use Rattle.sig_scan.specs.Scans.{AreMarked, HasRead, IsScanOf, ScanView}
-use Rattle.sig_table.specs.Standing.{Hits}
-use Rattle.sig_table.specs.Views.{SignatureView, TableView}
+use Rattle.sig_scan.proofs.Common.{◌≡◌, ◌∙◌, ℕ, ◌+◌, ◌≤◌, ◌<◌, inl, inr, ap, append_assoc, arith, Bool, false, true, length, List, ◌++◌, None, Option, refl, Some, subst, sym, take, take-append-add, false≢true, append-nil, get_or_past, length-take-le, take-append-le, take_all, All-append, slice_get_cases, slice_get_within, slice_get, IfSome, IsSomeAnd, IsBytes, Gives, IsAtEnd, MarksHits, HitFormats, HitFormatsOfSome, Hit, AreMarked, HasRead, IsScanOf, ScanView, Hits, SignatureView, TableView}
 
 some_that : (o : Option SignatureView) (P : SignatureView → Type 0) → IsSomeAnd o P → (s : SignatureView) × (o ≡ Some s) × P s
 some_that None P h = absurd h

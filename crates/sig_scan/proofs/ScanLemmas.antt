@@ -1,22 +1,6 @@
 -- The states of all sequences: one after the other is settled.
-use Rattle.std.proofs.Common.{◌≡◌, ◌∙◌, ℕ, ◌+◌, ◌-◌, ◌≤◌, ◌<◌, ◌⊎◌, ◌^◌, inl, inr, All, Bool, List, ◌++◌, ap, append_assoc, arith, drop, get_or, get_or-set_other, get_or-set_same, length, length-append, min, None, Option, refl, Some, subst, sym, take, true}
-use Rattle.std.proofs.Math.ListN.{length-set, set}
-use Rattle.std.proofs.lemmas.Bool.{cases_eq, cases_lt}
-use Rattle.std.proofs.lemmas.List.{length-drop, length-take-le, take-append-drop}
-use Rattle.std.proofs.lemmas.List.Elements.{All-append, All-get_or}
-use Rattle.std.proofs.lemmas.Option.{get_or_from_slice_get, slice_get-get_or, slice_get_past, slice_get_within}
-use Rattle.std.specs.List.{slice_get}
-use Rattle.std.specs.Prelude.{IfSome}
-use Rattle.sig_bits.specs.Bytes.{IsBytes}
-use Rattle.sig_scan.specs.Courses.{AreCoursesOf, IsBoundedCourse, IsHeld}
-use Rattle.sig_scan.specs.Lengths.{AreBounded, span}
-use Rattle.sig_scan.specs.Scans.{AllWait, AreExcluded, AreDone, IsBase, IsScanOf, IsShortCourse, ScanView, TailIsShort, WaitsAt}
-use Rattle.sig_scan.specs.Stages.{CourseView, StageView, TailView, Waits}
-use Rattle.sig_scan.specs.declared.state.State.{State}
+use Rattle.sig_scan.proofs.Common.{◌≡◌, ◌∙◌, ℕ, ◌+◌, ◌-◌, ◌≤◌, ◌<◌, ◌⊎◌, ◌^◌, inl, inr, All, Bool, List, ◌++◌, ap, append_assoc, arith, drop, get_or, get_or-set_other, get_or-set_same, length, length-append, min, None, Option, refl, Some, subst, sym, take, true, length-set, set, cases_eq, cases_lt, length-drop, length-take-le, take-append-drop, All-append, All-get_or, get_or_from_slice_get, slice_get-get_or, slice_get_past, slice_get_within, slice_get, IfSome, IsBytes, AreCoursesOf, IsBoundedCourse, IsHeld, AreBounded, span, AllWait, AreExcluded, AreDone, IsBase, IsScanOf, IsShortCourse, ScanView, TailIsShort, WaitsAt, CourseView, StageView, TailView, Waits, State, slice_get-within, Hits, SequenceView, TableView}
 use Rattle.sig_scan.proofs.WaitLemmas.{Waits-fed}
-use Rattle.sig_table.proofs.Exports.{slice_get-within}
-use Rattle.sig_table.specs.Standing.{Hits}
-use Rattle.sig_table.specs.Views.{SequenceView, TableView}
 
 -- an element after a write
 pub slice_get-set_cases : {X : Type 0} (xs : List X) (k i : ℕ) (v t : X) → k < length xs → slice_get (set xs k v) i ≡ Some t

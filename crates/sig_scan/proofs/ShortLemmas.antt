@@ -1,25 +1,9 @@
 -- The words of a sequence within its limits are short: an item has as many slots as its longest
 -- word has bytes, at least.
-use Rattle.std.proofs.Common.{◌≡◌, ℕ, ◌+◌, ◌≤◌, ◌<◌, Bool, true, false, cond, nat_lt, List, [], ◌∷◌, ◌++◌, length, Option, None, Some, ap, ◌∙◌, inl, inr, arith, rules, tests}
-use Rattle.std.specs.Prelude.{◌==◌, All, IfSome, count_by, sum_by}
-use Rattle.std.proofs.lemmas.Bool.{cases_Bool, cases_lt}
-use Rattle.std.proofs.lemmas.List.Elements.{All-cons, All-head, All-nil, All-tail}
-use Rattle.std.proofs.lemmas.List.Sums.{sum_by-cons, sum_by_push}
-use Rattle.std.proofs.Math.Nat.{mul-le-mul_left}
-use Rattle.sig_bits.specs.Bytes.{IsBytes}
-use Rattle.sig_expr.specs.declared.item.Atom.{Atom}
+use Rattle.sig_scan.proofs.Common.{◌≡◌, ℕ, ◌+◌, ◌≤◌, ◌<◌, Bool, true, false, cond, nat_lt, List, [], ◌∷◌, ◌++◌, length, Option, None, Some, ap, ◌∙◌, inl, inr, arith, rules, tests, ◌==◌, All, IfSome, count_by, sum_by, cases_Bool, cases_lt, All-cons, All-head, All-nil, All-tail, sum_by-cons, sum_by_push, mul-le-mul_left, IsBytes, Atom, Item, AlternativesSound, AtomSound, AtomsSound, ItemSound, ItemsSound, IsBefore, IsBefore-cases, Position, above_rows, atom_slots, below_rows, between_rows, bracket_slots, item_slots, slot_count, IsSequence, IsBoundedItem, item_span, longest_of, part_length, parts_length, span, StageView, TailView, course_of, stages_of}
 use Rattle.sig_expr.specs.declared.item.Atom.TheVariants as atom
-use Rattle.sig_expr.specs.declared.item.Item.{Item}
 use Rattle.sig_expr.specs.declared.item.Item.TheVariants as item
-use Rattle.sig_expr.specs.Profile.{AlternativesSound, AtomSound, AtomsSound, ItemSound, ItemsSound}
-use Rattle.sig_expr.specs.Words.{IsBefore}
-use Rattle.sig_expr.proofs.Exports.{IsBefore-cases}
-use Rattle.sig_table.specs.declared.position.Position.{Position}
 use Rattle.sig_table.specs.declared.position.Position.TheVariants as position
-use Rattle.sig_table.specs.Slots.{above_rows, atom_slots, below_rows, between_rows, bracket_slots, item_slots, slot_count}
-use Rattle.sig_table.specs.Tables.{IsSequence}
-use Rattle.sig_scan.specs.Lengths.{IsBoundedItem, item_span, longest_of, part_length, parts_length, span}
-use Rattle.sig_scan.specs.Stages.{StageView, TailView, course_of, stages_of}
 use Rattle.sig_scan.proofs.CutLemmas.{all_but_last-All}
 
 less_true : (a b : ℕ) → a < b → nat_lt a b ≡ true

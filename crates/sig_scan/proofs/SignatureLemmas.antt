@@ -1,20 +1,7 @@
 -- The signatures of a table, one after the other: their sequences wait on, or one of them never stands.
-use Rattle.std.proofs.Common.{◌≡◌, ◌∙◌, ℕ, ◌+◌, ◌≤◌, ◌<◌, ◌⊎◌, inl, inr, Bool, List, ◌++◌, Some, ap, arith, drop, false, true, get_or, length, refl, subst, sym, take}
-use Rattle.std.proofs.Math.ListN.{set}
-use Rattle.std.proofs.lemmas.Bool.{cases_eq, false≢true}
-use Rattle.std.proofs.lemmas.List.{get_or-take, length-take-le, take-append-drop, take-append-le}
-use Rattle.std.proofs.lemmas.List.Folds.{length-flat_map-take}
-use Rattle.std.proofs.lemmas.Option.{get_or_from_slice_get, slice_get_within}
-use Rattle.std.specs.List.{slice_get}
-use Rattle.sig_scan.specs.Courses.{first_of, sequences_of}
-use Rattle.sig_scan.specs.Scans.{AreExcluded, AreWaiting, SomeNeverStands}
-use Rattle.sig_scan.specs.Stages.{CourseView}
-use Rattle.sig_scan.specs.declared.state.State.{State}
+use Rattle.sig_scan.proofs.Common.{◌≡◌, ◌∙◌, ℕ, ◌+◌, ◌≤◌, ◌<◌, ◌⊎◌, inl, inr, Bool, List, ◌++◌, Some, ap, arith, drop, false, true, get_or, length, refl, subst, sym, take, set, cases_eq, false≢true, get_or-take, length-take-le, take-append-drop, take-append-le, length-flat_map-take, get_or_from_slice_get, slice_get_within, slice_get, first_of, sequences_of, AreExcluded, AreWaiting, SomeNeverStands, CourseView, State, slice_get-within, Hits, SignatureView, TableView}
 use Rattle.sig_scan.proofs.MarkedLemmas.{AllStand-hits, sequences, sequences-fit}
 use Rattle.sig_scan.proofs.ScanLemmas.{slice_get-set_cases}
-use Rattle.sig_table.proofs.Exports.{slice_get-within}
-use Rattle.sig_table.specs.Standing.{Hits}
-use Rattle.sig_table.specs.Views.{SignatureView, TableView}
 
 -- the sequences of a signature end before those of a later one begin
 pub first_of-order : (table : TableView) (a b : ℕ) (h : SignatureView) → a < b → b ≤ length table.signatures → slice_get table.signatures a ≡ Some h

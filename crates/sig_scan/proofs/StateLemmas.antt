@@ -1,22 +1,9 @@
 -- From the bytes at hand to the file: what a sequence waits for behind an attempt.
-use Rattle.std.proofs.Common.{◌≡◌, ℕ, ◌+◌, ◌-◌, ◌≤◌, ◌<◌, inl, inr, List, [], ◌∷◌, ◌++◌, length, max, take, drop, drop-cons, get_or, add-one, suc, ap, ◌∙◌, refl, subst, sym, arith, length-append, Option, Some, None, rules}
-use Rattle.std.specs.Prelude.{◌↔◌, Bool, IsTrue, is_some}
-use Rattle.std.proofs.Math.Dec.{leb}
-use Rattle.std.proofs.lemmas.Bool.{cases_lt, le-leb, leb-true}
-use Rattle.std.proofs.lemmas.List.{length-take-le}
-use Rattle.sig_expr.specs.declared.item.Item.{Item}
-use Rattle.sig_expr.specs.Words.{IsAtMost}
-use Rattle.sig_scan.specs.Frontiers.{IsLeastEnd}
-use Rattle.sig_scan.specs.Lengths.{AreBounded, span}
-use Rattle.sig_scan.specs.Literals.{IsLiteralOf, LiteralView, StandsAt}
-use Rattle.sig_scan.specs.Placed.{Lies}
-use Rattle.sig_scan.specs.Scans.{HasLastBytes, InTurnAt, IsFirstOf, IsShort, TailIsShort, WaitsAt}
-use Rattle.sig_scan.specs.Stages.{InTurn, IsFirstEnd, StageView, TailStands, TailView, Waits}
+use Rattle.sig_scan.proofs.Common.{◌≡◌, ℕ, ◌+◌, ◌-◌, ◌≤◌, ◌<◌, inl, inr, List, [], ◌∷◌, ◌++◌, length, max, take, drop, drop-cons, get_or, add-one, suc, ap, ◌∙◌, refl, subst, sym, arith, length-append, Option, Some, None, rules, ◌↔◌, Bool, IsTrue, is_some, leb, cases_lt, le-leb, leb-true, length-take-le, Item, IsAtMost, IsLeastEnd, AreBounded, span, IsLiteralOf, LiteralView, StandsAt, Lies, HasLastBytes, InTurnAt, IsFirstOf, IsShort, TailIsShort, WaitsAt, InTurn, IsFirstEnd, StageView, TailStands, TailView, Waits, SequenceView}
 use Rattle.sig_scan.proofs.LiesLemmas.{Lies-behind}
 use Rattle.sig_scan.proofs.AttemptLemmas.{Lies-take, Lies-taken}
 use Rattle.sig_scan.proofs.TurnLemmas.{InTurn-first, InTurn-none, TailStands-last, TailStands-near}
 use Rattle.sig_scan.proofs.WaitLemmas.{Waits-advanced, Waits-past}
-use Rattle.sig_table.specs.Views.{SequenceView}
 
 -- the offsets of the bytes at hand below `until` are those at which the stage may begin
 abbrev pub MayBegin : StageView → List ℕ → List ℕ → ℕ → Type 0

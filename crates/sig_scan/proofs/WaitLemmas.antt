@@ -1,17 +1,6 @@
 -- What a sequence waits for: at the beginning, behind more bytes, behind a first end, and past what
 -- was tried.
-use Rattle.std.proofs.Common.{ℕ, ◌+◌, ◌≤◌, ◌<◌, List, [], ◌∷◌, ◌++◌, length, Option, append_assoc, arith, subst, sym}
-use Rattle.std.specs.Prelude.{◌↔◌}
-use Rattle.std.proofs.lemmas.List.{append-nil}
-use Rattle.std.proofs.lemmas.List.Elements.{All-append, All-nil}
-use Rattle.sig_bits.specs.Bytes.{IsBytes}
-use Rattle.sig_expr.specs.Words.{IsAtMost}
-use Rattle.sig_table.specs.Standing.{Stands}
-use Rattle.sig_table.specs.Views.{SequenceView}
-use Rattle.sig_scan.specs.Lengths.{AreBounded, span}
-use Rattle.sig_scan.specs.Placed.{Lies}
-use Rattle.sig_scan.specs.Scans.{NeverStands}
-use Rattle.sig_scan.specs.Stages.{InTurn, IsFirstEnd, StageView, TailView, Waits, course_of}
+use Rattle.sig_scan.proofs.Common.{ℕ, ◌+◌, ◌≤◌, ◌<◌, List, [], ◌∷◌, ◌++◌, length, Option, append_assoc, arith, subst, sym, ◌↔◌, append-nil, All-append, All-nil, IsBytes, IsAtMost, Stands, SequenceView, AreBounded, span, Lies, NeverStands, InTurn, IsFirstEnd, StageView, TailView, Waits, course_of}
 use Rattle.sig_scan.proofs.CutLemmas.{Stands-in_turn}
 use Rattle.sig_scan.proofs.LengthLemmas.{Lies-in_sight}
 use Rattle.sig_scan.proofs.TurnLemmas.{InTurn-first, InTurn-past, IsFirstEnd-seen}

@@ -1,11 +1,5 @@
 -- From a window of a file to the file.
-use Rattle.std.proofs.Common.{◌≡◌, ℕ, ◌+◌, ◌-◌, ◌≤◌, ◌<◌, List, length, min, drop, refl, subst, sym, ap, ◌∙◌, arith, Option, Some, None}
-use Rattle.std.specs.Prelude.{slice_range}
-use Rattle.std.proofs.lemmas.List.{drop-drop, length-drop}
-use Rattle.sig_bits.specs.BitSets.{HasBit}
-use Rattle.sig_expr.specs.declared.item.Item.{Item}
-use Rattle.sig_expr.specs.Words.{Lang}
-use Rattle.sig_scan.specs.Frontiers.{EndsAt, HasBits, IsLeastEnd, IsLeast, Reaches}
+use Rattle.sig_scan.proofs.Common.{◌≡◌, ℕ, ◌+◌, ◌-◌, ◌≤◌, ◌<◌, List, length, min, drop, refl, subst, sym, ap, ◌∙◌, arith, Option, Some, None, slice_range, drop-drop, length-drop, HasBit, Item, Lang, EndsAt, HasBits, IsLeastEnd, IsLeast, Reaches}
 use Rattle.sig_scan.proofs.ReachLemmas.{Reaches-starts}
 
 -- a part of a window is a part of the file

@@ -1,5 +1,4 @@
-use Rattle.std.proofs.Common.{ℕ, ◌+◌, ◌≤◌, ◌⊎◌, inl, inr, length, arith}
-use Rattle.std.proofs.lemmas.Bool.{cases_lt}
+use Rattle.sig_scan.proofs.Common.{ℕ, ◌+◌, ◌≤◌, ◌⊎◌, inl, inr, length, arith, cases_lt}
 use Rattle.sig_scan.proofs.AttemptLemmas.{IsLeastEnd-sight}
 use Rattle.sig_scan.proofs.attempt.least_end.Goals as goal
 

@@ -1,8 +1,4 @@
-use Rattle.std.proofs.Common.{◌≡◌, ◌∙◌, Bool, List, ap, length, refl, true}
-use Rattle.std.proofs.lemmas.List.{length-replicate}
-use Rattle.std.proofs.lemmas.List.Elements.{All-replicate, All-same}
-use Rattle.std.proofs.lemmas.Result.{IfOk-weaker}
-use Rattle.sig_scan.specs.Heads.{IsProgramOf, IsWholeProgramOf}
+use Rattle.sig_scan.proofs.Common.{◌≡◌, ◌∙◌, Bool, List, ap, length, refl, true, length-replicate, All-replicate, All-same, IfOk-weaker, IsProgramOf, IsWholeProgramOf}
 use Rattle.sig_scan.proofs.CompiledLemmas.{IsWholeProgramOf-all}
 use Rattle.sig_scan.proofs.block_core.compiled.Goals as goal
 

@@ -1,5 +1,4 @@
-use Rattle.std.proofs.Common.{◌≡◌, ◌∙◌, Bool, List, arith, length, subst, sym}
-use Rattle.sig_core.specs.FirstHits.{MarksHits}
+use Rattle.sig_scan.proofs.Common.{◌≡◌, ◌∙◌, Bool, List, arith, length, subst, sym, MarksHits}
 use Rattle.sig_scan.proofs.ReadLemmas.{MarksHits-from_marked, written}
 use Rattle.sig_scan.proofs.block_core.results_of.Goals as goal
 

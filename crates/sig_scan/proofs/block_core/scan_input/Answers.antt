@@ -1,8 +1,4 @@
-use Rattle.std.proofs.Common.{◌≡◌, ◌∙◌, Bool, List, Option, ℕ, refl, subst, sym, true}
-use Rattle.std.proofs.lemmas.List.Elements.{All-replicate, All-same}
-use Rattle.std.specs.Prelude.{IfSome}
-use Rattle.sig_scan.specs.Heads.{IsWholeProgramOf, ProgramView}
-use Rattle.sig_scan.specs.Scans.{AreExcluded}
+use Rattle.sig_scan.proofs.Common.{◌≡◌, ◌∙◌, Bool, List, Option, ℕ, refl, subst, sym, true, All-replicate, All-same, IfSome, IsWholeProgramOf, ProgramView, AreExcluded}
 use Rattle.sig_scan.proofs.HeadLemmas.{AreExcluded-none}
 use Rattle.sig_scan.proofs.ReadLemmas.{written}
 use Rattle.sig_scan.proofs.block_core.scan_input.Goals as goal

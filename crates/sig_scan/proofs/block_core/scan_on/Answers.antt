@@ -1,5 +1,4 @@
-use Rattle.std.proofs.Common.{◌∙◌, ap, subst, sym}
-use Rattle.sig_scan.specs.Scans.{AreExcluded, BufferView}
+use Rattle.sig_scan.proofs.Common.{◌∙◌, ap, subst, sym, AreExcluded, BufferView}
 use Rattle.sig_scan.proofs.ReadLemmas.{HitFormatsOfSome-read, IsRead-more}
 use Rattle.sig_scan.proofs.block_core.scan_on.Goals as goal
 

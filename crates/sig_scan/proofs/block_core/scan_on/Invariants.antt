@@ -1,5 +1,4 @@
-use Rattle.std.proofs.Common.{◌≡◌, ◌<◌, List, Option, ℕ}
-use Rattle.sig_bits.specs.Device.{Gives}
+use Rattle.sig_scan.proofs.Common.{◌≡◌, ◌<◌, List, Option, ℕ, Gives}
 use Rattle.sig_scan.proofs.ReadLemmas.{IsRead}
 use Rattle.sig_scan.proofs.block_core.scan_on.Given as goal
 

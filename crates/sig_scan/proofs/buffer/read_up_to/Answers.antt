@@ -1,5 +1,5 @@
 use borrow.Rule.Slice.PartMut.{same_len_mid}
-use Rattle.std.proofs.Common.{◌≡◌, ◌-◌, false, true, arith, length, ◌∙◌, sym}
+use Rattle.sig_scan.proofs.Common.{◌≡◌, ◌-◌, false, true, arith, length, ◌∙◌, sym}
 use Rattle.sig_scan.proofs.ReadLemmas.{false_from_not, filled_more, gives_on}
 use Rattle.sig_scan.proofs.buffer.read_up_to.Goals as goal
 

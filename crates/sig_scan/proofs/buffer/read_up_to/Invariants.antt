@@ -1,5 +1,4 @@
-use Rattle.std.proofs.Common.{◌≡◌, ◌+◌, ◌<◌, length, take}
-use Rattle.sig_bits.specs.Device.{Gives}
+use Rattle.sig_scan.proofs.Common.{◌≡◌, ◌+◌, ◌<◌, length, take, Gives}
 use Rattle.sig_scan.proofs.buffer.read_up_to.Given as goal
 
 -- the filled front of the room is what the input has given

@@ -1,6 +1,4 @@
-use Rattle.std.proofs.Common.{◌∙◌, ◌++◌, ◌∷◌, [], List, ap, ap₂, map, sym}
-use Rattle.std.proofs.lemmas.List.{map_push}
-use Rattle.sig_expr.specs.declared.item.Atom.{Atom}
+use Rattle.sig_scan.proofs.Common.{◌∙◌, ◌++◌, ◌∷◌, [], List, ap, ap₂, map, sym, map_push, Atom}
 use Rattle.sig_scan.proofs.LengthLemmas.{alternatives-taken}
 use Rattle.sig_scan.proofs.copy.copy_alternatives.Goals as goal
 

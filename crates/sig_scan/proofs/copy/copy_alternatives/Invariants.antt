@@ -1,4 +1,4 @@
-use Rattle.std.proofs.Common.{◌≡◌, map, take}
+use Rattle.sig_scan.proofs.Common.{◌≡◌, map, take}
 use Rattle.sig_scan.proofs.copy.copy_alternatives.Given as goal
 
 -- the alternatives so far

@@ -1,4 +1,4 @@
-use Rattle.std.proofs.Common.{◌≡◌, length, take, vec_capacity, vec_len}
+use Rattle.sig_scan.proofs.Common.{◌≡◌, length, take, vec_capacity, vec_len}
 use Rattle.sig_scan.proofs.copy.copy_items.Given as goal
 
 -- the items so far, and room for the others

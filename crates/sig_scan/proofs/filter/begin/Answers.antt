@@ -1,8 +1,4 @@
-use Rattle.std.proofs.Common.{◌≤◌, ℕ, List, ap, arith, get_or, length, sym, subst}
-use Rattle.std.proofs.lemmas.List.{get_or_default}
-use Rattle.std.proofs.Math.ListN.{set}
-use Rattle.sig_scan.specs.Filters.{AreOwned}
-use Rattle.sig_scan.specs.declared.state.State.{State}
+use Rattle.sig_scan.proofs.Common.{◌≤◌, ℕ, List, ap, arith, get_or, length, sym, subst, get_or_default, set, AreOwned, State}
 use Rattle.sig_scan.proofs.FilterLemmas.{AreOwned-set}
 use Rattle.sig_scan.proofs.filter.begin.Goals as goal
 use Rattle.sig_scan.proofs.filter.begin.Goals.{then-is_wanted+then-k-states+then-k-found+then-states-k, else-is_wanted}

@@ -1,5 +1,4 @@
-use Rattle.std.proofs.Common.{◌≤◌}
-use Rattle.sig_scan.specs.Filters.{AreOwned}
+use Rattle.sig_scan.proofs.Common.{◌≤◌, AreOwned}
 use Rattle.sig_scan.proofs.filter.begin.Given as goal
 
 -- what more may be found is found for a sequence that waits in the stage of an entry

@@ -1,7 +1,4 @@
-use Rattle.std.proofs.Common.{◌≡◌, ◌∙◌, ◌+◌, ◌*◌, ◌%◌, ◌/◌, ◌≤◌, ◌<◌, ℕ, zero, suc, List, arith, inl, inr, refl, subst, sym}
-use Rattle.std.proofs.lemmas.Bool.{cases_lt}
-use Rattle.sig_scan.specs.Filters.{IsListed, behind_of, text_of}
-use Rattle.sig_scan.specs.Literals.{LiteralView, byte_of}
+use Rattle.sig_scan.proofs.Common.{◌≡◌, ◌∙◌, ◌+◌, ◌*◌, ◌%◌, ◌/◌, ◌≤◌, ◌<◌, ℕ, zero, suc, List, arith, inl, inr, refl, subst, sym, cases_lt, IsListed, behind_of, text_of, LiteralView, byte_of}
 use Rattle.sig_scan.proofs.FilterLemmas.{AreKept-twice, IsListed-kept}
 use Rattle.sig_scan.proofs.filter.enter_all.Goals as goal
 

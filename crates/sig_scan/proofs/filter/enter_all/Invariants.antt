@@ -1,5 +1,4 @@
-use Rattle.std.proofs.Common.{ℕ, ◌<◌}
-use Rattle.sig_scan.specs.Filters.{AreKept, IsListed, behind_of, text_of}
+use Rattle.sig_scan.proofs.Common.{ℕ, ◌<◌, AreKept, IsListed, behind_of, text_of}
 use Rattle.sig_scan.proofs.filter.enter_all.Given as goal
 
 -- the texts so far are entered

@@ -1,5 +1,4 @@
-use Rattle.std.proofs.Common.{◌*◌, ◌%◌, ◌/◌, ap}
-use Rattle.sig_scan.specs.Filters.{list_of}
+use Rattle.sig_scan.proofs.Common.{◌*◌, ◌%◌, ◌/◌, ap, list_of}
 use Rattle.sig_scan.proofs.filter.list_of.Goals as goal
 
 pub returns-clause-value : goal.returns-clause-value

@@ -1,5 +1,4 @@
-use Rattle.std.proofs.Common.{◌*◌, ◌%◌, ◌/◌, ap}
-use Rattle.sig_scan.specs.Filters.{mark_of}
+use Rattle.sig_scan.proofs.Common.{◌*◌, ◌%◌, ◌/◌, ap, mark_of}
 use Rattle.sig_scan.proofs.filter.mark_of.Goals as goal
 
 pub returns-clause-value : goal.returns-clause-value

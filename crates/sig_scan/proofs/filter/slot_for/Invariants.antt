@@ -1,4 +1,4 @@
-use Rattle.std.proofs.Common.{◌≢◌, ◌⊎◌, ◌≡◌, slice_index}
+use Rattle.sig_scan.proofs.Common.{◌≢◌, ◌⊎◌, ◌≡◌, slice_index}
 use Rattle.sig_scan.proofs.filter.slot_for.Given as goal
 
 -- behind the first slot, that one is not free

@@ -1,5 +1,4 @@
-use Rattle.std.proofs.Common.{◌≡◌, ◌≤◌, ◌<◌, ℕ}
-use Rattle.sig_scan.specs.Literals.{byte_of}
+use Rattle.sig_scan.proofs.Common.{◌≡◌, ◌≤◌, ◌<◌, ℕ, byte_of}
 use Rattle.sig_scan.proofs.filter.text_count.Given as goal
 
 -- the places so far have one byte each

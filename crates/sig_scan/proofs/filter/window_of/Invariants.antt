@@ -1,4 +1,4 @@
-use Rattle.std.proofs.Common.{◌+◌, ◌≤◌, length}
+use Rattle.sig_scan.proofs.Common.{◌+◌, ◌≤◌, length}
 use Rattle.sig_scan.proofs.filter.window_of.Given as goal
 
 -- the best so far is inside

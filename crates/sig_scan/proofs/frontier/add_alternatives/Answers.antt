@@ -1,9 +1,4 @@
-use Rattle.std.proofs.Common.{◌≡◌, ◌<◌, List, arith, length, map, take, sym, ap, ◌∙◌, subst, ◌+◌, ◌++◌, [], ◌∷◌, ℕ}
-use Rattle.std.proofs.lemmas.List.{map_more, take_all}
-use Rattle.sig_bits.specs.BitSets.{HasBit}
-use Rattle.sig_expr.specs.declared.item.Atom.{Atom}
-use Rattle.sig_expr.specs.Words.{AlternativeWord}
-use Rattle.sig_scan.specs.Frontiers.{GainsBits, HasBits, Reaches}
+use Rattle.sig_scan.proofs.Common.{◌≡◌, ◌<◌, List, arith, length, map, take, sym, ap, ◌∙◌, subst, ◌+◌, ◌++◌, [], ◌∷◌, ℕ, map_more, take_all, HasBit, Atom, AlternativeWord, GainsBits, HasBits, Reaches}
 use Rattle.sig_scan.proofs.ItemLemmas.{ReachesAny, alternatives_more, alternatives_none}
 use Rattle.sig_scan.proofs.SetLemmas.{GainsBits-joined}
 use Rattle.sig_scan.proofs.frontier.add_alternatives.Goals as goal

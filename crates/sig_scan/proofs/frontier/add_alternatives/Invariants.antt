@@ -1,6 +1,4 @@
-use Rattle.std.proofs.Common.{map, take}
-use Rattle.sig_bits.specs.BitSets.{HasBit}
-use Rattle.sig_scan.specs.Frontiers.{GainsBits}
+use Rattle.sig_scan.proofs.Common.{map, take, HasBit, GainsBits}
 use Rattle.sig_scan.proofs.ItemLemmas.{ReachesAny}
 use Rattle.sig_scan.proofs.frontier.add_alternatives.Given as goal
 

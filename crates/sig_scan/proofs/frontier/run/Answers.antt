@@ -1,8 +1,4 @@
-use Rattle.std.proofs.Common.{◌+◌, drop, length, sym, ◌∙◌, arith, ℕ}
-use Rattle.std.proofs.lemmas.Bool.{false≢true}
-use Rattle.sig_bits.specs.BitSets.{HasBit}
-use Rattle.sig_expr.specs.Words.{Lang, Word}
-use Rattle.sig_scan.specs.Frontiers.{HasBits, Reaches}
+use Rattle.sig_scan.proofs.Common.{◌+◌, drop, length, sym, ◌∙◌, arith, ℕ, false≢true, HasBit, Lang, Word, HasBits, Reaches}
 use Rattle.sig_scan.proofs.ItemLemmas.{Carries-item, Carries-items}
 use Rattle.sig_scan.proofs.ReachLemmas.{Carries, Carries-start, HasBits-from_none}
 use Rattle.sig_scan.proofs.SetLemmas.{HasBits-from_gains}

@@ -1,6 +1,4 @@
-use Rattle.std.proofs.Common.{ℕ, ◌≤◌, drop, length}
-use Rattle.sig_bits.specs.BitSets.{HasBit}
-use Rattle.sig_expr.specs.Words.{Lang}
+use Rattle.sig_scan.proofs.Common.{ℕ, ◌≤◌, drop, length, HasBit, Lang}
 use Rattle.sig_scan.proofs.ReachLemmas.{Carries}
 use Rattle.sig_scan.proofs.frontier.run.Given as goal
 

@@ -1,7 +1,4 @@
-use Rattle.std.proofs.Common.{length, arith, ℕ}
-use Rattle.sig_bits.specs.BitSets.{HasBit}
-use Rattle.sig_expr.specs.Words.{AlternativeWord, PartWord}
-use Rattle.sig_scan.specs.Frontiers.{HasBits, Reaches}
+use Rattle.sig_scan.proofs.Common.{length, arith, ℕ, HasBit, AlternativeWord, PartWord, HasBits, Reaches}
 use Rattle.sig_scan.proofs.ItemLemmas.{Carries-part, Carries-parts}
 use Rattle.sig_scan.proofs.ReachLemmas.{Carries-start}
 use Rattle.sig_scan.proofs.SetLemmas.{HasBits-from_gains}

@@ -1,7 +1,4 @@
-use Rattle.std.proofs.Common.{◌≡◌, ◌<◌, Some, arith, true, get_or, length, subst, sym}
-use Rattle.std.specs.List.{slice_get}
-use Rattle.sig_scan.specs.Scans.{AreExcluded}
-use Rattle.sig_scan.specs.declared.head.Head.{Head}
+use Rattle.sig_scan.proofs.Common.{◌≡◌, ◌<◌, Some, arith, true, get_or, length, subst, sym, slice_get, AreExcluded, Head}
 use Rattle.sig_scan.proofs.HeadLemmas.{AreExcluded-set, MayHit-set}
 use Rattle.sig_scan.proofs.head.exclude.Goals as goal
 use Rattle.sig_scan.proofs.head.exclude.Goals.{then-k-may_hit+then-not-may_stand, else-k-may_hit}

@@ -1,8 +1,4 @@
-use Rattle.std.proofs.Common.{◌≡◌, ℕ, Some, true}
-use Rattle.std.specs.List.{slice_get}
-use Rattle.sig_scan.specs.Heads.{AreHeadsOf}
-use Rattle.sig_scan.specs.Scans.{AreExcluded}
-use Rattle.sig_table.specs.Views.{TableView}
+use Rattle.sig_scan.proofs.Common.{◌≡◌, ℕ, Some, true, slice_get, AreHeadsOf, AreExcluded, TableView}
 use Rattle.sig_scan.proofs.head.exclude.Given as goal
 
 -- what is excluded hits no such file

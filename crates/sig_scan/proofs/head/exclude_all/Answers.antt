@@ -1,8 +1,5 @@
-use Rattle.std.proofs.Common.{◌≡◌, ◌<◌, Bool, List, arith, get_or, length, subst, sym}
-use Rattle.sig_scan.specs.Scans.{AreExcluded}
+use Rattle.sig_scan.proofs.Common.{◌≡◌, ◌<◌, Bool, List, arith, get_or, length, subst, sym, AreExcluded, slice_get-within, SequenceView}
 use Rattle.sig_scan.proofs.HeadLemmas.{AreExcluded-never}
-use Rattle.sig_table.proofs.Exports.{slice_get-within}
-use Rattle.sig_table.specs.Views.{SequenceView}
 use Rattle.sig_scan.proofs.head.exclude_all.Goals as goal
 use Rattle.sig_scan.proofs.head.exclude_all.Goals.{then-not-may_begin, else-not-may_begin}
 

@@ -1,4 +1,4 @@
-use Rattle.sig_scan.specs.Scans.{AreExcluded}
+use Rattle.sig_scan.proofs.Common.{AreExcluded}
 use Rattle.sig_scan.proofs.head.exclude_all.Given as goal
 
 -- what is excluded hits no such file

@@ -1,10 +1,5 @@
-use Rattle.std.proofs.Common.{None, Option, Some, subst, sym, ℕ, List, All, ◌≡◌}
-use Rattle.std.specs.Prelude.{IfSome}
-use Rattle.sig_expr.specs.declared.item.Atom.{Atom}
-use Rattle.sig_expr.specs.declared.item.Item.{Item}
+use Rattle.sig_scan.proofs.Common.{None, Option, Some, subst, sym, ℕ, List, All, ◌≡◌, IfSome, Atom, Item, Word, HasLength, parts_length}
 use Rattle.sig_expr.specs.declared.item.Item.TheVariants as item
-use Rattle.sig_expr.specs.Words.{Word}
-use Rattle.sig_scan.specs.Lengths.{HasLength, parts_length}
 use Rattle.sig_scan.proofs.LengthLemmas.{HasLength-Alt}
 use Rattle.sig_scan.proofs.lengths.fixed_length.Goals as goal
 

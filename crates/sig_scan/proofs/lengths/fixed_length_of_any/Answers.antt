@@ -1,7 +1,4 @@
-use Rattle.std.proofs.Common.{◌≡◌, ◌≤◌, All, List, arith, length, subst}
-use Rattle.std.proofs.lemmas.List.{length-map, take_all}
-use Rattle.sig_expr.specs.declared.item.Atom.{Atom}
-use Rattle.sig_scan.specs.Lengths.{parts_length}
+use Rattle.sig_scan.proofs.Common.{◌≡◌, ◌≤◌, All, List, arith, length, subst, length-map, take_all, Atom, parts_length}
 use Rattle.sig_scan.proofs.LengthLemmas.{All-alternative}
 use Rattle.sig_scan.proofs.lengths.fixed_length_of_any.Goals as goal
 

@@ -1,5 +1,4 @@
-use Rattle.std.proofs.Common.{◌≡◌, All, take}
-use Rattle.sig_scan.specs.Lengths.{parts_length}
+use Rattle.sig_scan.proofs.Common.{◌≡◌, All, take, parts_length}
 use Rattle.sig_scan.proofs.lengths.fixed_length_of_any.Given as goal
 
 -- the alternatives so far are as long as the first

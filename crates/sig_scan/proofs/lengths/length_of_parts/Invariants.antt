@@ -1,5 +1,4 @@
-use Rattle.std.proofs.Common.{◌≡◌, take}
-use Rattle.sig_scan.specs.Lengths.{parts_length}
+use Rattle.sig_scan.proofs.Common.{◌≡◌, take, parts_length}
 use Rattle.sig_scan.proofs.lengths.length_of_parts.Given as goal
 
 -- those of the parts so far

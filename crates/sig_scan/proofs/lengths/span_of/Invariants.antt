@@ -1,5 +1,4 @@
-use Rattle.std.proofs.Common.{◌≡◌, take}
-use Rattle.sig_scan.specs.Lengths.{span}
+use Rattle.sig_scan.proofs.Common.{◌≡◌, take, span}
 use Rattle.sig_scan.proofs.lengths.span_of.Given as goal
 
 -- those of the items so far

@@ -1,5 +1,4 @@
-use Rattle.std.proofs.Common.{ap, arith}
-use Rattle.sig_scan.specs.Lengths.{longest_of}
+use Rattle.sig_scan.proofs.Common.{ap, arith, longest_of}
 use Rattle.sig_scan.proofs.LengthLemmas.{alternatives-next}
 use Rattle.sig_scan.proofs.lengths.span_of_any.Goals as goal
 

@@ -1,5 +1,4 @@
-use Rattle.std.proofs.Common.{◌≡◌, drop, max}
-use Rattle.sig_scan.specs.Lengths.{longest_of}
+use Rattle.sig_scan.proofs.Common.{◌≡◌, drop, max, longest_of}
 use Rattle.sig_scan.proofs.lengths.span_of_any.Given as goal
 
 -- with those behind it makes the greatest of all

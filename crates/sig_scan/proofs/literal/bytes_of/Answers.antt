@@ -1,7 +1,4 @@
-use Rattle.std.proofs.Common.{sym, subst}
-use Rattle.std.specs.Option.{IfSome}
-use Rattle.sig_expr.specs.declared.item.Item.{Item}
-use Rattle.sig_scan.specs.Literals.{IsEitherOf}
+use Rattle.sig_scan.proofs.Common.{sym, subst, IfSome, Item, IsEitherOf}
 use Rattle.sig_scan.proofs.literal.bytes_of.Goals as goal
 
 pub returns-in-Alt : goal.returns-in-Alt

@@ -1,5 +1,4 @@
-use Rattle.std.proofs.Common.{arith}
-use Rattle.sig_scan.specs.Literals.{IsEitherOf}
+use Rattle.sig_scan.proofs.Common.{arith, IsEitherOf}
 use Rattle.sig_scan.proofs.LiteralLemmas.{BeginsWith-more}
 use Rattle.sig_scan.proofs.literal.copy_run.Goals as goal
 

@@ -1,5 +1,4 @@
-use Rattle.std.proofs.Common.{take}
-use Rattle.sig_scan.specs.Literals.{BeginsWith}
+use Rattle.sig_scan.proofs.Common.{take, BeginsWith}
 use Rattle.sig_scan.proofs.literal.copy_run.Given as goal
 
 -- the bytes of the items so far

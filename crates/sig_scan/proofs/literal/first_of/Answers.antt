@@ -1,4 +1,4 @@
-use Rattle.std.proofs.Common.{◌+◌, ◌≤◌, ℕ, length, arith}
+use Rattle.sig_scan.proofs.Common.{◌+◌, ◌≤◌, ℕ, length, arith}
 use Rattle.sig_scan.proofs.LiteralLemmas.{IsFirst-none, IsFirst-some}
 use Rattle.sig_scan.proofs.literal.first_of.Goals as goal
 

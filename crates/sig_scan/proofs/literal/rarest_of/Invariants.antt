@@ -1,4 +1,4 @@
-use Rattle.std.proofs.Common.{◌<◌, length}
+use Rattle.sig_scan.proofs.Common.{◌<◌, length}
 use Rattle.sig_scan.proofs.literal.rarest_of.Given as goal
 
 -- the best so far is a place of it

@@ -1,4 +1,4 @@
-use Rattle.std.proofs.Common.{◌+◌, ◌-◌, ℕ, arith}
+use Rattle.sig_scan.proofs.Common.{◌+◌, ◌-◌, ℕ, arith}
 use Rattle.sig_scan.proofs.LiteralLemmas.{AreAllFixed, AreAllFixed-next, AreAllFixed-none, AreFixed-next, AreFixed-same}
 use Rattle.sig_scan.proofs.literal.rarest_run.Goals as goal
 use Rattle.sig_scan.proofs.literal.rarest_run.Goals.{then-weight-gt0+then-at-lt-FARTHEST+then-most-run, then-weight-gt0+then-at-lt-FARTHEST+else-most-run, else-weight-gt0+in-Some}

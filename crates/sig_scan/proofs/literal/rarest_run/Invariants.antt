@@ -1,5 +1,4 @@
-use Rattle.std.proofs.Common.{◌≤◌, take}
-use Rattle.sig_scan.specs.Literals.{AreFixed}
+use Rattle.sig_scan.proofs.Common.{◌≤◌, take, AreFixed}
 use Rattle.sig_scan.proofs.LiteralLemmas.{AreAllFixed}
 use Rattle.sig_scan.proofs.literal.rarest_run.Given as goal
 

@@ -1,7 +1,4 @@
-use Rattle.std.proofs.Common.{◌+◌, ◌*◌, ◌∙◌, ap, arith, inl, ⊎_elim, subst, ℕ, ◌≡◌, ◌↔◌, ◌⊎◌}
-use Rattle.std.specs.Int.{bit_at}
-use Rattle.sig_bits.specs.BitSets.{HasBit}
-use Rattle.sig_scan.specs.Marks.{HasWord}
+use Rattle.sig_scan.proofs.Common.{◌+◌, ◌*◌, ◌∙◌, ap, arith, inl, ⊎_elim, subst, ℕ, ◌≡◌, ◌↔◌, ◌⊎◌, bit_at, HasBit, HasWord}
 use Rattle.sig_scan.proofs.MarkLemmas.{add_word_more, bit_at-next_byte}
 use Rattle.sig_scan.proofs.marks.add_word.Goals as goal
 

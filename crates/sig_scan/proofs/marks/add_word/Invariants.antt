@@ -1,7 +1,4 @@
-use Rattle.std.proofs.Common.{◌≡◌, ◌↔◌, ◌⊎◌, ℕ, ◌+◌, ◌*◌}
-use Rattle.std.specs.Int.{bit_at}
-use Rattle.sig_bits.specs.BitSets.{HasBit}
-use Rattle.sig_scan.specs.Marks.{HasWord}
+use Rattle.sig_scan.proofs.Common.{◌≡◌, ◌↔◌, ◌⊎◌, ℕ, ◌+◌, ◌*◌, bit_at, HasBit, HasWord}
 use Rattle.sig_scan.proofs.marks.add_word.Given as goal
 
 -- the bits of the bytes so far are added, and the others are left

@@ -1,4 +1,4 @@
-use Rattle.std.proofs.Common.{arith}
+use Rattle.sig_scan.proofs.Common.{arith}
 use Rattle.sig_scan.proofs.ClassLemmas.{HasBit-common}
 use Rattle.sig_scan.proofs.marks.and_into.Goals as goal
 

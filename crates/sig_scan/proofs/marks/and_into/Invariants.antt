@@ -1,4 +1,4 @@
-use Rattle.std.proofs.Common.{◌≡◌, ℕ, ◌<◌, ◌≤◌, slice_index, bit_and}
+use Rattle.sig_scan.proofs.Common.{◌≡◌, ℕ, ◌<◌, ◌≤◌, slice_index, bit_and}
 use Rattle.sig_scan.proofs.marks.and_into.Given as goal
 
 -- the bytes so far are those of both, and the others are as they were

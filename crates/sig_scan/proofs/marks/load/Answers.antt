@@ -1,4 +1,4 @@
-use Rattle.std.proofs.lemmas.Simd.{length-chunk, get_or-chunk}
+use Rattle.sig_scan.proofs.Common.{length-chunk, get_or-chunk}
 use Rattle.sig_scan.proofs.marks.load.Goals as goal
 
 pub returns : goal.returns

@@ -1,5 +1,4 @@
-use Rattle.std.proofs.Common.{◌≡◌, ◌*◌, ◌/◌, ◌-◌, ◌≤◌, length}
-use Rattle.sig_scan.specs.Marks.{MarksBelow}
+use Rattle.sig_scan.proofs.Common.{◌≡◌, ◌*◌, ◌/◌, ◌-◌, ◌≤◌, length, MarksBelow}
 use Rattle.sig_scan.proofs.marks.mark.Given as goal
 
 -- the offsets so far

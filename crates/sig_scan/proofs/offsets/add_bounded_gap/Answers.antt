@@ -1,5 +1,4 @@
-use Rattle.std.proofs.Common.{◌+◌, ◌-◌, ◌<◌, Option, Some, ℕ, arith, length, refl, subst, sym}
-use Rattle.sig_bits.specs.BitSets.{HasBit}
+use Rattle.sig_scan.proofs.Common.{◌+◌, ◌-◌, ◌<◌, Option, Some, ℕ, arith, length, refl, subst, sym, HasBit}
 use Rattle.sig_scan.proofs.GapLemmas.{IsBytes-from_slice}
 use Rattle.sig_scan.proofs.HopLemmas.{Hops, hops_begin, hops_on, left_behind, left_behind-smaller}
 use Rattle.sig_scan.proofs.RangeLemmas.{Joins}

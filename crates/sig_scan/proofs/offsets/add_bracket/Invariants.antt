@@ -1,6 +1,4 @@
-use Rattle.sig_bits.specs.BitSets.{HasBit}
-use Rattle.sig_expr.specs.Words.{PartWord}
-use Rattle.sig_scan.specs.Frontiers.{GainsBits}
+use Rattle.sig_scan.proofs.Common.{HasBit, PartWord, GainsBits}
 use Rattle.sig_scan.proofs.PartLemmas.{Passed}
 use Rattle.sig_scan.proofs.offsets.add_bracket.Given as goal
 

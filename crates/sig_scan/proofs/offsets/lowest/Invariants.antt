@@ -1,5 +1,4 @@
-use Rattle.std.proofs.Common.{ℕ, ◌≤◌, ◌<◌, ◌-◌}
-use Rattle.sig_bits.specs.BitSets.{HasBit}
+use Rattle.sig_scan.proofs.Common.{ℕ, ◌≤◌, ◌<◌, ◌-◌, HasBit}
 use Rattle.sig_scan.proofs.offsets.lowest.Given as goal
 
 -- none so far

@@ -1,9 +1,4 @@
-use Rattle.std.proofs.Common.{◌≡◌, ◌∙◌, Some, ap, subst, sym}
-use Rattle.std.proofs.lemmas.List.Elements.{All-push, All-same}
-use Rattle.std.specs.List.{slice_get}
-use Rattle.sig_scan.specs.Heads.{IsHeadOf}
-use Rattle.sig_table.specs.Standing.{Hits}
-use Rattle.sig_table.specs.Views.{SignatureView}
+use Rattle.sig_scan.proofs.Common.{◌≡◌, ◌∙◌, Some, ap, subst, sym, All-push, All-same, slice_get, IsHeadOf, Hits, SignatureView}
 use Rattle.sig_scan.proofs.program.add_head.Goals as goal
 
 pub returns-in_ok-push : goal.returns-in_ok-push

@@ -1,7 +1,4 @@
-use Rattle.std.proofs.Common.{subst}
-use Rattle.std.proofs.lemmas.Result.{on_ok_weaker}
-use Rattle.sig_scan.specs.Literals.{IsLiteralOf}
-use Rattle.sig_scan.specs.Stages.{StageView}
+use Rattle.sig_scan.proofs.Common.{subst, on_ok_weaker, IsLiteralOf, StageView}
 use Rattle.sig_scan.proofs.FilterLemmas.{AreLiteralsOf-added}
 use Rattle.sig_scan.proofs.program.add_literal.Goals as goal
 

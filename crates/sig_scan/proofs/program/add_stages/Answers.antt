@@ -1,8 +1,4 @@
-use Rattle.std.proofs.Common.{◌≡◌, ◌++◌, ◌∷◌, [], ◌∙◌, List, Some, None, ap, subst, sym, length, rules, ◌≤◌}
-use Rattle.sig_expr.specs.declared.item.Item.{Item}
-use Rattle.sig_scan.specs.Courses.{AddsCourse}
-use Rattle.sig_scan.specs.Stages.{StageView, TailView, course_of, stages_of}
-use Rattle.sig_scan.specs.Lengths.{span}
+use Rattle.sig_scan.proofs.Common.{◌≡◌, ◌++◌, ◌∷◌, [], ◌∙◌, List, Some, None, ap, subst, sym, length, rules, ◌≤◌, Item, AddsCourse, StageView, TailView, course_of, stages_of, span}
 use Rattle.sig_scan.proofs.HeldLemmas.{last-short}
 use Rattle.sig_scan.proofs.ProgramLemmas.{AddsCourse-to_end}
 use Rattle.sig_scan.proofs.program.add_stages.Goals as goal

@@ -1,6 +1,4 @@
-use Rattle.std.proofs.Common.{◌≡◌, ◌++◌, [], drop, ◌≤◌}
-use Rattle.std.specs.Prelude.{slice_range}
-use Rattle.sig_scan.specs.Stages.{stages_of}
+use Rattle.sig_scan.proofs.Common.{◌≡◌, ◌++◌, [], drop, ◌≤◌, slice_range, stages_of}
 use Rattle.sig_scan.proofs.program.cut.Given as goal
 
 -- the items behind the last unbounded gap so far are those before the next ones

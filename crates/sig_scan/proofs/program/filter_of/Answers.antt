@@ -1,5 +1,4 @@
-use Rattle.std.proofs.Common.{map, arith}
-use Rattle.sig_scan.specs.Courses.{course_in}
+use Rattle.sig_scan.proofs.Common.{map, arith, course_in}
 use Rattle.sig_scan.proofs.PassLemmas.{stage-of_course}
 use Rattle.sig_scan.proofs.program.filter_of.Goals as goal
 

@@ -1,6 +1,4 @@
-use Rattle.std.proofs.Common.{map}
-use Rattle.sig_scan.specs.Courses.{course_in}
-use Rattle.sig_scan.specs.Filters.{AreLiteralsOf}
+use Rattle.sig_scan.proofs.Common.{map, course_in, AreLiteralsOf}
 use Rattle.sig_scan.proofs.program.filter_of.Given as goal
 
 -- the literals so far are those of stages

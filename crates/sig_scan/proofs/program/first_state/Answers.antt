@@ -1,8 +1,4 @@
-use Rattle.std.proofs.Common.{◌≡◌, ◌+◌, ◌∙◌, ap, arith, rules, Some, subst, sym}
-use Rattle.std.proofs.lemmas.Option.{slice_get-get_or}
-use Rattle.std.specs.List.{slice_get}
-use Rattle.sig_scan.specs.Courses.{course_in}
-use Rattle.sig_scan.specs.Stages.{StageView}
+use Rattle.sig_scan.proofs.Common.{◌≡◌, ◌+◌, ◌∙◌, ap, arith, rules, Some, subst, sym, slice_get-get_or, slice_get, course_in, StageView}
 use Rattle.sig_scan.proofs.FirstLemmas.{IsFirst-behind}
 use Rattle.sig_scan.proofs.PassLemmas.{slice_get-range}
 use Rattle.sig_scan.proofs.program.first_state.Goals as goal

@@ -1,6 +1,4 @@
-use Rattle.std.proofs.Common.{◌≡◌, length, map}
-use Rattle.sig_scan.specs.Courses.{course_in}
-use Rattle.sig_scan.specs.Scans.{AreFirst}
+use Rattle.sig_scan.proofs.Common.{◌≡◌, length, map, course_in, AreFirst}
 use Rattle.sig_scan.proofs.program.first_states.Given as goal
 
 -- the sequences so far have their states

@@ -1,5 +1,4 @@
-use Rattle.std.proofs.Common.{[], take, ◌≤◌}
-use Rattle.sig_scan.specs.Courses.{AreHeld}
+use Rattle.sig_scan.proofs.Common.{[], take, ◌≤◌, AreHeld}
 use Rattle.sig_scan.proofs.program.keep_of.Given as goal
 
 -- so many bytes hold the stages so far

@@ -1,12 +1,6 @@
-use Rattle.std.proofs.Common.{◌≡◌, ◌∙◌, ◌+◌, ◌++◌, ◌≤◌, ◌<◌, All, Bool, List, ℕ, Some, ap, arith, false, inr, length, refl, subst, sym, true}
-use Rattle.std.proofs.Math.ListN.{set}
-use Rattle.std.proofs.lemmas.Option.{slice_get-get_or, slice_get_within}
-use Rattle.std.specs.List.{slice_get}
-use Rattle.sig_scan.specs.Scans.{AllWait, AreDone, AreExcluded, IsBase, IsShortCourse}
-use Rattle.sig_scan.specs.declared.state.State.{State}
+use Rattle.sig_scan.proofs.Common.{◌≡◌, ◌∙◌, ◌+◌, ◌++◌, ◌≤◌, ◌<◌, All, Bool, List, ℕ, Some, ap, arith, false, inr, length, refl, subst, sym, true, set, slice_get-get_or, slice_get_within, slice_get, AllWait, AreDone, AreExcluded, IsBase, IsShortCourse, State, slice_get-within}
 use Rattle.sig_scan.proofs.MarkedLemmas.{sequences-fit, sequences-next}
 use Rattle.sig_scan.proofs.SignatureLemmas.{AllMoved, AllMoved-excluded, AllMoved-here, AllMoved-next, AreExcluded-next, still-set}
-use Rattle.sig_table.proofs.Exports.{slice_get-within}
 use Rattle.sig_scan.proofs.scan.settle_all.Goals as goal
 use Rattle.sig_scan.proofs.scan.settle_all.Goals.{then-may_hit-index, else-may_hit-index}
 

@@ -1,7 +1,4 @@
-use Rattle.std.proofs.Common.{◌≡◌, ◌≤◌, ◌*◌, ◌++◌, All, List, Some, ℕ, true}
-use Rattle.std.specs.List.{slice_get}
-use Rattle.sig_scan.specs.Courses.{first_of}
-use Rattle.sig_scan.specs.Scans.{AllWait, AreDone, AreExcluded, IsBase, IsShortCourse}
+use Rattle.sig_scan.proofs.Common.{◌≡◌, ◌≤◌, ◌*◌, ◌++◌, All, List, Some, ℕ, true, slice_get, first_of, AllWait, AreDone, AreExcluded, IsBase, IsShortCourse}
 use Rattle.sig_scan.proofs.SignatureLemmas.{AllMoved}
 use Rattle.sig_scan.proofs.scan.settle_all.Given as goal
 

@@ -1,13 +1,6 @@
-use Rattle.std.proofs.Common.{◌≡◌, ◌∙◌, ◌-◌, ◌≤◌, ◌<◌, All, List, Some, ap, arith, drop, get_or, inl, inr, length, refl, subst, sym}
-use Rattle.std.proofs.lemmas.List.{get_or_default}
-use Rattle.std.proofs.lemmas.Option.{slice_get-get_or}
-use Rattle.std.specs.List.{slice_get}
-use Rattle.sig_scan.specs.Scans.{IsShort, IsShortCourse, WaitsAt}
-use Rattle.sig_scan.specs.Stages.{StageView}
-use Rattle.sig_scan.specs.declared.state.State.{State}
+use Rattle.sig_scan.proofs.Common.{◌≡◌, ◌∙◌, ◌-◌, ◌≤◌, ◌<◌, All, List, Some, ap, arith, drop, get_or, inl, inr, length, refl, subst, sym, get_or_default, slice_get-get_or, slice_get, IsShort, IsShortCourse, WaitsAt, StageView, State, slice_get-within}
 use Rattle.sig_scan.proofs.PassLemmas.{Waits-found}
 use Rattle.sig_scan.proofs.ScanLemmas.{All-course, AreDone-set, AreMoved-set, Waits-moved, slice_get-set_other}
-use Rattle.sig_table.proofs.Exports.{slice_get-within}
 use Rattle.sig_scan.proofs.scan.settle_signature.Goals as goal
 
 pub settle-settled-requires-clause-room : goal.settle-settled-requires-clause-room

@@ -1,8 +1,5 @@
-use Rattle.std.proofs.Common.{◌≡◌, ◌⊎◌, ◌≤◌, ◌<◌, All, List, ℕ}
-use Rattle.std.specs.List.{slice_get}
-use Rattle.sig_scan.specs.Scans.{AreDone, AreWaiting, IsBase, IsShortCourse}
+use Rattle.sig_scan.proofs.Common.{◌≡◌, ◌⊎◌, ◌≤◌, ◌<◌, All, List, ℕ, slice_get, AreDone, AreWaiting, IsBase, IsShortCourse, SequenceView}
 use Rattle.sig_scan.proofs.ScanLemmas.{AreMoved}
-use Rattle.sig_table.specs.Views.{SequenceView}
 use Rattle.sig_scan.proofs.scan.settle_signature.Given as goal
 
 -- the sequences before this one are settled, and the others are as they were

@@ -1,8 +1,4 @@
-use Rattle.std.proofs.Common.{◌+◌, ◌≤◌, ◌∷◌, List, None, Some, arith, subst}
-use Rattle.sig_expr.specs.declared.item.Item.{Item}
-use Rattle.sig_scan.specs.Lengths.{AreBounded, span}
-use Rattle.sig_scan.specs.Stages.{StageView}
-use Rattle.sig_scan.specs.Scans.{IsFirstOf, IsShort, WaitsAt}
+use Rattle.sig_scan.proofs.Common.{◌+◌, ◌≤◌, ◌∷◌, List, None, Some, arith, subst, Item, AreBounded, span, StageView, IsFirstOf, IsShort, WaitsAt}
 use Rattle.sig_scan.proofs.LiteralLemmas.{IsFirstOf-nowhere, IsFirstOf-skipped}
 use Rattle.sig_scan.proofs.StateLemmas.{Waits-ended, Waits-tried}
 use Rattle.sig_scan.proofs.state.attempt_stage.Goals as goal

@@ -1,9 +1,4 @@
-use Rattle.std.proofs.Common.{◌∙◌, ◌+◌, ◌≤◌, ◌∷◌, List, None, Some, arith, refl, subst}
-use Rattle.std.specs.Prelude.{◌↔◌}
-use Rattle.sig_expr.specs.declared.item.Item.{Item}
-use Rattle.sig_scan.specs.Lengths.{AreBounded, span}
-use Rattle.sig_scan.specs.Stages.{StageView}
-use Rattle.sig_scan.specs.Scans.{InTurnAt, IsFirstOf, IsShort}
+use Rattle.sig_scan.proofs.Common.{◌∙◌, ◌+◌, ◌≤◌, ◌∷◌, List, None, Some, arith, refl, subst, ◌↔◌, Item, AreBounded, span, StageView, InTurnAt, IsFirstOf, IsShort}
 use Rattle.sig_scan.proofs.LiteralLemmas.{IsFirstOf-nowhere, IsFirstOf-skipped}
 use Rattle.sig_scan.proofs.StateLemmas.{InTurn-ended, InTurn-tried, IsFirstOf-wider, NoneBegins, NoneBegins-here, NoneBegins-tried}
 use Rattle.sig_scan.proofs.state.next_from.Goals as goal

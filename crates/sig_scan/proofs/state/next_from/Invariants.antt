@@ -1,5 +1,4 @@
-use Rattle.std.proofs.Common.{◌≡◌, ◌+◌, ◌-◌, ◌≤◌, length}
-use Rattle.sig_scan.specs.Lengths.{AreBounded, span}
+use Rattle.sig_scan.proofs.Common.{◌≡◌, ◌+◌, ◌-◌, ◌≤◌, length, AreBounded, span}
 use Rattle.sig_scan.proofs.StateLemmas.{NoneBegins}
 use Rattle.sig_scan.proofs.state.next_from.Given as goal
 

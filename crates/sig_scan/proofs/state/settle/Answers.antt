@@ -1,5 +1,4 @@
-use Rattle.std.proofs.Common.{◌≡◌, [], drop, arith}
-use Rattle.std.proofs.lemmas.List.{length-drop, nil_from_length}
+use Rattle.sig_scan.proofs.Common.{◌≡◌, [], drop, arith, length-drop, nil_from_length}
 use Rattle.sig_scan.proofs.StateLemmas.{Waits-tail}
 use Rattle.sig_scan.proofs.state.settle.Goals as goal
 use Rattle.sig_scan.proofs.state.settle.Goals.{then-steps-test+else-done-stages, else-steps-test}

@@ -1,7 +1,4 @@
-use Rattle.std.proofs.Common.{◌+◌, ◌-◌, ◌*◌, ◌≡◌, ◌≤◌, ℕ, All, List, Option, drop, length}
-use Rattle.sig_scan.specs.Scans.{IsBase, IsShort, WaitsAt}
-use Rattle.sig_scan.specs.Stages.{TailView}
-use Rattle.sig_table.specs.Views.{SequenceView}
+use Rattle.sig_scan.proofs.Common.{◌+◌, ◌-◌, ◌*◌, ◌≡◌, ◌≤◌, ℕ, All, List, Option, drop, length, IsBase, IsShort, WaitsAt, TailView, SequenceView}
 use Rattle.sig_scan.proofs.state.settle.Given as goal
 
 -- the sequence waits for the stages that are not done

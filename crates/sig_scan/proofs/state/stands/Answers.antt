@@ -1,9 +1,4 @@
-use Rattle.std.proofs.Common.{◌≡◌, ◌∙◌, ◌+◌, [], List, drop, arith, false, subst, sym}
-use Rattle.std.proofs.lemmas.Bool.{false≢true}
-use Rattle.std.proofs.lemmas.List.{length-drop, nil_from_length}
-use Rattle.std.specs.Prelude.{◌↔◌}
-use Rattle.sig_scan.specs.Scans.{InTurnAt, IsShort}
-use Rattle.sig_scan.specs.Stages.{StageView}
+use Rattle.sig_scan.proofs.Common.{◌≡◌, ◌∙◌, ◌+◌, [], List, drop, arith, false, subst, sym, false≢true, length-drop, nil_from_length, ◌↔◌, InTurnAt, IsShort, StageView}
 use Rattle.sig_scan.proofs.StateLemmas.{InTurn-end, InTurn-tail, InTurn-left, stages-next}
 use Rattle.sig_scan.proofs.state.stands.Goals as goal
 

@@ -1,7 +1,4 @@
-use Rattle.std.proofs.Common.{◌≡◌, All, List, Option, ℕ, drop}
-use Rattle.std.specs.Prelude.{◌↔◌}
-use Rattle.sig_scan.specs.Scans.{InTurnAt, IsBase, IsShort}
-use Rattle.sig_scan.specs.Stages.{TailView}
+use Rattle.sig_scan.proofs.Common.{◌≡◌, All, List, Option, ℕ, drop, ◌↔◌, InTurnAt, IsBase, IsShort, TailView}
 use Rattle.sig_scan.proofs.state.stands.Given as goal
 
 -- the stages from the first one on stand in turn where those from this one on do

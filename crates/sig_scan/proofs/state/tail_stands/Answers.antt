@@ -1,10 +1,4 @@
-use Rattle.std.proofs.Common.{ℕ, ◌+◌, ◌-◌, List, arith, false, length, subst, take}
-use Rattle.std.specs.Prelude.{◌↔◌, IsTrue}
-use Rattle.std.proofs.lemmas.Bool.{false≢true}
-use Rattle.sig_expr.specs.declared.item.Item.{Item}
-use Rattle.sig_scan.specs.Frontiers.{IsLeastEnd}
-use Rattle.sig_scan.specs.Lengths.{AreBounded}
-use Rattle.sig_scan.specs.Stages.{TailStands, TailView}
+use Rattle.sig_scan.proofs.Common.{ℕ, ◌+◌, ◌-◌, List, arith, false, length, subst, take, ◌↔◌, IsTrue, false≢true, Item, IsLeastEnd, AreBounded, TailStands, TailView}
 use Rattle.sig_scan.proofs.StateLemmas.{TailStands-close, TailStands-judged, TailStands-literal, TailStands-nowhere}
 use Rattle.sig_scan.proofs.state.tail_stands.Goals as goal
 

@@ -1,4 +1,4 @@
-use Rattle.std.proofs.Common.{◌≡◌}
+use Rattle.sig_scan.proofs.Common.{◌≡◌}
 use Rattle.sig_scan.proofs.tests.words_end_where_the_rows_say.Given as goal
 
 -- the room stays

@@ -1,8 +1,5 @@
 use borrow.Rule.Slice.PartMut.{put_mid, same_len_mid}
-use Rattle.std.proofs.Common.{◌≡◌, ◌∙◌, ◌+◌, ◌-◌, ◌<◌, ◌≤◌, ◌++◌, List, ℕ, ap, ap₂, arith, length, sym, take}
-use Rattle.std.proofs.lemmas.List.{with_items_is}
-use Rattle.std.proofs.lemmas.List.Elements.{All-take}
-use Rattle.sig_scan.specs.Scans.{BufferView}
+use Rattle.sig_scan.proofs.Common.{◌≡◌, ◌∙◌, ◌+◌, ◌-◌, ◌<◌, ◌≤◌, ◌++◌, List, ℕ, ap, ap₂, arith, length, sym, take, with_items_is, All-take, BufferView}
 use Rattle.sig_scan.proofs.ReadLemmas.{filled_more}
 use Rattle.sig_scan.proofs.buffer.Buffer.fill.Goals as goal
 

@@ -1,8 +1,4 @@
-use Rattle.std.proofs.Common.{◌≡◌, ◌∙◌, ◌+◌, ◌-◌, ◌≤◌, ℕ, List, ap, ap₂, drop, length, sym, take, arith, zero-add}
-use Rattle.std.proofs.lemmas.List.{drop-take, length-drop, length-take-le}
-use Rattle.std.proofs.lemmas.List.Edits.{length-paste, take-paste}
-use Rattle.std.specs.List.{copy_within}
-use Rattle.sig_scan.specs.Scans.{BufferView}
+use Rattle.sig_scan.proofs.Common.{◌≡◌, ◌∙◌, ◌+◌, ◌-◌, ◌≤◌, ℕ, List, ap, ap₂, drop, length, sym, take, arith, zero-add, drop-take, length-drop, length-take-le, length-paste, take-paste, copy_within, BufferView}
 use Rattle.sig_scan.proofs.buffer.Buffer.take_off.Goals as goal
 
 -- what is left of the bytes, moved to the front

@@ -1,6 +1,4 @@
-use Rattle.std.proofs.Common.{◌∙◌, ◌+◌, ◌<◌, ◌++◌, ◌∷◌, [], List, ℕ, ap, get_or, length, take}
-use Rattle.std.proofs.lemmas.List.{take_more}
-use Rattle.sig_scan.specs.Scans.{BufferView}
+use Rattle.sig_scan.proofs.Common.{◌∙◌, ◌+◌, ◌<◌, ◌++◌, ◌∷◌, [], List, ℕ, ap, get_or, length, take, take_more, BufferView}
 use Rattle.sig_scan.proofs.buffer.Buffer.with_one_more.Goals as goal
 
 pub returns : goal.returns

@@ -1,8 +1,4 @@
-use Rattle.std.proofs.Common.{◌≡◌, ◌∙◌, ◌+◌, List, ℕ, drop, length, rules, subst, sym}
-use Rattle.std.proofs.lemmas.List.{take_at}
-use Rattle.sig_scan.specs.Filters.{AreKept, IsEntered, IsFilter, IsListed, behind_of, text_of}
-use Rattle.sig_scan.specs.Literals.{LiteralView}
-use Rattle.sig_scan.specs.declared.filter.Entry.{Entry}
+use Rattle.sig_scan.proofs.Common.{◌≡◌, ◌∙◌, ◌+◌, List, ℕ, drop, length, rules, subst, sym, take_at, AreKept, IsEntered, IsFilter, IsListed, behind_of, text_of, LiteralView, Entry}
 use Rattle.sig_scan.proofs.FilterLemmas.{IsFilter-added, IsFilter-kept}
 use Rattle.sig_scan.proofs.filter.Filter.add.Goals as goal
 

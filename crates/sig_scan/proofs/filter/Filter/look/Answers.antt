@@ -1,8 +1,4 @@
-use Rattle.std.proofs.Common.{◌≡◌, ◌∙◌, ◌+◌, ◌≤◌, List, Some, ℕ, ap, arith, length, subst, sym, take}
-use Rattle.std.proofs.lemmas.List.{length-take-le}
-use Rattle.std.specs.List.{slice_get}
-use Rattle.sig_scan.specs.Filters.{AreOwned, IsFilter}
-use Rattle.sig_scan.specs.declared.filter.Entry.{Entry}
+use Rattle.sig_scan.proofs.Common.{◌≡◌, ◌∙◌, ◌+◌, ◌≤◌, List, Some, ℕ, ap, arith, length, subst, sym, take, length-take-le, slice_get, AreOwned, IsFilter, Entry}
 use Rattle.sig_scan.proofs.FilterLemmas.{AreLowered-twice, AreMissed-last, AreOwned-lowered, ArePassedBelow, ArePassedBelow-first, ArePassedBelow-next, IsPassedAt-lowered}
 use Rattle.sig_scan.proofs.filter.Filter.look.Goals as goal
 use Rattle.sig_scan.proofs.filter.Filter.look.Goals.{then-place-gt0, else-place-gt0}

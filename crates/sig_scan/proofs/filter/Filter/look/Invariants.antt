@@ -1,5 +1,4 @@
-use Rattle.std.proofs.Common.{◌≡◌, ◌+◌, ◌-◌, ◌%◌, ◌^◌, ◌<◌, length}
-use Rattle.sig_scan.specs.Filters.{AreOwned}
+use Rattle.sig_scan.proofs.Common.{◌≡◌, ◌+◌, ◌-◌, ◌%◌, ◌^◌, ◌<◌, length, AreOwned}
 use Rattle.sig_scan.proofs.FilterLemmas.{ArePassedBelow}
 use Rattle.sig_scan.proofs.filter.Filter.look.Given as goal
 

@@ -1,5 +1,4 @@
-use Rattle.std.proofs.Common.{ap, arith, length, rules}
-use Rattle.std.proofs.lemmas.Option.{slice_get_within}
+use Rattle.sig_scan.proofs.Common.{ap, arith, length, rules, slice_get_within}
 use Rattle.sig_scan.proofs.filter.Filter.new.Goals as goal
 
 pub invariant_of-result : goal.invariant_of-result

@@ -1,6 +1,4 @@
-use Rattle.std.proofs.Common.{List, ℕ, ◌+◌, ◌-◌, ◌<◌, arith, subst, sym}
-use Rattle.sig_scan.specs.Filters.{IsUnlisted}
-use Rattle.sig_scan.specs.declared.filter.Entry.{Entry}
+use Rattle.sig_scan.proofs.Common.{List, ℕ, ◌+◌, ◌-◌, ◌<◌, arith, subst, sym, IsUnlisted, Entry}
 use Rattle.sig_scan.proofs.FilterLemmas.{ArePassed, ArePassed-on, ArePassed-unmarked, AreUnmarked}
 use Rattle.sig_scan.proofs.filter.Filter.next_listed.Goals as goal
 

@@ -1,4 +1,4 @@
-use Rattle.std.proofs.Common.{◌≡◌, ◌+◌, ◌-◌, ◌%◌, ◌^◌, ◌<◌, ◌≤◌, length}
+use Rattle.sig_scan.proofs.Common.{◌≡◌, ◌+◌, ◌-◌, ◌%◌, ◌^◌, ◌<◌, ◌≤◌, length}
 use Rattle.sig_scan.proofs.FilterLemmas.{ArePassed}
 use Rattle.sig_scan.proofs.filter.Filter.next_listed.Given as goal
 

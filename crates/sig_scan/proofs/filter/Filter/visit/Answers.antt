@@ -1,9 +1,4 @@
-use Rattle.std.proofs.Common.{List, Some, ℕ, ◌+◌, ◌*◌, ◌-◌, ◌≡◌, ◌<◌, ◌∙◌, ap, arith, get_or, length, subst, sym}
-use Rattle.std.proofs.lemmas.List.{get_or_default}
-use Rattle.std.proofs.lemmas.Option.{get_or_from_slice_get, slice_get_within}
-use Rattle.std.specs.List.{slice_get}
-use Rattle.sig_scan.specs.Filters.{AreLowered, IsPassedAt, four_at, list_of}
-use Rattle.sig_scan.specs.declared.filter.Entry.{Entry}
+use Rattle.sig_scan.proofs.Common.{List, Some, ℕ, ◌+◌, ◌*◌, ◌-◌, ◌≡◌, ◌<◌, ◌∙◌, ap, arith, get_or, length, subst, sym, get_or_default, get_or_from_slice_get, slice_get_within, slice_get, AreLowered, IsPassedAt, four_at, list_of, Entry}
 use Rattle.sig_scan.proofs.FilterLemmas.{AreCompared, AreCompared-next, IsEntered-slot}
 use Rattle.sig_scan.proofs.filter.Filter.visit.Goals as goal
 use Rattle.sig_scan.proofs.filter.Filter.visit.Goals.{then-id-gt0+then-id-len, else-id-gt0, else-id-gt0-via-then-id-gt0+else-id-len, else-id-gt0-via-else-id-gt0}

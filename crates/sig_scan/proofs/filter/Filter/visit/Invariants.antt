@@ -1,7 +1,4 @@
-use Rattle.std.proofs.Common.{◌≡◌, ◌+◌, ◌≤◌, ◌<◌, ℕ, Some, slice_index}
-use Rattle.std.specs.List.{slice_get}
-use Rattle.sig_scan.specs.Filters.{AreLowered, IsPassedAt}
-use Rattle.sig_scan.specs.declared.filter.Entry.{Entry}
+use Rattle.sig_scan.proofs.Common.{◌≡◌, ◌+◌, ◌≤◌, ◌<◌, ℕ, Some, slice_index, slice_get, AreLowered, IsPassedAt, Entry}
 use Rattle.sig_scan.proofs.filter.Filter.visit.Given as goal
 
 -- the entries of the slots so far are compared

@@ -1,5 +1,4 @@
-use Rattle.std.proofs.Common.{◌-◌, drop, length, take, arith}
-use Rattle.std.proofs.lemmas.List.{take_rest}
+use Rattle.sig_scan.proofs.Common.{◌-◌, drop, length, take, arith, take_rest}
 use Rattle.sig_scan.proofs.WindowLemmas.{first_end_found, first_end_none}
 use Rattle.sig_scan.proofs.frontier.Frontier.first_end.Goals as goal
 

@@ -1,10 +1,6 @@
-use Rattle.std.proofs.Common.{◌≡◌, ◌∙◌, ◌∷◌, List, ap, drop, refl, subst, sym}
-use Rattle.std.proofs.lemmas.List.{drop_more}
-use Rattle.sig_expr.specs.declared.item.Item.{Item}
-use Rattle.sig_table.specs.declared.position.Position.{Position}
-use Rattle.sig_table.specs.declared.position.Position.TheVariants as position
+use Rattle.sig_scan.proofs.Common.{◌≡◌, ◌∙◌, ◌∷◌, List, ap, drop, refl, subst, sym, drop_more, Item, Position, SequenceView}
 use Rattle.sig_table.specs.Standing.{StandsAt}
-use Rattle.sig_table.specs.Views.{SequenceView}
+use Rattle.sig_table.specs.declared.position.Position.TheVariants as position
 use Rattle.sig_scan.proofs.HeadLemmas.{HasHead-first}
 use Rattle.sig_scan.proofs.head.Head.of.Goals as goal
 

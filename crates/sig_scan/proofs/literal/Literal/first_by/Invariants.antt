@@ -1,6 +1,4 @@
-use Rattle.std.proofs.Common.{◌+◌, ◌-◌, ◌≤◌, length}
-use Rattle.memchr.specs.Find.{Nowhere}
-use Rattle.sig_scan.specs.Literals.{StandsAt}
+use Rattle.sig_scan.proofs.Common.{◌+◌, ◌-◌, ◌≤◌, length, Nowhere, StandsAt}
 use Rattle.sig_scan.proofs.literal.Literal.first_by.Given as goal
 
 -- it stands nowhere so far

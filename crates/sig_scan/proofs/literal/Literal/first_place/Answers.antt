@@ -1,6 +1,4 @@
-use Rattle.std.proofs.Common.{◌≡◌, ◌+◌, List, ℕ, subst}
-use Rattle.memchr.specs.Find.{IsFirst, OccursAt}
-use Rattle.sig_scan.specs.Literals.{LiteralView, StandsAt}
+use Rattle.sig_scan.proofs.Common.{◌≡◌, ◌+◌, List, ℕ, subst, IsFirst, OccursAt, LiteralView, StandsAt}
 use Rattle.sig_scan.proofs.LiteralLemmas.{IsFirst-same, OccursAt-stands, StandsAt-occurs}
 use Rattle.sig_scan.proofs.literal.Literal.first_place.Goals as goal
 

@@ -1,5 +1,4 @@
-use Rattle.std.proofs.Common.{◌≡◌, ◌∙◌, ap, arith, length, rules, sym}
-use Rattle.std.proofs.lemmas.List.{nil_from_length}
+use Rattle.sig_scan.proofs.Common.{◌≡◌, ◌∙◌, ap, arith, length, rules, sym, nil_from_length}
 use Rattle.sig_scan.proofs.literal.Literal.is_found_whole.Goals as goal
 
 pub returns-then-is_empty-clause-same : goal.returns-then-is_empty-clause-same

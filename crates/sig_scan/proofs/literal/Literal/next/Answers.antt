@@ -1,6 +1,4 @@
-use Rattle.std.proofs.Common.{ℕ, ◌+◌, ◌-◌, arith, subst, sym, Some, None}
-use Rattle.memchr.specs.Find.{IsFirst}
-use Rattle.sig_scan.specs.Literals.{LiteralView, StandsAt}
+use Rattle.sig_scan.proofs.Common.{ℕ, ◌+◌, ◌-◌, arith, subst, sym, Some, None, IsFirst, LiteralView, StandsAt}
 use Rattle.sig_scan.proofs.LiteralLemmas.{IsBehind, IsFirst-no_offset, IsFirst-offset}
 use Rattle.sig_scan.proofs.literal.Literal.next.Goals as goal
 

@@ -1,7 +1,4 @@
-use Rattle.std.proofs.Common.{◌≡◌, ◌-◌, ℕ, List, arith, drop, length, subst, take}
-use Rattle.std.proofs.lemmas.List.{length-drop, take_all}
-use Rattle.sig_expr.specs.declared.item.Item.{Item}
-use Rattle.sig_scan.specs.Literals.{BeginsWith}
+use Rattle.sig_scan.proofs.Common.{◌≡◌, ◌-◌, ℕ, List, arith, drop, length, subst, take, length-drop, take_all, Item, BeginsWith}
 use Rattle.sig_scan.proofs.LiteralLemmas.{IsLiteralOf-behind}
 use Rattle.sig_scan.proofs.literal.Literal.of.Goals as goal
 

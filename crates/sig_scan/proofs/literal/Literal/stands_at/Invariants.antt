@@ -1,5 +1,4 @@
-use Rattle.std.proofs.Common.{ℕ, ◌+◌, ◌<◌, slice_index}
-use Rattle.sig_scan.specs.Literals.{Fits}
+use Rattle.sig_scan.proofs.Common.{ℕ, ◌+◌, ◌<◌, slice_index, Fits}
 use Rattle.sig_scan.proofs.literal.Literal.stands_at.Given as goal
 
 -- the bytes so far fit

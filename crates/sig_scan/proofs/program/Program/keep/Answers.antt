@@ -1,7 +1,4 @@
-use Rattle.std.proofs.lemmas.List.Elements.{All-same}
-use Rattle.std.proofs.Common.{ap, map, sym}
-use Rattle.sig_scan.specs.Courses.{IsHeld, course_in}
-use Rattle.sig_scan.specs.Heads.{ProgramView}
+use Rattle.sig_scan.proofs.Common.{All-same, ap, map, sym, IsHeld, course_in, ProgramView}
 use Rattle.sig_scan.proofs.HeldLemmas.{IsHeld-each}
 use Rattle.sig_scan.proofs.program.Program.keep.Goals as goal
 

@@ -1,10 +1,4 @@
-use Rattle.std.proofs.Common.{List, arith, inl, inr, length, map, subst}
-use Rattle.std.proofs.lemmas.Bool.{cases_lt}
-use Rattle.std.proofs.lemmas.List.{get_or_past}
-use Rattle.sig_scan.specs.Courses.{course_in}
-use Rattle.sig_scan.specs.Heads.{ProgramView}
-use Rattle.sig_scan.specs.Passes.{ArePast}
-use Rattle.sig_scan.specs.Stages.{CourseView}
+use Rattle.sig_scan.proofs.Common.{List, arith, inl, inr, length, map, subst, cases_lt, get_or_past, course_in, ProgramView, ArePast, CourseView}
 use Rattle.sig_scan.proofs.PassLemmas.{ArePast-missed}
 use Rattle.sig_scan.proofs.program.Program.look.Goals as goal
 

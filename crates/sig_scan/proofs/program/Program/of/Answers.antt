@@ -1,18 +1,8 @@
-use Rattle.std.proofs.Common.{◌≡◌, ◌∙◌, ◌++◌, ◌∷◌, [], ◌+◌, ◌<◌, ℕ, All, Bool, List, ap, arith, false, get_or, length, length-append, map, refl, rules, subst, sym}
-use Rattle.std.proofs.lemmas.List.{length-map, take_all}
-use Rattle.std.proofs.lemmas.List.Elements.{All-push}
-use Rattle.sig_scan.specs.Courses.{AreBefore, IsBoundedCourse, course_if, course_in, first_of, sequences_of}
-use Rattle.sig_scan.specs.Filters.{AreLiteralsOf}
-use Rattle.sig_scan.specs.Scans.{AreFirst}
-use Rattle.sig_scan.specs.declared.program.Course.{Course}
-use Rattle.sig_scan.specs.Stages.{CourseView, StageView}
+use Rattle.sig_scan.proofs.Common.{◌≡◌, ◌∙◌, ◌++◌, ◌∷◌, [], ◌+◌, ◌<◌, ℕ, All, Bool, List, ap, arith, false, get_or, length, length-append, map, refl, rules, subst, sym, length-map, take_all, All-push, AreBefore, IsBoundedCourse, course_if, course_in, first_of, sequences_of, AreLiteralsOf, AreFirst, Course, CourseView, StageView, slice_get-within, Hits, Stands, SequenceView, SignatureView}
 use Rattle.sig_scan.proofs.CompiledLemmas.{AreBefore-next, AreBefore-push, AreSoFar, AreSoFar-push, course_if-bounded}
 use Rattle.sig_scan.proofs.HeldLemmas.{AreHeld-push}
 use Rattle.sig_scan.proofs.MarkedLemmas.{sequences, sequences-next}
 use Rattle.sig_scan.proofs.ProgramLemmas.{AreCourses-push}
-use Rattle.sig_table.proofs.Exports.{slice_get-within}
-use Rattle.sig_table.specs.Standing.{Hits, Stands}
-use Rattle.sig_table.specs.Views.{SequenceView, SignatureView}
 use Rattle.sig_scan.proofs.program.Program.of.Goals as goal
 
 pub loop-sequence-preserved : goal.loop-sequence-preserved

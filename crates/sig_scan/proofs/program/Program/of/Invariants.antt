@@ -1,6 +1,4 @@
-use Rattle.std.proofs.Common.{◌≡◌, ◌+◌, All, length, map}
-use Rattle.sig_scan.specs.Courses.{AreBefore, AreHeld, IsBoundedCourse, StandsIn, course_in, first_of}
-use Rattle.sig_scan.specs.Heads.{AreHeadsOf}
+use Rattle.sig_scan.proofs.Common.{◌≡◌, ◌+◌, All, length, map, AreBefore, AreHeld, IsBoundedCourse, StandsIn, course_in, first_of, AreHeadsOf}
 use Rattle.sig_scan.proofs.CompiledLemmas.{AreSoFar}
 use Rattle.sig_scan.proofs.program.Program.of.Given as goal
 

@@ -1,10 +1,5 @@
-use Rattle.std.proofs.Common.{◌≡◌, ◌∙◌, Some, arith, inl, inr, refl, subst, sym, true}
-use Rattle.std.proofs.lemmas.Bool.{cases_eq, false≢true}
-use Rattle.std.specs.List.{slice_get}
-use Rattle.sig_scan.specs.Courses.{sequences_of}
-use Rattle.sig_scan.specs.Scans.{IsEndOf, ScanView}
+use Rattle.sig_scan.proofs.Common.{◌≡◌, ◌∙◌, Some, arith, inl, inr, refl, subst, sym, true, cases_eq, false≢true, slice_get, sequences_of, IsEndOf, ScanView, slice_get-within}
 use Rattle.sig_scan.proofs.MarkedLemmas.{AllStand-hits, sequences-fit}
-use Rattle.sig_table.proofs.Exports.{slice_get-within}
 use Rattle.sig_scan.proofs.scan.Scan.all_stand.Goals as goal
 
 pub loop-sequence-preserved : goal.loop-sequence-preserved

@@ -1,8 +1,4 @@
-use Rattle.std.proofs.Common.{◌≡◌, ◌+◌, List, Some, ℕ, length, true}
-use Rattle.std.specs.List.{slice_get}
-use Rattle.sig_scan.specs.Courses.{first_of}
-use Rattle.sig_scan.specs.Scans.{AllStand, IsEndOf}
-use Rattle.sig_table.specs.Views.{SignatureView, TableView}
+use Rattle.sig_scan.proofs.Common.{◌≡◌, ◌+◌, List, Some, ℕ, length, true, slice_get, first_of, AllStand, IsEndOf, SignatureView, TableView}
 use Rattle.sig_scan.proofs.scan.Scan.all_stand.Given as goal
 
 -- those so far do

@@ -1,11 +1,5 @@
-use Rattle.std.proofs.Common.{◌≡◌, ◌∙◌, ◌++◌, ◌∷◌, [], ℕ, Bool, List, ap, length, subst, sym}
-use Rattle.std.proofs.lemmas.List.{with_items_is}
-use Rattle.sig_scan.specs.Passes.{ArePast}
-use Rattle.sig_scan.specs.Scans.{IsEndOf, IsScanOf}
-use Rattle.sig_scan.specs.Stages.{CourseView}
-use Rattle.sig_scan.specs.declared.state.State.{State}
+use Rattle.sig_scan.proofs.Common.{◌≡◌, ◌∙◌, ◌++◌, ◌∷◌, [], ℕ, Bool, List, ap, length, subst, sym, with_items_is, ArePast, IsEndOf, IsScanOf, CourseView, State, TableView}
 use Rattle.sig_scan.proofs.PassLemmas.{IsEndOf-found}
-use Rattle.sig_table.specs.Views.{TableView}
 use Rattle.sig_scan.proofs.scan.Scan.close.Goals as goal
 
 pub returns-clause-closed : goal.returns-clause-closed

@@ -1,13 +1,5 @@
-use Rattle.std.proofs.Common.{◌≡◌, ◌∙◌, ℕ, Bool, List, Some, ap, length, subst, sym, true}
-use Rattle.std.proofs.lemmas.List.{with_items_is}
-use Rattle.std.specs.List.{slice_get}
-use Rattle.sig_scan.specs.Heads.{AreHeadsOf}
-use Rattle.sig_scan.specs.Scans.{AreExcluded, IsScanOf}
-use Rattle.sig_scan.specs.Stages.{CourseView}
-use Rattle.sig_scan.specs.declared.head.Head.{Head}
-use Rattle.sig_scan.specs.declared.state.State.{State}
+use Rattle.sig_scan.proofs.Common.{◌≡◌, ◌∙◌, ℕ, Bool, List, Some, ap, length, subst, sym, true, with_items_is, slice_get, AreHeadsOf, AreExcluded, IsScanOf, CourseView, Head, State, TableView}
 use Rattle.sig_scan.proofs.HeadLemmas.{IsScanOf-excluded}
-use Rattle.sig_table.specs.Views.{TableView}
 use Rattle.sig_scan.proofs.scan.Scan.exclude.Goals as goal
 
 pub returns-then-self-eq0-clause-excluded : goal.returns-then-self-eq0-clause-excluded

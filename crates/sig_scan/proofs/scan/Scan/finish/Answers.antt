@@ -1,16 +1,5 @@
-use Rattle.std.proofs.Common.{◌≡◌, ◌∙◌, ◌+◌, ◌<◌, ◌≤◌, ℕ, Bool, List, Some, ap, arith, false, length, refl, subst, sym, true}
-use Rattle.std.proofs.Math.ListN.{set}
-use Rattle.std.proofs.lemmas.Bool.{false≢true}
-use Rattle.std.proofs.lemmas.Option.{slice_get_read}
-use Rattle.std.specs.List.{slice_get}
-use Rattle.std.specs.Prelude.{◌↔◌, IsTrue}
-use Rattle.sig_scan.specs.Courses.{first_of}
-use Rattle.sig_scan.specs.Scans.{AreMarked, IsEndOf, IsScanOf, ScanView}
-use Rattle.sig_scan.specs.Stages.{CourseView}
+use Rattle.sig_scan.proofs.Common.{◌≡◌, ◌∙◌, ◌+◌, ◌<◌, ◌≤◌, ℕ, Bool, List, Some, ap, arith, false, length, refl, subst, sym, true, set, false≢true, slice_get_read, slice_get, ◌↔◌, IsTrue, first_of, AreMarked, IsEndOf, IsScanOf, ScanView, CourseView, slice_get-within, Hits, SignatureView, TableView}
 use Rattle.sig_scan.proofs.MarkedLemmas.{AreMarked-set, Hits-never, sequences-fit, sequences-next}
-use Rattle.sig_table.proofs.Exports.{slice_get-within}
-use Rattle.sig_table.specs.Standing.{Hits}
-use Rattle.sig_table.specs.Views.{SignatureView, TableView}
 use Rattle.sig_scan.proofs.scan.Scan.finish.Goals as goal
 use Rattle.sig_scan.proofs.scan.Scan.finish.Goals.{then-index, else-index}
 

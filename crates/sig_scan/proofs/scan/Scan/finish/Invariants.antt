@@ -1,7 +1,4 @@
-use Rattle.std.proofs.Common.{◌≡◌, ◌≤◌, ◌*◌, List, ℕ}
-use Rattle.sig_scan.specs.Courses.{first_of}
-use Rattle.sig_scan.specs.Scans.{AreMarked, IsEndOf, IsScanOf}
-use Rattle.sig_table.specs.Views.{TableView}
+use Rattle.sig_scan.proofs.Common.{◌≡◌, ◌≤◌, ◌*◌, List, ℕ, first_of, AreMarked, IsEndOf, IsScanOf, TableView}
 use Rattle.sig_scan.proofs.scan.Scan.finish.Given as goal
 
 -- the signatures before this one are marked

@@ -1,9 +1,5 @@
-use Rattle.std.proofs.Common.{List, ℕ, subst, sym}
-use Rattle.sig_scan.specs.Scans.{AreFirst}
-use Rattle.sig_scan.specs.Stages.{CourseView}
-use Rattle.sig_scan.specs.declared.state.State.{State}
+use Rattle.sig_scan.proofs.Common.{List, ℕ, subst, sym, AreFirst, CourseView, State, TableView}
 use Rattle.sig_scan.proofs.MarkedLemmas.{IsScanOf-fresh}
-use Rattle.sig_table.specs.Views.{TableView}
 use Rattle.sig_scan.proofs.scan.Scan.new.Goals as goal
 
 pub returns-clause-fresh : goal.returns-clause-fresh

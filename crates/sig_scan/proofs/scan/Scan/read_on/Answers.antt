@@ -1,9 +1,5 @@
-use Rattle.std.proofs.Common.{◌++◌, Bool, List, ℕ, subst, sym}
-use Rattle.sig_scan.specs.Scans.{BufferView, IsScanOf}
-use Rattle.sig_scan.specs.Stages.{CourseView}
-use Rattle.sig_scan.specs.declared.state.State.{State}
+use Rattle.sig_scan.proofs.Common.{◌++◌, Bool, List, ℕ, subst, sym, BufferView, IsScanOf, CourseView, State, TableView}
 use Rattle.sig_scan.proofs.ScanLemmas.{IsScanOf-added}
-use Rattle.sig_table.specs.Views.{TableView}
 use Rattle.sig_scan.proofs.scan.Scan.read_on.Goals as goal
 use Rattle.sig_scan.proofs.scan.Scan.read_on.Goals.{then-is_full, else-is_full}
 

@@ -1,12 +1,5 @@
-use Rattle.std.proofs.Common.{◌≡◌, ◌∙◌, ◌-◌, ◌≤◌, ◌++◌, All, Bool, List, ℕ, ap, arith, drop, length, subst, sym, take}
-use Rattle.std.proofs.lemmas.List.{take-append-le, take_all, with_items_is}
-use Rattle.std.specs.Vec.{with_items}
-use Rattle.sig_scan.specs.Passes.{ArePast}
-use Rattle.sig_scan.specs.Scans.{AllWait, AreExcluded, BufferView, IsBase, IsScanOf, IsShortCourse, ScanView}
-use Rattle.sig_scan.specs.Stages.{CourseView}
-use Rattle.sig_scan.specs.declared.state.State.{State}
+use Rattle.sig_scan.proofs.Common.{◌≡◌, ◌∙◌, ◌-◌, ◌≤◌, ◌++◌, All, Bool, List, ℕ, ap, arith, drop, length, subst, sym, take, take-append-le, take_all, with_items_is, with_items, ArePast, AllWait, AreExcluded, BufferView, IsBase, IsScanOf, IsShortCourse, ScanView, CourseView, State, TableView}
 use Rattle.sig_scan.proofs.ScanLemmas.{IsScanOf-settled}
-use Rattle.sig_table.specs.Views.{TableView}
 use Rattle.sig_scan.proofs.scan.Scan.settle.Goals as goal
 
 -- what is written over all of a list

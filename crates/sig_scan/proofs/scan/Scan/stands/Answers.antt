@@ -1,14 +1,5 @@
-use Rattle.std.proofs.Common.{◌≡◌, ◌∙◌, ◌≤◌, ◌<◌, ℕ, Bool, List, Some, ap, arith, length, max, refl, subst, sym, true}
-use Rattle.std.proofs.lemmas.List.{get_or_default}
-use Rattle.std.proofs.lemmas.Option.{slice_get_read}
-use Rattle.std.specs.List.{slice_get}
-use Rattle.std.specs.Prelude.{slice_index}
-use Rattle.sig_scan.specs.Scans.{IsEndOf, ScanView}
-use Rattle.sig_scan.specs.Stages.{CourseView, StageView}
-use Rattle.sig_scan.specs.declared.state.State.{State}
+use Rattle.sig_scan.proofs.Common.{◌≡◌, ◌∙◌, ◌≤◌, ◌<◌, ℕ, Bool, List, Some, ap, arith, length, max, refl, subst, sym, true, get_or_default, slice_get_read, slice_get, slice_index, IsEndOf, ScanView, CourseView, StageView, State, slice_get-within, TableView}
 use Rattle.sig_scan.proofs.MarkedLemmas.{Stands-judged}
-use Rattle.sig_table.proofs.Exports.{slice_get-within}
-use Rattle.sig_table.specs.Views.{TableView}
 use Rattle.sig_scan.proofs.scan.Scan.stands.Goals as goal
 
 pub stands-requires-clause-done : goal.stands-requires-clause-done
