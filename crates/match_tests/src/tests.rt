@@ -1,4 +1,5 @@
 mod agreeing;
+mod blocks;
 mod cuts;
 mod hits;
 mod items;

@@ -1,102 +1,180 @@
 -- A table that is compiled sequence by sequence: the courses of the signatures that are to be hit.
-use Rattle.sig_scan.proofs.Common.{◌≡◌, ◌∙◌, ℕ, ◌+◌, ◌-◌, ◌≤◌, ◌<◌, inl, inr, All, Bool, List, [], ◌∷◌, ◌++◌, Some, ap, arith, drop, false, true, get_or, length, subst, sym, take, cases_eq, All-nil, get_or_from_slice_get, slice_get-get_or, slice_get_within, slice_get, AreBefore, IsBoundedCourse, course_if, first_of, sequences_of, IsProgramOf, IsWholeProgramOf, ProgramView, AreBounded, CourseView, StageView, course_of, SequenceView, SignatureView, TableView}
+use Rattle.sig_scan.proofs.Common.{◌≡◌, ◌∙◌, ℕ, ◌+◌, ◌≤◌, ◌<◌, inl, inr, All, Bool, List, [], ◌∷◌, ◌++◌, Some, ap, arith, false, true, get_or, length, subst, sym, All-nil, get_or_from_slice_get, slice_get-get_or, slice_get_within, slice_get, IsBoundedCourse, course_if, IsProgramOf, IsWholeProgramOf, ProgramView, AreBounded, CourseView, StageView, course_of, SequenceView, SignatureView, TableView, ◌⊎◌, length-append, refl, get_or-append_seam, cases_lt, get_or_append_left, All-push, Hits, Stands, AreCoursesOf, AreNeeded, HasSequence}
 use Rattle.sig_scan.proofs.CutLemmas.{stages-bounded, tail-bounded}
 use Rattle.sig_scan.proofs.FilterLemmas.{push_cases}
-use Rattle.sig_scan.proofs.MarkedLemmas.{middle, sequences, sequences-cut}
-use Rattle.sig_scan.proofs.SignatureLemmas.{first_of-order}
+use Rattle.sig_scan.proofs.ScanLemmas.{one_value}
 
 -- no word of a course is without bound
 pub course_if-bounded : (b : Bool) (s : SequenceView) → IsBoundedCourse (course_if b s)
 course_if-bounded true s = record { stages = stages-bounded s.position s.items; tail = tail-bounded s.position s.items }
 course_if-bounded false s = record { stages = All-nil (λ (t : StageView). AreBounded t.items); tail = tt }
 
--- a sequence of a signature among those of the table
-sequence-of : (table : TableView) (index i : ℕ) (g : SignatureView) (s : SequenceView) → slice_get table.signatures index ≡ Some g
-    → first_of table index ≤ i → i < first_of table index + length g.sequences → slice_get (sequences_of table) i ≡ Some s
-    → slice_get g.sequences (i - first_of table index) ≡ Some s
-sequence-of table index i g s at low high some =
-    let front = sequences (take index table.signatures) in
-    let back = sequences (drop (index + 1) table.signatures) in
-    let all : List SequenceView = sequences_of table in
-    let j : ℕ = i - length front in
-    let same : length front + j ≡ i = omega arith in
-    let within : j < length g.sequences = omega arith in
-    let here = middle front g.sequences back all j s (sequences-cut table.signatures index g at) within in
-    let value : get_or all i s ≡ s = get_or_from_slice_get all i s s some in
-    let member : get_or g.sequences j s ≡ s = sym here ∙ ap (λ n. get_or all n s) same ∙ value in
-    slice_get-get_or g.sequences j s within ∙ ap (λ (x : SequenceView). Some x) member
+-- the sequences of the signatures before `index`, and the first `to` of that one, with their courses
+pub record AreAdded (table : TableView) (may_hit : List Bool) (index to : ℕ) (owners : List ℕ) (courses : List CourseView) : Type 0 where
+  pub sequences : List SequenceView
+  pub count : length sequences ≡ length owners
+  pub within : All (λ g. g < length table.signatures) owners
+  pub needed : AreNeeded table owners sequences
+  pub has : (g j : ℕ) (h : SignatureView) (s : SequenceView) → (g < index) ⊎ ((g ≡ index) × (j < to)) → slice_get table.signatures g ≡ Some h
+      → slice_get h.sequences j ≡ Some s → HasSequence owners sequences g s
+  pub are : AreCoursesOf may_hit owners sequences courses
 
--- one course more leaves those of the signatures before
-pub AreBefore-push : (index : ℕ) (table : TableView) (may_hit : List Bool) (courses : List CourseView) (x : CourseView)
-    → first_of table index ≤ length courses → index ≤ length table.signatures → AreBefore index table may_hit courses
-    → AreBefore index table may_hit (courses ++ x ∷ [])
-AreBefore-push index table may_hit courses x most within before g h below may at i s c low high sequence course =
-    let order = first_of-order table g index h below within at in
-    elim (push_cases courses x c i course) [
-      | inl old ↦ before g h below may at i s c low high sequence old.1
-      | inr new ↦ (let end = new.0 in absurd (omega arith))
-    ]
+pub AreAdded-none : (table : TableView) (may_hit : List Bool) → AreAdded table may_hit 0 0 [] []
+AreAdded-none table may_hit = record {
+  sequences = [];
+  count = refl;
+  within = All-nil (λ g. g < length table.signatures);
+  needed = λ i g s h owner. absurd (let low = slice_get_within [] i g owner in omega arith);
+  has = λ g j h s low. elim low [ inl before ↦ absurd (omega arith) | inr both ↦ (let none = both.1 in absurd (omega arith)) ];
+  are = λ i g s c owner. absurd (let low = slice_get_within [] i g owner in omega arith);
+}
 
--- the courses so far of a signature that is to be hit
-abbrev pub AreSoFar : ℕ → ℕ → TableView → List Bool → List SequenceView → List CourseView → Type 0
-AreSoFar index to table may_hit those courses = slice_get may_hit index ≡ Some true → (k : ℕ) (s : SequenceView) (c : CourseView) → k < to
-    → slice_get those k ≡ Some s → slice_get courses (first_of table index + k) ≡ Some c → c ≡ course_of s
+-- what was at a place still is where the list has one more
+pushed : {X : Type 0} (xs : List X) (x y : X) (i : ℕ) → slice_get xs i ≡ Some y → slice_get (xs ++ x ∷ []) i ≡ Some y
+pushed {X} xs x y i at =
+    let low = slice_get_within xs i y at in
+    let len = length-append xs (x ∷ []) in
+    slice_get-get_or (xs ++ x ∷ []) i y (omega arith)
+    ∙ ap (λ (z : X). Some z) (get_or_append_left xs (x ∷ []) y i low ∙ get_or_from_slice_get xs i y y at)
 
--- one more
-pub AreSoFar-push : (index to : ℕ) (table : TableView) (may_hit : List Bool) (those : List SequenceView) (courses : List CourseView) (x : SequenceView)
-    → length courses ≡ first_of table index + to → to < length those → x ≡ get_or those to x → AreSoFar index to table may_hit those courses
-    → AreSoFar index (to + 1) table may_hit those (courses ++ course_if (get_or may_hit index false) x ∷ [])
-AreSoFar-push index to table may_hit those courses x count within is before may k s c below sequence course =
-    let b = get_or may_hit index false in
-    elim (push_cases courses (course_if b x) c (first_of table index + k) course) [
-      | inl old ↦ (let low = old.0 in before may k s c (omega arith) sequence old.1)
-      | inr new ↦ (
-          let end = new.0 in
-          let k_is : k ≡ to = omega arith in
-          let yes : b ≡ true = get_or_from_slice_get may_hit index true false may in
-          let value = get_or_from_slice_get those k s x sequence in
-          let same : x ≡ s = is ∙ ap (λ n. get_or those n x) (sym k_is) ∙ value in
-          sym new.1 ∙ ap (λ d. course_if d x) yes ∙ ap course_of same)
-    ]
+pushed_last : {X : Type 0} (xs : List X) (x : X) (n : ℕ) → n ≡ length xs → slice_get (xs ++ x ∷ []) n ≡ Some x
+pushed_last {X} xs x n is =
+    let len = length-append xs (x ∷ []) in
+    slice_get-get_or (xs ++ x ∷ []) n x (omega arith)
+    ∙ ap (λ (z : X). Some z) (ap (λ k. get_or (xs ++ x ∷ []) k x) is ∙ get_or-append_seam xs x [] x)
+
+-- one sequence more
+pub AreAdded-push : (table : TableView) (may_hit : List Bool) (index to : ℕ) (owners : List ℕ) (courses : List CourseView) (g : SignatureView)
+    (x : SequenceView) → length courses ≡ length owners → slice_get table.signatures index ≡ Some g → slice_get g.sequences to ≡ Some x
+    → AreAdded table may_hit index to owners courses
+    → AreAdded table may_hit index (to + 1) (owners ++ index ∷ []) (courses ++ course_if (get_or may_hit index false) x ∷ [])
+AreAdded-push table may_hit index to owners courses g x same_len signature at added =
+    let sequences = added.sequences in
+    let count = added.count in
+    let len = length-append owners (index ∷ []) in
+    let len_s = length-append sequences (x ∷ []) in
+    let flag : Bool = get_or may_hit index false in
+    record {
+      sequences = sequences ++ x ∷ [];
+      count = omega arith;
+      within = All-push (λ n. n < length table.signatures) owners index added.within (slice_get_within table.signatures index g signature);
+      needed = λ i n s h owner sequence signature_n file hits.
+          elim (push_cases sequences x s i sequence) [
+            | inl old ↦ elim (push_cases owners index n i owner) [
+              | inl was ↦ added.needed i n s h was.1 old.1 signature_n file hits
+              | inr now ↦ (let low = old.0 in let end = now.0 in absurd (omega arith))
+            ]
+            | inr new ↦ elim (push_cases owners index n i owner) [
+              | inl was ↦ (let low = was.0 in let end = new.0 in absurd (omega arith))
+              | inr now ↦ (
+                  let same : g ≡ h = one_value (slice_get table.signatures n) g h (subst (λ m. slice_get table.signatures m ≡ Some g) now.1 signature) signature_n in
+                  let value = get_or_from_slice_get g.sequences to x x at in
+                  subst (λ (v : SequenceView). Stands v file) (value ∙ new.1)
+                  (subst (λ (v : SignatureView). Hits v file) (sym same) hits to x (slice_get_within g.sequences to x at)))
+            ]
+          ];
+      has = λ n j h s low signature_n sequence.
+          elim (cases_lt n index) [
+            | inl before ↦ (let was = added.has n j h s (inl before) signature_n sequence in
+                record {
+                  place = was.place;
+                  owner = pushed owners index n was.place was.owner;
+                  sequence = pushed sequences x s was.place was.sequence;
+                })
+            | inr behind ↦ (
+                let both : (n ≡ index) × (j < to + 1) = elim low [ inl before ↦ absurd (omega arith) | inr here ↦ here ] in
+                let n_is = both.0 in
+                let most = both.1 in
+                elim (cases_lt j to) [
+                  | inl early ↦ (let was = added.has n j h s (inr (n_is, early)) signature_n sequence in
+                      record {
+                        place = was.place;
+                        owner = pushed owners index n was.place was.owner;
+                        sequence = pushed sequences x s was.place was.sequence;
+                      })
+                  | inr late ↦ (
+                      let j_is : j ≡ to = omega arith in
+                      let same : h ≡ g = one_value (slice_get table.signatures index) h g (subst (λ m. slice_get table.signatures m ≡ Some h) n_is signature_n) signature in
+                      let there = subst (λ m. slice_get g.sequences m ≡ Some s) j_is (subst (λ (v : SignatureView). slice_get v.sequences j ≡ Some s) same sequence) in
+                      let s_is : x ≡ s = one_value (slice_get g.sequences to) x s at there in
+                      record {
+                        place = length owners;
+                        owner = pushed_last owners index (length owners) refl ∙ ap (λ m. Some m) (sym n_is);
+                        sequence = pushed_last sequences x (length owners) (sym count) ∙ ap (λ (v : SequenceView). Some v) s_is;
+                      })
+                ])
+          ];
+      are = λ i n s c owner may sequence course.
+          elim (push_cases courses (course_if flag x) c i course) [
+            | inl old ↦ elim (push_cases owners index n i owner) [
+              | inl was ↦ elim (push_cases sequences x s i sequence) [
+                | inl one ↦ added.are i n s c was.1 may one.1 old.1
+                | inr two ↦ (let low = old.0 in let end = two.0 in absurd (omega arith))
+              ]
+              | inr now ↦ (let low = old.0 in let end = now.0 in absurd (omega arith))
+            ]
+            | inr new ↦ elim (push_cases owners index n i owner) [
+              | inl was ↦ (let low = was.0 in let end = new.0 in absurd (omega arith))
+              | inr now ↦ elim (push_cases sequences x s i sequence) [
+                | inl one ↦ (let low = one.0 in let end = new.0 in absurd (omega arith))
+                | inr two ↦ (
+                    let yes : flag ≡ true = get_or_from_slice_get may_hit index true false (subst (λ m. slice_get may_hit m ≡ Some true) (sym now.1) may) in
+                    sym new.1 ∙ ap (λ d. course_if d x) yes ∙ ap course_of two.1)
+              ]
+            ]
+          ];
+    }
 
 -- all of a signature
-pub AreBefore-next : (index to : ℕ) (table : TableView) (may_hit : List Bool) (those : List SequenceView) (courses : List CourseView) (g : SignatureView)
-    → slice_get table.signatures index ≡ Some g → those ≡ g.sequences → length those ≤ to → AreSoFar index to table may_hit those courses
-    → AreBefore index table may_hit courses → AreBefore (index + 1) table may_hit courses
-AreBefore-next index to table may_hit those courses g here is all so_far before k h below may at i s c low high sequence course =
-    elim (cases_eq k index) [
-      | inl same ↦ (
-          let at_index : slice_get table.signatures index ≡ Some h = subst (λ n. slice_get table.signatures n ≡ Some h) same at in
-          let both : Some g ≡ Some h = sym here ∙ at_index in
-          let g_is : g ≡ h = cc in
-          let P : ℕ → Type 0 = λ n. (first_of table n ≤ i) × (i < first_of table n + length h.sequences) in
-          let range = subst P same (low, high) in
-          let least = range.0 in
-          let most = range.1 in
-          let member = sequence-of table index i h s at_index least most sequence in
-          let len = ap length is in
-          let len_g = ap (λ (v : SignatureView). length v.sequences) g_is in
-          let there : slice_get those (i - first_of table index) ≡ Some s =
-          ap (λ (l : List SequenceView). slice_get l (i - first_of table index)) (is ∙ ap (λ (v : SignatureView). v.sequences) g_is) ∙ member in
-          let sum : first_of table index + (i - first_of table index) ≡ i = omega arith in
-          so_far (subst (λ n. slice_get may_hit n ≡ Some true) same may) (i - first_of table index) s c (omega arith) there
-          (subst (λ n. slice_get courses n ≡ Some c) (sym sum) course))
-      | inr other ↦ before k h (omega arith) may at i s c low high sequence course
-    ]
+pub AreAdded-next : (table : TableView) (may_hit : List Bool) (index to : ℕ) (owners : List ℕ) (courses : List CourseView) (g : SignatureView)
+    → slice_get table.signatures index ≡ Some g → length g.sequences ≤ to → AreAdded table may_hit index to owners courses
+    → AreAdded table may_hit (index + 1) 0 owners courses
+AreAdded-next table may_hit index to owners courses g signature all added = record {
+  sequences = added.sequences;
+  count = added.count;
+  within = added.within;
+  needed = added.needed;
+  has = λ n j h s low signature_n sequence.
+      let most : n < index + 1 = elim low [ inl before ↦ before | inr both ↦ (let none = both.1 in absurd (omega arith)) ] in
+      elim (cases_lt n index) [
+        | inl before ↦ added.has n j h s (inl before) signature_n sequence
+        | inr behind ↦ (
+            let n_is : n ≡ index = omega arith in
+            let same : h ≡ g = one_value (slice_get table.signatures index) h g (subst (λ m. slice_get table.signatures m ≡ Some h) n_is signature_n) signature in
+            let inside = slice_get_within h.sequences j s sequence in
+            let len = ap (λ (v : SignatureView). length v.sequences) same in
+            added.has n j h s (inr (n_is, omega arith)) signature_n sequence)
+      ];
+  are = added.are;
+}
 
--- a program of all signatures has those of any
+-- all of a table
+pub IsProgramOf-added : (table : TableView) (may_hit : List Bool) (index : ℕ) (program : ProgramView) → length table.signatures ≤ index
+    → AreAdded table may_hit index 0 program.owners program.courses → IsProgramOf table may_hit program
+IsProgramOf-added table may_hit index program all added = record {
+  sequences = added.sequences;
+  are = record {
+    count = added.count;
+    within = added.within;
+    needed = added.needed;
+    whole = λ g j h s signature sequence.
+        let low = slice_get_within table.signatures g h signature in
+        added.has g j h s (inl (omega arith)) signature sequence;
+  };
+  courses = added.are;
+}
+
+-- a program of all signatures is one of any
 pub IsWholeProgramOf-all : (table : TableView) (all : List Bool) (program : ProgramView) → length all ≡ length table.signatures → All (λ b. b ≡ true) all
     → IsProgramOf table all program → IsWholeProgramOf table program
 IsWholeProgramOf-all table all program count each is = record {
   any = λ may_hit. record {
-    courses = record {
-      count = is.courses.count;
-      bounded = is.courses.bounded;
-      each = λ g h below may at.
-          let inside = slice_get_within table.signatures g h at in
-          let within : g < length all = omega arith in
-          is.courses.each g h below (slice_get-get_or all g true within ∙ ap (λ (b : Bool). Some b) (each g true within)) at;
-    };
-    heads = is.heads;
+    sequences = is.sequences;
+    are = is.are;
+    courses = λ i g s c owner may sequence course.
+        let low = get_or_from_slice_get program.owners i g 0 owner in
+        let below : g < length table.signatures = subst (λ n. n < length table.signatures) low (is.are.within i 0 (slice_get_within program.owners i g owner)) in
+        let within : g < length all = omega arith in
+        is.courses i g s c owner (slice_get-get_or all g true within ∙ ap (λ (b : Bool). Some b) (each g true within)) sequence course;
   };
 }

@@ -1,5 +1,5 @@
 -- Where gaps end.
-use Rattle.sig_scan.proofs.Common.{◌≡◌, ◌↔◌, ◌⊎◌, ℕ, ◌+◌, ◌-◌, ◌≤◌, ◌<◌, List, length, arith, inl, inr, get_or, w8, slice_range, get_or_default, All-drop, All-take, IsBytes, HasBit, IsShiftedBit, Word, GainsBits, Reaches}
+use Rattle.sig_scan.proofs.Common.{◌≡◌, ◌↔◌, ◌⊎◌, ℕ, ◌+◌, ◌-◌, ◌≤◌, ◌<◌, List, length, arith, inl, inr, get_or, w8, slice_range, get_or_default, All-drop, All-take, IsBytes, HasBit, IsShiftedBit, Word, GainsBits, Reaches, set}
 use Rattle.std.proofs.Common.{Fits}
 use Rattle.sig_expr.specs.declared.item.Item.TheVariants as item
 use Rattle.sig_scan.proofs.ReachLemmas.{length-slice_range}

@@ -1,5 +1,5 @@
 -- The ends of a gap, from one start to the next.
-use Rattle.sig_scan.proofs.Common.{◌≡◌, ◌⊎◌, ℕ, ◌+◌, ◌-◌, ◌≤◌, ◌<◌, List, length, min, inl, inr, arith, Option, Some, None, MatchOption, cases_lt, IsBytes, HasBit, Word, GainsBits, IsLeast, IsNextStart, Reaches}
+use Rattle.sig_scan.proofs.Common.{◌≡◌, ◌⊎◌, ℕ, ◌+◌, ◌-◌, ◌≤◌, ◌<◌, List, length, min, inl, inr, arith, Option, Some, None, MatchOption, cases_lt, IsBytes, HasBit, Word, GainsBits, IsLeast, IsNextStart, Reaches, max, set}
 use Rattle.sig_expr.specs.declared.item.Item.TheVariants as item
 use Rattle.sig_scan.proofs.GapLemmas.{IsBytes-slice_range}
 use Rattle.sig_scan.proofs.RangeLemmas.{Joins}

@@ -1,5 +1,5 @@
 -- From items and alternatives to their parts.
-use Rattle.sig_scan.proofs.Common.{◌≡◌, ℕ, ◌+◌, ◌≤◌, ◌<◌, List, [], ◌∷◌, ◌++◌, length, get_or, drop, subst, sym, ap, ◌∙◌, inl, inr, arith, slice_range, drop_more, drop_all, Contains-append_left, Contains-push, Contains-push_cases, HasBit, Atom, Item, AlternativeWord, Lang, PartWord, Word, GainsBits, HasBits, Reaches}
+use Rattle.sig_scan.proofs.Common.{◌≡◌, ℕ, ◌+◌, ◌≤◌, ◌<◌, List, [], ◌∷◌, ◌++◌, length, get_or, drop, subst, sym, ap, ◌∙◌, inl, inr, arith, slice_range, drop_more, drop_all, Contains-append_left, Contains-push, Contains-push_cases, HasBit, Atom, Item, AlternativeWord, Lang, PartWord, Word, GainsBits, HasBits, Reaches, set}
 use Rattle.sig_expr.specs.declared.item.Item.TheVariants as item
 use Rattle.sig_scan.proofs.ReachLemmas.{Carries, Carries-more, HasBits-from_carries, Reaches-words}
 use Rattle.sig_scan.proofs.SetLemmas.{GainsBits-more, GainsBits-none}

@@ -29,5 +29,4 @@ mod PassLemmas
 mod ScanLemmas
 mod MarkedLemmas
 mod HeadLemmas
-mod SignatureLemmas
 mod CompiledLemmas

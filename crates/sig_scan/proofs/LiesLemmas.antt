@@ -1,6 +1,6 @@
 -- Where words lie: of two lists of items joined, behind a gap, and in a file of which only the
 -- first bytes are seen.
-use Rattle.sig_scan.proofs.Common.{◌≡◌, ℕ, ◌+◌, ◌-◌, ◌≤◌, ◌<◌, List, [], ◌∷◌, ◌++◌, length, take, drop, None, refl, subst, sym, ap, ◌∙◌, arith, append_assoc, length-append, take-add, ◌↔◌, slice_range, append-nil, drop-drop, length-take-le, length-drop, take_at, drop_at, drop-append-le, take-append-le, drop-append-add, All-drop, All-take, IsBytes, Item, Lang, Word, Lies}
+use Rattle.sig_scan.proofs.Common.{◌≡◌, ℕ, ◌+◌, ◌-◌, ◌≤◌, ◌<◌, List, [], ◌∷◌, ◌++◌, length, take, drop, None, refl, subst, sym, ap, ◌∙◌, arith, append_assoc, length-append, take-add, ◌↔◌, slice_range, append-nil, drop-drop, length-take-le, length-drop, take_at, drop_at, drop-append-le, take-append-le, drop-append-add, All-drop, All-take, IsBytes, Item, Lang, Word, Lies, min}
 use Rattle.sig_expr.specs.declared.item.Item.TheVariants as item
 
 -- a word of two lists of items is a word of the one and a word of the other

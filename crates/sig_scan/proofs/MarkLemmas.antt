@@ -1,5 +1,5 @@
 -- Bits of words and vectors, as numbers of a set.
-use Rattle.sig_scan.proofs.Common.{◌≡◌, ◌≢◌, ◌⊎◌, ◌↔◌, ℕ, ◌+◌, ◌-◌, ◌*◌, ◌/◌, ◌%◌, ◌^◌, ◌≤◌, ◌<◌, Bool, true, false, cond, leb, ltb, List, length, map, get_or, get_or-set_same, get_or-set_other, max, min, replicate, bit_or, bit_and, w8, w64, refl, sym, ap, ◌∙◌, subst, inl, inr, ⊎_elim, arith, bit_at, bit_not, MatchBool, mask_l, top, zip2, cases_eq, cases_lt, false≢true, le-leb, leb-true, lt-ltb, ltb-true, get_or-map, bit_at_and, bit_at_cat_high, bit_at_cat_low, bit_at-lt, bit_at_not, bit_at_or, and_le_l, bit_mask_l, bitmask_splat, HasBit, zeros_have_no_bit, Class, Takes, TakesAt, HasBits, HasLanes, HasWord, MarksBelow}
+use Rattle.sig_scan.proofs.Common.{◌≡◌, ◌≢◌, ◌⊎◌, ◌↔◌, ℕ, ◌+◌, ◌-◌, ◌*◌, ◌/◌, ◌%◌, ◌^◌, ◌≤◌, ◌<◌, Bool, true, false, cond, leb, ltb, List, length, map, get_or, get_or-set_same, get_or-set_other, max, min, replicate, bit_or, bit_and, w8, w64, refl, sym, ap, ◌∙◌, subst, inl, inr, ⊎_elim, arith, bit_at, bit_not, MatchBool, mask_l, top, zip2, cases_eq, cases_lt, false≢true, le-leb, leb-true, lt-ltb, ltb-true, get_or-map, bit_at_and, bit_at_cat_high, bit_at_cat_low, bit_at-lt, bit_at_not, bit_at_or, and_le_l, bit_mask_l, bitmask_splat, HasBit, zeros_have_no_bit, Class, Takes, TakesAt, HasBits, HasLanes, HasWord, MarksBelow, not}
 use Rattle.std.proofs.Common.{set}
 
 -- ---- a word, byte by byte

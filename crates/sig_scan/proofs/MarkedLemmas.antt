@@ -1,133 +1,112 @@
 -- The beginning and the end of a scan: what it is of an empty file, and which signatures it marks.
-use Rattle.sig_scan.proofs.Common.{◌≡◌, ◌∙◌, ℕ, ◌+◌, ◌-◌, ◌≤◌, ◌<◌, inl, inr, All, Bool, List, [], ◌∷◌, ◌++◌, add-one, ap, arith, drop, drop-cons, false, true, get_or, get_or-set_other, get_or-set_same, length, length-append, max, Option, refl, Some, subst, suc, sym, take, set, cases_eq, flat_map-append, append-nil, get_or-append-add, get_or_append_left, take-append-drop, take_more, All-nil, get_or_from_slice_get, slice_get-get_or, slice_get_within, flat_map, slice_get, ◌↔◌, IsTrue, slice_index, IsBytes, AreCoursesOf, IsBoundedCourse, IsHeld, first_of, sequences_of, AllStand, AreExcluded, AreFirst, AreMarked, BufferView, HasLastBytes, InTurnAt, IsBase, IsEndOf, IsScanOf, IsShort, IsShortCourse, ScanView, TailIsShort, CourseView, StageView, TailView, Waits, State, Hits, Stands, SequenceView, SignatureView, TableView}
-use Rattle.sig_scan.proofs.ScanLemmas.{All-course, courses-short}
-use Rattle.sig_scan.proofs.WaitLemmas.{Waits-fed, Waits-fresh}
+use Rattle.sig_scan.proofs.Common.{◌≡◌, ◌∙◌, ℕ, ◌+◌, ◌≤◌, ◌<◌, inl, inr, All, Bool, List, [], ◌++◌, ap, arith, drop, false, true, get_or, length, max, Option, refl, Some, subst, sym, set, cases_eq, append-nil, All-nil, slice_get-get_or, slice_get_within, slice_get, ◌↔◌, IsTrue, slice_index, IsBytes, AreExcluded, AreFirst, AreMarked, HasLastBytes, InTurnAt, IsBase, IsScanOf, IsShort, IsShortCourse, ScanView, TailIsShort, CourseView, StageView, TailView, Waits, State, Hits, Stands, SequenceView, SignatureView, TableView, cases_Bool, false≢true, AreNeeded, IsProgramOf, ProgramView, AreSequencesOf, owner, EndsPast, Knows}
+use Rattle.sig_scan.proofs.PassLemmas.{InTurn-raised}
+use Rattle.sig_scan.proofs.ScanLemmas.{All-at, one_value, slice_get-set_cases, still-set}
+use Rattle.sig_scan.proofs.WaitLemmas.{Waits-fed, Waits-fresh, Waits-judged}
 
 -- a scan of the bytes at hand, of which no word is looked for yet
-pub IsScanOf-fresh : (table : TableView) (courses : List CourseView) (keep : ℕ) (buffer : BufferView) (states : List State) (may_hit : List Bool)
-    (found : List ℕ) → AreCoursesOf table may_hit courses → AreFirst courses states → IsBytes buffer.bytes → AreExcluded table may_hit buffer.bytes
-    → IsScanOf table buffer.bytes (record {
-      table = table;
-      courses = courses;
-      keep = keep;
-      base = 0;
-      buffer = buffer;
-      states = states;
-      may_hit = may_hit;
-      found = found;
-    })
-IsScanOf-fresh table courses keep buffer states may_hit found is first are excluded = record {
+pub Knows-fresh : (table : TableView) (program : ProgramView) (keep : ℕ) (bytes : List ℕ) (states : List State) (may_hit : List Bool)
+    → IsProgramOf table may_hit program → length may_hit ≡ length table.signatures → AreFirst program.courses states → IsBytes bytes
+    → AreExcluded table may_hit bytes → Knows table bytes program keep 0 bytes states may_hit
+Knows-fresh table program keep bytes states may_hit is size first are excluded = record {
+  sequences = is.sequences;
+  are = is.are;
+  size = size;
   before = [];
-  bytes = refl;
-  base = refl;
+  cut = refl;
+  counted = refl;
   last = inl refl;
-  is_table = refl;
-  wait = λ g h may signature i s c t low high sequence course state.
+  wait = λ i g s c t owner may sequence course state.
       let left = (first i c t course state).left in
-      let below = slice_get_within table.signatures g h signature in
-      let c_is = sym (is.each g h below may signature i s c low high sequence course) in
+      let c_is = sym (is.courses i g s c owner may sequence course) in
       let Q : CourseView → Type 0 = λ d. Waits s [] d.from d.stages d.tail in
       let fresh : Waits s [] c.from c.stages c.tail = subst Q c_is (Waits-fresh s) in
-      let fed = Waits-fed s [] buffer.bytes c.from c.stages c.tail are fresh in
+      let fed = Waits-fed s [] bytes c.from c.stages c.tail are fresh in
       let zero : t.from ≡ length {A = ℕ} [] + t.from = omega arith in
-      let now : Waits s buffer.bytes t.from (drop t.done c.stages) c.tail = record {
+      let now : Waits s bytes t.from (drop t.done c.stages) c.tail = record {
         residual = λ more later.
             let known = fed.residual more later in
-            let is = left (buffer.bytes ++ more) in
+            let is = left (bytes ++ more) in
             (λ stands. is.0 (known.0 stands), λ turn. known.1 (is.1 turn));
       } in
-      subst (λ (n : ℕ). Waits s buffer.bytes n (drop t.done c.stages) c.tail) zero now;
+      subst (λ (n : ℕ). Waits s bytes n (drop t.done c.stages) c.tail) zero now;
   excluded = excluded;
 }
 
--- the sequences of one signature among those of all
-abbrev pub sequences : List SignatureView → List SequenceView
-sequences signatures = flat_map (λ s. s.sequences) signatures
+-- of each mark that still stands the sequences before this one stand in the file, and of the others the file is not hit
+pub record AreMarkedTo (k : ℕ) (table : TableView) (file : List ℕ) (owners : List ℕ) (sequences : List SequenceView) (may_hit marks : List Bool) : Type 0 where
+  pub still : (g : ℕ) → slice_get marks g ≡ Some true → slice_get may_hit g ≡ Some true
+  pub stand : (i g : ℕ) (s : SequenceView) → i < k → slice_get marks g ≡ Some true → slice_get owners i ≡ Some g → slice_get sequences i ≡ Some s → Stands s file
+  pub never : (g : ℕ) (h : SignatureView) → slice_get marks g ≡ Some false → slice_get table.signatures g ≡ Some h → ¬ Hits h file
 
-signatures-cut : (signatures : List SignatureView) (index : ℕ) (g : SignatureView) → slice_get signatures index ≡ Some g
-    → signatures ≡ take index signatures ++ g ∷ drop (index + 1) signatures
-signatures-cut signatures index g at =
-    let within = slice_get_within signatures index g at in
-    let is : get_or signatures index g ≡ g = get_or_from_slice_get signatures index g g at in
-    let next : drop index signatures ≡ g ∷ drop (index + 1) signatures =
-    rw (add-one) (drop-cons signatures index g within ∙ ap (λ (v : SignatureView). v ∷ drop (suc index) signatures) is) in
-    sym (take-append-drop index signatures) ∙ ap (λ (l : List SignatureView). take index signatures ++ l) next
+-- at first
+pub AreMarkedTo-none : (table : TableView) (file : List ℕ) (owners : List ℕ) (sequences : List SequenceView) (may_hit : List Bool)
+    → AreExcluded table may_hit file → AreMarkedTo 0 table file owners sequences may_hit may_hit
+AreMarkedTo-none table file owners sequences may_hit excluded = record {
+  still = λ g may. may;
+  stand = λ i g s low. absurd (omega arith);
+  never = λ g h out signature hits. excluded g h out signature [] (All-nil (λ b. b < 256)) (subst (Hits h) (sym (append-nil file)) hits);
+}
 
-pub sequences-cut : (signatures : List SignatureView) (index : ℕ) (g : SignatureView) → slice_get signatures index ≡ Some g
-    → sequences signatures ≡ sequences (take index signatures) ++ (g.sequences ++ sequences (drop (index + 1) signatures))
-sequences-cut signatures index g at =
-    ap sequences (signatures-cut signatures index g at)
-    ∙ flat_map-append (λ (s : SignatureView). s.sequences) (take index signatures) (g ∷ drop (index + 1) signatures)
+-- one sequence more, of a signature that is still marked
+pub AreMarkedTo-set : (k own : ℕ) (table : TableView) (file : List ℕ) (owners : List ℕ) (sequences : List SequenceView) (may_hit marks : List Bool)
+    (b : Bool) (s : SequenceView) → own < length marks → slice_get marks own ≡ Some true → slice_get owners k ≡ Some own → slice_get sequences k ≡ Some s
+    → AreNeeded table owners sequences → (IsTrue b ↔ Stands s file) → AreMarkedTo k table file owners sequences may_hit marks
+    → AreMarkedTo (k + 1) table file owners sequences may_hit (set marks own b)
+AreMarkedTo-set k own table file owners sequences may_hit marks b s inside mark is_own is_s needed judged marked = record {
+  still = λ g may. marked.still g (still-set marks own g b inside mark may);
+  stand = λ i g u low may owner sequence.
+      let could = still-set marks own g b inside mark may in
+      elim (cases_eq i k) [
+        | inl here ↦ (
+            let own_g : own ≡ g = one_value (slice_get owners k) own g is_own (subst (λ n. slice_get owners n ≡ Some g) here owner) in
+            let yes : b ≡ true = elim (slice_get-set_cases marks own g b true inside may) [ inl now ↦ sym now.1 | inr other ↦ absurd (other.0 (sym own_g)) ] in
+            let same : s ≡ u = one_value (slice_get sequences k) s u is_s (subst (λ n. slice_get sequences n ≡ Some u) here sequence) in
+            subst (λ (v : SequenceView). Stands v file) same (judged.0 yes))
+        | inr other ↦ marked.stand i g u (omega arith) could owner sequence
+      ];
+  never = λ g h out signature hits.
+      elim (slice_get-set_cases marks own g b false inside out) [
+        | inl here ↦ (
+            let there = subst (λ n. slice_get table.signatures n ≡ Some h) here.0 signature in
+            absurd (false≢true (here.1 ∙ judged.1 (needed k own s h is_own is_s there file hits))))
+        | inr there ↦ marked.never g h there.1 signature hits
+      ];
+}
 
--- those of the next signature begin behind them, and there are so many
-pub sequences-fit : (table : TableView) (index first : ℕ) (g : SignatureView) → slice_get table.signatures index ≡ Some g
-    → first ≡ length (sequences (take index table.signatures)) → first + length g.sequences ≤ length (sequences_of table)
-sequences-fit table index first g at is =
-    let all = ap length (sequences-cut table.signatures index g at) in
-    let one = length-append (sequences (take index table.signatures)) (g.sequences ++ sequences (drop (index + 1) table.signatures)) in
-    let two = length-append g.sequences (sequences (drop (index + 1) table.signatures)) in
-    omega arith
+-- or of one that is not
+pub AreMarkedTo-skip : (k own : ℕ) (table : TableView) (file : List ℕ) (owners : List ℕ) (sequences : List SequenceView) (may_hit marks : List Bool)
+    → slice_get marks own ≡ Some false → slice_get owners k ≡ Some own → AreMarkedTo k table file owners sequences may_hit marks
+    → AreMarkedTo (k + 1) table file owners sequences may_hit marks
+AreMarkedTo-skip k own table file owners sequences may_hit marks mark is_own marked = record {
+  still = marked.still;
+  stand = λ i g s low may owner sequence.
+      elim (cases_eq i k) [
+        | inl here ↦ (
+            let own_g : own ≡ g = one_value (slice_get owners k) own g is_own (subst (λ n. slice_get owners n ≡ Some g) here owner) in
+            absurd (false≢true (one_value (slice_get marks g) false true (subst (λ n. slice_get marks n ≡ Some false) own_g mark) may)))
+        | inr other ↦ marked.stand i g s (omega arith) may owner sequence
+      ];
+  never = marked.never;
+}
 
-pub sequences-next : (table : TableView) (index first : ℕ) (g : SignatureView) → slice_get table.signatures index ≡ Some g
-    → first ≡ length (sequences (take index table.signatures))
-    → first + length g.sequences ≡ length (sequences (take (index + 1) table.signatures))
-sequences-next table index first g at is =
-    let within = slice_get_within table.signatures index g at in
-    let taken : take (index + 1) table.signatures ≡ take index table.signatures ++ g ∷ [] =
-    take_more table.signatures index g within ∙ ap (λ (v : SignatureView). take index table.signatures ++ v ∷ [])
-    (get_or_from_slice_get table.signatures index g g at) in
-    let all = ap length (ap sequences taken ∙ flat_map-append (λ (s : SignatureView). s.sequences) (take index table.signatures) (g ∷ [])) in
-    let one = length-append (sequences (take index table.signatures)) (sequences (g ∷ [])) in
-    let two = length-append g.sequences [] in
-    omega arith
-
--- an element of the middle part
-pub middle : (front part back all : List SequenceView) (j : ℕ) (d : SequenceView) → all ≡ front ++ (part ++ back) → j < length part
-    → get_or all (length front + j) d ≡ get_or part j d
-middle front part back all j d is within =
-    ap (λ (l : List SequenceView). get_or l (length front + j) d) is ∙ get_or-append-add front (part ++ back) j d ∙ get_or_append_left part back d j within
-
--- a signature hits where its sequences stand
-pub AllStand-hits : (table : TableView) (file : List ℕ) (index first : ℕ) (g : SignatureView) → slice_get table.signatures index ≡ Some g
-    → first ≡ length (sequences (take index table.signatures)) → AllStand table file first (first + length g.sequences) ↔ Hits g file
-AllStand-hits table file index first g at is =
-    let front = sequences (take index table.signatures) in
-    let back = sequences (drop (index + 1) table.signatures) in
-    let all : List SequenceView = sequences_of table in
-    let cut : all ≡ front ++ (g.sequences ++ back) = sequences-cut table.signatures index g at in
-    let fits = sequences-fit table index first g at is in
-    let P : SequenceView → Type 0 = λ s. Stands s file in (
-      λ stand j d within.
-          let k : ℕ = length front + j in
-          let here = middle front g.sequences back all j d cut within in
-          let some : slice_get all k ≡ Some (get_or g.sequences j d) =
-          slice_get-get_or all k d (omega arith) ∙ ap (λ (v : SequenceView). Some v) here in
-          stand k (get_or g.sequences j d) (omega arith) (omega arith) some,
-      λ hits k s low high some.
-          let j : ℕ = k - length front in
-          let same : length front + j ≡ k = omega arith in
-          let within : j < length g.sequences = omega arith in
-          let here = middle front g.sequences back all j s cut within in
-          let value : get_or all k s ≡ s = get_or_from_slice_get all k s s some in
-          let member : get_or g.sequences j s ≡ s = sym here ∙ ap (λ n. get_or all n s) same ∙ value in
-          subst P member (hits j s within),
+-- at last each mark says whether its signature hits
+pub AreMarked-all : (k : ℕ) (table : TableView) (file : List ℕ) (owners : List ℕ) (sequences : List SequenceView) (may_hit marks : List Bool)
+    → length owners ≤ k → AreSequencesOf table owners sequences → AreMarkedTo k table file owners sequences may_hit marks
+    → length marks ≡ length table.signatures → AreMarked table file marks
+AreMarked-all k table file owners sequences may_hit marks all are marked len g h signature =
+    let within = slice_get_within table.signatures g h signature in
+    let mark : slice_get marks g ≡ Some (get_or marks g false) = slice_get-get_or marks g false (omega arith) in (
+      λ marked_g j d inside.
+          let s = get_or h.sequences j d in
+          let one = are.whole g j h s signature (slice_get-get_or h.sequences j d inside) in
+          let low = slice_get_within owners one.place g one.owner in
+          marked.stand one.place g s (omega arith) (mark ∙ ap (λ (b : Bool). Some b) marked_g) one.owner one.sequence,
+      λ hits. elim (cases_Bool (get_or marks g false)) [
+        | inl marked_g ↦ marked_g
+        | inr out ↦ absurd (marked.never g h (mark ∙ ap (λ (b : Bool). Some b) out) signature hits)
+      ],
     )
-
--- one mark more
-pub AreMarked-set : (table : TableView) (file : List ℕ) (index : ℕ) (marks : List Bool) (b : Bool) → index < length marks
-    → ((g : SignatureView) → slice_get table.signatures index ≡ Some g → IsTrue b ↔ Hits g file) → AreMarked table file index marks
-    → AreMarked table file (index + 1) (set marks index b)
-AreMarked-set table file index marks b within is marked i g below at =
-    elim (cases_eq i index) [
-      | inl same ↦ (
-          let at_index : slice_get table.signatures index ≡ Some g = subst (λ n. slice_get table.signatures n ≡ Some g) same at in
-          let mark : b ≡ get_or (set marks index b) i false =
-          sym (ap (λ n. get_or (set marks index b) n false) same ∙ get_or-set_same marks index b false within) in
-          subst (λ (v : Bool). IsTrue v ↔ Hits g file) mark (is g at_index))
-      | inr other ↦ (
-          let mark : get_or marks i false ≡ get_or (set marks index b) i false = sym (get_or-set_other marks index i b false other) in
-          subst (λ (v : Bool). IsTrue v ↔ Hits g file) mark (marked i g (omega arith) at))
-    ]
 
 -- what is asked at the end of a sequence with these stages and this tail, over these bytes
 abbrev pub JudgedBy : ℕ → ℕ → ℕ → ℕ → Bool → List StageView → Option TailView → List ℕ → Type 0
@@ -135,30 +114,25 @@ JudgedBy keep base done from b stages tail bytes = (before : List ℕ) → IsBas
     → HasLastBytes keep before bytes → IsTrue b ↔ InTurnAt before bytes from (drop done stages) tail
 
 -- a sequence of a signature that the file may hit is judged
-pub Stands-judged : (table : TableView) (file : List ℕ) (scan : ScanView) (g : ℕ) (h : SignatureView) (k from : ℕ)
-    (s : SequenceView) (t : State) (c : CourseView) (b : Bool) (stages : List StageView) (tail : Option TailView) (seen : List ℕ)
-    → All IsBoundedCourse scan.courses → All (IsHeld scan.keep) scan.courses → slice_get scan.courses k ≡ Some c → slice_get scan.states k ≡ Some t
+pub Stands-judged : (table : TableView) (file : List ℕ) (scan : ScanView) (known : IsScanOf table file scan) (g k from : ℕ) (s : SequenceView) (t : State)
+    (c : CourseView) (b : Bool) (stages : List StageView) (tail : Option TailView) (seen : List ℕ) → All (IsShortCourse scan.keep) scan.program.courses
+    → slice_get scan.program.courses k ≡ Some c → slice_get scan.states k ≡ Some t
     → stages ≡ c.stages → tail ≡ c.tail → seen ≡ scan.buffer.bytes → from ≡ max t.from (slice_index scan.found k)
-    → JudgedBy scan.keep scan.base t.done from b stages tail seen → IsEndOf table file scan
-    → slice_get scan.may_hit g ≡ Some true → slice_get table.signatures g ≡ Some h → first_of table g ≤ k → k < first_of table g + length h.sequences
-    → slice_get (sequences_of table) k ≡ Some s → IsTrue b ↔ Stands s file
-Stands-judged table file scan g h k from s t c b stages tail seen is held course state stages_is tail_is seen_is from_is judged of may signature low
-    high sequence =
+    → JudgedBy scan.keep scan.base t.done from b stages tail seen → EndsPast scan → slice_get scan.program.owners k ≡ Some g
+    → slice_get scan.may_hit g ≡ Some true → slice_get known.sequences k ≡ Some s → IsTrue b ↔ Stands s file
+Stands-judged table file scan known g k from s t c b stages tail seen held course state stages_is tail_is seen_is from_is judged past owner may sequence =
     let keep = scan.keep in
     let base = scan.base in
     let bytes = scan.buffer.bytes in
-    let few = All-course (IsShortCourse keep) scan.courses k c course (courses-short keep scan.courses is held) in
+    let before = known.before in
+    let few = All-at (IsShortCourse keep) scan.program.courses k c course held in
     let here : JudgedBy keep base t.done from b c.stages c.tail bytes =
     subst (λ (l : List ℕ). JudgedBy keep base t.done from b c.stages c.tail l) seen_is
     (subst (λ (o : Option TailView). JudgedBy keep base t.done from b c.stages o seen) tail_is
     (subst (λ (l : List StageView). JudgedBy keep base t.done from b l tail seen) stages_is judged)) in
-    let turn = here of.before of.base few.stages few.tail of.last in
-    let left = of.left g h may signature k s c t low high sequence course state in
-    let at = subst (λ n. Stands s (of.before ++ bytes) ↔ InTurnAt of.before bytes n (drop t.done c.stages) c.tail) (sym from_is) left in
-    subst (λ (f : List ℕ). IsTrue b ↔ Stands s f) (sym of.bytes) (λ yes. at.1 (turn.0 yes), λ stands. turn.1 (at.0 stands))
-
--- an excluded signature does not hit the file at its end
-pub Hits-never : (table : TableView) (may_hit : List Bool) (file : List ℕ) (index : ℕ) (g : SignatureView) → slice_get may_hit index ≡ Some false
-    → slice_get table.signatures index ≡ Some g → AreExcluded table may_hit file → ¬ Hits g file
-Hits-never table may_hit file index g never at excluded hits =
-    excluded index g never at [] (All-nil (λ b. b < 256)) (subst (Hits g) (sym (append-nil file)) hits)
+    let turn = here before known.counted few.stages few.tail known.last in
+    let waits = Waits-judged s (before ++ bytes) (length before + t.from) (drop t.done c.stages) c.tail
+    (known.wait k g s c t owner may sequence course state) in
+    let raised = InTurn-raised c.stages c.tail before bytes past.0 t.done t.from (slice_index scan.found k) from from_is
+    (λ x least most. past.1 k x c t course state least most) in
+    subst (λ (f : List ℕ). IsTrue b ↔ Stands s f) (sym known.cut) (λ yes. waits.1 (raised.1 (turn.0 yes)), λ stands. turn.1 (raised.0 (waits.0 stands)))

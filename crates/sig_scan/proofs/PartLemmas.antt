@@ -1,5 +1,5 @@
 -- Where words of one length stand, looked for end by end.
-use Rattle.sig_scan.proofs.Common.{◌≡◌, ◌≢◌, ◌↔◌, ◌⊎◌, ℕ, ◌+◌, ◌-◌, ◌≤◌, ◌<◌, List, length, subst, ap, ◌∙◌, sym, arith, slice_range, HasBit, Atom, PartWord, GainsBits, Reaches, part_length}
+use Rattle.sig_scan.proofs.Common.{◌≡◌, ◌≢◌, ◌↔◌, ◌⊎◌, ℕ, ◌+◌, ◌-◌, ◌≤◌, ◌<◌, List, length, subst, ap, ◌∙◌, sym, arith, slice_range, HasBit, Atom, PartWord, GainsBits, Reaches, part_length, set}
 use Rattle.sig_expr.specs.declared.item.Atom.TheVariants as atom
 use Rattle.sig_scan.proofs.ReachLemmas.{length-slice_range}
 use Rattle.sig_scan.proofs.SetLemmas.{GainsBits-none, GainsBits-same, GainsBits-set}

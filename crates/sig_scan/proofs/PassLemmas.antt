@@ -1,11 +1,10 @@
 -- Sequences go on to what the prefilter found.
-use Rattle.sig_scan.proofs.Common.{◌≡◌, ◌∙◌, ℕ, ◌+◌, ◌-◌, ◌≤◌, ◌<◌, inl, inr, All, Bool, List, [], ◌∷◌, ◌++◌, ap, arith, drop, get_or, length, length-append, map, max, min, Option, refl, Some, subst, sym, take, slice_get, option_map, ◌↔◌, slice_index, slice_range, cases_lt, get_or-drop, get_or-take, length-drop, length-map, length-take-le, take_all, get_or_from_slice_get, slice_get-get_or, slice_get-map, slice_get_within, SequenceView, TableView, Entry, Course, State, course_in, AreLiteralsOf, AreMissed, IsLiteralOf, LiteralView, StandsAt, ArePast, Lies, BufferView, InTurnAt, IsEndOf, IsScanOf, IsShort, WaitsAt, CourseView, StageView, TailView}
+use Rattle.sig_scan.proofs.Common.{◌≡◌, ◌∙◌, ℕ, ◌+◌, ◌-◌, ◌≤◌, ◌<◌, inl, inr, All, List, [], ◌∷◌, ◌++◌, ap, arith, drop, get_or, length, length-append, map, max, min, Option, Some, subst, sym, take, slice_get, option_map, ◌↔◌, slice_index, slice_range, cases_lt, get_or-drop, get_or-take, length-drop, length-map, length-take-le, take_all, get_or_from_slice_get, slice_get-get_or, slice_get-map, slice_get_within, SequenceView, Entry, Course, State, course_in, AreLiteralsOf, AreMissed, IsLiteralOf, LiteralView, StandsAt, ArePast, Lies, InTurnAt, IsShort, WaitsAt, CourseView, StageView, TailView}
 use Rattle.sig_scan.proofs.AttemptLemmas.{Lies-take}
 use Rattle.sig_scan.proofs.LengthLemmas.{Lies-span}
 use Rattle.sig_scan.proofs.LiesLemmas.{Lies-seen_both}
 use Rattle.sig_scan.proofs.StateLemmas.{Lies-at_hand, Waits-skipped, stages-next}
 use Rattle.sig_scan.proofs.TurnLemmas.{InTurn-past}
-use Rattle.sig_scan.proofs.WaitLemmas.{Waits-judged}
 
 -- a place of a mapped list
 pub within_map : (cs : List Course) (k : ℕ) (c : CourseView) (stages : List StageView) → slice_get (map (course_in stages) cs) k ≡ Some c → k < length cs
@@ -58,10 +57,10 @@ Lies-missed u l bytes x end is missed before lies =
 
 -- before the offset that was found for a sequence, no word of its stage begins
 pub ArePast-missed : (entries : List Entry) (courses : List CourseView) (bytes : List ℕ) (states : List State) (old found : List ℕ)
-    → AreLiteralsOf courses entries → AreMissed entries bytes states old found → ArePast 0 courses states bytes old → ArePast 0 courses states bytes found
-ArePast-missed entries courses bytes states old found literals missed past k x c t least course state low high =
+    → AreLiteralsOf courses entries → AreMissed entries bytes states old found → ArePast courses states bytes old → ArePast courses states bytes found
+ArePast-missed entries courses bytes states old found literals missed past k x c t course state low high =
     elim (cases_lt x (slice_index old k)) [
-      | inl before ↦ past k x c t least course state low before
+      | inl before ↦ past k x c t course state low before
       | inr behind ↦ (
           let miss = missed k x t state low behind high in
           let e : Entry = miss.1 in
@@ -132,27 +131,3 @@ InTurn-raised stages tail before bytes byte done from found to to_is past =
           let seen = ((Lies-seen_both u.items bytes (byte ∷ []) x (end - length before)).0 there).0 in
           here.2 (end - length before) (omega arith) (subst (λ (v : StageView). Lies v.items (bytes ++ byte ∷ []) x (end - length before)) (sym same) seen))))
     ]
-
--- the end of a file
-pub IsEndOf-found : (table : TableView) (file : List ℕ) (courses : List CourseView) (keep base : ℕ) (buffer : BufferView) (states : List State)
-    (may_hit : List Bool) (byte : ℕ) (old found : List ℕ) → ArePast 0 courses states (buffer.bytes ++ byte ∷ []) found
-    → IsScanOf table file (record
-    { table = table; courses = courses; keep = keep; base = base; buffer = buffer; states = states; may_hit = may_hit; found = old })
-    → IsEndOf table file (record
-    { table = table; courses = courses; keep = keep; base = base; buffer = buffer; states = states; may_hit = may_hit; found = found })
-IsEndOf-found table file courses keep base buffer states may_hit byte old found past of = record {
-  before = of.before;
-  bytes = of.bytes;
-  base = of.base;
-  last = of.last;
-  is_table = refl;
-  left = λ g h may signature i s c t low high sequence course state.
-      let before = of.before in
-      let bytes = buffer.bytes in
-      let judged = Waits-judged s (before ++ bytes) (length before + t.from) (drop t.done c.stages) c.tail
-      (of.wait g h may signature i s c t low high sequence course state) in
-      let turn = InTurn-raised c.stages c.tail before bytes byte t.done t.from (slice_index found i) (max t.from (slice_index found i)) refl
-      (λ x least most. past i x c t (omega arith) course state least most) in
-      (λ stands. turn.0 (judged.0 stands), λ all. judged.1 (turn.1 all));
-  excluded = of.excluded;
-}

@@ -1,5 +1,5 @@
 -- Where words end that begin at given offsets.
-use Rattle.sig_scan.proofs.Common.{◌≡◌, ℕ, ◌+◌, ◌-◌, ◌≤◌, List, [], ◌++◌, length, take, drop, refl, subst, ap, ◌∙◌, sym, arith, take-add, length-append, slice_range, drop-drop, length-take-le, length-drop, take_at, drop_at, HasBit, HasBits, Reaches}
+use Rattle.sig_scan.proofs.Common.{◌≡◌, ℕ, ◌+◌, ◌-◌, ◌≤◌, List, [], ◌++◌, length, take, drop, refl, subst, ap, ◌∙◌, sym, arith, take-add, length-append, slice_range, drop-drop, length-take-le, length-drop, take_at, drop_at, HasBit, HasBits, Reaches, set}
 
 -- the same words from starts in other words
 pub Reaches-starts : (W : List ℕ → Type 0) (file : List ℕ) (S T : ℕ → Type 0) (e : ℕ) → ((a : ℕ) → a ≤ length file → S a → T a) → Reaches W file S e →

@@ -1,6 +1,6 @@
 -- A file that is read: what a scan has of it, and which hits its marks give.
 use borrow.Rule.Slice.PartMut.{post_of, put_mid}
-use Rattle.sig_scan.proofs.Common.{◌≡◌, ◌∙◌, ℕ, ◌+◌, ◌≤◌, ◌<◌, inl, inr, ap, append_assoc, arith, Bool, false, true, length, List, ◌++◌, None, Option, refl, Some, subst, sym, take, take-append-add, false≢true, append-nil, get_or_past, length-take-le, take-append-le, take_all, All-append, slice_get_cases, slice_get_within, slice_get, IfSome, IsSomeAnd, IsBytes, Gives, IsAtEnd, MarksHits, HitFormats, HitFormatsOfSome, Hit, AreMarked, HasRead, IsScanOf, ScanView, Hits, SignatureView, TableView}
+use Rattle.sig_scan.proofs.Common.{◌≡◌, ◌∙◌, ℕ, ◌+◌, ◌≤◌, ◌<◌, inl, inr, ap, append_assoc, arith, Bool, false, true, length, List, ◌++◌, None, Option, refl, Some, subst, sym, take, take-append-add, false≢true, append-nil, get_or_past, length-take-le, take-append-le, take_all, All-append, slice_get_cases, slice_get, IfSome, IsSomeAnd, IsBytes, Gives, IsAtEnd, MarksHits, HitFormats, HitFormatsOfSome, Hit, AreMarked, HasRead, IsScanOf, ScanView, Hits, SignatureView, TableView}
 
 some_that : (o : Option SignatureView) (P : SignatureView → Type 0) → IsSomeAnd o P → (s : SignatureView) × (o ≡ Some s) × P s
 some_that None P h = absurd h
@@ -8,20 +8,19 @@ some_that (Some s) P h = (s, refl, h)
 
 -- the marks of a scan say which signatures hit
 pub MarksHits-from_marked : (table : TableView) (file : List ℕ) (marks : List Bool) → length marks ≡ length table.signatures
-    → AreMarked table file (length marks) marks → MarksHits table file marks
+    → AreMarked table file marks → MarksHits table file marks
 MarksHits-from_marked table file marks len marked = record {
   sound = λ index mark.
       elim (slice_get_cases table.signatures index).1 [
         | inl here ↦ (
-            let known = (marked index here.0 (omega (arith, here.1)) here.2).0 mark in
+            let known = (marked index here.0 here.2).0 mark in
             let P : Option SignatureView → Type 0 = λ o. IsSomeAnd o (λ s. Hits s file) in
             subst P (sym here.2) known)
         | inr past ↦ absurd (false≢true (sym (get_or_past marks index false (omega (arith, past.0))) ∙ mark))
       ];
   complete = λ index hit.
       let at = some_that (slice_get table.signatures index) (λ s. Hits s file) hit in
-      let within = slice_get_within table.signatures index at.0 at.1 in
-      (marked index at.0 (omega arith) at.1).1 at.2;
+      (marked index at.0 at.1).1 at.2;
 }
 
 -- what is read so far is what the input has given

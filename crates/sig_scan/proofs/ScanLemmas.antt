@@ -1,5 +1,5 @@
 -- The states of all sequences: one after the other is settled.
-use Rattle.sig_scan.proofs.Common.{◌≡◌, ◌∙◌, ℕ, ◌+◌, ◌-◌, ◌≤◌, ◌<◌, ◌⊎◌, ◌^◌, inl, inr, All, Bool, List, ◌++◌, ap, append_assoc, arith, drop, get_or, get_or-set_other, get_or-set_same, length, length-append, min, None, Option, refl, Some, subst, sym, take, true, length-set, set, cases_eq, cases_lt, length-drop, length-take-le, take-append-drop, All-append, All-get_or, get_or_from_slice_get, slice_get-get_or, slice_get_past, slice_get_within, slice_get, IfSome, IsBytes, AreCoursesOf, IsBoundedCourse, IsHeld, AreBounded, span, AllWait, AreExcluded, AreDone, IsBase, IsScanOf, IsShortCourse, ScanView, TailIsShort, WaitsAt, CourseView, StageView, TailView, Waits, State, slice_get-within, Hits, SequenceView, TableView}
+use Rattle.sig_scan.proofs.Common.{◌≡◌, ◌∙◌, ℕ, ◌+◌, ◌-◌, ◌≤◌, ◌<◌, ◌⊎◌, ◌^◌, inl, inr, All, Bool, List, ◌++◌, ap, append_assoc, arith, drop, get_or, get_or-set_other, get_or-set_same, length, length-append, min, None, Option, Some, subst, sym, take, true, length-set, set, cases_eq, cases_lt, length-drop, length-take-le, take-append-drop, All-append, All-get_or, get_or_from_slice_get, slice_get-get_or, slice_get_past, slice_get_within, slice_get, IfSome, IsBytes, IsBoundedCourse, IsHeld, AreBounded, span, AllWait, AreExcluded, AreDone, IsShortCourse, TailIsShort, WaitsAt, CourseView, StageView, TailView, Waits, State, slice_get-within, Hits, SequenceView, TableView, false, false≢true, SignatureView, ProgramView, owner, Knows, not, refl}
 use Rattle.sig_scan.proofs.WaitLemmas.{Waits-fed}
 
 -- an element after a write
@@ -26,36 +26,6 @@ slice_get-set_other {X} xs k i v other =
       | inr past ↦ slice_get_past (set xs k v) i (omega arith) ∙ sym (slice_get_past xs i past)
     ]
 
--- each of these sequences before this one waits from the limit on, with the bytes before it behind them, and the others as they did
-abbrev pub AreMoved : ℕ → ℕ → List SequenceView → List CourseView → List ℕ → List ℕ → List State → ℕ → ℕ → Type 0
-AreMoved k limit sequences courses before bytes states first end = (i : ℕ) (s : SequenceView) (c : CourseView) (t : State) → first ≤ i → i < end
-    → slice_get sequences i ≡ Some s → slice_get courses i ≡ Some c → slice_get states i ≡ Some t
-    → (i < k → WaitsAt s (before ++ take limit bytes) (drop limit bytes) t.from (drop t.done c.stages) c.tail)
-    × (k ≤ i → WaitsAt s before bytes t.from (drop t.done c.stages) c.tail)
-
--- one more
-pub AreMoved-set : (k limit : ℕ) (sequences : List SequenceView) (courses : List CourseView) (before bytes : List ℕ) (states : List State) (first end : ℕ)
-    (old v : State) → k < length states → first ≤ k → k < end → old ≡ get_or states k old
-    → ((s : SequenceView) (c : CourseView) → slice_get courses k ≡ Some c → WaitsAt s before bytes old.from (drop old.done c.stages) c.tail
-    → WaitsAt s (before ++ take limit bytes) (drop limit bytes) v.from (drop v.done c.stages) c.tail)
-    → AreMoved k limit sequences courses before bytes states first end → AreMoved (k + 1) limit sequences courses before bytes (set states k v) first end
-AreMoved-set k limit sequences courses before bytes states first end old v within least most is step all i s c t low high sequence course state =
-    elim (slice_get-set_cases states k i v t within state) [
-      | inl here ↦ (
-          let at : slice_get states k ≡ Some old = slice_get-get_or states k old within ∙ ap (λ (x : State). Some x) (sym is) in
-          let same = here.0 in
-          let course_k : slice_get courses k ≡ Some c = subst (λ n. slice_get courses n ≡ Some c) same course in
-          let sequence_k : slice_get sequences k ≡ Some s = subst (λ n. slice_get sequences n ≡ Some s) same sequence in
-          let waits = (all k s c old least most sequence_k course_k at).1 (omega arith) in
-          let moved = step s c course_k waits in
-          let P : State → Type 0 = λ x. WaitsAt s (before ++ take limit bytes) (drop limit bytes) x.from (drop x.done c.stages) c.tail in
-          (λ _. subst P (sym here.1) moved, λ far. absurd (omega arith)))
-      | inr there ↦ (
-          let was = all i s c t low high sequence course there.1 in
-          let other = there.0 in
-          (λ near. was.0 (omega arith), λ far. was.1 (omega arith)))
-    ]
-
 -- and its stages behind it are some of its own
 pub AreDone-set : (courses : List CourseView) (states : List State) (k : ℕ) (v : State) → k < length states
     → ((c : CourseView) → slice_get courses k ≡ Some c → v.done ≤ length c.stages) → AreDone courses states → AreDone courses (set states k v)
@@ -67,22 +37,29 @@ AreDone-set courses states k v within here done i c t course state =
       | inr other ↦ done i c t course other.1
     ]
 
+-- the same bytes, cut at the limit
+cut-at : (before bytes : List ℕ) (limit : ℕ) → before ++ bytes ≡ (before ++ take limit bytes) ++ drop limit bytes
+cut-at before bytes limit =
+    sym (append_assoc before (take limit bytes) (drop limit bytes) ∙ ap (λ (l : List ℕ). before ++ l) (take-append-drop limit bytes))
+
 -- the same residual, counted from the limit on
 pub Waits-moved : (s : SequenceView) (before bytes : List ℕ) (from limit : ℕ) (stages : List StageView) (tail : Option TailView) → limit ≤ from
     → limit ≤ length bytes → WaitsAt s before bytes from stages tail → WaitsAt s (before ++ take limit bytes) (drop limit bytes) (from - limit) stages tail
 Waits-moved s before bytes from limit stages tail order within waits =
-    let file : before ++ bytes ≡ (before ++ take limit bytes) ++ drop limit bytes =
-    sym (append_assoc before (take limit bytes) (drop limit bytes) ∙ ap (λ (l : List ℕ). before ++ l) (take-append-drop limit bytes)) in
     let len = length-append before (take limit bytes) in
     let taken = length-take-le limit bytes within in
     let offset : length before + from ≡ length (before ++ take limit bytes) + (from - limit) = omega arith in
-    subst (λ (f : List ℕ). Waits s f (length (before ++ take limit bytes) + (from - limit)) stages tail) file
+    subst (λ (f : List ℕ). Waits s f (length (before ++ take limit bytes) + (from - limit)) stages tail) (cut-at before bytes limit)
     (subst (λ (n : ℕ). Waits s (before ++ bytes) n stages tail) offset waits)
 
--- what holds of each course holds of this one
-pub All-course : (P : CourseView → Type 0) (courses : List CourseView) (k : ℕ) (c : CourseView) → slice_get courses k ≡ Some c → All P courses → P c
-All-course P courses k c at all =
-    subst P (get_or_from_slice_get courses k c c at) (All-get_or P courses k c (slice_get_within courses k c at) all)
+-- what holds of each holds of this one
+pub All-at : {X : Type 0} (P : X → Type 0) (xs : List X) (k : ℕ) (x : X) → slice_get xs k ≡ Some x → All P xs → P x
+All-at {X} P xs k x at all = subst P (get_or_from_slice_get xs k x x at) (All-get_or P xs k x (slice_get_within xs k x at) all)
+
+-- what is not to be so is so
+pub true_from_not : (p : Bool) → not p ≡ false → p ≡ true
+true_from_not true e = refl
+true_from_not false e = sym e
 
 tail-short_of : (reach : ℕ) (o : Option TailView) → IfSome o (λ (t : TailView). AreBounded t.items) → IfSome o (λ (t : TailView). span t.items + t.max ≤ reach)
     → TailIsShort reach o
@@ -99,96 +76,119 @@ courses-short reach courses bounded held k d within =
       tail = tail-short_of reach (get_or courses k d).tail b.tail h.tail;
     }
 
--- the courses of fewer signatures
-pub AreCoursesOf-fewer : (table : TableView) (old new : List Bool) (courses : List CourseView)
-    → ((g : ℕ) → slice_get new g ≡ Some true → slice_get old g ≡ Some true) → AreCoursesOf table old courses → AreCoursesOf table new courses
-AreCoursesOf-fewer table old new courses still are = record {
-  count = are.count;
-  bounded = are.bounded;
-  each = λ g h below may at. are.each g h below (still g may) at;
-}
+-- each sequence before this one waits from the limit on, with the bytes before it behind them, and the others as they did
+abbrev pub AllMoved : ℕ → ℕ → List SequenceView → ProgramView → List Bool → List ℕ → List ℕ → List State → Type 0
+AllMoved k limit sequences program may_hit before bytes states = (i g : ℕ) (s : SequenceView) (c : CourseView) (t : State) → slice_get program.owners i ≡ Some g
+    → slice_get may_hit g ≡ Some true → slice_get sequences i ≡ Some s → slice_get program.courses i ≡ Some c → slice_get states i ≡ Some t
+    → (i < k → WaitsAt s (before ++ take limit bytes) (drop limit bytes) t.from (drop t.done c.stages) c.tail)
+    × (k ≤ i → WaitsAt s before bytes t.from (drop t.done c.stages) c.tail)
+
+-- two values of one place
+pub one_value : {X : Type 0} (o : Option X) (x y : X) → o ≡ Some x → o ≡ Some y → x ≡ y
+one_value o x y one two = let both : Some x ≡ Some y = sym one ∙ two in cc
+
+-- a signature that the file may hit at last could be hit before
+pub still-set : (may_hit : List Bool) (k g : ℕ) (b : Bool) → k < length may_hit → slice_get may_hit k ≡ Some true → slice_get (set may_hit k b) g ≡ Some true
+    → slice_get may_hit g ≡ Some true
+still-set may_hit k g b within may at =
+    elim (slice_get-set_cases may_hit k g b true within at) [
+      | inl here ↦ ap (slice_get may_hit) here.0 ∙ may
+      | inr there ↦ there.1
+    ]
+
+-- one more
+pub AllMoved-set : (k limit own : ℕ) (sequences : List SequenceView) (program : ProgramView) (may_hit : List Bool) (before bytes : List ℕ) (states : List State)
+    (old v : State) (b : Bool) → k < length states → own < length may_hit → slice_get program.owners k ≡ Some own → slice_get may_hit own ≡ Some true
+    → slice_get states k ≡ Some old
+    → (b ≡ true → (s : SequenceView) (c : CourseView) → slice_get program.courses k ≡ Some c → WaitsAt s before bytes old.from (drop old.done c.stages) c.tail
+    → WaitsAt s (before ++ take limit bytes) (drop limit bytes) v.from (drop v.done c.stages) c.tail)
+    → AllMoved k limit sequences program may_hit before bytes states
+    → AllMoved (k + 1) limit sequences program (set may_hit own b) before bytes (set states k v)
+AllMoved-set k limit own sequences program may_hit before bytes states old v b within inside is_own may at step all i g s c t owner may_g sequence course state =
+    let could = still-set may_hit own g b inside may may_g in
+    elim (slice_get-set_cases states k i v t within state) [
+      | inl here ↦ (
+          let owner_k = subst (λ n. slice_get program.owners n ≡ Some g) here.0 owner in
+          let same : own ≡ g = one_value (slice_get program.owners k) own g is_own owner_k in
+          let yes : b ≡ true = elim (slice_get-set_cases may_hit own g b true inside may_g) [ inl now ↦ sym now.1 | inr other ↦ absurd (other.0 (sym same)) ] in
+          let course_k = subst (λ n. slice_get program.courses n ≡ Some c) here.0 course in
+          let sequence_k = subst (λ n. slice_get sequences n ≡ Some s) here.0 sequence in
+          let moved = step yes s c course_k ((all k g s c old owner_k could sequence_k course_k at).1 (omega arith)) in
+          let P : State → Type 0 = λ x. WaitsAt s (before ++ take limit bytes) (drop limit bytes) x.from (drop x.done c.stages) c.tail in
+          let is = here.0 in
+          (λ _. subst P (sym here.1) moved, λ far. absurd (omega arith)))
+      | inr there ↦ (
+          let was = all i g s c t owner could sequence course there.1 in
+          let other = there.0 in
+          (λ near. was.0 (omega arith), λ far. was.1 (omega arith)))
+    ]
+
+-- an excluded one more
+pub AllMoved-skip : (k limit own : ℕ) (sequences : List SequenceView) (program : ProgramView) (may_hit : List Bool) (before bytes : List ℕ) (states : List State)
+    → slice_get program.owners k ≡ Some own → slice_get may_hit own ≡ Some false → AllMoved k limit sequences program may_hit before bytes states
+    → AllMoved (k + 1) limit sequences program may_hit before bytes states
+AllMoved-skip k limit own sequences program may_hit before bytes states is_own never all i g s c t owner may sequence course state =
+    elim (cases_eq i k) [
+      | inl here ↦ (
+          let same : own ≡ g = one_value (slice_get program.owners k) own g is_own (subst (λ n. slice_get program.owners n ≡ Some g) here owner) in
+          absurd (false≢true (one_value (slice_get may_hit g) false true (subst (λ n. slice_get may_hit n ≡ Some false) same never) may)))
+      | inr other ↦ (
+          let was = all i g s c t owner may sequence course state in
+          (λ near. was.0 (omega arith), λ far. was.1 (omega arith)))
+    ]
+
+-- a signature that hits no file that so begins is excluded
+pub AreExcluded-set : (table : TableView) (may_hit : List Bool) (file : List ℕ) (own : ℕ) (b : Bool) → own < length may_hit
+    → (b ≡ false → (h : SignatureView) → slice_get table.signatures own ≡ Some h → (more : List ℕ) → IsBytes more → ¬ Hits h (file ++ more))
+    → AreExcluded table may_hit file → AreExcluded table (set may_hit own b) file
+AreExcluded-set table may_hit file own b within never excluded g h out signature =
+    elim (slice_get-set_cases may_hit own g b false within out) [
+      | inl here ↦ never (sym here.1) h (subst (λ n. slice_get table.signatures n ≡ Some h) here.0 signature)
+      | inr there ↦ excluded g h there.1 signature
+    ]
 
 -- a scan, settled up to the limit
-pub IsScanOf-settled : (table : TableView) (file : List ℕ) (courses : List CourseView) (keep base later room limit : ℕ) (bytes : List ℕ)
-    (states next : List State) (may_hit exclude : List Bool) (old found : List ℕ) → All IsBoundedCourse courses
-    → All (IsHeld keep) courses → limit + keep ≡ length bytes → later ≡ min (base + limit) (2 ^ 64 - 1)
-    → ((before : List ℕ) → IsBase before base → All (IsShortCourse keep) courses → AllWait table may_hit courses before bytes states
-    → AllWait table exclude courses (before ++ take limit bytes) (drop limit bytes) next)
-    → ((before : List ℕ) → IsBase before base → All (IsShortCourse keep) courses → AllWait table may_hit courses before bytes states
-    → AreExcluded table may_hit (before ++ bytes) → AreExcluded table exclude (before ++ bytes))
-    → IsScanOf table file (record {
-      table = table;
-      courses = courses;
-      keep = keep;
-      base = base;
-      buffer = record { room = room; bytes = bytes };
-      states = states;
-      may_hit = may_hit;
-      found = old;
-    })
-    → IsScanOf table file (record {
-      table = table;
-      courses = courses;
-      keep = keep;
-      base = later;
-      buffer = record { room = room; bytes = drop limit bytes };
-      states = next;
-      may_hit = exclude;
-      found = found;
-    })
-IsScanOf-settled table file courses keep base later room limit bytes states next may_hit exclude old found is held size later_is step close of =
-    let before = of.before in
-    let within : limit ≤ length bytes = omega arith in
-    let cut : before ++ bytes ≡ (before ++ take limit bytes) ++ drop limit bytes =
-    sym (append_assoc before (take limit bytes) (drop limit bytes) ∙ ap (λ (l : List ℕ). before ++ l) (take-append-drop limit bytes)) in
-    let taken = length-take-le limit bytes within in
-    let all = length-append before (take limit bytes) in
+pub Knows-settled : (table : TableView) (file : List ℕ) (program : ProgramView) (keep base limit : ℕ) (bytes : List ℕ) (states next : List State)
+    (old new : List Bool) (known : Knows table file program keep base bytes states old) → limit + keep ≡ length bytes → length new ≡ length old
+    → AllWait known.sequences program new (known.before ++ take limit bytes) (drop limit bytes) next → AreExcluded table new file
+    → Knows table file program keep (min (base + limit) (2 ^ 64 - 1)) (drop limit bytes) next new
+Knows-settled table file program keep base limit bytes states next old new known sum len wait excluded =
+    let taken = length-take-le limit bytes (omega arith) in
+    let all = length-append known.before (take limit bytes) in
     let left = length-drop limit bytes in
-    let counted = of.base in
-    let short = courses-short keep courses is held in
-    let closed = close before of.base short of.wait (subst (AreExcluded table may_hit) of.bytes of.excluded) in
+    let counted = known.counted in
     record {
-      before = before ++ take limit bytes;
-      bytes = of.bytes ∙ cut;
-      base = omega arith;
+      sequences = known.sequences;
+      are = known.are;
+      size = len ∙ known.size;
+      before = known.before ++ take limit bytes;
+      cut = known.cut ∙ cut-at known.before bytes limit;
+      counted = omega arith;
       last = inr (omega arith);
-      is_table = refl;
-      wait = step before of.base short of.wait;
-      excluded = subst (AreExcluded table exclude) (sym of.bytes) closed;
+      wait = wait;
+      excluded = excluded;
     }
 
--- an excluded signature stays excluded
-AreExcluded-fed : (table : TableView) (may_hit : List Bool) (file piece : List ℕ) → IsBytes piece → AreExcluded table may_hit file → AreExcluded table may_hit (file ++ piece)
-AreExcluded-fed table may_hit file piece are closed g h exclude signature more later hits =
-    closed g h exclude signature (piece ++ more) (All-append (λ b. b < 256) piece more are later)
-    (subst (Hits h) (append_assoc file piece more) hits)
-
 -- a scan with some bytes more
-pub IsScanOf-added : (table : TableView) (file piece : List ℕ) (scan : ScanView) → IsBytes piece → IsScanOf table file scan
-    → IsScanOf table (file ++ piece) (record {
-      table = scan.table;
-      courses = scan.courses;
-      keep = scan.keep;
-      base = scan.base;
-      buffer = record { room = scan.buffer.room; bytes = scan.buffer.bytes ++ piece };
-      states = scan.states;
-      may_hit = scan.may_hit;
-      found = scan.found;
-    })
-IsScanOf-added table file piece scan are of =
-    let before = of.before in
-    let bytes = scan.buffer.bytes in
+pub Knows-added : (table : TableView) (file piece : List ℕ) (program : ProgramView) (keep base : ℕ) (bytes : List ℕ) (states : List State)
+    (may_hit : List Bool) → IsBytes piece → Knows table file program keep base bytes states may_hit
+    → Knows table (file ++ piece) program keep base (bytes ++ piece) states may_hit
+Knows-added table file piece program keep base bytes states may_hit are known =
+    let before = known.before in
     let joined : (before ++ bytes) ++ piece ≡ before ++ (bytes ++ piece) = append_assoc before bytes piece in
     let len = length-append bytes piece in
     record {
+      sequences = known.sequences;
+      are = known.are;
+      size = known.size;
       before = before;
-      bytes = ap (λ (l : List ℕ). l ++ piece) of.bytes ∙ joined;
-      base = of.base;
-      last = elim of.last [ inl none ↦ inl none | inr enough ↦ inr (omega arith) ];
-      is_table = of.is_table;
-      wait = λ g h may signature i s c t low high sequence course state.
-          let waits = of.wait g h may signature i s c t low high sequence course state in
+      cut = ap (λ (l : List ℕ). l ++ piece) known.cut ∙ joined;
+      counted = known.counted;
+      last = elim known.last [ inl none ↦ inl none | inr enough ↦ inr (omega arith) ];
+      wait = λ i g s c t owner may sequence course state.
           subst (λ (f : List ℕ). Waits s f (length before + t.from) (drop t.done c.stages) c.tail) joined
-          (Waits-fed s (before ++ bytes) piece (length before + t.from) (drop t.done c.stages) c.tail are waits);
-      excluded = AreExcluded-fed table scan.may_hit file piece are of.excluded;
+          (Waits-fed s (before ++ bytes) piece (length before + t.from) (drop t.done c.stages) c.tail are
+          (known.wait i g s c t owner may sequence course state));
+      excluded = λ g h out signature more later hits.
+          known.excluded g h out signature (piece ++ more) (All-append (λ b. b < 256) piece more are later) (subst (Hits h) (append_assoc file piece more) hits);
     }

@@ -1,5 +1,5 @@
 -- Sets of offsets as bits, and how they grow.
-use Rattle.sig_scan.proofs.Common.{◌≡◌, ◌≢◌, ◌⊎◌, ◌↔◌, ℕ, ◌<◌, List, replicate, subst, sym, inl, inr, arith, cases_eq, HasBit, zeros_have_no_bit, GainsBits, HasBits, IsBetween}
+use Rattle.sig_scan.proofs.Common.{◌≡◌, ◌≢◌, ◌⊎◌, ◌↔◌, ℕ, ◌<◌, List, replicate, subst, sym, inl, inr, arith, cases_eq, HasBit, zeros_have_no_bit, GainsBits, HasBits, IsBetween, set}
 
 -- what an empty set gains is all that it has
 pub HasBits-from_gains : (P : ℕ → Type 0) (n : ℕ) (old new : List ℕ) → old ≡ replicate n 0 → GainsBits P old new → HasBits P new

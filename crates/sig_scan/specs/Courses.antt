@@ -1,8 +1,9 @@
 -- A compiled table: the courses of its sequences, and how the stages of all of them stand in one
 -- list.
-use Rattle.std.specs.Prelude.{◌≡◌, ℕ, ◌+◌, ◌<◌, ◌≤◌, Bool, false, true, List, [], ◌++◌, length, map, take, All, IfSome, None, Some, slice_range}
-use Rattle.std.specs.List.{flat_map, slice_get}
+use Rattle.std.specs.Prelude.{◌≡◌, ℕ, ◌+◌, ◌<◌, ◌≤◌, Bool, false, true, List, [], ◌++◌, length, map, All, IfSome, None, Some, slice_range}
+use Rattle.std.specs.List.{slice_get}
 use Rattle.std.specs.Option.{ForSome}
+use Rattle.sig_table.specs.Standing.{Hits, Stands}
 use Rattle.sig_table.specs.Views.{SequenceView, SignatureView, TableView}
 use Rattle.sig_scan.specs.declared.filter.Entry.{Entry}
 use Rattle.sig_scan.specs.declared.program.Course.{Course}
@@ -15,34 +16,57 @@ abbrev pub course_if : Bool → SequenceView → CourseView
 course_if true s = course_of s
 course_if false s = record { from = 0; stages = []; tail = None }
 
--- the sequences of a table, in the order of its signatures
-abbrev pub sequences_of : TableView → List SequenceView
-sequences_of table = flat_map (λ s. s.sequences) table.signatures
-
--- how many of them the signatures before this one have
-abbrev pub first_of : TableView → ℕ → ℕ
-first_of table index = length (flat_map (λ s. s.sequences) (take index table.signatures))
-
 -- no item of the course is an unbounded gap
 pub record IsBoundedCourse (course : CourseView) : Type 0 where
   pub stages : All (λ (t : StageView). AreBounded t.items) course.stages
   pub tail : IfSome course.tail (λ (t : TailView). AreBounded t.items)
 
--- the courses are those of the sequences of each signature before this one that is to be hit
-abbrev pub AreBefore : ℕ → TableView → List Bool → List CourseView → Type 0
-AreBefore index table may_hit courses = (g : ℕ) (h : SignatureView) → g < index → slice_get may_hit g ≡ Some true → slice_get table.signatures g ≡ Some h
-    → (i : ℕ) (s : SequenceView) (c : CourseView) → first_of table g ≤ i → i < first_of table g + length h.sequences
-    → slice_get (sequences_of table) i ≡ Some s → slice_get courses i ≡ Some c → c ≡ course_of s
+-- a compiled table: of each sequence the number of its signature, and its course
+pub record ProgramView : Type 0 where
+  pub owners : List ℕ
+  pub courses : List CourseView
 
--- of each signature of the table that is to be hit the courses of its sequences, and as many of the others
-pub record AreCoursesOf (table : TableView) (may_hit : List Bool) (courses : List CourseView) : Type 0 where
-  pub count : length courses ≡ length (sequences_of table)
-  pub bounded : All IsBoundedCourse courses
-  pub each : AreBefore (length table.signatures) table may_hit courses
+-- this sequence is one of the signature
+pub record HasSequence (owners : List ℕ) (sequences : List SequenceView) (g : ℕ) (s : SequenceView) : Type 0 where
+  pub place : ℕ
+  pub owner : slice_get owners place ≡ Some g
+  pub sequence : slice_get sequences place ≡ Some s
+
+-- each of these sequences stands in all files that its signature hits
+abbrev pub AreNeeded : TableView → List ℕ → List SequenceView → Type 0
+AreNeeded table owners sequences = (i g : ℕ) (s : SequenceView) (h : SignatureView) → slice_get owners i ≡ Some g → slice_get sequences i ≡ Some s
+    → slice_get table.signatures g ≡ Some h → (file : List ℕ) → Hits h file → Stands s file
+
+-- these are the sequences of the table's signatures, in any order
+pub record AreSequencesOf (table : TableView) (owners : List ℕ) (sequences : List SequenceView) : Type 0 where
+  pub count : length sequences ≡ length owners
+  pub within : All (λ g. g < length table.signatures) owners
+  pub needed : AreNeeded table owners sequences
+  pub whole : (g j : ℕ) (h : SignatureView) (s : SequenceView) → slice_get table.signatures g ≡ Some h → slice_get h.sequences j ≡ Some s
+      → HasSequence owners sequences g s
+
+-- the courses of the signatures that are to be hit are those of their sequences
+abbrev pub AreCoursesOf : List Bool → List ℕ → List SequenceView → List CourseView → Type 0
+AreCoursesOf may_hit owners sequences courses = (i g : ℕ) (s : SequenceView) (c : CourseView) → slice_get owners i ≡ Some g → slice_get may_hit g ≡ Some true
+    → slice_get sequences i ≡ Some s → slice_get courses i ≡ Some c → c ≡ course_of s
+
+-- a table, compiled for the signatures that are to be hit
+pub record IsProgramOf (table : TableView) (may_hit : List Bool) (program : ProgramView) : Type 0 where
+  pub sequences : List SequenceView
+  pub are : AreSequencesOf table program.owners sequences
+  pub courses : AreCoursesOf may_hit program.owners sequences program.courses
+
+-- for all of them
+pub record IsWholeProgramOf (table : TableView) (program : ProgramView) : Type 0 where
+  pub any : (may_hit : List Bool) → IsProgramOf table may_hit program
 
 -- the course, of which the list has the stages
 abbrev pub course_in : List StageView → Course → CourseView
 course_in stages c = record { from = c.from; stages = slice_range stages c.first c.end; tail = c.tail }
+
+-- the number of its signature
+abbrev pub owner : Course → ℕ
+owner c = c.signature
 
 -- the stages of a course are added to the list, and these are their places
 pub record AddsCourse (old new : List StageView) (c : Course) (course : CourseView) : Type 0 where
@@ -71,11 +95,12 @@ pub record IsHeld (bytes : ℕ) (course : CourseView) : Type 0 where
   pub stages : All (λ (t : StageView). span t.items ≤ bytes) course.stages
   pub tail : IfSome course.tail (λ (t : TailView). span t.items + t.max ≤ bytes)
 
--- a compiled table: its courses stand in the list, these bytes, 65,535 at most, hold any word, and the literals of the
--- prefilters are those of stages
+-- a compiled table: its courses stand in the list, these bytes, 65,535 at most, hold any word, none of which is without bound, and
+-- the literals of the prefilters are those of stages
 pub record IsCompiled (bytes : ℕ) (early late : List Entry) (stages : List StageView) (cs : List Course) : Type 0 where
   pub held : AreHeld bytes stages cs
   pub few : bytes ≤ 65535
   pub within : All (StandsIn stages) cs
+  pub bounded : All IsBoundedCourse (map (course_in stages) cs)
   pub early_literals : AreLiteralsOf (map (course_in stages) cs) early
   pub late_literals : AreLiteralsOf (map (course_in stages) cs) late

@@ -1,8 +1,8 @@
--- A byte that each file which a signature hits has at one place, and a compiled table that has some.
-use Rattle.std.specs.Prelude.{◌≡◌, ◌⊎◌, ℕ, ◌<◌, All, Bool, List, Some, length, slice_index}
+-- A byte that each file which a signature hits has at one place.
+use Rattle.std.specs.Prelude.{◌≡◌, ◌⊎◌, ℕ, ◌<◌, All, List, Some, length, slice_index}
 use Rattle.std.specs.List.{slice_get}
-use Rattle.sig_scan.specs.Courses.{AreCoursesOf}
-use Rattle.sig_scan.specs.Stages.{CourseView}
+use Rattle.sig_scan.specs.Courses.{IsWholeProgramOf}
+use Rattle.sig_scan.specs.declared.block_core.Prepared.{Prepared}
 use Rattle.sig_scan.specs.declared.head.Head.{Head}
 use Rattle.sig_table.specs.Standing.{Hits}
 use Rattle.sig_table.specs.Views.{SignatureView, TableView}
@@ -19,16 +19,7 @@ IsHeadOf table h = (g : SignatureView) → slice_get table.signatures h.signatur
 abbrev pub AreHeadsOf : TableView → List Head → Type 0
 AreHeadsOf table heads = All (IsHeadOf table) heads
 
--- a compiled table: the courses of its sequences, and heads
-pub record ProgramView : Type 0 where
-  pub courses : List CourseView
-  pub heads : List Head
-
--- it has the signatures of the table that are to be hit
-pub record IsProgramOf (table : TableView) (may_hit : List Bool) (program : ProgramView) : Type 0 where
-  pub courses : AreCoursesOf table may_hit program.courses
-  pub heads : AreHeadsOf table program.heads
-
--- it has all of them
-pub record IsWholeProgramOf (table : TableView) (program : ProgramView) : Type 0 where
-  pub any : (may_hit : List Bool) → IsProgramOf table may_hit program
+-- heads and a compiled table, for any file
+pub record IsPrepared (table : TableView) (p : Prepared) : Type 0 where
+  pub heads : AreHeadsOf table p.heads.items
+  pub program : IsWholeProgramOf table p.program

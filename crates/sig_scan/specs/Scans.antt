@@ -1,16 +1,15 @@
 -- A scan: what it knows of a file of which the last bytes are at hand.
-use Rattle.std.specs.Prelude.{◌≡◌, ◌↔◌, Bool, false, true, IsTrue, slice_index_or, ℕ, ◌+◌, ◌-◌, ◌<◌, ◌≤◌, ◌^◌, ◌⊎◌, ⊤, All, Some, drop, max, min, slice_index, List, [], ◌∷◌, ◌++◌, length, Option, IfSome, MatchOption}
+use Rattle.std.specs.Prelude.{◌≡◌, ◌↔◌, Bool, false, true, IsTrue, slice_index_or, ℕ, ◌+◌, ◌-◌, ◌<◌, ◌≤◌, ◌^◌, ◌⊎◌, ⊤, All, Some, drop, min, List, [], ◌∷◌, ◌++◌, length, Option, IfSome, MatchOption}
 use Rattle.std.specs.List.{slice_get}
 use Rattle.sig_bits.specs.Bytes.{IsBytes}
 use Rattle.sig_bits.specs.Device.{Gives}
 use Rattle.sig_expr.specs.declared.item.Item.{Item}
 use Rattle.sig_scan.specs.Frontiers.{EndsAt}
-use Rattle.sig_scan.specs.Courses.{AreCoursesOf, IsHeld, first_of, sequences_of}
-use Rattle.sig_scan.specs.Heads.{AreHeadsOf}
+use Rattle.sig_scan.specs.Courses.{AreSequencesOf, ProgramView}
 use Rattle.sig_scan.specs.Lengths.{AreBounded, span}
+use Rattle.sig_scan.specs.Passes.{ArePast}
 use Rattle.sig_scan.specs.Placed.{Lies}
 use Rattle.sig_scan.specs.Stages.{CourseStands, CourseView, InTurn, StageView, TailView, Waits}
-use Rattle.sig_scan.specs.declared.head.Head.{Head}
 use Rattle.sig_scan.specs.declared.state.State.{State}
 use Rattle.sig_scan.specs.declared.state.Step.{Step}
 use Rattle.sig_scan.specs.declared.state.Step.TheVariants.{Ended, Past}
@@ -58,23 +57,15 @@ InTurnAt before bytes from stages tail = InTurn (before ++ bytes) (length before
 abbrev pub HasLastBytes : ℕ → List ℕ → List ℕ → Type 0
 HasLastBytes reach before bytes = (before ≡ []) ⊎ (reach ≤ length bytes)
 
--- each of these sequences, from the one up to the other, which is left out, waits for what its state says of its course
-abbrev pub AreWaiting : List SequenceView → List CourseView → List ℕ → List ℕ → List State → ℕ → ℕ → Type 0
-AreWaiting sequences courses before bytes states first end = (i : ℕ) (s : SequenceView) (c : CourseView) (t : State) → first ≤ i → i < end
-    → slice_get sequences i ≡ Some s → slice_get courses i ≡ Some c → slice_get states i ≡ Some t → WaitsAt s before bytes t.from (drop t.done c.stages) c.tail
-
 -- whatever bytes follow, the sequence does not stand
 abbrev pub NeverStands : SequenceView → List ℕ → Type 0
 NeverStands sequence file = (more : List ℕ) → IsBytes more → ¬ Stands sequence (file ++ more)
 
--- one of these sequences never stands
-abbrev pub SomeNeverStands : List SequenceView → List ℕ → ℕ → ℕ → Type 0
-SomeNeverStands sequences file first end = (k : ℕ) × (first ≤ k) × (k < end) × ((s : SequenceView) → slice_get sequences k ≡ Some s → NeverStands s file)
-
--- the sequences of each signature that the file may hit wait for what their states say
-abbrev pub AllWait : TableView → List Bool → List CourseView → List ℕ → List ℕ → List State → Type 0
-AllWait table may_hit courses before bytes states = (g : ℕ) (h : SignatureView) → slice_get may_hit g ≡ Some true → slice_get table.signatures g ≡ Some h
-    → AreWaiting (sequences_of table) courses before bytes states (first_of table g) (first_of table g + length h.sequences)
+-- the sequences of the signatures that the file may hit wait for what their states say of their courses
+abbrev pub AllWait : List SequenceView → ProgramView → List Bool → List ℕ → List ℕ → List State → Type 0
+AllWait sequences program may_hit before bytes states = (i g : ℕ) (s : SequenceView) (c : CourseView) (t : State) → slice_get program.owners i ≡ Some g
+    → slice_get may_hit g ≡ Some true → slice_get sequences i ≡ Some s → slice_get program.courses i ≡ Some c → slice_get states i ≡ Some t
+    → WaitsAt s before bytes t.from (drop t.done c.stages) c.tail
 
 -- an excluded signature hits no file that begins with these bytes
 abbrev pub AreExcluded : TableView → List Bool → List ℕ → Type 0
@@ -102,12 +93,10 @@ pub record IsFilled (old new : BufferView) (before after : Option (List ℕ)) : 
   pub given : Gives before piece after
   pub added : new ≡ record { room = old.room; bytes = old.bytes ++ piece }
 
--- what a scan has: the table and the courses of its program, how many bytes hold any word, how many bytes stand before those at hand,
--- as far as they are counted, these bytes, the state of each sequence, whether each signature may still hit the file, and the offset that
--- was found for each sequence
+-- what a scan has: the program, how many bytes hold any word, how many bytes stand before those at hand, as far as they are counted, these
+-- bytes, the state of each sequence, whether each signature may still hit the file, and the offset that was found for each sequence
 pub record ScanView : Type 0 where
-  pub table : TableView
-  pub courses : List CourseView
+  pub program : ProgramView
   pub keep : ℕ
   pub base : ℕ
   pub buffer : BufferView
@@ -115,27 +104,31 @@ pub record ScanView : Type 0 where
   pub may_hit : List Bool
   pub found : List ℕ
 
--- what is true of every scan, with room in its frontier for so many bytes, and these heads in its program
-pub record IsScan (room : ℕ) (heads : List Head) (scan : ScanView) : Type 0 where
-  pub courses : AreCoursesOf scan.table scan.may_hit scan.courses
-  pub are_heads : AreHeadsOf scan.table heads
-  pub may_hit_len : length scan.may_hit ≡ length scan.table.signatures
-  pub found_len : length scan.found ≡ length scan.courses
+-- what is true of every scan, with room in its frontier for so many bytes
+pub record IsScan (room : ℕ) (scan : ScanView) : Type 0 where
+  pub owned : All (λ g. g < length scan.may_hit) scan.program.owners
+  pub held : All (IsShortCourse scan.keep) scan.program.courses
+  pub found_len : length scan.found ≡ length scan.program.courses
   pub sets : room ≡ scan.buffer.room
-  pub held : All (IsHeld scan.keep) scan.courses
-  pub count : length scan.states ≡ length scan.courses
-  pub done : AreDone scan.courses scan.states
+  pub count : length scan.states ≡ length scan.program.courses
+  pub done : AreDone scan.program.courses scan.states
 
--- behind this file: its last bytes are at hand, each sequence of a signature that may hit the file waits for what its state says, and an
--- excluded signature hits no file that so begins
-pub record IsScanOf (table : TableView) (file : List ℕ) (scan : ScanView) : Type 0 where
+-- what is known behind this file: its last bytes are at hand, each sequence of a signature that may hit the file waits for what its state
+-- says, and an excluded signature hits no file that so begins
+pub record Knows (table : TableView) (file : List ℕ) (program : ProgramView) (keep base : ℕ) (bytes : List ℕ) (states : List State)
+  (may_hit : List Bool) : Type 0 where
+  pub sequences : List SequenceView
+  pub are : AreSequencesOf table program.owners sequences
+  pub size : length may_hit ≡ length table.signatures
   pub before : List ℕ
-  pub bytes : file ≡ before ++ scan.buffer.bytes
-  pub base : IsBase before scan.base
-  pub last : HasLastBytes scan.keep before scan.buffer.bytes
-  pub is_table : scan.table ≡ table
-  pub wait : AllWait table scan.may_hit scan.courses before scan.buffer.bytes scan.states
-  pub excluded : AreExcluded table scan.may_hit file
+  pub cut : file ≡ before ++ bytes
+  pub counted : IsBase before base
+  pub last : HasLastBytes keep before bytes
+  pub wait : AllWait sequences program may_hit before bytes states
+  pub excluded : AreExcluded table may_hit file
+
+abbrev pub IsScanOf : TableView → List ℕ → ScanView → Type 0
+IsScanOf table file scan = Knows table file scan.program scan.keep scan.base scan.buffer.bytes scan.states scan.may_hit
 
 -- behind this file and what the input gave
 pub record HasRead (table : TableView) (file : List ℕ) (before after : Option (List ℕ)) (scan : ScanView) : Type 0 where
@@ -144,26 +137,9 @@ pub record HasRead (table : TableView) (file : List ℕ) (before after : Option 
   pub given : Gives before piece after
   pub is_of : IsScanOf table (file ++ piece) scan
 
--- at the end of a file, each of these sequences stands in it where its state, and what was found, leave of its course does
-abbrev pub AreLeft : List SequenceView → List CourseView → List ℕ → List ℕ → List State → List ℕ → ℕ → ℕ → Type 0
-AreLeft sequences courses before bytes states found first end = (i : ℕ) (s : SequenceView) (c : CourseView) (t : State) → first ≤ i → i < end
-    → slice_get sequences i ≡ Some s → slice_get courses i ≡ Some c → slice_get states i ≡ Some t
-    → Stands s (before ++ bytes) ↔ InTurnAt before bytes (max t.from (slice_index found i)) (drop t.done c.stages) c.tail
-
--- so do those of each signature that the file may hit
-abbrev pub AllLeft : TableView → List Bool → List CourseView → List ℕ → List ℕ → List State → List ℕ → Type 0
-AllLeft table may_hit courses before bytes states found = (g : ℕ) (h : SignatureView) → slice_get may_hit g ≡ Some true → slice_get table.signatures g ≡ Some h
-    → AreLeft (sequences_of table) courses before bytes states found (first_of table g) (first_of table g + length h.sequences)
-
--- at the end of this file: its last bytes are at hand
-pub record IsEndOf (table : TableView) (file : List ℕ) (scan : ScanView) : Type 0 where
-  pub before : List ℕ
-  pub bytes : file ≡ before ++ scan.buffer.bytes
-  pub base : IsBase before scan.base
-  pub last : HasLastBytes scan.keep before scan.buffer.bytes
-  pub is_table : scan.table ≡ table
-  pub left : AllLeft table scan.may_hit scan.courses before scan.buffer.bytes scan.states scan.found
-  pub excluded : AreExcluded table scan.may_hit file
+-- the offsets that were found are those of the bytes at hand, and one byte more
+abbrev pub EndsPast : ScanView → Type 0
+EndsPast scan = (byte : ℕ) × ArePast scan.program.courses scan.states (scan.buffer.bytes ++ byte ∷ []) scan.found
 
 -- in any file all of the course stands where what this state leaves of it does
 pub record IsFirst (course : CourseView) (t : State) : Type 0 where
@@ -174,11 +150,6 @@ pub record IsFirst (course : CourseView) (t : State) : Type 0 where
 abbrev pub AreFirst : List CourseView → List State → Type 0
 AreFirst courses states = (i : ℕ) (c : CourseView) (t : State) → slice_get courses i ≡ Some c → slice_get states i ≡ Some t → IsFirst c t
 
--- those of so many sequences of the table, from this one on, that there are all stand in the file
-abbrev pub AllStand : TableView → List ℕ → ℕ → ℕ → Type 0
-AllStand table file first end = (k : ℕ) (s : SequenceView) → first ≤ k → k < end → slice_get (sequences_of table) k ≡ Some s → Stands s file
-
 -- each mark says whether its signature hits the file
-abbrev pub AreMarked : TableView → List ℕ → ℕ → List Bool → Type 0
-AreMarked table file end marks = (index : ℕ) (g : SignatureView) → index < end → slice_get table.signatures index ≡ Some g
-    → IsTrue (slice_index_or marks index false) ↔ Hits g file
+abbrev pub AreMarked : TableView → List ℕ → List Bool → Type 0
+AreMarked table file marks = (g : ℕ) (h : SignatureView) → slice_get table.signatures g ≡ Some h → IsTrue (slice_index_or marks g false) ↔ Hits h file

@@ -5,17 +5,21 @@
 //! that fits in there is scanned where it stands: to clear a block of 256 KiB would take longer than to
 //! scan it. For a longer one the buffer grows, once, to a block and what is kept of the one before it.
 //!
+//! The first bytes exclude signatures (`head`). None of their sequences is looked for, nor even compiled
+//! where the table is compiled for one file.
+//!
 //! The memory is that of a program and of one scan, however long the file is.
 
 ghost use Rattle.std.specs.Prelude.{◌≡◌, ◌<◌, ◌≤◌, ℕ, Bool, List, Option, false, true, IfOk, IfSome, IsErrOf, OnOk, length};
 ghost use Rattle.sig_bits.specs.Bytes.{IsBytes};
 ghost use Rattle.sig_bits.specs.Device.{Gives, IsAtEnd};
 ghost use Rattle.sig_core.specs.Hits.{HitFormats, HitFormatsOfSome};
-ghost use Rattle.sig_scan.specs.Heads.{IsProgramOf, IsWholeProgramOf};
+ghost use Rattle.sig_scan.specs.Courses.{IsProgramOf, IsWholeProgramOf};
+ghost use Rattle.sig_scan.specs.Heads.{AreHeadsOf, IsPrepared};
 ghost use Rattle.sig_scan.specs.Scans.{AreExcluded, IsScanOf};
 
 use crate::buffer::Buffer;
-use crate::head::exclude_all;
+use crate::head::{Head, exclude, heads_of};
 use crate::program::Program;
 use crate::scan::Scan;
 use sig_bits::Input;
@@ -35,22 +39,28 @@ const FIRST_ROOM: usize = 1 << 15;
 pub struct BlockCore {
     table: Table,
     alloc: Global,
-    // The table, compiled for many files.
-    program: Option<Program>,
+    prepared: Option<Prepared>,
     // How many bytes are read before the sequences go on over them.
     block: u32,
 }
 
+// What of a table serves for many files: the heads of its signatures, and all of it compiled.
+#[derive(Debug, Drop)]
+struct Prepared {
+    heads: Vec<Head>,
+    program: Program,
+}
+
 impl Model for BlockCore {
     ghost use Rattle.std.specs.Prelude.{◌<◌, IfSome};
-    ghost use Rattle.sig_scan.specs.Heads.{IsWholeProgramOf};
+    ghost use Rattle.sig_scan.specs.Heads.{IsPrepared};
     ghost use Rattle.sig_table.specs.Views.{TableView};
 
     ghost Value = { TableView };
 
     ghost view = { λ c. c.table };
 
-    ghost invariant = { λ c. IfSome c.program (IsWholeProgramOf c.table) × (0 < c.block) };
+    ghost invariant = { λ c. IfSome c.prepared (IsPrepared c.table) × (0 < c.block) };
 }
 
 impl BlockCore {
@@ -69,7 +79,7 @@ impl BlockCore {
         BlockCore {
             table,
             alloc,
-            program: None,
+            prepared: None,
             block,
         }
     }
@@ -79,11 +89,11 @@ impl BlockCore {
     pub fn prepared(alloc: Global, table: Table) -> BlockCore
         ensures { result ≡ table }
     {
-        let program = compiled(alloc, &table).ok();
+        let prepared = prepared_for(alloc, &table).ok();
         BlockCore {
             table,
             alloc,
-            program,
+            prepared,
             block: BLOCK,
         }
     }
@@ -97,7 +107,7 @@ impl DroidCore for BlockCore {
     }
 
     fn match_binary_signatures<R: Input>(&self, input: &mut R) -> Result<Results, CoreError> {
-        scan_input(self.alloc, &self.table, &self.program, self.block, input)
+        scan_input(self.alloc, &self.table, &self.prepared, self.block, input)
     }
 
     fn remove_lower_priority_hits(&self, results: &mut Results) {
@@ -105,12 +115,22 @@ impl DroidCore for BlockCore {
     }
 
     fn remove_signature_for_puid(&mut self, puid: &Puid) -> bool {
-        self.program = None;
+        self.prepared = None;
         self.table.remove_signature_for_puid(puid)
     }
 }
 
-// A table compiled for any file.
+// A table, for any file.
+fn prepared_for(alloc: Global, table: &Table) -> Result<Prepared, AllocError>
+    ensures { IfOk result (IsPrepared table.now) }
+{
+    Ok(Prepared {
+        heads: heads_of(alloc, table)?,
+        program: compiled(alloc, table)?,
+    })
+}
+
+// All of a table, compiled.
 fn compiled(alloc: Global, table: &Table) -> Result<Program, AllocError>
     ensures { IfOk result (IsWholeProgramOf table.now) }
 {
@@ -118,16 +138,16 @@ fn compiled(alloc: Global, table: &Table) -> Result<Program, AllocError>
     Program::of(alloc, table, &all)
 }
 
-// The formats that the input hits, which is read to its end. Without a program the table is compiled for
+// The formats that the input hits, which is read to its end. A table that is not prepared is compiled for
 // this file, as far as its first bytes leave signatures that it may hit.
 fn scan_input<R: Input>(
     alloc: Global,
     table: &Table,
-    program: &Option<Program>,
+    prepared: &Option<Prepared>,
     block: u32,
     input: &mut R,
 ) -> Result<Results, CoreError>
-    requires program { IfSome program.now (IsWholeProgramOf table.now) }
+    requires prepared { IfSome prepared.now (IsPrepared table.now) }
     requires block { 0 < block }
     ensures hits { IfOk result (HitFormatsOfSome table.now (R.to_come input.old)) }
     ensures at_end { OnOk result (IsAtEnd (R.to_come input.new)) }
@@ -137,15 +157,34 @@ fn scan_input<R: Input>(
 {
     let mut buffer = Buffer::new(alloc, FIRST_ROOM.min(block as usize))?;
     buffer.fill(input)?;
-    let mut may_hit = vec![in alloc; true; table.signature_count()]?;
-    match program {
-        Some(program) => scan_on(alloc, table, program, may_hit, block, buffer, input),
+    match prepared {
+        Some(Prepared { heads, program }) => {
+            let may_hit = may_hit_of(alloc, table, heads, buffer.as_bytes())?;
+            scan_on(alloc, table, program, may_hit, block, buffer, input)
+        }
         None => {
-            exclude_all(table, buffer.as_bytes(), &mut may_hit);
+            let heads = heads_of(alloc, table)?;
+            let may_hit = may_hit_of(alloc, table, &heads, buffer.as_bytes())?;
             let program = Program::of(alloc, table, &may_hit)?;
             scan_on(alloc, table, &program, may_hit, block, buffer, input)
         }
     }
+}
+
+// Of each signature, whether a file that begins with these bytes may hit it, as far as the heads tell.
+fn may_hit_of(
+    alloc: Global,
+    table: &Table,
+    heads: &[Head],
+    bytes: &[u8],
+) -> Result<Vec<bool>, AllocError>
+    requires { AreHeadsOf table.now heads.now }
+    ensures len { IfOk result (λ may_hit. length may_hit.items ≡ length table.now.signatures) }
+    ensures excluded { IfOk result (λ may_hit. AreExcluded table.now may_hit.items bytes.now) }
+{
+    let mut may_hit = vec![in alloc; true; table.signature_count()]?;
+    exclude(heads, bytes, &mut may_hit);
+    Ok(may_hit)
 }
 
 // The formats that a file hits of which the buffer has the first bytes, and the input the others.
@@ -174,11 +213,11 @@ fn scan_on<R: Input>(
 {
     let keep = program.keep();
     if !buffer.is_full() {
-        let mut scan = Scan::new(alloc, table, program, may_hit, keep, buffer.trimmed())?;
+        let mut scan = Scan::new(alloc, program, may_hit, keep, buffer.trimmed())?;
         return Ok(results_of(alloc, table, &mut scan)?);
     }
     let buffer = buffer.grown(keep + block as usize)?;
-    let mut scan = Scan::new(alloc, table, program, may_hit, keep, buffer)?;
+    let mut scan = Scan::new(alloc, program, may_hit, keep, buffer)?;
     'reads: loop {
         if !scan.read_on(input)? {
             return Ok(results_of(alloc, table, &mut scan)?);
@@ -188,7 +227,7 @@ fn scan_on<R: Input>(
 
 // The formats that the file of a scan hits.
 fn results_of(alloc: Global, table: &Table, scan: &mut Scan) -> Result<Results, AllocError>
-    requires { scan.old.table ≡ table.now }
+    requires { length scan.old.may_hit ≡ length table.now.signatures }
     ensures { (file : List ℕ) → IsScanOf table.now file scan.old → IfOk result (λ hits. HitFormats table.now file hits) }
 {
     let mut marks = vec![in alloc; false; table.signature_count()]?;

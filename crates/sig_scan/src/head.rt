@@ -8,16 +8,15 @@
 //! It leaves out sequences that may begin at several offsets, and those that do not begin with one byte or
 //! one of two.
 
-ghost use Rattle.std.specs.Prelude.{◌≡◌, ◌≢◌, ◌<◌, IfSome, List, ℕ, Some, false, true, length, slice_index};
-ghost use Rattle.std.specs.List.{slice_get};
-ghost use Rattle.sig_bits.specs.Bytes.{IsBytes};
+ghost use Rattle.std.specs.Prelude.{◌≡◌, ◌≢◌, ◌<◌, IfOk, IfSome, List, ℕ, false, length, slice_index};
 ghost use Rattle.sig_scan.specs.Heads.{AreHeadsOf, HasHead};
-ghost use Rattle.sig_scan.specs.Scans.{AreExcluded, NeverStands};
+ghost use Rattle.sig_scan.specs.Scans.{AreExcluded};
 ghost use Rattle.sig_table.specs.Standing.{Stands};
 ghost use Rattle.sig_table.specs.Views.{TableView};
 
 use crate::literal::bytes_of;
 use sig_table::{Position, Sequence, SigId, Table};
+use std::alloc::{AllocError, Global};
 
 /// The byte that stands so many bytes behind the beginning of each file that the signature hits, or
 /// another one in its place.
@@ -63,39 +62,29 @@ impl Head {
     }
 }
 
+/// All heads of a table.
+pub(crate) fn heads_of(alloc: Global, table: &Table) -> Result<Vec<Head>, AllocError>
+    ensures { IfOk result (λ heads. AreHeadsOf table.now heads.items) }
+{
+    let mut heads = Vec::with_capacity(alloc, table.signature_count())?;
+    for index in 0..table.signature_count() {
+        for sequence in table.sequences_of(SigId(index as u16)) {
+            if let Some(head) = Head::of(sequence, index) {
+                heads.push(head)?;
+            }
+        }
+    }
+    Ok(heads)
+}
+
 /// Excludes each signature with one of these heads that a file does not have which begins with the bytes.
 pub(crate) fn exclude(heads: &[Head], bytes: &[u8], may_hit: &mut [bool])
-    ensures excluded { (table : TableView) → AreHeadsOf table heads.now → AreExcluded table may_hit.old bytes.now → AreExcluded table may_hit.new bytes.now }
-    ensures still { (g : ℕ) → slice_get may_hit.new g ≡ Some true → slice_get may_hit.old g ≡ Some true }
+    ensures { (table : TableView) → AreHeadsOf table heads.now → AreExcluded table may_hit.old bytes.now → AreExcluded table may_hit.new bytes.now }
 {
     for head in heads {
         let k = head.signature;
         if k < may_hit.len() && !head.may_stand(bytes) {
             may_hit[k] = false;
         }
-    }
-}
-
-/// The same with all heads of a table that is not compiled.
-pub(crate) fn exclude_all(table: &Table, bytes: &[u8], may_hit: &mut [bool])
-    requires { length may_hit.old ≡ length table.now.signatures }
-    ensures { AreExcluded table.now may_hit.old bytes.now → AreExcluded table.now may_hit.new bytes.now }
-{
-    for index in 0..table.signature_count() {
-        for sequence in table.sequences_of(SigId(index as u16)) {
-            if !may_begin(sequence, bytes) {
-                may_hit[index] = false;
-            }
-        }
-    }
-}
-
-// Whether the sequence may stand in a file that begins with these bytes, as far as its head tells.
-fn may_begin(sequence: &Sequence, bytes: &[u8]) -> bool
-    ensures { result ≡ false → NeverStands sequence.now bytes.now }
-{
-    match Head::of(sequence, 0) {
-        Some(head) => head.may_stand(bytes),
-        None => true,
     }
 }

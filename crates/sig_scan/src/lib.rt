@@ -42,7 +42,5 @@ mod program;
 mod scan;
 mod stage;
 mod state;
-#[cfg(test)]
-mod tests;
 
 pub use block_core::BlockCore;

@@ -3,27 +3,22 @@
 //! Of `41{0-1}42{3-*}43` anywhere there are two stages, `41{0-1}42` with a delay of three bytes and
 //! `43`; at the end of a file the second one is the tail. The items are copied, so that a program serves
 //! for as long as it is wanted. The stages of all sequences stand in one list, and a course says which
-//! of them are those of its sequence. Beside them stand what is looked for in all at once: the heads of
-//! signatures (`head`), and the literals of stages (`filter`). Those of stages that may begin at several
-//! offsets from the beginning of a file have a filter of their own, so that what is looked for anywhere
-//! is not slowed down by them.
+//! of them are those of its sequence. Beside them stand the literals of stages (`filter`), which are looked
+//! for all at once. Those of stages that may begin at several offsets from the beginning of a file have a
+//! filter of their own, so that what is looked for anywhere is not slowed down by them.
 
 ghost use Rattle.std.specs.Prelude.{◌≡◌, ◌≤◌, ◌<◌, ◌++◌, ◌∷◌, [], ℕ, All, List, IfOk, IfSome, OnOk, MatchOption, None, Some, length, map};
 ghost use Rattle.sig_expr.specs.declared.item.Item.TheVariants.{Gap};
-ghost use Rattle.sig_scan.specs.Courses.{AddsCourse, AreHeld, IsHeld, course_if, course_in};
+ghost use Rattle.sig_scan.specs.Courses.{AddsCourse, AreHeld, IsProgramOf, course_if, course_in};
 ghost use Rattle.sig_scan.specs.Filters.{AreLiteralsOf};
-ghost use Rattle.sig_scan.specs.Heads.{AreHeadsOf, IsProgramOf};
 ghost use Rattle.sig_scan.specs.Lengths.{IsBoundedItem};
 ghost use Rattle.sig_scan.specs.Passes.{ArePast};
-ghost use Rattle.sig_scan.specs.Scans.{AreFirst, IsFirst};
+ghost use Rattle.sig_scan.specs.Scans.{AreFirst, IsFirst, IsShortCourse};
 ghost use Rattle.sig_scan.specs.Stages.{CourseView, StageView, course_of, stages_of};
 ghost use Rattle.std.specs.List.{slice_get};
-ghost use Rattle.sig_table.specs.Standing.{Hits, Stands};
 ghost use Rattle.sig_table.specs.Tables.{IsSequence};
-ghost use Rattle.sig_table.specs.Views.{SignatureView, TableView};
 
 use crate::filter::Filter;
-use crate::head::Head;
 use crate::lengths::span_of;
 use crate::stage::{Stage, Tail};
 use crate::state::State;
@@ -50,7 +45,6 @@ pub(crate) struct Program {
     courses: Vec<Course>,
     // Of each sequence, what is known of it at the beginning of a file.
     states: Vec<State>,
-    heads: Vec<Head>,
     // The literals of stages that may begin at several offsets from the beginning of a file, and of those
     // that may begin anywhere.
     early: Filter,
@@ -60,13 +54,12 @@ pub(crate) struct Program {
 
 impl Model for Program {
     ghost use Rattle.std.specs.Prelude.{◌≡◌, length, map};
-    ghost use Rattle.sig_scan.specs.Courses.{IsCompiled, course_in};
-    ghost use Rattle.sig_scan.specs.Heads.{ProgramView};
+    ghost use Rattle.sig_scan.specs.Courses.{IsCompiled, ProgramView, course_in, owner};
     ghost use Rattle.sig_scan.specs.Scans.{AreFirst};
 
     ghost Value = { ProgramView };
 
-    ghost view = { λ p. record { courses = map (course_in p.stages.items) p.courses.items; heads = p.heads.items } };
+    ghost view = { λ p. record { owners = map owner p.courses.items; courses = map (course_in p.stages.items) p.courses.items } };
 
     ghost invariant = { λ p. IsCompiled p.keep p.early p.late p.stages.items p.courses.items
         × (length p.states.items ≡ length p.courses.items) × AreFirst (map (course_in p.stages.items) p.courses.items) p.states.items };
@@ -81,12 +74,10 @@ impl Program {
         let most = 2 * table.signature_count();
         let mut stages = Vec::with_capacity(alloc, most)?;
         let mut courses = Vec::with_capacity(alloc, most)?;
-        let mut heads = Vec::new(alloc);
         for index in 0..table.signature_count() {
             for sequence in table.sequences_of(SigId(index as u16)) {
                 let course = add_course(alloc, sequence, index, may_hit[index], &mut stages)?;
                 courses.push(course)?;
-                add_head(&mut heads, sequence, index)?;
             }
         }
         let states = first_states(alloc, &stages, &courses)?;
@@ -97,7 +88,6 @@ impl Program {
             stages,
             courses,
             states,
-            heads,
             early,
             late,
             keep,
@@ -107,7 +97,7 @@ impl Program {
     // How many bytes hold any word that is looked for: that of a stage, and that of a tail with what
     // may stand behind it.
     pub(crate) fn keep(&self) -> usize
-        ensures holds { All (IsHeld result) self.now.courses }
+        ensures holds { All (IsShortCourse result) self.now.courses }
         ensures few { result ≤ 65535 }
     {
         self.keep
@@ -115,7 +105,8 @@ impl Program {
 
     // How many sequences there are.
     pub(crate) fn sequence_count(&self) -> usize
-        ensures { result ≡ length self.now.courses }
+        ensures courses { result ≡ length self.now.courses }
+        ensures owners { result ≡ length self.now.owners }
     {
         self.courses.len()
     }
@@ -145,11 +136,12 @@ impl Program {
         &self.courses[sequence].tail
     }
 
-    // The heads of signatures.
-    pub(crate) fn heads(&self) -> &[Head]
-        ensures { result.now ≡ self.now.heads }
+    // The signature of a sequence.
+    pub(crate) fn signature_of(&self, sequence: usize) -> usize
+        requires { sequence < length self.now.courses }
+        ensures { slice_get self.now.owners sequence ≡ Some result }
     {
-        &self.heads
+        self.courses[sequence].signature
     }
 
     // Finds for each sequence of a signature that the file may hit an offset before which no word of the stage that it
@@ -162,7 +154,7 @@ impl Program {
         may_hit: &[bool],
         found: &mut [usize],
     )
-        ensures { ArePast 0 self.now.courses states.now bytes.now found.new }
+        ensures { ArePast self.now.courses states.now bytes.now found.new }
     {
         found.fill(0);
         self.early.look(bytes, base, states, may_hit, found);
@@ -202,17 +194,6 @@ fn first_state(course: &Course, stages: &[Stage]) -> State
         }
     }
     State { done: 0, from }
-}
-
-// Adds the head of a sequence of the signature, if it has one.
-fn add_head(heads: &mut Vec<Head>, sequence: &Sequence, signature: usize) -> Result<(), AllocError>
-    ensures { (table : TableView) (g : SignatureView) → slice_get table.signatures signature ≡ Some g
-        → ((file : List ℕ) → Hits g file → Stands sequence.now file) → AreHeadsOf table heads.old.items → OnOk result (AreHeadsOf table heads.new.items) }
-{
-    if let Some(head) = Head::of(sequence, signature) {
-        heads.push(head)?;
-    }
-    Ok(())
 }
 
 // The literals of all stages that may begin at several offsets from the beginning of a file, or of those
@@ -298,6 +279,7 @@ fn add_course(
     stages: &mut Vec<Stage>,
 ) -> Result<Course, AllocError>
     ensures adds { IfOk result (λ course. AddsCourse stages.old.items stages.new.items course (course_if may_hit sequence.now)) }
+    ensures signature { IfOk result (λ course. course.signature ≡ signature) }
     ensures sequence { IsSequence sequence.now }
 {
     if may_hit {
@@ -321,6 +303,7 @@ fn add_stages(
     stages: &mut Vec<Stage>,
 ) -> Result<Course, AllocError>
     ensures adds { IfOk result (λ course. AddsCourse stages.old.items stages.new.items course (course_of sequence.now)) }
+    ensures signature { IfOk result (λ course. course.signature ≡ signature) }
     ensures sequence { IsSequence sequence.now }
 {
     let items = sequence.expr().items();

@@ -3,38 +3,34 @@
 //! The bytes at hand are a block, with as many bytes before it as the longest word takes. Of each
 //! sequence a state is known. When the buffer is full, each sequence goes on over the words that begin
 //! before the last `keep` bytes, which all end in sight; then these bytes move to the front. At the
-//! end of the file all that is left is in the bytes at hand, and of each signature the sequences are
-//! asked in turn until one of them does not stand.
+//! end of the file all that is left is in the bytes at hand, and the sequences of a signature are asked
+//! in turn until one of them does not stand.
 //!
-//! A signature is excluded where one of its heads does not stand, or the greatest offset of a stage that
-//! it waits in is passed. None of its sequences is looked for any more: of `FFD8` at the beginning and
-//! `FFD9` anywhere, the second is not looked for in a file that begins with `89`.
+//! A signature is excluded where the greatest offset of a stage that it waits in is passed. None of its
+//! sequences is looked for any more: of `BOF,0,,FFD8` and `FFD9` anywhere, the second is not looked for
+//! behind the first block of a file in which the first did not stand.
 
-ghost use Rattle.std.specs.Prelude.{◌≡◌, ℕ, ◌+◌, ◌<◌, ◌≤◌, ◌↔◌, ◌⊎◌, All, IfOk, IsTrue, List, OnOk, ◌++◌, Some, drop, false, is_err, length, take, true};
+ghost use Rattle.std.specs.Prelude.{◌≡◌, ℕ, ◌+◌, ◌<◌, ◌≤◌, ◌↔◌, ◌^◌, ◌-◌, All, IfOk, IsTrue, List, OnOk, Some, drop, false, is_err, length, min, true};
 ghost use Rattle.sig_bits.specs.Bytes.{IsBytes};
 ghost use Rattle.sig_bits.specs.Device.{IsAtEnd};
-ghost use Rattle.sig_scan.specs.Courses.{AreCoursesOf, IsHeld, first_of, sequences_of};
-ghost use Rattle.sig_scan.specs.Heads.{IsProgramOf};
+ghost use Rattle.sig_scan.specs.Courses.{IsProgramOf};
 ghost use Rattle.sig_scan.specs.Passes.{ArePast};
-ghost use Rattle.sig_scan.specs.Scans.{AllWait, AreDone, AreExcluded, AreMarked, AreWaiting, HasRead, IsBase, IsEndOf, IsScanOf, IsShortCourse, SomeNeverStands};
+ghost use Rattle.sig_scan.specs.Scans.{AreDone, AreExcluded, AreMarked, EndsPast, HasRead, IsScanOf, IsShortCourse, Knows};
 ghost use Rattle.std.specs.List.{slice_get};
-ghost use Rattle.sig_table.specs.Standing.{Hits, Stands};
-ghost use Rattle.sig_table.specs.Views.{SequenceView, SignatureView, TableView};
+ghost use Rattle.sig_table.specs.Standing.{Stands};
+ghost use Rattle.sig_table.specs.Views.{SequenceView, TableView};
 
 use crate::buffer::Buffer;
 use crate::frontier::Frontier;
-use crate::head::exclude;
 use crate::program::Program;
 use crate::state::{State, is_past, settle, stands};
 use sig_bits::{DeviceFault, Input};
-use sig_table::{SigId, Table};
 use std::alloc::{AllocError, Global};
 use std::marker::Model;
 
-// A scan of one file against the sequences of a table.
+// A scan of one file for the sequences of a program.
 #[derive(Debug, Drop)]
 pub(crate) struct Scan<'p> {
-    table: &'p Table,
     program: &'p Program,
     keep: usize,
     base: u64,
@@ -52,8 +48,7 @@ impl<'p> Model for Scan<'p> {
     ghost Value = { ScanView };
 
     ghost view = { λ s. record {
-      table = s.table.now;
-      courses = s.program.now.courses;
+      program = s.program.now;
       keep = s.keep;
       base = s.base;
       buffer = s.buffer;
@@ -62,10 +57,9 @@ impl<'p> Model for Scan<'p> {
       found = s.found.items;
     } };
 
-    ghost invariant = { λ s. IsScan s.frontier s.program.now.heads
+    ghost invariant = { λ s. IsScan s.frontier
         (record {
-          table = s.table.now;
-          courses = s.program.now.courses;
+          program = s.program.now;
           keep = s.keep;
           base = s.base;
           buffer = s.buffer;
@@ -80,27 +74,24 @@ impl<'p> Scan<'p> {
     // bytes hold any word. All memory is asked for here.
     pub(crate) fn new(
         alloc: Global,
-        table: &'p Table,
         program: &'p Program,
         may_hit: Vec<bool>,
         keep: usize,
         buffer: Buffer,
     ) -> Result<Scan<'p>, AllocError>
-        requires program { IsProgramOf table.now may_hit.items program.now }
-        requires may_hit { length may_hit.items ≡ length table.now.signatures }
-        requires excluded { AreExcluded table.now may_hit.items buffer.bytes }
-        requires held { All (IsHeld keep) program.now.courses }
+        requires owners { All (λ g. g < length may_hit.items) program.now.owners }
+        requires held { All (IsShortCourse keep) program.now.courses }
         requires bytes { IsBytes buffer.bytes }
-        ensures table { IfOk result (λ scan. scan.table ≡ table.now) }
         ensures keep { IfOk result (λ scan. scan.keep ≡ keep) }
         ensures room { IfOk result (λ scan. scan.buffer.room ≡ buffer.room) }
-        ensures fresh { IfOk result (IsScanOf table.now buffer.bytes) }
+        ensures len { IfOk result (λ scan. length scan.may_hit ≡ length may_hit.items) }
+        ensures fresh { (table : TableView) → IsProgramOf table may_hit.items program.now → length may_hit.items ≡ length table.signatures
+            → AreExcluded table may_hit.items buffer.bytes → IfOk result (IsScanOf table buffer.bytes) }
     {
         let states = Vec::from_slice(alloc, program.first_states())?;
         let found = vec![in alloc; 0; program.sequence_count()]?;
         let frontier = Frontier::new(alloc, buffer.room())?;
         Ok(Scan {
-            table,
             program,
             keep,
             base: 0,
@@ -116,7 +107,7 @@ impl<'p> Scan<'p> {
     // is at its end.
     pub(crate) fn read_on<R: Input>(&mut self, input: &mut R) -> Result<bool, DeviceFault>
         requires { self.old.keep < self.old.buffer.room }
-        ensures table { self.new.table ≡ self.old.table }
+        ensures len { length self.new.may_hit ≡ length self.old.may_hit }
         ensures room { self.new.keep < self.new.buffer.room }
         ensures read { (table : TableView) (file : List ℕ) → IsScanOf table file self.old
             → OnOk result (HasRead table file (R.to_come input.old) (R.to_come input.new) self.new) }
@@ -136,13 +127,12 @@ impl<'p> Scan<'p> {
     fn settle(&mut self)
         requires bytes { self.old.keep ≤ length self.old.buffer.bytes }
         requires room { self.old.keep < self.old.buffer.room }
-        ensures table { self.new.table ≡ self.old.table }
+        ensures len { length self.new.may_hit ≡ length self.old.may_hit }
         ensures keep { self.new.keep ≡ self.old.keep }
         ensures room { self.new.buffer.room ≡ self.old.buffer.room }
         ensures free { length self.new.buffer.bytes < self.new.buffer.room }
         ensures settled { (table : TableView) (file : List ℕ) → IsScanOf table file self.old → IsScanOf table file self.new }
     {
-        self.exclude();
         let bytes = self.buffer.as_bytes();
         let limit = bytes.len() - self.keep;
         self.program.look(
@@ -153,7 +143,6 @@ impl<'p> Scan<'p> {
             &mut self.found,
         );
         settle_all(
-            self.table,
             self.program,
             &mut self.states,
             &mut self.may_hit,
@@ -168,42 +157,28 @@ impl<'p> Scan<'p> {
         self.base = self.base.saturating_add(limit as u64);
     }
 
-    // At the beginning of the file: excludes each signature of which a head does not stand.
-    fn exclude(&mut self)
-        ensures table { self.new.table ≡ self.old.table }
-        ensures keep { self.new.keep ≡ self.old.keep }
-        ensures buffer { self.new.buffer ≡ self.old.buffer }
-        ensures excluded { (table : TableView) (file : List ℕ) → IsScanOf table file self.old → IsScanOf table file self.new }
-    {
-        if self.base == 0 {
-            exclude(
-                self.program.heads(),
-                self.buffer.as_bytes(),
-                &mut self.may_hit,
-            );
-        }
-    }
-
     // At the end of the file: marks each signature of the table that hits it, and no other.
     pub(crate) fn finish(&mut self, marks: &mut [bool])
-        requires { length marks.old ≡ length self.old.table.signatures }
-        ensures { (table : TableView) (file : List ℕ) → IsScanOf table file self.old → AreMarked table file (length marks.new) marks.new }
+        requires { length marks.old ≡ length self.old.may_hit }
+        ensures { (table : TableView) (file : List ℕ) → IsScanOf table file self.old → AreMarked table file marks.new }
     {
         self.close();
-        let mut first = 0;
-        for index in 0..self.table.signature_count() {
-            let end = first + self.table.sequences_of(SigId(index as u16)).len();
-            marks[index] = self.may_hit[index] && self.all_stand(first, end);
-            first = end;
+        marks.copy_from_slice(&self.may_hit);
+        let program = self.program;
+        for k in 0..program.sequence_count() {
+            let signature = program.signature_of(k);
+            if marks[signature] {
+                marks[signature] = self.stands(k);
+            }
         }
     }
 
     // At the end of the file: finds for each sequence how far it goes on in the bytes at hand.
     fn close(&mut self)
-        ensures table { self.new.table ≡ self.old.table }
-        ensures closed { (table : TableView) (file : List ℕ) → IsScanOf table file self.old → IsEndOf table file self.new }
+        ensures len { length self.new.may_hit ≡ length self.old.may_hit }
+        ensures past { EndsPast self.new }
+        ensures of { (table : TableView) (file : List ℕ) → IsScanOf table file self.old → IsScanOf table file self.new }
     {
-        self.exclude();
         let bytes = self.buffer.with_one_more();
         self.program.look(
             bytes,
@@ -214,29 +189,13 @@ impl<'p> Scan<'p> {
         );
     }
 
-    // Whether these sequences, those of a signature that the file may hit, stand in the file.
-    fn all_stand(&mut self, first: usize, end: usize) -> bool
-        requires { end ≤ length self.old.courses }
-        ensures same { self.new ≡ self.old }
-        ensures stand { (table : TableView) (file : List ℕ) (g : ℕ) (h : SignatureView) → IsEndOf table file self.old
-            → slice_get self.old.may_hit g ≡ Some true → slice_get table.signatures g ≡ Some h → first ≡ first_of table g
-            → end ≡ first + length h.sequences → IsTrue result ↔ Hits h file }
-    {
-        for sequence in first..end {
-            if !self.stands(sequence) {
-                return false;
-            }
-        }
-        true
-    }
-
     // Whether a sequence of a signature that the file may hit stands in the file.
     fn stands(&mut self, sequence: usize) -> bool
-        requires { sequence < length self.old.courses }
+        requires { sequence < length self.old.program.courses }
         ensures same { self.new ≡ self.old }
-        ensures stands { (table : TableView) (file : List ℕ) (g : ℕ) (h : SignatureView) (s : SequenceView) → IsEndOf table file self.old
-            → slice_get self.old.may_hit g ≡ Some true → slice_get table.signatures g ≡ Some h → first_of table g ≤ sequence
-            → sequence < first_of table g + length h.sequences → slice_get (sequences_of table) sequence ≡ Some s → IsTrue result ↔ Stands s file }
+        ensures stands { (table : TableView) (file : List ℕ) (of : IsScanOf table file self.old) (g : ℕ) (s : SequenceView) → EndsPast self.old
+            → slice_get self.old.program.owners sequence ≡ Some g → slice_get self.old.may_hit g ≡ Some true
+            → slice_get of.sequences sequence ≡ Some s → IsTrue result ↔ Stands s file }
     {
         let stages = self.program.stages_of(sequence);
         let tail = self.program.tail_of(sequence);
@@ -261,7 +220,6 @@ impl<'p> Scan<'p> {
 // The sequences of each signature that the file may hit go on over the words that begin before the limit, and their
 // offsets are counted from there on. A signature of which one can't stand any more is excluded.
 fn settle_all(
-    table: &Table,
     program: &Program,
     states: &mut [State],
     may_hit: &mut [bool],
@@ -272,82 +230,33 @@ fn settle_all(
     reach: usize,
     frontier: &mut Frontier,
 )
-    requires program { AreCoursesOf table.now may_hit.old program.now.courses }
-    requires may_hit { length may_hit.old ≡ length table.now.signatures }
+    requires owners { All (λ g. g < length may_hit.old) program.now.owners }
     requires count { length states.old ≡ length program.now.courses }
     requires found { length found.now ≡ length program.now.courses }
+    requires held { All (IsShortCourse reach) program.now.courses }
     requires done { AreDone program.now.courses states.old }
-    requires past { ArePast 0 program.now.courses states.old bytes.now found.now }
-    requires sight { limit + reach ≤ length bytes.now }
+    requires past { ArePast program.now.courses states.old bytes.now found.now }
+    requires sight { limit + reach ≡ length bytes.now }
     requires room { length bytes.now ≤ frontier.old }
     ensures room { frontier.new ≡ frontier.old }
     ensures done { AreDone program.now.courses states.new }
-    ensures still { (g : ℕ) → slice_get may_hit.new g ≡ Some true → slice_get may_hit.old g ≡ Some true }
-    ensures wait { (before : List ℕ) → IsBase before base → All (IsShortCourse reach) program.now.courses
-        → AllWait table.now may_hit.old program.now.courses before bytes.now states.old
-        → AllWait table.now may_hit.new program.now.courses (before ++ take limit bytes.now) (drop limit bytes.now) states.new }
-    ensures excluded { (before : List ℕ) → IsBase before base → All (IsShortCourse reach) program.now.courses
-        → AllWait table.now may_hit.old program.now.courses before bytes.now states.old
-        → AreExcluded table.now may_hit.old (before ++ bytes.now) → AreExcluded table.now may_hit.new (before ++ bytes.now) }
+    ensures settled { (table : TableView) (file : List ℕ) → Knows table file program.now reach base bytes.now states.old may_hit.old
+        → Knows table file program.now reach (min (base + limit) (2 ^ 64 - 1)) (drop limit bytes.now) states.new may_hit.new }
 {
-    let mut first = 0;
-    for index in 0..table.signature_count() {
-        let end = first + table.sequences_of(SigId(index as u16)).len();
-        if may_hit[index] {
-            may_hit[index] = settle_signature(
-                program, first, end, states, found, bytes, base, limit, reach, frontier,
-            );
+    for k in 0..program.sequence_count() {
+        let signature = program.signature_of(k);
+        if may_hit[signature] {
+            let stages = program.stages_of(k);
+            let state = State {
+                done: states[k].done,
+                from: states[k].from.max(found[k].min(limit)),
+            };
+            let settled = settle(state, stages, bytes, base, limit, reach, frontier);
+            may_hit[signature] = !is_past(settled, stages, base);
+            states[k] = State {
+                done: settled.done,
+                from: settled.from - limit,
+            };
         }
-        first = end;
     }
-}
-
-// These sequences, those of a signature that the file may hit, go on so. Answers whether the signature may still hit
-// the file.
-fn settle_signature(
-    program: &Program,
-    first: usize,
-    end: usize,
-    states: &mut [State],
-    found: &[usize],
-    bytes: &[u8],
-    base: u64,
-    limit: usize,
-    reach: usize,
-    frontier: &mut Frontier,
-) -> bool
-    requires order { first ≤ end }
-    requires end { end ≤ length program.now.courses }
-    requires count { length states.old ≡ length program.now.courses }
-    requires found { length found.now ≡ length program.now.courses }
-    requires done { AreDone program.now.courses states.old }
-    requires past { ArePast first program.now.courses states.old bytes.now found.now }
-    requires sight { limit + reach ≤ length bytes.now }
-    requires room { length bytes.now ≤ frontier.old }
-    ensures room { frontier.new ≡ frontier.old }
-    ensures done { AreDone program.now.courses states.new }
-    ensures others { (i : ℕ) → (i < first) ⊎ (end ≤ i) → slice_get states.new i ≡ slice_get states.old i }
-    ensures wait { result ≡ true → (sequences : List SequenceView) (before : List ℕ) → IsBase before base → All (IsShortCourse reach) program.now.courses
-        → AreWaiting sequences program.now.courses before bytes.now states.old first end
-        → AreWaiting sequences program.now.courses (before ++ take limit bytes.now) (drop limit bytes.now) states.new first end }
-    ensures never { result ≡ false → (sequences : List SequenceView) (before : List ℕ) → IsBase before base → All (IsShortCourse reach) program.now.courses
-        → AreWaiting sequences program.now.courses before bytes.now states.old first end
-        → SomeNeverStands sequences (before ++ bytes.now) first end }
-{
-    for k in first..end {
-        let stages = program.stages_of(k);
-        let state = State {
-            done: states[k].done,
-            from: states[k].from.max(found[k].min(limit)),
-        };
-        let settled = settle(state, stages, bytes, base, limit, reach, frontier);
-        if is_past(settled, stages, base) {
-            return false;
-        }
-        states[k] = State {
-            done: settled.done,
-            from: settled.from - limit,
-        };
-    }
-    true
 }

@@ -7,7 +7,7 @@ use std::alloc::{AllocError, Global};
 use std::test::Fail;
 
 // Sequences of signature 1 of `fmt/1`, a file, and whether it hits, worked out by hand.
-const WORKED: &[(&str, &[u8], bool)] = &[
+pub(crate) const WORKED: &[(&str, &[u8], bool)] = &[
     ("BOF,0,,4142", b"AB", true),
     ("BOF,1,,41??", b"\x00A\xff\x00", true),
     ("BOF,1,,41??", b"\x00A", false),
@@ -54,6 +54,86 @@ const WORKED: &[(&str, &[u8], bool)] = &[
     ("BOF,0,,4a{3-3}{0-*}(0d0a|[!0a])", b"Jxyz\r\n", true),
     ("BOF,0,,4a{3-3}{0-*}(0d0a|[!0a])", b"Jxyz\n\n", false),
     ("BOF,0,,4a{3-3}{0-*}(0d0a|[!0a])", b"Jxyz\n", false),
+    // Words of several lengths, and several beginnings.
+    ("BOF,0,,41{1-2}42", b"ABABB", true),
+    ("BOF,1,1,41{1-2}42", b"ABABB", false),
+    ("BOF,2,2,41{1-2}42", b"ABABB", true),
+    ("BOF,0,2,41{2-5}42", b"ABB", false),
+    ("EOF,0,,41{2-5}42", b"ABBBBBB", true),
+    ("EOF,0,,41{2-4}42", b"ABBBBBB", false),
+    ("BOF,0,3,(41|4142)43", b"ABBC", false),
+    ("BOF,0,1,(41424344|43)*44", b"ABCD", false),
+    ("BOF,0,1,(41424344|43)*44", b"ABCDxD", true),
+    ("BOF,0,2,41??42", b"AxB", true),
+    ("BOF,0,1,41??42", b"AB", false),
+    ("BOF,3,27,42", b"AAAAAAAAAAAAAAAAAAAAAAAAAAAB", true),
+    ("BOF,0,2,[30:39]", b":9:", true),
+    ("BOF,0,1,[!30:39]", b"5:", true),
+    // A word that begins behind the limit of a block can end earlier.
+    ("Variable,,,(41424344|43)*44", b"ABCD", true),
+    ("Variable,,,(41424344|43)*44", b"ABC", false),
+    // Literals of four bytes and more are looked for at once, at each place of a block.
+    ("Variable,,,41424344", b"ABCD", true),
+    ("Variable,,,41424344", b"xABCDx", true),
+    ("Variable,,,41424344", b"xxABCD", true),
+    ("Variable,,,41424344", b"ABCxABDxBCD", false),
+    (
+        "Variable,,,41{2}41424344*44434241",
+        b"xAxxABCDxxDCBAx",
+        true,
+    ),
+    (
+        "Variable,,,41{2}41424344*44434241",
+        b"xAxABCDxxxDCBAx",
+        false,
+    ),
+    ("Variable,,,41{2}41424344*44434241", b"DCBAxAxxABCD", false),
+    ("Variable,,,4142434441424344", b"ABCDABCxABCDABCDx", true),
+    (
+        "Variable,,,4142434441424345*4142434441424344",
+        b"ABCDABCDABCDABCEABCDABCD",
+        true,
+    ),
+    (
+        "Variable,,,41424344\nfmt/1,1,Variable,,,42434445",
+        b"xxABCDE",
+        true,
+    ),
+    (
+        "Variable,,,41424344\nfmt/1,1,Variable,,,42434445",
+        b"xxABCDD",
+        false,
+    ),
+    // Words in either case, by the prefilter and alone.
+    ("Variable,,,(41|61)(42|62)(43|63)(44|64)", b"xaBcDx", true),
+    (
+        "Variable,,,(41|61)(42|62)(43|63)(44|64)",
+        b"xAbxdABcE",
+        false,
+    ),
+    (
+        "Variable,,,3C(41|61)(42|62)43(44|64)(45|65)",
+        b"<ABCd<abCDe",
+        true,
+    ),
+    ("Variable,,,(41|61)(42|62)*(43|63)", b"xbaBxC", true),
+    ("Variable,,,(41|61)(42|62)*(43|63)", b"xbaxbC", false),
+    ("Variable,,,(41|42|43)(44|64)", b"Cd", true),
+    // What stood is not asked again, however far back it is.
+    ("Variable,,,41*42*43", b"AxxxxxxxxBxxxxxxxxC", true),
+    ("Variable,,,41*42*43", b"BxxxxxxxxAxxxxxxxxC", false),
+    ("Variable,,,41{3-*}42", b"AxxxB", true),
+    ("Variable,,,41{3-*}42", b"AxxB", false),
+    ("Variable,,,41{3-*}", b"Axxx", true),
+    ("Variable,,,41{3-*}", b"Axx", false),
+    // The greatest offset of a first stage, in a later block.
+    ("BOF,0,9,41*42", b"xxxxxxxxxAxxxB", true),
+    ("BOF,0,8,41*42", b"xxxxxxxxxAxxxB", false),
+    // A tail behind a stage, and one that reaches into it.
+    ("EOF,0,4,41*4243", b"AxxxxxxxxBCxx", true),
+    ("EOF,0,1,41*4243", b"AxxxxxxxxBCxx", false),
+    ("EOF,0,,4142*4243", b"xABC", false),
+    ("EOF,0,,4142*4243", b"xABBC", true),
 ];
 
 // Signature rows, a file, and each format that it hits with its first signature, worked out by hand.

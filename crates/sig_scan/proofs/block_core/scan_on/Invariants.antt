@@ -1,4 +1,4 @@
-use Rattle.sig_scan.proofs.Common.{◌≡◌, ◌<◌, List, Option, ℕ, Gives}
+use Rattle.sig_scan.proofs.Common.{◌≡◌, ◌<◌, List, Option, ℕ, Gives, length}
 use Rattle.sig_scan.proofs.ReadLemmas.{IsRead}
 use Rattle.sig_scan.proofs.block_core.scan_on.Given as goal
 
@@ -8,7 +8,7 @@ invariant-reads g l = record {
   read : (before : Option (List ℕ)) → Gives before l.fn.buffer.bytes (g.R.Input.to_come l.fn.input)
       → IsRead l.scan l.table before (g.R.Input.to_come l.input);
   room : l.scan.keep < l.scan.buffer.room;
-  table : l.scan.table ≡ l.table;
+  len : length l.scan.may_hit ≡ length l.table.signatures;
 }
 
 -- each block but the last lowers what may still come

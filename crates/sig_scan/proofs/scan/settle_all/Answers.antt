@@ -1,130 +1,130 @@
-use Rattle.sig_scan.proofs.Common.{◌≡◌, ◌∙◌, ◌+◌, ◌++◌, ◌≤◌, ◌<◌, All, Bool, List, ℕ, Some, ap, arith, false, inr, length, refl, subst, sym, true, set, slice_get-get_or, slice_get_within, slice_get, AllWait, AreDone, AreExcluded, IsBase, IsShortCourse, State, slice_get-within}
-use Rattle.sig_scan.proofs.MarkedLemmas.{sequences-fit, sequences-next}
-use Rattle.sig_scan.proofs.SignatureLemmas.{AllMoved, AllMoved-excluded, AllMoved-here, AllMoved-next, AreExcluded-next, still-set}
+use Rattle.sig_scan.proofs.Common.{arith, refl, ◌++◌, ◌+◌, ◌-◌, ◌<◌, ◌∙◌, ◌≡◌, ◌≤◌, All, Bool, List, Some, ap, drop, false, get_or, length, not, subst, sym, true, ℕ, set, slice_get-get_or, slice_get_within, slice_get, slice_get-within, SequenceView, TableView, AreDone, AreExcluded, IsBase, IsShort, IsShortCourse, Knows, NeverStands, WaitsAt, CourseView, StageView, State}
+use Rattle.sig_scan.proofs.PassLemmas.{Waits-found}
+use Rattle.sig_scan.proofs.ScanLemmas.{All-at, AllMoved, AllMoved-set, AllMoved-skip, AreDone-set, AreExcluded-set, Knows-settled, Waits-moved, slice_get-set_other, true_from_not}
 use Rattle.sig_scan.proofs.scan.settle_all.Goals as goal
-use Rattle.sig_scan.proofs.scan.settle_all.Goals.{then-may_hit-index, else-may_hit-index}
+use Rattle.sig_scan.proofs.scan.settle_all.Goals.{then-may_hit-signature, else-may_hit-signature}
 
-pub loop-index-init : goal.loop-index-init
-loop-index-init c = record {
+pub loop-k-init : goal.loop-k-init
+loop-k-init c = record {
   room = refl;
-  first = refl;
-  few = omega arith;
   done = c.requires.done;
   kept = λ i low. refl;
-  still = λ g at. at;
-  wait = λ before base short all g h may signature. (λ near. absurd (omega arith), λ far. all g h may signature);
-  excluded = λ before base short all none. none;
+  settled = λ table file known. (
+    λ i g s course t owner may sequence at state. (λ near. absurd (omega arith), λ far. known.wait i g s course t owner may sequence at state),
+    known.excluded,
+  );
 }
 
-pub overflow_add-end : goal.overflow_add-end
-overflow_add-end c =
-    let few = c.sequences_of.ensures.few in
-    let limit = c.signature_count-index-end.ensures.limit in
-    let before = c.loop-index.invariant.few in
-    omega arith
-
-pub settle_signature-requires-clause-past : goal.settle_signature-requires-clause-past
-settle_signature-requires-clause-past c k x course t low at state least most =
-    c.requires.past k x course t (omega arith) at (sym (c.loop-index.invariant.kept k low) ∙ state) least most
-
-pub settle_signature-requires-clause-end : goal.settle_signature-requires-clause-end
-settle_signature-requires-clause-end c =
-    let table = c.args.table.now in
-    let index = c.loop-index.index in
-    let total = c.signature_count-index-end.ensures.count in
-    let g = slice_get-within table.signatures index (omega arith) in
-    let size = ap length (c.sequences_of.ensures.of_view g.0 g.1) in
-    let fits = sequences-fit table index c.loop-index.first g.0 g.1 c.loop-index.invariant.first in
-    let count = c.requires.program.count in
-    omega arith
-
-pub settle_signature-requires-clause-room : goal.settle_signature-requires-clause-room
-settle_signature-requires-clause-room c = subst (λ n. length c.args.bytes.now ≤ n) (sym c.loop-index.invariant.room) c.requires.room
-
-pub settle_signature-requires-clause-count : goal.settle_signature-requires-clause-count
-settle_signature-requires-clause-count c = c.loop-index.auto.states ∙ c.requires.count
-
-pub loop-index-preserved : goal.loop-index-preserved
-loop-index-preserved c =
-    let table = c.args.table.now in
+pub settle-settled-requires-clause-done : goal.settle-settled-requires-clause-done
+settle-settled-requires-clause-done c =
+    let k = c.loop-k.k in
+    let states = c.loop-k.states in
     let courses = c.args.program.now.courses in
+    let total = c.sequence_count-k-end.ensures.courses in
+    let count = c.requires.count in
+    let kept = c.loop-k.auto.states in
+    let within : k < length states = omega arith in
+    let course = slice_get-within courses k (omega arith) in
+    let state = slice_get-get_or states k (record { done = 0; from = 0 }) within in
+    let done = c.loop-k.invariant.done k course.0 _ course.1 state in
+    rw (c.stages_of-stages.ensures course.0 course.1) done
+
+pub loop-k-preserved : goal.loop-k-preserved
+loop-k-preserved c =
+    let k = c.loop-k.k in
+    let program = c.args.program.now in
+    let courses = program.courses in
     let bytes = c.args.bytes.now in
+    let base = c.args.base in
     let limit = c.args.limit in
-    let index = c.loop-index.index in
-    let first = c.loop-index.first in
-    let total = c.signature_count-index-end.ensures.count in
-    let within : index < length table.signatures = omega arith in
-    let g = slice_get-within table.signatures index within in
-    let size = ap length (c.sequences_of.ensures.of_view g.0 g.1) in
-    let next = sequences-next table index first g.0 g.1 c.loop-index.invariant.first in
-    let eight = c.sequences_of.ensures.few in
-    let few = c.loop-index.invariant.few in
-    let end : ℕ = first + length c.sequences_of.result.now in
-    let old = c.loop-index.states in
-    let flags = c.loop-index.may_hit in
-    let long = c.loop-index.auto.may_hit in
-    let same_len = c.requires.may_hit in
-    let inside : index < length flags = omega arith in
-    let At : List State → List Bool → Type 0 = λ ts l. ((g : ℕ) → slice_get l g ≡ Some true → slice_get c.args.may_hit.now g ≡ Some true) × AreDone courses ts × ((i : ℕ) → end ≤ i → slice_get ts i ≡ slice_get c.args.states.now i)
-    × ((before : List ℕ) → IsBase before c.args.base → All (IsShortCourse c.args.reach) courses
-    → AllWait table c.args.may_hit.now courses before bytes c.args.states.now → AllMoved (index + 1) limit table l courses before bytes ts)
-    × ((before : List ℕ) → IsBase before c.args.base → All (IsShortCourse c.args.reach) courses
-    → AllWait table c.args.may_hit.now courses before bytes c.args.states.now → AreExcluded table c.args.may_hit.now (before ++ bytes)
-    → AreExcluded table l (before ++ bytes)) in
-    let at : At c.if-may_hit-index.states c.if-may_hit-index.may_hit × (c.if-may_hit-index.frontier ≡ c.args.frontier.now) =
-    elim c.if-may_hit-index.branch [
-      | then-may_hit-index w ↦ (
-          let may : slice_get flags index ≡ Some true =
-          slice_get-get_or flags index false inside ∙ ap (λ (x : Bool). Some x) w.if-may_hit-index.true in
-          let b : Bool = w.settle_signature.result in
-          let new : List State = w.settle_signature.new.states in
-          let step = w.settle_signature.ensures in (
-            subst (λ l. At c.if-may_hit-index.states l) (sym w.may_hit-is) (subst (λ ts. At ts (set flags index b)) (sym w.states-is) (
-              λ k at. c.loop-index.invariant.still k (still-set flags index k b inside may at),
-              step.done,
-              λ i low. step.others i (inr low) ∙ c.loop-index.invariant.kept i (omega arith),
-              λ before base short all.
-                  AllMoved-next index limit first end table flags courses before bytes old new g.0 b inside within may g.1 c.loop-index.invariant.first
-                  (omega arith) step.others (λ yes. step.wait yes _ before base short) (c.loop-index.invariant.wait before base short all),
-              λ before base short all none.
-                  AreExcluded-next table flags (before ++ bytes) index first end g.0 b inside g.1 c.loop-index.invariant.first (omega arith)
-                  (λ no. step.never no _ before base short (AllMoved-here index limit first end table flags courses before bytes old g.0 may g.1
-                  c.loop-index.invariant.first (omega arith) (c.loop-index.invariant.wait before base short all)))
-                  (c.loop-index.invariant.excluded before base short all none),
-            )),
-            w.frontier-is ∙ step.room ∙ c.loop-index.invariant.room,
-          ))
-      | else-may_hit-index w ↦ (
-          let none : slice_get flags index ≡ Some false =
-          slice_get-get_or flags index false inside ∙ ap (λ (x : Bool). Some x) w.if-may_hit-index.false in (
-            subst (λ l. At c.if-may_hit-index.states l) (sym w.may_hit-is) (subst (λ ts. At ts flags) (sym w.states-is) (
-              c.loop-index.invariant.still,
-              c.loop-index.invariant.done,
-              λ i low. c.loop-index.invariant.kept i (omega arith),
-              λ before base short all. AllMoved-excluded index limit table flags courses before bytes old none (c.loop-index.invariant.wait before base short all),
-              c.loop-index.invariant.excluded,
-            )),
-            w.frontier-is ∙ c.loop-index.invariant.room,
-          ))
+    let reach = c.args.reach in
+    let states = c.loop-k.states in
+    let flags = c.loop-k.may_hit in
+    let own = c.signature_of-signature.result in
+    let owner : slice_get program.owners k ≡ Some own = c.signature_of-signature.ensures in
+    let total = c.sequence_count-k-end.ensures.courses in
+    let count = c.requires.count in
+    let kept = c.loop-k.auto.states in
+    let sight = c.requires.sight in
+    let within : k < length states = omega arith in
+    let long = c.loop-k.auto.may_hit in
+    let below = All-at (λ g. g < length c.args.may_hit.now) program.owners k own owner c.requires.owners in
+    let inside : own < length flags = omega arith in
+    let Now : List State → List Bool → Type 0 = λ ts l. AreDone courses ts × ((i : ℕ) → k + 1 ≤ i → slice_get ts i ≡ slice_get c.args.states.now i)
+    × ((table : TableView) (file : List ℕ) (known : Knows table file program reach base bytes c.args.states.now c.args.may_hit.now)
+    → AllMoved (k + 1) limit known.sequences program l known.before bytes ts × AreExcluded table l file) in
+    let now : Now c.if-may_hit-signature.states c.if-may_hit-signature.may_hit × (c.if-may_hit-signature.frontier ≡ c.args.frontier.now) =
+    elim c.if-may_hit-signature.branch [
+      | then-may_hit-signature w ↦ (
+          let may : slice_get flags own ≡ Some true = slice_get-get_or flags own false inside ∙ ap (λ (b : Bool). Some b) w.if-may_hit-signature.true in
+          let old : State = get_or states k (record { done = 0; from = 0 }) in
+          let at : slice_get states k ≡ Some old = slice_get-get_or states k (record { done = 0; from = 0 }) within in
+          let first = sym (c.loop-k.invariant.kept k (omega arith)) ∙ at in
+          let next : State = w.settle-settled.result in
+          let v : State = record { done = next.done; from = next.from - limit } in
+          let b : Bool = not w.is_past.result in
+          let on : (before : List ℕ) → IsBase before base → (s : SequenceView) (course : CourseView) → slice_get courses k ≡ Some course
+          → WaitsAt s before bytes old.from (drop old.done course.stages) course.tail
+          → WaitsAt s before bytes next.from (drop next.done course.stages) course.tail = (
+            λ before counted s course here waits.
+            let few = All-at (IsShortCourse reach) courses k course here c.requires.held in
+            let from = w.max.result in
+            let P : List StageView → Type 0 = λ l. All (IsShort reach) l → WaitsAt s before bytes from (drop old.done l) course.tail
+            → WaitsAt s before bytes next.from (drop next.done l) course.tail in
+            let went = Waits-found s course.stages course.tail before bytes old.done old.from (get_or c.args.found.now k 0) limit from reach few.stages
+            (omega arith) (omega arith) (λ x low high. c.requires.past k x course old here first low high) waits in
+            subst P (w.stages_of-stages.ensures course here) (λ each u. w.settle-settled.ensures.waits s before course.tail counted each few.tail u)
+            few.stages went) in
+          (subst (λ l. Now c.if-may_hit-signature.states l) (sym w.may_hit-is) (subst (λ ts. Now ts (set flags own b)) (sym w.states-is) (
+            AreDone-set courses states k v within
+                (λ course here. subst (λ (l : List StageView). next.done ≤ length l) (w.stages_of-stages.ensures course here) w.settle-settled.ensures.done)
+                c.loop-k.invariant.done,
+            λ i low.
+                let far : (i ≡ k → ⊥) = λ same. omega arith in
+                slice_get-set_other states k i v far ∙ c.loop-k.invariant.kept i (omega arith),
+            λ table file known. (
+                let before = known.before in
+                let was = c.loop-k.invariant.settled table file known in (
+                  AllMoved-set k limit own known.sequences program flags before bytes states old v b within inside owner may at
+                      (λ _ s course here waits.
+                      Waits-moved s before bytes next.from limit (drop next.done course.stages) course.tail w.settle-settled.ensures.settled (omega arith)
+                      (on before known.counted s course here waits))
+                      was.0,
+                  AreExcluded-set table flags file own b inside
+                      (λ out h signature more are hits.
+                      let course = slice_get-within courses k (omega arith) in
+                      let many = known.are.count in
+                      let low = slice_get_within program.owners k own owner in
+                      let s = slice_get-within known.sequences k (omega arith) in
+                      let waits = (was.0 k own s.0 course.0 old owner may s.1 course.1 at).1 (omega arith) in
+                      let there = subst (λ (l : List StageView). WaitsAt s.0 before bytes next.from (drop next.done l) course.0.tail)
+                      (sym (w.stages_of-stages.ensures course.0 course.1)) (on before known.counted s.0 course.0 course.1 waits) in
+                      let never = w.is_past.ensures (true_from_not w.is_past.result out) s.0 before bytes course.0.tail known.counted there in
+                      subst (NeverStands s.0) (sym known.cut) never more are (known.are.needed k own s.0 h owner s.1 signature (file ++ more) hits))
+                      was.1,
+                )),
+          )), w.frontier-is ∙ w.settle-settled.ensures.room ∙ c.loop-k.invariant.room))
+      | else-may_hit-signature w ↦ (
+          let never : slice_get flags own ≡ Some false = slice_get-get_or flags own false inside ∙ ap (λ (b : Bool). Some b) w.if-may_hit-signature.false in
+          (subst (λ l. Now c.if-may_hit-signature.states l) (sym w.may_hit-is) (subst (λ ts. Now ts flags) (sym w.states-is) (
+            c.loop-k.invariant.done,
+            λ i low. c.loop-k.invariant.kept i (omega arith),
+            λ table file known. (
+                let was = c.loop-k.invariant.settled table file known in
+                (AllMoved-skip k limit own known.sequences program flags known.before bytes states owner never was.0, was.1)),
+          )), w.frontier-is ∙ c.loop-k.invariant.room))
     ] in
-    record {
-      room = at.1;
-      first = omega arith;
-      few = omega arith;
-      still = at.0.0;
-      done = at.0.1;
-      kept = at.0.2;
-      wait = at.0.3;
-      excluded = at.0.4;
-    }
+    record { room = now.1; done = now.0.0; kept = now.0.1; settled = now.0.2 }
 
-pub returns-clause-wait : goal.returns-clause-wait
-returns-clause-wait c before base short all g h may signature =
-    let inside = slice_get_within c.loop-index.may_hit g true may in
-    let long = c.loop-index.auto.may_hit in
-    let total = c.signature_count-index-end.ensures.count in
-    let size = c.requires.may_hit in
-    (c.loop-index.invariant.wait before base short all g h may signature).0 (omega arith)
-
-pub returns-clause-excluded : goal.returns-clause-excluded
-returns-clause-excluded c = c.loop-index.invariant.excluded
+pub returns-clause-settled : goal.returns-clause-settled
+returns-clause-settled c table file known =
+    let program = c.args.program.now in
+    let total = c.sequence_count-k-end.ensures.courses in
+    let done = c.loop-k-test.false in
+    let all = c.loop-k.invariant.settled table file known in
+    Knows-settled table file program c.args.reach c.args.base c.args.limit c.args.bytes.now c.args.states.now c.loop-k.states c.args.may_hit.now
+    c.loop-k.may_hit known c.requires.sight c.loop-k.auto.may_hit
+    (λ i g s course t owner may sequence at state.
+    let low = slice_get_within program.courses i course at in
+    (all.0 i g s course t owner may sequence at state).0 (omega arith))
+    all.1

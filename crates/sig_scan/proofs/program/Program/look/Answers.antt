@@ -11,10 +11,10 @@ returns c =
     let early = c.look.new.found in
     let late = c.look-2.new.found in
     let compiled = c.self.invariant.0 in
-    subst (λ (v : ProgramView). ArePast 0 v.courses states bytes late) c.self.view_is
+    subst (λ (v : ProgramView). ArePast v.courses states bytes late) c.self.view_is
     (ArePast-missed c.self.inside.late courses bytes states early late compiled.late_literals c.look-2.ensures
     (ArePast-missed c.self.inside.early courses bytes states none early compiled.early_literals c.look.ensures
-    (λ k x d t least course state low high. elim (cases_lt k (length none)) [
+    (λ k x d t course state low high. elim (cases_lt k (length none)) [
       | inl inside ↦ absurd (omega arith)
       | inr outside ↦ (let past = get_or_past none k 0 outside in absurd (omega arith))
     ])))

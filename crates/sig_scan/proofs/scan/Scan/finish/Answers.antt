@@ -1,133 +1,94 @@
-use Rattle.sig_scan.proofs.Common.{◌≡◌, ◌∙◌, ◌+◌, ◌<◌, ◌≤◌, ℕ, Bool, List, Some, ap, arith, false, length, refl, subst, sym, true, set, false≢true, slice_get_read, slice_get, ◌↔◌, IsTrue, first_of, AreMarked, IsEndOf, IsScanOf, ScanView, CourseView, slice_get-within, Hits, SignatureView, TableView}
-use Rattle.sig_scan.proofs.MarkedLemmas.{AreMarked-set, Hits-never, sequences-fit, sequences-next}
+use Rattle.sig_scan.proofs.Common.{◌≡◌, ap, ◌+◌, ◌<◌, ◌∙◌, All, Bool, List, Some, arith, false, length, subst, sym, true, ℕ, set, length-set, slice_get-get_or, slice_get_within, slice_get, slice_get-within, TableView, AreSequencesOf, ProgramView, EndsPast, IsScanOf, ScanView, AreNeeded}
+use Rattle.sig_scan.proofs.MarkedLemmas.{AreMarked-all, AreMarkedTo, AreMarkedTo-none, AreMarkedTo-set, AreMarkedTo-skip}
+use Rattle.sig_scan.proofs.ScanLemmas.{All-at}
 use Rattle.sig_scan.proofs.scan.Scan.finish.Goals as goal
-use Rattle.sig_scan.proofs.scan.Scan.finish.Goals.{then-index, else-index}
+use Rattle.sig_scan.proofs.scan.Scan.finish.Goals.{then-marks-signature, else-marks-signature}
 
-pub loop-index-init : goal.loop-index-init
-loop-index-init c = record {
-  same = c.close.ensures.table;
-  first = refl;
-  few = omega arith;
-  marked = λ table file of. (c.close.ensures.closed table file of, λ index g below at. absurd (omega arith));
-}
+pub loop-k-init : goal.loop-k-init
+loop-k-init c =
+    let same : c.copy_from_slice.new.self ≡ c.close.new.self.may_hit =
+    c.copy_from_slice.ensures.after ∙ c.deref.ensures.value ∙ ap (λ (v : ScanView). v.may_hit) c.self.view_is in
+    let Owned : ScanView → Type 0 = λ v. (λ (l : List Bool). All (λ g. g < length l) c.self.inside.program.now.owners) v.may_hit in
+    record {
+      program = ap (λ (v : ScanView). v.program) (sym c.self.view_is);
+      owned = subst (λ (l : List Bool). All (λ g. g < length l) c.self.inside.program.now.owners) (sym same) (subst Owned c.self.view_is c.self.invariant.owned);
+      past = c.close.ensures.past;
+      len = ap length same;
+      marked = λ table file of.
+          let known = c.close.ensures.of table file of in
+          (known,
+          subst (λ l. AreMarkedTo 0 table file c.self.inside.program.now.owners known.sequences c.close.new.self.may_hit l) (sym same)
+          (AreMarkedTo-none table file c.self.inside.program.now.owners known.sequences c.close.new.self.may_hit known.excluded));
+    }
 
-pub index-requires : goal.index-requires
-index-requires c =
-    let inside = c.self-in-loop-index.inside in
-    let count = c.signature_count-index-end.ensures.count in
-    let same = ap (λ (v : ScanView). length v.table.signatures) c.self-in-loop-index.view_is in
-    let first = ap (λ (v : ScanView). length v.table.signatures) c.self.view_is in
-    let one = ap (λ (t : TableView). length t.signatures) c.close.ensures.table in
-    let two = ap (λ (t : TableView). length t.signatures) c.loop-index.invariant.same in
-    let flags = c.self-in-loop-index.invariant.may_hit_len in
-    let vec = inside.may_hit.ok.0 in
+pub bounds-marks-signature : goal.bounds-marks-signature
+bounds-marks-signature c =
+    All-at (λ g. g < length c.loop-k.marks) _ c.loop-k.k c.signature_of-signature.result c.signature_of-signature.ensures c.loop-k.invariant.owned
+
+pub stands-requires : goal.stands-requires
+stands-requires c =
+    let count = c.sequence_count-k-end.ensures.courses in
+    let same = ap (λ (v : ProgramView). length v.courses) c.loop-k.invariant.program in
     omega arith
 
-pub overflow_add-end : goal.overflow_add-end
-overflow_add-end c =
-    let few = c.sequences_of.ensures.few in
-    let limit = c.signature_count-index-end.ensures.limit in
-    let before = c.loop-index.invariant.few in
-    omega arith
-
-pub all_stand-requires : goal.all_stand-requires
-all_stand-requires c =
-    let self = c.self-in-loop-index.inside in
-    let table : TableView = self.table.now in
-    let courses : List CourseView = self.program.now.courses in
-    let index = c.loop-index.index in
-    let same : table ≡ c.args.self.now.table = ap (λ (v : ScanView). v.table) c.self-in-loop-index.view_is ∙ c.loop-index.invariant.same in
-    let whole : c.self.inside.table.now ≡ c.args.self.now.table = ap (λ (v : ScanView). v.table) c.self.view_is ∙ c.close.ensures.table in
-    let one = ap (λ (t : TableView). length t.signatures) same in
-    let two = ap (λ (t : TableView). length t.signatures) whole in
-    let total = c.signature_count-index-end.ensures.count in
-    let g = slice_get-within table.signatures index (omega arith) in
-    let size = ap length (c.sequences_of.ensures.of_view g.0 g.1) in
-    let first : c.loop-index.first ≡ first_of table index =
-    subst (λ (t : TableView). c.loop-index.first ≡ first_of t index) (sym same) c.loop-index.invariant.first in
-    let fits = sequences-fit table index c.loop-index.first g.0 g.1 first in
-    let count = c.self-in-loop-index.invariant.courses.count in
-    subst (λ (v : ScanView). c.loop-index.first + length c.sequences_of.result.now ≤ length v.courses) c.self-in-loop-index.view_is (omega arith)
-
-pub loop-index-preserved : goal.loop-index-preserved
-loop-index-preserved c =
-    let self = c.self-in-loop-index.inside in
-    let own : TableView = self.table.now in
-    let index = c.loop-index.index in
-    let first = c.loop-index.first in
-    let same : own ≡ c.args.self.now.table = ap (λ (v : ScanView). v.table) c.self-in-loop-index.view_is ∙ c.loop-index.invariant.same in
-    let whole : c.self.inside.table.now ≡ c.args.self.now.table = ap (λ (v : ScanView). v.table) c.self.view_is ∙ c.close.ensures.table in
-    let one = ap (λ (t : TableView). length t.signatures) same in
-    let two = ap (λ (t : TableView). length t.signatures) whole in
-    let total = c.signature_count-index-end.ensures.count in
-    let within : index < length own.signatures = omega arith in
-    let g = slice_get-within own.signatures index within in
-    let size = ap length (c.sequences_of.ensures.of_view g.0 g.1) in
-    let first_is : first ≡ first_of own index = subst (λ (t : TableView). first ≡ first_of t index) (sym same) c.loop-index.invariant.first in
-    let next = sequences-next own index first g.0 g.1 first_is in
-    let next_is : first + length c.sequences_of.result.now ≡ first_of own (index + 1) = omega arith in
-    let eight = c.sequences_of.ensures.few in
-    let few = c.loop-index.invariant.few in
-    let vec = self.may_hit.ok.0 in
-    let flags : List Bool = self.may_hit.items in
-    let flags_len = c.self-in-loop-index.invariant.may_hit_len in
-    let inside : index < length flags = omega arith in
-    let long = c.loop-index.auto.marks in
-    let room = c.requires in
-    let flag : slice_get flags index ≡ Some c.index.result.now = slice_get_read flags (length flags) index c.index.result.now refl inside c.index.ensures in
-    let May : Bool → Type 0 = λ b. slice_get c.loop-index.self.may_hit index ≡ Some b in
-    let may : (b : Bool) → c.index.result.now ≡ b → May b =
-    λ b is. subst (λ (v : ScanView). slice_get v.may_hit index ≡ Some b) c.self-in-loop-index.view_is (flag ∙ ap (λ (x : Bool). Some x) is) in
-    let Now : ScanView → Bool → Type 0 = λ v b. (v.table ≡ c.args.self.now.table) × ((table : TableView) (file : List ℕ) → IsScanOf table file c.args.self.now
-    → IsEndOf table file v × AreMarked table file (index + 1) (set c.loop-index.marks index b)) in
-    let set_by : (table : TableView) (file : List ℕ) (b : Bool) → IsEndOf table file c.loop-index.self
-    → ((g : SignatureView) → slice_get table.signatures index ≡ Some g → IsTrue b ↔ Hits g file) → AreMarked table file index c.loop-index.marks
-    → AreMarked table file (index + 1) (set c.loop-index.marks index b) =
-    λ table file b end is marked. AreMarked-set table file index c.loop-index.marks b (omega arith) is marked in
-    let now : Now c.if-index.self c.if-index.marks =
-    elim c.if-index.branch [
-      | then-index w ↦ subst (λ v. Now v c.if-index.marks) (sym w.self-is) (subst (Now w.all_stand.new.self) (sym w.marks-is) (
-        ap (λ (v : ScanView). v.table) w.all_stand.ensures.same ∙ c.loop-index.invariant.same,
+pub loop-k-preserved : goal.loop-k-preserved
+loop-k-preserved c =
+    let k = c.loop-k.k in
+    let marks = c.loop-k.marks in
+    let self = c.loop-k.self in
+    let own = c.signature_of-signature.result in
+    let program : ProgramView = c.self.inside.program.now in
+    let owner : slice_get program.owners k ≡ Some own = c.signature_of-signature.ensures in
+    let inside : own < length marks = All-at (λ g. g < length marks) program.owners k own owner c.loop-k.invariant.owned in
+    let Now : ScanView → List Bool → Type 0 = λ v l. (v.program ≡ program) × EndsPast v × (length l ≡ length v.may_hit)
+    × ((table : TableView) (file : List ℕ) → IsScanOf table file c.args.self.now
+    → (of : IsScanOf table file v) × AreMarkedTo (k + 1) table file program.owners of.sequences v.may_hit l) in
+    let long = c.if-marks-signature.auto.marks in
+    let now : Now c.if-marks-signature.self c.if-marks-signature.marks =
+    elim c.if-marks-signature.branch [
+      | then-marks-signature w ↦ subst (λ v. Now v c.if-marks-signature.marks) (sym w.self-is)
+          (subst (Now w.stands.new.self) (sym w.marks-is) (subst (λ v. Now v (set marks own w.stands.result)) (sym w.stands.ensures.same) (
+            c.loop-k.invariant.program,
+            c.loop-k.invariant.past,
+            length-set marks own w.stands.result ∙ c.loop-k.invariant.len,
+            λ table file of. (
+                let was = c.loop-k.invariant.marked table file of in
+                let known = was.0 in
+                let mark : slice_get marks own ≡ Some true = slice_get-get_or marks own false inside ∙ ap (λ (b : Bool). Some b) w.if-marks-signature.true in
+                let low = slice_get_within program.owners k own owner in
+                let many : length known.sequences ≡ length program.owners = known.are.count ∙ ap (λ (v : ProgramView). length v.owners) c.loop-k.invariant.program in
+                let s = slice_get-within known.sequences k (omega arith) in
+                let needed = subst (λ (v : ProgramView). AreNeeded table v.owners known.sequences) c.loop-k.invariant.program known.are.needed in
+                let own_is = subst (λ (v : ProgramView). slice_get v.owners k ≡ Some own) (sym c.loop-k.invariant.program) owner in
+                (known,
+                AreMarkedTo-set k own table file program.owners known.sequences self.may_hit marks w.stands.result s.0 inside mark owner s.1 needed
+                (w.stands.ensures.stands table file known own s.0 c.loop-k.invariant.past own_is (was.1.still own mark) s.1) was.1)),
+          )))
+      | else-marks-signature w ↦ subst (λ v. Now v c.if-marks-signature.marks) (sym w.self-is) (subst (Now self) (sym w.marks-is) (
+        c.loop-k.invariant.program,
+        c.loop-k.invariant.past,
+        c.loop-k.invariant.len,
         λ table file of. (
-            let was = c.loop-index.invariant.marked table file of in
-            let is : own ≡ table = ap (λ (v : ScanView). v.table) c.self-in-loop-index.view_is ∙ was.0.is_table in (
-              subst (IsEndOf table file) (sym w.all_stand.ensures.same) was.0,
-              set_by table file w.all_stand.result was.0
-                  (λ h at.
-                  let there : slice_get own.signatures index ≡ Some h = subst (λ (t : TableView). slice_get t.signatures index ≡ Some h) (sym is) at in
-                  let sized = ap length (c.sequences_of.ensures.of_view h there) in
-                  let at_first = subst (λ (t : TableView). first ≡ first_of t index) is first_is in
-                  w.all_stand.ensures.stand table file index h was.0 (may true w.if-index.true) at at_first (omega arith))
-                  was.1,
-            )),
-      ))
-      | else-index w ↦ subst (λ v. Now v c.if-index.marks) (sym w.self-is) (subst (Now c.loop-index.self) (sym w.marks-is) (
-        c.loop-index.invariant.same,
-        λ table file of. (
-            let was = c.loop-index.invariant.marked table file of in (
-              was.0,
-              set_by table file c.index.result.now was.0
-                  (λ h at. (
-                    λ yes. absurd (false≢true (sym w.if-index.false ∙ yes)),
-                    λ hits. absurd (Hits-never table c.loop-index.self.may_hit file index h (may false w.if-index.false) at was.0.excluded hits),
-                  ))
-                  was.1,
-            )),
+            let was = c.loop-k.invariant.marked table file of in
+            let mark : slice_get marks own ≡ Some false = slice_get-get_or marks own false inside ∙ ap (λ (b : Bool). Some b) w.if-marks-signature.false in
+            (was.0, AreMarkedTo-skip k own table file program.owners was.0.sequences self.may_hit marks mark owner was.1)),
       ))
     ] in
     record {
-      same = now.0;
-      first = next_is ∙ ap (λ (t : TableView). first_of t (index + 1)) same;
-      few = omega arith;
-      marked = now.1;
+      program = now.0;
+      owned = subst (λ n. All (λ g. g < n) program.owners) (sym long) c.loop-k.invariant.owned;
+      past = now.1;
+      len = now.2;
+      marked = now.3;
     }
 
 pub returns : goal.returns
-returns c table file of index g below at =
-    let marked = c.loop-index.invariant.marked table file of in
-    let long = c.loop-index.auto.marks in
-    let room = c.requires in
-    let whole = ap (λ (v : ScanView). length v.table.signatures) c.self.view_is in
-    let one = ap (λ (t : TableView). length t.signatures) c.close.ensures.table in
-    let total = c.signature_count-index-end.ensures.count in
-    marked.1 index g (omega arith) at
+returns c table file of =
+    let marked = c.loop-k.invariant.marked table file of in
+    let known = marked.0 in
+    let program : ProgramView = c.self.inside.program.now in
+    let count = c.sequence_count-k-end.ensures.owners in
+    let done = c.loop-k-test.false in
+    AreMarked-all c.loop-k.k table file program.owners known.sequences c.loop-k.self.may_hit c.loop-k.marks (omega arith)
+    (subst (λ (v : ProgramView). AreSequencesOf table v.owners known.sequences) c.loop-k.invariant.program known.are) marked.1
+    (c.loop-k.invariant.len ∙ known.size)
