@@ -53,8 +53,8 @@ pub use Rattle.sig_scan.specs.Literals.{AreFixed, BeginsWith, Fits, IsEitherOf, 
 pub use Rattle.sig_scan.specs.Marks.{HasLanes, HasWord, MarksBelow}
 pub use Rattle.sig_scan.specs.Passes.{ArePast}
 pub use Rattle.sig_scan.specs.Placed.{Lies}
-pub use Rattle.sig_scan.specs.Scans.{AllWait, AreDone, AreExcluded, AreFirst, AreMarked, BufferView, EndsPast, HasLastBytes, HasRead, InTurnAt, IsBase, IsFirstOf, IsScanOf, IsShort, IsShortCourse, Knows, NeverStands, ScanView, TailIsShort, WaitsAt}
-pub use Rattle.sig_scan.specs.Stages.{CourseStands, CourseView, InTurn, IsFirstEnd, StageEnds, StageView, TailStands, TailStandsIfAny, TailView, Waits, all_but_last, course_of, last_items, stages_of}
+pub use Rattle.sig_scan.specs.Scans.{AllWait, AreDone, AreExcluded, AreFirst, AreMarked, BufferView, EndsPast, HasLastBytes, HasRead, HasSight, InTurnAt, IsBase, IsFirstOf, IsScanOf, IsShort, IsShortCourse, Knows, NeverStands, ScanView, TailIsShort, WaitsAt, WaitsOn}
+pub use Rattle.sig_scan.specs.Stages.{CourseStands, CourseView, Follows, InTurn, IsFirstEnd, StageEnds, StageView, TailStands, TailStandsIfAny, TailView, Waits, all_but_last, course_of, last_items, stages_of}
 pub use Rattle.sig_scan.specs.declared.class.Class.{Class}
 pub use Rattle.sig_scan.specs.declared.filter.Entry.{Entry}
 pub use Rattle.sig_scan.specs.declared.head.Head.{Head}

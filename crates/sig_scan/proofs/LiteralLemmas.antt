@@ -1,5 +1,5 @@
 -- Where required literals stand: behind the beginning of each word, and so far from each other offset.
-use Rattle.sig_scan.proofs.Common.{◌≡◌, ◌⊎◌, ℕ, zero, suc, ◌+◌, ◌-◌, ◌≤◌, ◌<◌, true, eqb, eq-eqb, List, [], ◌∷◌, ◌++◌, length, get_or, take, drop, min, ap, ap₂, ◌∙◌, sym, subst, refl, arith, length-append, inl, inr, Option, Some, None, slice_range, set, cases_eq, cases_lt, or_left, or_right, append-nil, get_or-drop, get_or-take, take-append-drop, take-take, take_at, take_more, FindsNeedle, IsFirst, Nowhere, OccursAt, Passes, is_byte2, Item, Lang, Word, HasLength, AreFixed, BeginsWith, Fits, IsEitherOf, IsLiteralOf, LiteralView, StandsAt, byte_of, Lies, IsFirstOf, not}
+use Rattle.sig_scan.proofs.Common.{◌≡◌, ◌⊎◌, ℕ, zero, suc, ◌+◌, ◌-◌, ◌≤◌, ◌<◌, true, eqb, eq-eqb, List, [], ◌∷◌, ◌++◌, length, get_or, take, drop, min, ap, ap₂, ◌∙◌, sym, subst, refl, arith, length-append, inl, inr, Option, Some, None, slice_range, set, cases_lt, or_left, or_right, append-nil, get_or-drop, get_or-take, take-append-drop, take-take, take_at, take_more, FindsNeedle, IsFirst, Nowhere, OccursAt, Passes, is_byte2, Item, Lang, Word, HasLength, AreFixed, BeginsWith, Fits, IsEitherOf, IsLiteralOf, LiteralView, StandsAt, byte_of, Lies, IsFirstOf, not}
 use Rattle.memchr.proofs.lemmas.MatchLemmas.{OccursAt-from_part}
 use Rattle.sig_scan.proofs.LiesLemmas.{Lies-split, length-slice_range}
 
@@ -78,30 +78,6 @@ AreFixed-next items i at next x within is order long fixed = record {
       let size = long word.0 word.3 in
       omega arith;
 }
-
-pub AreFixed-same : (items : List Item) (i j at to : ℕ) → i ≡ j → at ≡ to → AreFixed (take i items) at → AreFixed (take j items) to
-AreFixed-same items i j at to i_is at_is fixed =
-    subst (λ n. AreFixed (take j items) n) at_is (subst (λ n. AreFixed (take n items) at) i_is fixed)
-
--- so are those before each of the last places
-abbrev pub AreAllFixed : List Item → ℕ → ℕ → ℕ → Type 0
-AreAllFixed items i at len = (k : ℕ) → k ≤ len → AreFixed (take (i - k) items) (at - k)
-
-pub AreAllFixed-none : (items : List Item) (i at len : ℕ) → len ≡ 0 → AreFixed (take i items) at → AreAllFixed items i at len
-AreAllFixed-none items i at len none fixed k low = AreFixed-same items i (i - k) at (at - k) (omega arith) (omega arith) fixed
-
--- a place more
-pub AreAllFixed-next : (items : List Item) (i at len new : ℕ) (x : Item) → i < length items → x ≡ get_or items i x → HasLength (Word x) 1
-    → new ≤ len + 1 → AreAllFixed items i at len → AreAllFixed items (i + 1) (at + 1) new
-AreAllFixed-next items i at len new x within is long few fixed k low =
-    elim (cases_eq k 0) [
-      | inl last ↦ (
-          let one : HasLength (Word x) (at + 1 - at) = subst (HasLength (Word x)) (omega arith) long in
-          let here = AreFixed-same items (i - 0) i (at - 0) at (omega arith) (omega arith) (fixed 0 (omega arith)) in
-          AreFixed-same items (i + 1) (i + 1 - k) (at + 1) (at + 1 - k) (omega arith) (omega arith)
-          (AreFixed-next items i at (at + 1) x within is (omega arith) one here))
-      | inr before ↦ AreFixed-same items (i - (k - 1)) (i + 1 - k) (at - (k - 1)) (at + 1 - k) (omega arith) (omega arith) (fixed (k - 1) (omega arith))
-    ]
 
 -- bytes behind items of one length stand behind the beginning of each word
 pub IsLiteralOf-behind : (items : List Item) (i at : ℕ) (literal : LiteralView) → literal.at ≡ at → AreFixed (take i items) at

@@ -1,8 +1,8 @@
 -- The beginning and the end of a scan: what it is of an empty file, and which signatures it marks.
-use Rattle.sig_scan.proofs.Common.{◌≡◌, ◌∙◌, ℕ, ◌+◌, ◌≤◌, ◌<◌, inl, inr, All, Bool, List, [], ◌++◌, ap, arith, drop, false, true, get_or, length, max, Option, refl, Some, subst, sym, set, cases_eq, append-nil, All-nil, slice_get-get_or, slice_get_within, slice_get, ◌↔◌, IsTrue, slice_index, IsBytes, AreExcluded, AreFirst, AreMarked, HasLastBytes, InTurnAt, IsBase, IsScanOf, IsShort, IsShortCourse, ScanView, TailIsShort, CourseView, StageView, TailView, Waits, State, Hits, Stands, SequenceView, SignatureView, TableView, cases_Bool, false≢true, AreNeeded, IsProgramOf, ProgramView, AreSequencesOf, owner, EndsPast, Knows}
+use Rattle.sig_scan.proofs.Common.{◌≡◌, ◌∙◌, ℕ, ◌+◌, ◌≤◌, ◌<◌, inl, inr, All, Bool, List, [], ◌++◌, ap, arith, drop, false, true, get_or, length, max, Option, refl, Some, subst, sym, set, cases_eq, append-nil, All-nil, slice_get-get_or, slice_get_within, slice_get, ◌↔◌, IsTrue, slice_index, IsBytes, AreExcluded, AreFirst, AreMarked, HasLastBytes, IsBase, IsScanOf, IsShort, IsShortCourse, ScanView, TailIsShort, CourseView, StageView, TailView, Waits, State, Hits, Stands, SequenceView, SignatureView, TableView, cases_Bool, false≢true, AreNeeded, IsProgramOf, ProgramView, AreSequencesOf, owner, EndsPast, Knows, WaitsOn}
 use Rattle.sig_scan.proofs.PassLemmas.{InTurn-raised}
 use Rattle.sig_scan.proofs.ScanLemmas.{All-at, one_value, slice_get-set_cases, still-set}
-use Rattle.sig_scan.proofs.WaitLemmas.{Waits-fed, Waits-fresh, Waits-judged}
+use Rattle.sig_scan.proofs.WaitLemmas.{Waits-fed, Waits-fresh, Waits-judged, Waits-last}
 
 -- a scan of the bytes at hand, of which no word is looked for yet
 pub Knows-fresh : (table : TableView) (program : ProgramView) (keep : ℕ) (bytes : List ℕ) (states : List State) (may_hit : List Bool)
@@ -19,17 +19,17 @@ Knows-fresh table program keep bytes states may_hit is size first are excluded =
   wait = λ i g s c t owner may sequence course state.
       let left = (first i c t course state).left in
       let c_is = sym (is.courses i g s c owner may sequence course) in
-      let Q : CourseView → Type 0 = λ d. Waits s [] d.from d.stages d.tail in
-      let fresh : Waits s [] c.from c.stages c.tail = subst Q c_is (Waits-fresh s) in
+      let Q : CourseView → Type 0 = λ d. Waits false s [] d.from d.stages d.tail in
+      let fresh : Waits false s [] c.from c.stages c.tail = subst Q c_is (Waits-fresh s) in
       let fed = Waits-fed s [] bytes c.from c.stages c.tail are fresh in
       let zero : t.from ≡ length {A = ℕ} [] + t.from = omega arith in
-      let now : Waits s bytes t.from (drop t.done c.stages) c.tail = record {
+      let now : Waits false s bytes t.from (drop t.done c.stages) c.tail = record {
         residual = λ more later.
             let known = fed.residual more later in
             let is = left (bytes ++ more) in
             (λ stands. is.0 (known.0 stands), λ turn. known.1 (is.1 turn));
       } in
-      subst (λ (n : ℕ). Waits s bytes n (drop t.done c.stages) c.tail) zero now;
+      subst (λ (n : ℕ). Waits false s bytes n (drop t.done c.stages) c.tail) zero now;
   excluded = excluded;
 }
 
@@ -110,8 +110,8 @@ AreMarked-all k table file owners sequences may_hit marks all are marked len g h
 
 -- what is asked at the end of a sequence with these stages and this tail, over these bytes
 abbrev pub JudgedBy : ℕ → ℕ → ℕ → ℕ → Bool → List StageView → Option TailView → List ℕ → Type 0
-JudgedBy keep base done from b stages tail bytes = (before : List ℕ) → IsBase before base → All (IsShort keep) stages → TailIsShort keep tail
-    → HasLastBytes keep before bytes → IsTrue b ↔ InTurnAt before bytes from (drop done stages) tail
+JudgedBy keep base done from b stages tail bytes = (s : SequenceView) (before : List ℕ) → IsBase before base → All (IsShort keep) stages → TailIsShort keep tail
+    → HasLastBytes keep before bytes → WaitsOn true s before bytes from (drop done stages) tail → IsTrue b ↔ Stands s (before ++ bytes)
 
 -- a sequence of a signature that the file may hit is judged
 pub Stands-judged : (table : TableView) (file : List ℕ) (scan : ScanView) (known : IsScanOf table file scan) (g k from : ℕ) (s : SequenceView) (t : State)
@@ -130,9 +130,10 @@ Stands-judged table file scan known g k from s t c b stages tail seen held cours
     subst (λ (l : List ℕ). JudgedBy keep base t.done from b c.stages c.tail l) seen_is
     (subst (λ (o : Option TailView). JudgedBy keep base t.done from b c.stages o seen) tail_is
     (subst (λ (l : List StageView). JudgedBy keep base t.done from b l tail seen) stages_is judged)) in
-    let turn = here before known.counted few.stages few.tail known.last in
-    let waits = Waits-judged s (before ++ bytes) (length before + t.from) (drop t.done c.stages) c.tail
+    let waits = Waits-judged false s (before ++ bytes) (length before + t.from) (drop t.done c.stages) c.tail
     (known.wait k g s c t owner may sequence course state) in
     let raised = InTurn-raised c.stages c.tail before bytes past.0 t.done t.from (slice_index scan.found k) from from_is
     (λ x least most. past.1 k x c t course state least most) in
-    subst (λ (f : List ℕ). IsTrue b ↔ Stands s f) (sym known.cut) (λ yes. waits.1 (raised.1 (turn.0 yes)), λ stands. turn.1 (raised.0 (waits.0 stands)))
+    let last = Waits-last s (before ++ bytes) (length before + from) (drop t.done c.stages) c.tail
+    (λ stands. raised.0 (waits.0 stands), λ turn. waits.1 (raised.1 turn)) in
+    subst (λ (f : List ℕ). IsTrue b ↔ Stands s f) (sym known.cut) (here s before known.counted few.stages few.tail known.last last)

@@ -1,5 +1,5 @@
 -- Sequences go on to what the prefilter found.
-use Rattle.sig_scan.proofs.Common.{◌≡◌, ◌∙◌, ℕ, ◌+◌, ◌-◌, ◌≤◌, ◌<◌, inl, inr, All, List, [], ◌∷◌, ◌++◌, ap, arith, drop, get_or, length, length-append, map, max, min, Option, Some, subst, sym, take, slice_get, option_map, ◌↔◌, slice_index, slice_range, cases_lt, get_or-drop, get_or-take, length-drop, length-map, length-take-le, take_all, get_or_from_slice_get, slice_get-get_or, slice_get-map, slice_get_within, SequenceView, Entry, Course, State, course_in, AreLiteralsOf, AreMissed, IsLiteralOf, LiteralView, StandsAt, ArePast, Lies, InTurnAt, IsShort, WaitsAt, CourseView, StageView, TailView}
+use Rattle.sig_scan.proofs.Common.{◌≡◌, ◌∙◌, ℕ, ◌+◌, ◌-◌, ◌≤◌, ◌<◌, inl, inr, All, List, [], ◌∷◌, ◌++◌, ap, arith, drop, get_or, length, length-append, map, max, min, Option, Some, subst, sym, take, slice_get, option_map, ◌↔◌, slice_index, slice_range, cases_lt, get_or-drop, get_or-take, length-drop, length-map, length-take-le, take_all, get_or_from_slice_get, slice_get-get_or, slice_get-map, slice_get_within, SequenceView, Entry, Course, State, course_in, AreLiteralsOf, AreMissed, IsLiteralOf, LiteralView, StandsAt, ArePast, Lies, InTurnAt, IsShort, WaitsAt, CourseView, StageView, TailView, false}
 use Rattle.sig_scan.proofs.AttemptLemmas.{Lies-take}
 use Rattle.sig_scan.proofs.LengthLemmas.{Lies-span}
 use Rattle.sig_scan.proofs.LiesLemmas.{Lies-seen_both}
@@ -92,7 +92,7 @@ Waits-found s stages tail before bytes done from found limit to reach short sigh
           let few = each.few in
           let P : List StageView → Type 0 = λ l. WaitsAt s before bytes from l tail → WaitsAt s before bytes to l tail in
           subst P (sym next)
-          (Waits-skipped s u before bytes from to reach (drop (done + 1) stages) tail each (omega arith) (omega arith)
+          (Waits-skipped false s u before bytes from to reach (drop (done + 1) stages) tail each (omega arith) (omega arith)
           (λ x end low high at l.
           let here = past x low (omega arith) in
           let same : here.0 ≡ u = (let both : Some here.0 ≡ Some u = sym here.1 ∙ first.1 in cc) in

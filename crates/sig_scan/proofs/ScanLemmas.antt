@@ -1,5 +1,6 @@
 -- The states of all sequences: one after the other is settled.
-use Rattle.sig_scan.proofs.Common.{◌≡◌, ◌∙◌, ℕ, ◌+◌, ◌-◌, ◌≤◌, ◌<◌, ◌⊎◌, ◌^◌, inl, inr, All, Bool, List, ◌++◌, ap, append_assoc, arith, drop, get_or, get_or-set_other, get_or-set_same, length, length-append, min, None, Option, Some, subst, sym, take, true, length-set, set, cases_eq, cases_lt, length-drop, length-take-le, take-append-drop, All-append, All-get_or, get_or_from_slice_get, slice_get-get_or, slice_get_past, slice_get_within, slice_get, IfSome, IsBytes, IsBoundedCourse, IsHeld, AreBounded, span, AllWait, AreExcluded, AreDone, IsShortCourse, TailIsShort, WaitsAt, CourseView, StageView, TailView, Waits, State, slice_get-within, Hits, SequenceView, TableView, false, false≢true, SignatureView, ProgramView, owner, Knows, not, refl}
+use Rattle.sig_scan.proofs.Common.{◌≡◌, ◌∙◌, ℕ, ◌+◌, ◌-◌, ◌≤◌, ◌<◌, ◌⊎◌, ◌^◌, inl, inr, All, Bool, List, ◌++◌, ap, append_assoc, arith, drop, get_or, get_or-set_other, get_or-set_same, length, length-append, min, None, Option, Some, subst, sym, take, true, length-set, set, cases_eq, cases_lt, length-drop, length-take-le, take-append-drop, All-append, All-get_or, get_or_from_slice_get, slice_get-get_or, slice_get_past, slice_get_within, slice_get, IfSome, IsBytes, IsBoundedCourse, IsHeld, AreBounded, span, AllWait, AreExcluded, AreDone, IsShortCourse, TailIsShort, WaitsAt, CourseView, StageView, TailView, Waits, State, slice_get-within, Hits, SequenceView, TableView, false, false≢true, SignatureView, ProgramView, owner, Knows, not, refl, max, [], drop_all}
+use Rattle.sig_scan.proofs.StateLemmas.{Waits-tail}
 use Rattle.sig_scan.proofs.WaitLemmas.{Waits-fed}
 
 -- an element after a write
@@ -49,8 +50,24 @@ Waits-moved s before bytes from limit stages tail order within waits =
     let len = length-append before (take limit bytes) in
     let taken = length-take-le limit bytes within in
     let offset : length before + from ≡ length (before ++ take limit bytes) + (from - limit) = omega arith in
-    subst (λ (f : List ℕ). Waits s f (length (before ++ take limit bytes) + (from - limit)) stages tail) (cut-at before bytes limit)
-    (subst (λ (n : ℕ). Waits s (before ++ bytes) n stages tail) offset waits)
+    subst (λ (f : List ℕ). Waits false s f (length (before ++ take limit bytes) + (from - limit)) stages tail) (cut-at before bytes limit)
+    (subst (λ (n : ℕ). Waits false s (before ++ bytes) n stages tail) offset waits)
+
+-- also where all stages have ended, and its tail is in sight
+pub Waits-rest : (s : SequenceView) (stages : List StageView) (tail : Option TailView) (before bytes : List ℕ) (done from limit to reach : ℕ)
+    → TailIsShort reach tail → limit + reach ≤ length bytes → to ≡ from - limit → (done < length stages → limit ≤ from)
+    → WaitsAt s before bytes from (drop done stages) tail → WaitsAt s (before ++ take limit bytes) (drop limit bytes) to (drop done stages) tail
+Waits-rest s stages tail before bytes done from limit to reach short sight to_is settled waits =
+    rw to_is (elim (cases_lt from limit) [
+      | inr behind ↦ Waits-moved s before bytes from limit (drop done stages) tail behind (omega arith) waits
+      | inl early ↦ (
+          let all : length stages ≤ done = elim (cases_lt done (length stages)) [ inl some ↦ (let on = settled some in absurd (omega arith)) | inr none ↦ none ] in
+          let same : limit - limit ≡ from - limit = omega arith in
+          let end = drop_all done stages all in
+          rw end (subst (λ n. WaitsAt s (before ++ take limit bytes) (drop limit bytes) n [] tail) same
+          (Waits-moved s before bytes limit limit [] tail (omega arith) (omega arith)
+          (Waits-tail s before bytes from limit reach tail short (omega arith) sight (rw (← end) waits)))))
+    ])
 
 -- what holds of each holds of this one
 pub All-at : {X : Type 0} (P : X → Type 0) (xs : List X) (k : ℕ) (x : X) → slice_get xs k ≡ Some x → All P xs → P x
@@ -186,7 +203,7 @@ Knows-added table file piece program keep base bytes states may_hit are known =
       counted = known.counted;
       last = elim known.last [ inl none ↦ inl none | inr enough ↦ inr (omega arith) ];
       wait = λ i g s c t owner may sequence course state.
-          subst (λ (f : List ℕ). Waits s f (length before + t.from) (drop t.done c.stages) c.tail) joined
+          subst (λ (f : List ℕ). Waits false s f (length before + t.from) (drop t.done c.stages) c.tail) joined
           (Waits-fed s (before ++ bytes) piece (length before + t.from) (drop t.done c.stages) c.tail are
           (known.wait i g s c t owner may sequence course state));
       excluded = λ g h out signature more later hits.

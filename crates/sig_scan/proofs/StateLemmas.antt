@@ -1,9 +1,9 @@
 -- From the bytes at hand to the file: what a sequence waits for behind an attempt.
-use Rattle.sig_scan.proofs.Common.{◌≡◌, ℕ, ◌+◌, ◌-◌, ◌≤◌, ◌<◌, inl, inr, List, [], ◌∷◌, ◌++◌, length, max, take, drop, drop-cons, get_or, add-one, suc, ap, ◌∙◌, refl, subst, sym, arith, length-append, Option, Some, None, rules, ◌↔◌, Bool, IsTrue, is_some, leb, cases_lt, le-leb, leb-true, length-take-le, Item, IsAtMost, IsLeastEnd, AreBounded, span, IsLiteralOf, LiteralView, StandsAt, Lies, HasLastBytes, InTurnAt, IsFirstOf, IsShort, TailIsShort, WaitsAt, InTurn, IsFirstEnd, StageView, TailStands, TailView, Waits, SequenceView}
+use Rattle.sig_scan.proofs.Common.{◌≡◌, ℕ, ◌+◌, ◌-◌, ◌≤◌, ◌<◌, inl, inr, List, [], ◌∷◌, ◌++◌, length, max, take, drop, drop-cons, get_or, add-one, suc, ap, ◌∙◌, subst, sym, arith, length-append, Option, Some, None, rules, ◌↔◌, Bool, IsTrue, is_some, leb, cases_lt, le-leb, leb-true, length-take-le, Item, IsAtMost, IsLeastEnd, AreBounded, span, IsLiteralOf, LiteralView, StandsAt, Lies, HasLastBytes, InTurnAt, IsFirstOf, IsShort, TailIsShort, WaitsAt, IsFirstEnd, StageView, TailStands, TailView, Waits, SequenceView, min, false, true, get_or_default, WaitsOn, HasSight, Stands}
 use Rattle.sig_scan.proofs.LiesLemmas.{Lies-behind}
 use Rattle.sig_scan.proofs.AttemptLemmas.{Lies-take, Lies-taken}
-use Rattle.sig_scan.proofs.TurnLemmas.{InTurn-first, InTurn-none, TailStands-last, TailStands-near}
-use Rattle.sig_scan.proofs.WaitLemmas.{Waits-advanced, Waits-past}
+use Rattle.sig_scan.proofs.TurnLemmas.{InTurn-first, TailStands-last, TailStands-near}
+use Rattle.sig_scan.proofs.WaitLemmas.{Waits-advanced, Waits-judged, Waits-past}
 
 -- the offsets of the bytes at hand below `until` are those at which the stage may begin
 abbrev pub MayBegin : StageView → List ℕ → List ℕ → ℕ → Type 0
@@ -52,24 +52,33 @@ IsFirstEnd-at_hand t before bytes from until limit e may found =
     }
 
 -- where a word was found, the sequence waits for the next stage behind its end
-pub Waits-ended : (s : SequenceView) (t : StageView) (before bytes : List ℕ) (from until limit e : ℕ) (later : List StageView) (tail : Option TailView)
-    → MayBegin t before bytes until → IsFirstOf t.items bytes from until limit (Some e) → WaitsAt s before bytes from (t ∷ later) tail
-    → WaitsAt s before bytes (e + t.delay) later tail
-Waits-ended s t before bytes from until limit e later tail may found waits =
-    let next = Waits-advanced s t (before ++ bytes) (length before + from) (length before + e) later tail
+pub Waits-ended : (is_last : Bool) (s : SequenceView) (t : StageView) (before bytes : List ℕ) (from until limit e : ℕ) (later : List StageView)
+    (tail : Option TailView) → MayBegin t before bytes until → IsFirstOf t.items bytes from until limit (Some e)
+    → WaitsOn is_last s before bytes from (t ∷ later) tail → WaitsOn is_last s before bytes (e + t.delay) later tail
+Waits-ended is_last s t before bytes from until limit e later tail may found waits =
+    let next = Waits-advanced is_last s t (before ++ bytes) (length before + from) (length before + e) later tail
     (IsFirstEnd-at_hand t before bytes from until limit e may found) waits in
     let sum : length before + e + t.delay ≡ length before + (e + t.delay) = omega arith in
-    subst (λ (n : ℕ). Waits s (before ++ bytes) n later tail) sum next
+    subst (λ (n : ℕ). Waits is_last s (before ++ bytes) n later tail) sum next
+
+-- what is in sight of the bytes at hand is so in the file, also for shorter words and below
+sight-at : (is_last : Bool) (before bytes : List ℕ) (to reach few : ℕ) → few ≤ reach → HasSight is_last to reach (length bytes)
+    → HasSight is_last (length before + to) few (length (before ++ bytes))
+sight-at false before bytes to reach few less sight = let len = length-append before bytes in omega arith
+sight-at true before bytes to reach few less sight = tt
+
+pub sight-below : (is_last : Bool) (limit to reach len : ℕ) → to ≤ limit → HasSight is_last limit reach len → HasSight is_last to reach len
+sight-below false limit to reach len below sight = omega arith
+sight-below true limit to reach len below sight = tt
 
 -- where no word begins, it waits from behind the offsets
-pub Waits-skipped : (s : SequenceView) (t : StageView) (before bytes : List ℕ) (from to reach : ℕ) (later : List StageView) (tail : Option TailView)
-    → IsShort reach t → from ≤ to → to + reach ≤ length bytes
+pub Waits-skipped : (is_last : Bool) (s : SequenceView) (t : StageView) (before bytes : List ℕ) (from to reach : ℕ) (later : List StageView)
+    (tail : Option TailView) → IsShort reach t → from ≤ to → HasSight is_last to reach (length bytes)
     → ((x end : ℕ) → from ≤ x → x < to → IsAtMost t.until (length before + x) → ¬ Lies t.items bytes x end)
-    → WaitsAt s before bytes from (t ∷ later) tail → WaitsAt s before bytes to (t ∷ later) tail
-Waits-skipped s t before bytes from to reach later tail short order sight none waits =
-    let few = short.few in
-    let len = length-append before bytes in
-    Waits-past s t (before ++ bytes) (length before + from) (length before + to) later tail short.bounded (omega arith) (omega arith)
+    → WaitsOn is_last s before bytes from (t ∷ later) tail → WaitsOn is_last s before bytes to (t ∷ later) tail
+Waits-skipped is_last s t before bytes from to reach later tail short order sight none waits =
+    Waits-past is_last s t (before ++ bytes) (length before + from) (length before + to) later tail short.bounded (omega arith)
+    (sight-at is_last before bytes to reach (span t.items) short.few sight)
     (λ start end low high at l.
     let x : ℕ = start - length before in
     let is : length before + x ≡ start = omega arith in
@@ -77,12 +86,13 @@ Waits-skipped s t before bytes from to reach later tail short order sight none w
     (Lies-at_hand t.items before bytes start end (omega arith) l)) waits
 
 -- where none of those that may begin does, it waits from behind the offsets that were tried
-pub Waits-tried : (s : SequenceView) (t : StageView) (before bytes : List ℕ) (from until limit reach : ℕ) (later : List StageView) (tail : Option TailView)
-    → IsShort reach t → from ≤ limit → limit + reach ≤ length bytes → MayBegin t before bytes until → IsFirstOf t.items bytes from until limit None
-    → WaitsAt s before bytes from (t ∷ later) tail → WaitsAt s before bytes limit (t ∷ later) tail
-Waits-tried s t before bytes from until limit reach later tail short order sight may none waits =
-    Waits-skipped s t before bytes from limit reach later tail short order sight
-    (λ x end low high at l. none x end low ((may x (omega arith)).1 at) high l) waits
+pub Waits-tried : (is_last : Bool) (s : SequenceView) (t : StageView) (before bytes : List ℕ) (from until limit reach : ℕ) (later : List StageView)
+    (tail : Option TailView) → IsShort reach t → from ≤ limit → HasSight is_last limit reach (length bytes) → MayBegin t before bytes until
+    → IsFirstOf t.items bytes from until limit None → WaitsOn is_last s before bytes from (t ∷ later) tail
+    → WaitsOn is_last s before bytes limit (t ∷ later) tail
+Waits-tried is_last s t before bytes from until limit reach later tail short order sight may none waits =
+    Waits-skipped is_last s t before bytes from limit reach later tail short order sight
+    (λ x end low high at l. let inside = l.within in let upright = l.in_order in none x end low ((may x (omega arith)).1 at) high l) waits
 
 -- a sequence of which all stages have ended waits for its tail alone, from each offset on that is far enough from the end
 pub Waits-tail : (s : SequenceView) (before bytes : List ℕ) (from limit reach : ℕ) (tail : Option TailView) → TailIsShort reach tail → from ≤ limit
@@ -106,31 +116,24 @@ Waits-tail s before bytes from limit reach (Some t) short order sight waits =
           (λ stands. near.0 (known.0 stands), λ tail. known.1 (near.1 tail));
     }
 
--- at the end of the file: the later stages stand behind the first end where all of them do
-pub InTurn-ended : (t : StageView) (before bytes : List ℕ) (from until limit e : ℕ) (later : List StageView) (tail : Option TailView)
-    → MayBegin t before bytes until → IsFirstOf t.items bytes from until limit (Some e)
-    → InTurnAt before bytes from (t ∷ later) tail ↔ InTurnAt before bytes (e + t.delay) later tail
-InTurn-ended t before bytes from until limit e later tail may found =
-    let next = InTurn-first (before ++ bytes) t later tail (length before + from) (length before + e)
-    (IsFirstEnd-at_hand t before bytes from until limit e may found) in
-    let sum : length before + e + t.delay ≡ length before + (e + t.delay) = omega arith in
-    subst (λ (n : ℕ). InTurnAt before bytes from (t ∷ later) tail ↔ InTurn (before ++ bytes) n later tail) sum next
+-- the stage at an index, and those behind it
+pub stages-next : (stages : List StageView) (k : ℕ) (t : StageView) → k < length stages → t ≡ get_or stages k t → drop k stages ≡ t ∷ drop (k + 1) stages
+stages-next stages k t inside is = rw (add-one) (drop-cons stages k t inside ∙ ap (λ v. v ∷ drop (suc k) stages) (sym is))
 
--- and where none of all its words begins there, nothing stands
-pub InTurn-never : (t : StageView) (before bytes : List ℕ) (from until limit : ℕ) (later : List StageView) (tail : Option TailView)
-    → limit ≡ length bytes + 1 → MayBegin t before bytes until → IsFirstOf t.items bytes from until limit None
-    → ¬ InTurnAt before bytes from (t ∷ later) tail
-InTurn-never t before bytes from until limit later tail all may none =
-    InTurn-none (before ++ bytes) t later tail (length before + from)
-    (λ end w.
+-- at the end of the file no stage is left that stands behind it
+pub InTurn-beyond : (before bytes : List ℕ) (from done : ℕ) (stages : List StageView) (tail : Option TailView) → length bytes < from → done < length stages
+    → ¬ InTurnAt before bytes from (drop done stages) tail
+InTurn-beyond before bytes from done stages tail behind some =
+    let t = get_or stages done (record { items = []; until = None; delay = 0 }) in
     let len = length-append before bytes in
-    let low = w.not_before in
-    let order = w.lies.in_order in
-    let within = w.lies.within in
-    let x : ℕ = w.start - length before in
-    let is : length before + x ≡ w.start = omega arith in
-    none x (end - length before) (omega arith) ((may x (omega arith)).1 (subst (IsAtMost t.until) (sym is) w.not_behind)) (omega arith)
-    (Lies-at_hand t.items before bytes w.start end (omega arith) w.lies))
+    subst (λ (l : List StageView). ¬ InTurnAt before bytes from l tail)
+    (sym (stages-next stages done t some (sym (get_or_default stages done t (record { items = []; until = None; delay = 0 }) some))))
+    (λ turn.
+    let ends = turn.1 in
+    let low = ends.not_before in
+    let upright = ends.lies.in_order in
+    let within = ends.lies.within in
+    omega arith)
 
 -- at the end of the file: the tail is judged in the bytes at hand
 pub TailStands-at_hand : (before bytes : List ℕ) (from reach : ℕ) (t : TailView) → TailIsShort reach (Some t) → HasLastBytes reach before bytes
@@ -178,10 +181,6 @@ TailStands-never t bytes from last least fits last_is least_is none w =
       lies = Lies-take t.items bytes last w.start w.end (omega arith) (omega arith) w.lies;
     })
 
--- the stage at an index, and those behind it
-pub stages-next : (stages : List StageView) (k : ℕ) (t : StageView) → k < length stages → t ≡ get_or stages k t → drop k stages ≡ t ∷ drop (k + 1) stages
-stages-next stages k t inside is = rw (add-one) (drop-cons stages k t inside ∙ ap (λ v. v ∷ drop (suc k) stages) (sym is))
-
 -- both
 pub TailStands-judged : (t : TailView) (bytes : List ℕ) (from last least : ℕ) (found : Option ℕ) → t.min ≤ length bytes → last ≡ length bytes - t.min
     → least ≡ length bytes - t.max → IsLeastEnd t.items (take last bytes) from (last + 1) least found → IsTrue (is_some found) ↔ TailStands t bytes from
@@ -202,6 +201,13 @@ InTurn-tail before bytes from reach stages tail t b none some short last judged 
     subst (λ (l : List StageView). IsTrue b ↔ InTurnAt before bytes from l tail) (sym none)
     (subst (λ (o : Option TailView). IsTrue b ↔ InTurnAt before bytes from [] o) (sym some) both)
 
+-- what is left of a sequence judges it
+pub Stands-left : (s : SequenceView) (before bytes : List ℕ) (from : ℕ) (stages : List StageView) (tail : Option TailView) (b : Bool)
+    → WaitsOn true s before bytes from stages tail → IsTrue b ↔ InTurnAt before bytes from stages tail → IsTrue b ↔ Stands s (before ++ bytes)
+Stands-left s before bytes from stages tail b waits is =
+    let judged = Waits-judged true s (before ++ bytes) (length before + from) stages tail waits in
+    (λ yes. judged.1 (is.0 yes), λ stands. is.1 (judged.0 stands))
+
 -- or nothing, which stands where the offset is one of the file
 pub InTurn-end : (before bytes : List ℕ) (from : ℕ) (stages : List StageView) (tail : Option TailView) → stages ≡ [] → tail ≡ None
     → IsTrue (leb from (length bytes)) ↔ InTurnAt before bytes from stages tail
@@ -211,50 +217,6 @@ InTurn-end before bytes from stages tail none lacks =
     (λ yes. let le = leb-true from (length bytes) yes in omega arith, λ fits. le-leb from (length bytes) (omega arith)) in
     subst (λ (l : List StageView). IsTrue (leb from (length bytes)) ↔ InTurnAt before bytes from l tail) (sym none)
     (subst (λ (o : Option TailView). IsTrue (leb from (length bytes)) ↔ InTurnAt before bytes from [] o) (sym lacks) both)
-
--- what stands in turn, judged by what is left of it
-pub InTurn-left : (before bytes : List ℕ) (from later : ℕ) (stages left : List StageView) (tail : Option TailView) (b : Bool)
-    → InTurnAt before bytes from stages tail ↔ InTurnAt before bytes later left tail
-    → IsTrue b ↔ InTurnAt before bytes later left tail → IsTrue b ↔ InTurnAt before bytes from stages tail
-InTurn-left before bytes from later stages left tail b turn is = (λ yes. turn.1 (is.0 yes), λ all. is.1 (turn.0 all))
-
--- no word of the items begins at one of these offsets, below `until`
-pub record NoneBegins (items : List Item) (bytes : List ℕ) (from to until : ℕ) : Type 0 where
-  pub none : (x end : ℕ) → from ≤ x → x < to → x < until → ¬ Lies items bytes x end
-
-pub NoneBegins-here : (items : List Item) (bytes : List ℕ) (from until : ℕ) → NoneBegins items bytes from from until
-NoneBegins-here items bytes from until = record { none = λ x end low high below l. absurd (omega arith) }
-
--- nor behind them, as far as was tried
-pub NoneBegins-tried : (items : List Item) (bytes : List ℕ) (from first to until : ℕ) → NoneBegins items bytes from first until
-    → IsFirstOf items bytes first until to None → NoneBegins items bytes from to until
-NoneBegins-tried items bytes from first to until before none = record {
-  none = λ x end low high below l.
-      elim (cases_lt x first) [
-        | inl early ↦ before.none x end low early below l
-        | inr late ↦ none x end late below high l
-      ];
-}
-
--- where none begins at any offset at which the stage may begin, nothing stands
-pub InTurn-tried : (t : StageView) (before bytes : List ℕ) (from to until : ℕ) (later : List StageView) (tail : Option TailView) → until ≤ to
-    → MayBegin t before bytes until → NoneBegins t.items bytes from to until → ¬ InTurnAt before bytes from (t ∷ later) tail
-InTurn-tried t before bytes from to until later tail all may tried =
-    InTurn-never t before bytes from until (length bytes + 1) later tail refl may (λ start end low under below l. tried.none start end low (omega arith) under l)
-
--- so the first end behind them is the first of all
-pub IsFirstOf-wider : (items : List Item) (bytes : List ℕ) (from first until limit e : ℕ) → from ≤ first → NoneBegins items bytes from first until
-    → IsFirstOf items bytes first until limit (Some e) → IsFirstOf items bytes from until limit (Some e)
-IsFirstOf-wider items bytes from first until limit e order before found =
-    let h = found.0 in
-    let low = h.first in (
-      record { start = h.start; first = omega arith; last = h.last; lies = h.lies },
-      λ end other.
-          elim (cases_lt other.start first) [
-            | inl early ↦ absurd (before.none other.start end other.first early other.last other.lies)
-            | inr late ↦ found.1 end (record { start = other.start; first = late; last = other.last; lies = other.lies })
-          ],
-    )
 
 -- the tail stands where a word of it does that begins near enough to the end
 pub TailStands-close : (t : TailView) (bytes : List ℕ) (from near far : ℕ) → AreBounded t.items → far ≡ length bytes - t.max - span t.items

@@ -1,5 +1,5 @@
 -- Stages in turn: from an earlier offset on, and behind the first end of the first one.
-use Rattle.sig_scan.proofs.Common.{◌≡◌, ℕ, ◌+◌, ◌-◌, ◌≤◌, ◌<◌, List, [], ◌∷◌, ◌++◌, length, length-append, Option, None, Some, subst, inl, inr, arith, ◌↔◌, cases_lt, IsAtMost, AreBounded, span, Lies, InTurn, IsFirstEnd, TailStandsIfAny, StageEnds, StageView, TailStands, TailView}
+use Rattle.sig_scan.proofs.Common.{◌≡◌, ℕ, ◌+◌, ◌-◌, ◌≤◌, ◌<◌, List, [], ◌∷◌, ◌++◌, length, length-append, Option, None, Some, subst, inl, inr, arith, ◌↔◌, cases_lt, IsAtMost, AreBounded, span, Lies, InTurn, IsFirstEnd, TailStandsIfAny, StageEnds, StageView, TailStands, TailView, max}
 use Rattle.sig_scan.proofs.LengthLemmas.{Lies-span}
 use Rattle.sig_scan.proofs.LiesLemmas.{Lies-behind, Lies-seen_both}
 
@@ -27,11 +27,6 @@ InTurn-first file s stages tail from end first = (
   λ turn. (end, first.ends, turn),
 )
 
--- without an end
-pub InTurn-none : (file : List ℕ) (s : StageView) (stages : List StageView) (tail : Option TailView) (from : ℕ) → ((end : ℕ) → ¬ StageEnds s file from end)
-    → ¬ InTurn file from (s ∷ stages) tail
-InTurn-none file s stages tail from none turn = none turn.0 turn.1
-
 -- past offsets at which no word of the first stage begins
 pub InTurn-past : (file : List ℕ) (s : StageView) (stages : List StageView) (tail : Option TailView) (from later : ℕ) → from ≤ later
     → ((start end : ℕ) → from ≤ start → start < later → IsAtMost s.until start → ¬ Lies s.items file start end)
@@ -47,18 +42,6 @@ InTurn-past file s stages tail from later before none = (
       (turn.0, record { start = ends.start; not_before = behind; not_behind = ends.not_behind; lies = ends.lies }, turn.2),
   λ turn. InTurn-earlier file (s ∷ stages) tail from later before turn,
 )
-
--- an end before which none of the words ends that begin before it
-pub IsFirstEnd-from_earlier : (s : StageView) (file : List ℕ) (from end : ℕ) → StageEnds s file from end
-    → ((start other : ℕ) → from ≤ start → start < end → IsAtMost s.until start → Lies s.items file start other → end ≤ other) → IsFirstEnd s file from end
-IsFirstEnd-from_earlier s file from end ends earlier = record {
-  ends = ends;
-  first = λ other o.
-      elim (cases_lt o.start end) [
-        | inl low ↦ earlier o.start other o.not_before low o.not_behind o.lies
-        | inr high ↦ (let order = o.lies.in_order in omega arith)
-      ];
-}
 
 -- the first end in the bytes that are seen
 pub IsFirstEnd-seen : (s : StageView) (file more : List ℕ) (from end : ℕ) → IsFirstEnd s file from end → IsFirstEnd s (file ++ more) from end

@@ -27,13 +27,22 @@ abbrev pub IsBase : List ℕ → ℕ → Type 0
 IsBase before base = base ≡ min (length before) (2 ^ 64 - 1)
 
 -- the residual of a sequence, with its offset counted in the bytes at hand
+abbrev pub WaitsOn : Bool → SequenceView → List ℕ → List ℕ → ℕ → List StageView → Option TailView → Type 0
+WaitsOn is_last sequence before bytes from stages tail = Waits is_last sequence (before ++ bytes) (length before + from) stages tail
+
+-- the same, whatever bytes follow
 abbrev pub WaitsAt : SequenceView → List ℕ → List ℕ → ℕ → List StageView → Option TailView → Type 0
-WaitsAt sequence before bytes from stages tail = Waits sequence (before ++ bytes) (length before + from) stages tail
+WaitsAt = WaitsOn false
 
 -- the residual behind an attempt at the first of the stages
-abbrev pub WaitsBehind : SequenceView → List ℕ → List ℕ → StageView → List StageView → Option TailView → Step → Type 0
-WaitsBehind sequence before bytes stage later tail (Past from) = WaitsAt sequence before bytes from (stage ∷ later) tail
-WaitsBehind sequence before bytes stage later tail (Ended from) = WaitsAt sequence before bytes from later tail
+abbrev pub WaitsBehind : Bool → SequenceView → List ℕ → List ℕ → StageView → List StageView → Option TailView → Step → Type 0
+WaitsBehind is_last sequence before bytes stage later tail (Past from) = WaitsOn is_last sequence before bytes from (stage ∷ later) tail
+WaitsBehind is_last sequence before bytes stage later tail (Ended from) = WaitsOn is_last sequence before bytes from later tail
+
+-- words of so many bytes that begin before the limit end in these bytes, or no bytes follow them
+abbrev pub HasSight : Bool → ℕ → ℕ → ℕ → Type 0
+HasSight false limit reach len = limit + reach ≤ len
+HasSight true limit reach len = ⊤
 
 -- a failed attempt takes off offsets, of those before the limit
 abbrev pub StepsOn : ℕ → ℕ → Step → Type 0

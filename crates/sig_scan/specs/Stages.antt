@@ -1,5 +1,5 @@
 -- A sequence, cut at its unbounded gaps: what stands in turn in a file.
-use Rattle.std.specs.Prelude.{◌↔◌, ℕ, ◌+◌, ◌≤◌, List, [], ◌∷◌, ◌++◌, length, Option, Some, None}
+use Rattle.std.specs.Prelude.{◌≡◌, ◌↔◌, Bool, false, true, ℕ, ◌+◌, ◌≤◌, List, [], ◌∷◌, ◌++◌, length, Option, Some, None}
 use Rattle.sig_bits.specs.Bytes.{IsBytes}
 use Rattle.sig_expr.specs.declared.item.Item.{Item}
 use Rattle.sig_expr.specs.declared.item.Item.TheVariants as item
@@ -102,7 +102,12 @@ course_of sequence = course_at sequence.position sequence.items
 abbrev pub CourseStands : CourseView → List ℕ → Type 0
 CourseStands course file = InTurn file course.from course.stages course.tail
 
--- the residual of a sequence behind some bytes: whatever bytes follow, it stands in all exactly
--- where these stages and this tail stand there in turn from the offset on
-pub record Waits (sequence : SequenceView) (file : List ℕ) (from : ℕ) (stages : List StageView) (tail : Option TailView) : Type 0 where
-  pub residual : (more : List ℕ) → IsBytes more → Stands sequence (file ++ more) ↔ InTurn (file ++ more) from stages tail
+-- what may follow some bytes: any, or none where they are the last
+abbrev pub Follows : Bool → List ℕ → Type 0
+Follows false more = IsBytes more
+Follows true more = more ≡ []
+
+-- the residual of a sequence behind some bytes: whatever follows, it stands in all exactly where these
+-- stages and this tail stand there in turn from the offset on
+pub record Waits (is_last : Bool) (sequence : SequenceView) (file : List ℕ) (from : ℕ) (stages : List StageView) (tail : Option TailView) : Type 0 where
+  pub residual : (more : List ℕ) → Follows is_last more → Stands sequence (file ++ more) ↔ InTurn (file ++ more) from stages tail

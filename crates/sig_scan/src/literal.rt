@@ -9,13 +9,14 @@
 //!
 //! It leaves out classes of more bytes: of `[41:43]42` the literal is `42`.
 
-ghost use Rattle.std.specs.Prelude.{◌≡◌, ◌↔◌, ℕ, ◌+◌, ◌-◌, ◌^◌, ◌<◌, ◌≤◌, [], ◌∷◌, IfSome, IsTrue, false, length, take};
+ghost use Rattle.std.specs.Prelude.{◌≡◌, ◌↔◌, ℕ, ◌+◌, ◌-◌, ◌^◌, ◌<◌, ◌≤◌, [], ◌∷◌, IfSome, IsTrue, List, false, length, take};
 ghost use Rattle.memchr.specs.Find.{IsFirst, OccursAt};
 ghost use Rattle.sig_expr.specs.declared.item.Atom.TheVariants as atom;
+ghost use Rattle.sig_expr.specs.declared.item.Item.{Item};
 ghost use Rattle.sig_expr.specs.declared.item.Item.TheVariants as item;
 ghost use Rattle.sig_expr.specs.Words.{Word};
 ghost use Rattle.sig_scan.specs.Lengths.{HasLength};
-ghost use Rattle.sig_scan.specs.Literals.{AreFixed, BeginsWith, IsEitherOf, IsLiteralOf, StandsAt, byte_of};
+ghost use Rattle.sig_scan.specs.Literals.{BeginsWith, IsEitherOf, IsLiteralOf, StandsAt, byte_of};
 
 use crate::lengths::fixed_length;
 use memchr::{memchr2, memmem};
@@ -58,16 +59,21 @@ impl Model for Literal {
 }
 
 impl Literal {
-    /// The rarest literal of the items. Where it can be all of them, that is the one.
+    /// The rarest literal of the items, by a guess: where it can be all of them, that is the one. Of those
+    /// that are as rare it is the last one.
     pub(crate) fn of(items: &[Item]) -> Literal
         ensures { IsLiteralOf items.now result }
     {
-        let front = Literal::front(items);
-        if front.text().len() == items.len() {
-            return front;
+        let mut best = Literal::front(items);
+        let mut at = 0;
+        for i in 1..items.len() {
+            match behind(&items[i - 1], at) {
+                Some(next) => at = next,
+                None => return best,
+            }
+            best = rarer(best, run_of(&items[i..], at));
         }
-        let (begin, at) = rarest_run(items);
-        run_of(&items[begin..], at)
+        best
     }
 
     /// The literal with which the items begin, if it has enough bytes for one offset, and else the rarest.
@@ -87,6 +93,15 @@ impl Literal {
         ensures { IsLiteralOf items.now result }
     {
         run_of(items, 0)
+    }
+
+    // How rare its bytes are in all.
+    fn rarity(&self) -> u32 {
+        let mut sum: u32 = 0;
+        for k in 0..self.text().len() {
+            sum = sum.saturating_add(self.weight(k));
+        }
+        sum
     }
 
     /// How rare the bytes of one place are, by a guess: one of two bytes tells half of what one tells.
@@ -247,90 +262,11 @@ impl Literal {
     }
 }
 
-// The last places of one byte or one of two that stand in a row before an item, at most eight.
-#[derive(Debug, Drop)]
-struct Run {
-    len: usize,
-    // A guess of how rare they are: the more, the rarer.
-    rarity: u32,
-    // How rare each of them is, by the number of its item.
-    weights: [u32; LONGEST],
-}
-
-impl Run {
-    fn empty() -> Run
-        ensures { result.len ≡ 0 }
-    {
-        Run {
-            len: 0,
-            rarity: 0,
-            weights: [0; LONGEST],
-        }
-    }
-
-    // One place more, which is item `i`. The first of nine is left out.
-    fn push(&mut self, i: usize, weight: u32)
-        ensures { self.new.len ≤ self.old.len + 1 }
-    {
-        let slot = i % LONGEST;
-        if self.len < LONGEST {
-            self.len += 1;
-        } else {
-            self.rarity = self.rarity.saturating_sub(self.weights[slot]);
-        }
-        self.rarity = self.rarity.saturating_add(weight);
-        self.weights[slot] = weight;
-    }
-
-    fn clear(&mut self)
-        ensures { self.new.len ≡ 0 }
-    {
-        self.len = 0;
-        self.rarity = 0;
-    }
-}
-
-// At which item the rarest run of places begins, and how far behind the beginning of a word. Of those that are as rare it is
-// the last one.
-fn rarest_run(items: &[Item]) -> (usize, usize)
-    ensures inside { result.0 ≤ length items.now }
-    ensures few { result.1 ≤ 65535 }
-    ensures fixed { AreFixed (take result.0 items.now) result.1 }
+// The rarer one, or the second if they are as rare.
+fn rarer(a: Literal, b: Literal) -> Literal
+    ensures { (items : List Item) → IsLiteralOf items a → IsLiteralOf items b → IsLiteralOf items result }
 {
-    let mut run = Run::empty();
-    let mut most: u32 = 0;
-    let mut best: usize = 0;
-    let mut best_at: usize = 0;
-    let mut at: usize = 0;
-    for (i, item) in items.iter().enumerate() {
-        let weight = weight_of(item);
-        if weight > 0 && at < FARTHEST {
-            at += 1;
-            run.push(i, weight);
-            if most <= run.rarity {
-                most = run.rarity;
-                best = i + 1 - run.len;
-                best_at = at - run.len;
-            }
-        } else {
-            match behind(item, at) {
-                Some(next) => at = next,
-                None => return (best, best_at),
-            }
-            run.clear();
-        }
-    }
-    (best, best_at)
-}
-
-// A guess of how rare the bytes of an item are, or 0 if it is no place.
-fn weight_of(item: &Item) -> u32
-    ensures { 0 < result → HasLength (Word item.now) 1 }
-{
-    match bytes_of(item) {
-        Some((a, b)) => weight_of_two(a, b),
-        None => 0,
-    }
+    if b.rarity() < a.rarity() { a } else { b }
 }
 
 // A guess of how rare one of two bytes is, or one byte, which is given twice.

@@ -251,11 +251,11 @@ fn settle_all(
                 done: states[k].done,
                 from: states[k].from.max(found[k].min(limit)),
             };
-            let settled = settle(state, stages, bytes, base, limit, reach, frontier);
+            let settled = settle(state, stages, bytes, base, limit, reach, false, frontier);
             may_hit[signature] = !is_past(settled, stages, base);
             states[k] = State {
                 done: settled.done,
-                from: settled.from - limit,
+                from: settled.from.saturating_sub(limit),
             };
         }
     }

@@ -6,11 +6,12 @@
 //! hand, so nothing counts the bytes of a file; only the greatest offset of a stage is one of the
 //! file, and `base`, the number of the bytes before those at hand, stops at its maximum.
 
-ghost use Rattle.std.specs.Prelude.{◌≡◌, ℕ, ◌+◌, ◌<◌, ◌≤◌, ◌↔◌, All, List, ◌∷◌, ◌++◌, drop, length, IsTrue, MatchOption, Option};
+ghost use Rattle.std.specs.Prelude.{◌≡◌, ℕ, ◌+◌, ◌<◌, ◌≤◌, ◌↔◌, All, List, ◌∷◌, ◌++◌, drop, length, IsTrue, Option, true};
 ghost use Rattle.sig_expr.specs.Words.{IsAtMost};
 ghost use Rattle.sig_scan.specs.Lengths.{AreBounded};
-ghost use Rattle.sig_scan.specs.Scans.{HasLastBytes, InTurnAt, IsBase, IsShort, NeverStands, StepsOn, TailIsShort, WaitsAt, WaitsBehind};
+ghost use Rattle.sig_scan.specs.Scans.{HasLastBytes, HasSight, IsBase, IsShort, NeverStands, StepsOn, TailIsShort, WaitsAt, WaitsBehind, WaitsOn};
 ghost use Rattle.sig_scan.specs.Stages.{StageView, TailStands, TailView};
+ghost use Rattle.sig_table.specs.Standing.{Stands};
 ghost use Rattle.sig_table.specs.Views.{SequenceView};
 
 use crate::attempt::attempt;
@@ -36,21 +37,22 @@ fn attempt_stage(
     base: u64,
     limit: usize,
     reach: usize,
+    is_last: bool,
     frontier: &mut Frontier,
 ) -> Step
     requires room { length bytes.now ≤ frontier.old }
     requires open { from < limit }
-    requires sight { limit + reach ≤ length bytes.now }
+    requires sight { HasSight is_last limit reach (length bytes.now) }
     ensures room { frontier.new ≡ frontier.old }
     ensures on { StepsOn from limit result }
     ensures waits { (s : SequenceView) (before : List ℕ) (later : List StageView) (tail : Option TailView) → IsBase before base → IsShort reach stage.now
-        → WaitsAt s before bytes.now from (stage.now ∷ later) tail → WaitsBehind s before bytes.now stage.now later tail result }
+        → WaitsOn is_last s before bytes.now from (stage.now ∷ later) tail → WaitsBehind is_last s before bytes.now stage.now later tail result }
 {
     let until = offsets_up_to(stage.until, base, bytes.len() + 1);
     let Some(first) = stage.literal.next(bytes, from, until.min(limit)) else {
         return Step::Past(limit);
     };
-    let to = limit.min(first + AT_ONCE.max(reach));
+    let to = limit.min(first.saturating_add(AT_ONCE.max(reach)));
     match attempt(&stage.items, bytes, first, until, to, reach, frontier) {
         None => Step::Past(to),
         Some(end) => Step::Ended(end + stage.delay as usize),
@@ -84,7 +86,7 @@ pub(crate) struct State {
 }
 
 /// Goes on over the words that begin before the limit. No word that is looked for has more bytes than
-/// `reach`, so all of them end in the bytes at hand.
+/// `reach`, so all of them end in the bytes at hand, unless these are the last ones.
 pub(crate) fn settle(
     state: State,
     stages: &[Stage],
@@ -92,22 +94,32 @@ pub(crate) fn settle(
     base: u64,
     limit: usize,
     reach: usize,
+    is_last: bool,
     frontier: &mut Frontier,
 ) -> State
     requires room { length bytes.now ≤ frontier.old }
-    requires sight { limit + reach ≤ length bytes.now }
+    requires sight { HasSight is_last limit reach (length bytes.now) }
     requires done { state.done ≤ length stages.now }
     ensures room { frontier.new ≡ frontier.old }
     ensures done { result.done ≤ length stages.now }
-    ensures settled { limit ≤ result.from }
-    ensures waits { (s : SequenceView) (before : List ℕ) (tail : Option TailView) → IsBase before base → All (IsShort reach) stages.now → TailIsShort reach tail
-        → WaitsAt s before bytes.now state.from (drop state.done stages.now) tail
-        → WaitsAt s before bytes.now result.from (drop result.done stages.now) tail }
+    ensures settled { result.done < length stages.now → limit ≤ result.from }
+    ensures waits { (s : SequenceView) (before : List ℕ) (tail : Option TailView) → IsBase before base → All (IsShort reach) stages.now
+        → WaitsOn is_last s before bytes.now state.from (drop state.done stages.now) tail
+        → WaitsOn is_last s before bytes.now result.from (drop result.done stages.now) tail }
 {
     let mut done = state.done;
     let mut from = state.from;
     'steps: while from < limit && done < stages.len() {
-        match attempt_stage(&stages[done], from, bytes, base, limit, reach, frontier) {
+        match attempt_stage(
+            &stages[done],
+            from,
+            bytes,
+            base,
+            limit,
+            reach,
+            is_last,
+            frontier,
+        ) {
             Step::Past(later) => from = later,
             Step::Ended(later) => {
                 done += 1;
@@ -115,10 +127,7 @@ pub(crate) fn settle(
             }
         }
     }
-    State {
-        done,
-        from: from.max(limit),
-    }
+    State { done, from }
 }
 
 /// Whether no word of the stage that it waits in may begin any more, so that the sequence never stands.
@@ -158,49 +167,19 @@ pub(crate) fn stands(
     requires room { length bytes.now ≤ frontier.old }
     requires done { state.done ≤ length stages.now }
     ensures room { frontier.new ≡ frontier.old }
-    ensures stands { (before : List ℕ) → IsBase before base → All (IsShort reach) stages.now → TailIsShort reach tail.now
-        → HasLastBytes reach before bytes.now → IsTrue result ↔ InTurnAt before bytes.now state.from (drop state.done stages.now) tail.now }
+    ensures stands { (s : SequenceView) (before : List ℕ) → IsBase before base → All (IsShort reach) stages.now → TailIsShort reach tail.now
+        → HasLastBytes reach before bytes.now → WaitsOn true s before bytes.now state.from (drop state.done stages.now) tail.now
+        → IsTrue result ↔ Stands s (before ++ bytes.now) }
 {
-    let mut from = state.from;
-    for k in state.done..stages.len() {
-        match next_from(&stages[k], from, bytes, base, reach, frontier) {
-            Some(next) => from = next,
-            None => return false,
-        }
+    let end = bytes.len() + 1;
+    let settled = settle(state, stages, bytes, base, end, reach, true, frontier);
+    if settled.done < stages.len() {
+        return false;
     }
     match tail {
-        Some(tail) => tail_stands(tail, from, bytes, frontier),
-        None => from <= bytes.len(),
+        Some(tail) => tail_stands(tail, settled.from, bytes, frontier),
+        None => settled.from <= bytes.len(),
     }
-}
-
-// The offset from which on the next stage may begin, at the end of the file.
-fn next_from(
-    stage: &Stage,
-    from: usize,
-    bytes: &[u8],
-    base: u64,
-    reach: usize,
-    frontier: &mut Frontier,
-) -> Option<usize>
-    requires { length bytes.now ≤ frontier.old }
-    ensures room { frontier.new ≡ frontier.old }
-    ensures next { (before : List ℕ) (later : List StageView) (tail : Option TailView) → IsBase before base → IsShort reach stage.now
-        → MatchOption result (¬ InTurnAt before bytes.now from (stage.now ∷ later) tail)
-        (λ next. InTurnAt before bytes.now from (stage.now ∷ later) tail ↔ InTurnAt before bytes.now next later tail) }
-{
-    let all = bytes.len() + 1;
-    let until = offsets_up_to(stage.until, base, all);
-    let mut from = from;
-    'steps: while from < until {
-        let first = stage.literal.next(bytes, from, until)?;
-        let to = all.min(first.saturating_add(AT_ONCE.max(reach)));
-        match attempt(&stage.items, bytes, first, until, to, reach, frontier) {
-            None => from = to,
-            Some(end) => return Some(end + stage.delay as usize),
-        }
-    }
-    None
 }
 
 // Whether the tail stands in the bytes at the end of a file, from this offset on.

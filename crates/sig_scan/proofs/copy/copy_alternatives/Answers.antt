@@ -1,4 +1,4 @@
-use Rattle.sig_scan.proofs.Common.{◌∙◌, ◌++◌, ◌∷◌, [], List, ap, ap₂, map, sym, map_push, Atom}
+use Rattle.sig_scan.proofs.Common.{◌∙◌, ◌++◌, ◌∷◌, [], List, ap, ap₂, map, sym, map_push, Atom, true}
 use Rattle.sig_scan.proofs.LengthLemmas.{alternatives-taken}
 use Rattle.sig_scan.proofs.copy.copy_alternatives.Goals as goal
 

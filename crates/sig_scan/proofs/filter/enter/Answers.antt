@@ -1,4 +1,4 @@
-use Rattle.sig_scan.proofs.Common.{ℕ, ◌*◌, ap, arith}
+use Rattle.sig_scan.proofs.Common.{ℕ, ◌*◌, ap, arith, mark_of}
 use Rattle.sig_scan.proofs.FilterLemmas.{AreKept-set, IsListed-set}
 use Rattle.sig_scan.proofs.filter.enter.Goals as goal
 

@@ -1,4 +1,4 @@
-use Rattle.sig_scan.proofs.Common.{◌≡◌, ◌<◌, List, arith, length, map, take, sym, ap, ◌∙◌, subst, ◌+◌, ◌++◌, [], ◌∷◌, ℕ, map_more, take_all, HasBit, Atom, AlternativeWord, GainsBits, HasBits, Reaches}
+use Rattle.sig_scan.proofs.Common.{◌≡◌, ◌<◌, List, arith, length, map, take, sym, ap, ◌∙◌, subst, ◌+◌, ◌++◌, [], ◌∷◌, ℕ, map_more, take_all, HasBit, Atom, AlternativeWord, GainsBits, HasBits, Reaches, set}
 use Rattle.sig_scan.proofs.ItemLemmas.{ReachesAny, alternatives_more, alternatives_none}
 use Rattle.sig_scan.proofs.SetLemmas.{GainsBits-joined}
 use Rattle.sig_scan.proofs.frontier.add_alternatives.Goals as goal

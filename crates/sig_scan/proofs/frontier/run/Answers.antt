@@ -1,4 +1,4 @@
-use Rattle.sig_scan.proofs.Common.{◌+◌, drop, length, sym, ◌∙◌, arith, ℕ, false≢true, HasBit, Lang, Word, HasBits, Reaches}
+use Rattle.sig_scan.proofs.Common.{◌+◌, drop, length, sym, ◌∙◌, arith, ℕ, false≢true, HasBit, Lang, Word, HasBits, Reaches, true, set}
 use Rattle.sig_scan.proofs.ItemLemmas.{Carries-item, Carries-items}
 use Rattle.sig_scan.proofs.ReachLemmas.{Carries, Carries-start, HasBits-from_none}
 use Rattle.sig_scan.proofs.SetLemmas.{HasBits-from_gains}

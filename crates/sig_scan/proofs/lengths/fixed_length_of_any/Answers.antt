@@ -1,4 +1,4 @@
-use Rattle.sig_scan.proofs.Common.{◌≡◌, ◌≤◌, All, List, arith, length, subst, length-map, take_all, Atom, parts_length}
+use Rattle.sig_scan.proofs.Common.{◌≡◌, ◌≤◌, All, List, arith, length, subst, length-map, take_all, Atom, parts_length, false, true}
 use Rattle.sig_scan.proofs.LengthLemmas.{All-alternative}
 use Rattle.sig_scan.proofs.lengths.fixed_length_of_any.Goals as goal
 

@@ -1,4 +1,4 @@
-use Rattle.sig_scan.proofs.Common.{◌+◌, ◌*◌, ◌∙◌, ap, arith, inl, ⊎_elim, subst, ℕ, ◌≡◌, ◌↔◌, ◌⊎◌, bit_at, HasBit, HasWord}
+use Rattle.sig_scan.proofs.Common.{◌+◌, ◌*◌, ◌∙◌, ap, arith, inl, ⊎_elim, subst, ℕ, ◌≡◌, ◌↔◌, ◌⊎◌, bit_at, HasBit, HasWord, set}
 use Rattle.sig_scan.proofs.MarkLemmas.{add_word_more, bit_at-next_byte}
 use Rattle.sig_scan.proofs.marks.add_word.Goals as goal
 

@@ -1,4 +1,4 @@
-use Rattle.sig_scan.proofs.Common.{length, arith}
+use Rattle.sig_scan.proofs.Common.{length, arith, set}
 use Rattle.sig_scan.proofs.MarkLemmas.{marks_none, marks_word}
 use Rattle.sig_scan.proofs.marks.mark.Goals as goal
 

@@ -1,4 +1,4 @@
-use Rattle.sig_scan.proofs.Common.{◌∙◌, sym, arith, false≢true}
+use Rattle.sig_scan.proofs.Common.{◌∙◌, sym, arith, false≢true, false, true, set}
 use Rattle.sig_scan.proofs.MarkLemmas.{marks_all, marks_here, marks_past}
 use Rattle.sig_scan.proofs.marks.mark_rest.Goals as goal
 use Rattle.sig_scan.proofs.marks.mark_rest.Goals.{then-is_in, else-is_in}

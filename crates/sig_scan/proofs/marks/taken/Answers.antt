@@ -1,4 +1,4 @@
-use Rattle.sig_scan.proofs.Common.{arith, get_or}
+use Rattle.sig_scan.proofs.Common.{arith, get_or, false, true}
 use Rattle.sig_scan.proofs.MarkLemmas.{taken_inside, taken_outside}
 use Rattle.sig_scan.proofs.marks.taken.Goals as goal
 

@@ -1,4 +1,4 @@
-use Rattle.sig_scan.proofs.Common.{arith}
+use Rattle.sig_scan.proofs.Common.{arith, set}
 use Rattle.sig_scan.proofs.RangeLemmas.{joins_bit, joins_none, joins_same}
 use Rattle.sig_scan.proofs.offsets.add_bits.Goals as goal
 

@@ -1,3 +1,4 @@
+use Rattle.sig_scan.proofs.Common.{set}
 use Rattle.sig_scan.proofs.RangeLemmas.{Joins}
 use Rattle.sig_scan.proofs.offsets.add_bits.Given as goal
 

@@ -1,4 +1,4 @@
-use Rattle.sig_scan.proofs.Common.{◌+◌, ◌-◌, ◌<◌, Option, Some, ℕ, arith, length, refl, subst, sym, HasBit}
+use Rattle.sig_scan.proofs.Common.{◌+◌, ◌-◌, ◌<◌, Option, Some, ℕ, arith, length, refl, subst, sym, HasBit, max, min, set}
 use Rattle.sig_scan.proofs.GapLemmas.{IsBytes-from_slice}
 use Rattle.sig_scan.proofs.HopLemmas.{Hops, hops_begin, hops_on, left_behind, left_behind-smaller}
 use Rattle.sig_scan.proofs.RangeLemmas.{Joins}

@@ -1,4 +1,4 @@
-use Rattle.sig_scan.proofs.Common.{HasBit}
+use Rattle.sig_scan.proofs.Common.{HasBit, max, min}
 use Rattle.sig_scan.proofs.HopLemmas.{Hops, left_behind}
 use Rattle.sig_scan.proofs.offsets.add_bounded_gap.Given as goal
 

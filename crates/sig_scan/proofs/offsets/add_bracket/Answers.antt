@@ -1,4 +1,4 @@
-use Rattle.sig_scan.proofs.Common.{sym, ◌∙◌, arith, false≢true, HasBit, PartWord}
+use Rattle.sig_scan.proofs.Common.{sym, ◌∙◌, arith, false≢true, HasBit, PartWord, false, true}
 use Rattle.sig_scan.proofs.PartLemmas.{part_from_here, part_here, part_none, passed_all, passed_here, passed_none}
 use Rattle.sig_scan.proofs.offsets.add_bracket.Goals as goal
 use Rattle.sig_scan.proofs.offsets.add_bracket.Goals.{then-get_bit+then-is_part_word, else-get_bit, else-get_bit-via-then-get_bit+else-is_part_word, else-get_bit-via-else-get_bit}

@@ -1,4 +1,4 @@
-use Rattle.sig_scan.proofs.Common.{◌*◌}
+use Rattle.sig_scan.proofs.Common.{◌*◌, set}
 use Rattle.sig_scan.proofs.RangeLemmas.{Joins}
 use Rattle.sig_scan.proofs.offsets.add_bytes.Given as goal
 

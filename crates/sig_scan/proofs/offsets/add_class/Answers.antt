@@ -1,3 +1,4 @@
+use Rattle.sig_scan.proofs.Common.{set}
 use Rattle.sig_scan.proofs.OneOfLemmas.{class_gains}
 use Rattle.sig_scan.proofs.offsets.add_class.Goals as goal
 

@@ -1,4 +1,4 @@
-use Rattle.sig_scan.proofs.Common.{length}
+use Rattle.sig_scan.proofs.Common.{length, set}
 use Rattle.sig_scan.proofs.SetLemmas.{HasBits-below}
 use Rattle.sig_scan.proofs.offsets.fill.Goals as goal
 

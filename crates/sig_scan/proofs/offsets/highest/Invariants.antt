@@ -1,4 +1,4 @@
-use Rattle.sig_scan.proofs.Common.{ℕ, ◌≤◌, ◌<◌, HasBit}
+use Rattle.sig_scan.proofs.Common.{ℕ, ◌≤◌, ◌<◌, HasBit, set}
 use Rattle.sig_scan.proofs.offsets.highest.Given as goal
 
 -- none behind this offset

@@ -1,4 +1,4 @@
-use Rattle.sig_scan.proofs.Common.{ℕ, ◌≤◌, ◌<◌, ◌-◌, HasBit}
+use Rattle.sig_scan.proofs.Common.{ℕ, ◌≤◌, ◌<◌, ◌-◌, HasBit, set}
 use Rattle.sig_scan.proofs.offsets.lowest.Given as goal
 
 -- none so far

@@ -1,4 +1,4 @@
-use Rattle.sig_scan.proofs.Common.{◌≡◌, ◌++◌, ◌∷◌, [], List, Ok, Err, Result, arith, subst, sym, AllocError, IfOk, StageView, stages_of}
+use Rattle.sig_scan.proofs.Common.{◌≡◌, ◌++◌, ◌∷◌, [], List, Ok, Err, Result, arith, subst, sym, AllocError, IfOk, StageView, stages_of, false, true}
 use Rattle.sig_scan.proofs.ProgramLemmas.{stages_of-last, stages_of-more, stages_of-same}
 use Rattle.sig_scan.proofs.program.cut.Goals as goal
 use Rattle.sig_scan.proofs.program.cut.Goals.{in-Some+in_ok-stage+in_ok-push, in_default}

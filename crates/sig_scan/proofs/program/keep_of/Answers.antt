@@ -1,4 +1,4 @@
-use Rattle.sig_scan.proofs.Common.{ℕ, arith, TailView}
+use Rattle.sig_scan.proofs.Common.{ℕ, arith, TailView, max, min, true}
 use Rattle.sig_scan.proofs.HeldLemmas.{AreHeld-course, ForSome-none, ForSome-one, tail-held}
 use Rattle.sig_scan.proofs.program.keep_of.Goals as goal
 use Rattle.sig_scan.proofs.program.keep_of.Goals.{in-Some, in_default}

@@ -1,6 +1,6 @@
-use Rattle.sig_scan.proofs.Common.{arith, refl, ◌++◌, ◌+◌, ◌-◌, ◌<◌, ◌∙◌, ◌≡◌, ◌≤◌, All, Bool, List, Some, ap, drop, false, get_or, length, not, subst, sym, true, ℕ, set, slice_get-get_or, slice_get_within, slice_get, slice_get-within, SequenceView, TableView, AreDone, AreExcluded, IsBase, IsShort, IsShortCourse, Knows, NeverStands, WaitsAt, CourseView, StageView, State}
+use Rattle.sig_scan.proofs.Common.{arith, refl, ◌++◌, ◌+◌, ◌<◌, ◌∙◌, ◌≡◌, ◌≤◌, All, Bool, List, Some, ap, drop, false, get_or, length, not, subst, sym, true, ℕ, set, slice_get-get_or, slice_get_within, slice_get, slice_get-within, SequenceView, TableView, AreDone, AreExcluded, IsBase, IsShort, IsShortCourse, Knows, NeverStands, WaitsAt, CourseView, StageView, State, max, owner}
 use Rattle.sig_scan.proofs.PassLemmas.{Waits-found}
-use Rattle.sig_scan.proofs.ScanLemmas.{All-at, AllMoved, AllMoved-set, AllMoved-skip, AreDone-set, AreExcluded-set, Knows-settled, Waits-moved, slice_get-set_other, true_from_not}
+use Rattle.sig_scan.proofs.ScanLemmas.{All-at, AllMoved, AllMoved-set, AllMoved-skip, AreDone-set, AreExcluded-set, Knows-settled, Waits-rest, slice_get-set_other, true_from_not}
 use Rattle.sig_scan.proofs.scan.settle_all.Goals as goal
 use Rattle.sig_scan.proofs.scan.settle_all.Goals.{then-may_hit-signature, else-may_hit-signature}
 
@@ -61,7 +61,7 @@ loop-k-preserved c =
           let at : slice_get states k ≡ Some old = slice_get-get_or states k (record { done = 0; from = 0 }) within in
           let first = sym (c.loop-k.invariant.kept k (omega arith)) ∙ at in
           let next : State = w.settle-settled.result in
-          let v : State = record { done = next.done; from = next.from - limit } in
+          let v : State = record { done = next.done; from = w.saturating_sub.result } in
           let b : Bool = not w.is_past.result in
           let on : (before : List ℕ) → IsBase before base → (s : SequenceView) (course : CourseView) → slice_get courses k ≡ Some course
           → WaitsAt s before bytes old.from (drop old.done course.stages) course.tail
@@ -73,7 +73,7 @@ loop-k-preserved c =
             → WaitsAt s before bytes next.from (drop next.done l) course.tail in
             let went = Waits-found s course.stages course.tail before bytes old.done old.from (get_or c.args.found.now k 0) limit from reach few.stages
             (omega arith) (omega arith) (λ x low high. c.requires.past k x course old here first low high) waits in
-            subst P (w.stages_of-stages.ensures course here) (λ each u. w.settle-settled.ensures.waits s before course.tail counted each few.tail u)
+            subst P (w.stages_of-stages.ensures course here) (λ each u. w.settle-settled.ensures.waits s before course.tail counted each u)
             few.stages went) in
           (subst (λ l. Now c.if-may_hit-signature.states l) (sym w.may_hit-is) (subst (λ ts. Now ts (set flags own b)) (sym w.states-is) (
             AreDone-set courses states k v within
@@ -87,7 +87,10 @@ loop-k-preserved c =
                 let was = c.loop-k.invariant.settled table file known in (
                   AllMoved-set k limit own known.sequences program flags before bytes states old v b within inside owner may at
                       (λ _ s course here waits.
-                      Waits-moved s before bytes next.from limit (drop next.done course.stages) course.tail w.settle-settled.ensures.settled (omega arith)
+                      Waits-rest s course.stages course.tail before bytes next.done next.from limit w.saturating_sub.result reach
+                      (All-at (IsShortCourse reach) courses k course here c.requires.held).tail (omega arith) w.saturating_sub.ensures
+                      (subst (λ (l : List StageView). next.done < length l → limit ≤ next.from) (w.stages_of-stages.ensures course here)
+                      w.settle-settled.ensures.settled)
                       (on before known.counted s course here waits))
                       was.0,
                   AreExcluded-set table flags file own b inside

@@ -1,4 +1,4 @@
-use Rattle.sig_scan.proofs.Common.{◌+◌, ◌-◌, ◌*◌, ◌≡◌, ◌≤◌, ℕ, All, List, Option, drop, length, IsBase, IsShort, WaitsAt, TailView, SequenceView}
+use Rattle.sig_scan.proofs.Common.{◌+◌, ◌-◌, ◌*◌, ◌≡◌, ◌≤◌, ℕ, All, List, Option, drop, length, IsBase, IsShort, TailView, SequenceView, WaitsOn}
 use Rattle.sig_scan.proofs.state.settle.Given as goal
 
 -- the sequence waits for the stages that are not done
@@ -7,7 +7,8 @@ invariant-steps l = record {
   room : l.frontier ≡ l.fn.frontier;
   done : l.done ≤ length l.stages;
   waits : (s : SequenceView) (before : List ℕ) (tail : Option TailView) → IsBase before l.base → All (IsShort l.reach) l.stages
-      → WaitsAt s before l.bytes l.fn.state.from (drop l.fn.state.done l.stages) tail → WaitsAt s before l.bytes l.from (drop l.done l.stages) tail;
+      → WaitsOn l.is_last s before l.bytes l.fn.state.from (drop l.fn.state.done l.stages) tail
+      → WaitsOn l.is_last s before l.bytes l.from (drop l.done l.stages) tail;
 }
 
 abbrev pub decreases-steps : goal.decreases-steps

@@ -1,4 +1,4 @@
-use Rattle.sig_scan.proofs.Common.{◌≡◌, ◌∙◌, ◌+◌, List, ℕ, drop, length, rules, subst, sym, take_at, AreKept, IsEntered, IsFilter, IsListed, behind_of, text_of, LiteralView, Entry}
+use Rattle.sig_scan.proofs.Common.{◌≡◌, ◌∙◌, ◌+◌, List, ℕ, drop, length, rules, subst, sym, take_at, AreKept, IsEntered, IsFilter, IsListed, behind_of, text_of, LiteralView, Entry, false}
 use Rattle.sig_scan.proofs.FilterLemmas.{IsFilter-added, IsFilter-kept}
 use Rattle.sig_scan.proofs.filter.Filter.add.Goals as goal
 

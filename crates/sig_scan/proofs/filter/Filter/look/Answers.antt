@@ -1,4 +1,4 @@
-use Rattle.sig_scan.proofs.Common.{◌≡◌, ◌∙◌, ◌+◌, ◌≤◌, List, Some, ℕ, ap, arith, length, subst, sym, take, length-take-le, slice_get, AreOwned, IsFilter, Entry}
+use Rattle.sig_scan.proofs.Common.{◌≡◌, ◌∙◌, ◌+◌, ◌≤◌, List, Some, ℕ, ap, arith, length, subst, sym, take, length-take-le, slice_get, AreOwned, IsFilter, Entry, false}
 use Rattle.sig_scan.proofs.FilterLemmas.{AreLowered-twice, AreMissed-last, AreOwned-lowered, ArePassedBelow, ArePassedBelow-first, ArePassedBelow-next, IsPassedAt-lowered}
 use Rattle.sig_scan.proofs.filter.Filter.look.Goals as goal
 use Rattle.sig_scan.proofs.filter.Filter.look.Goals.{then-place-gt0, else-place-gt0}

@@ -1,4 +1,4 @@
-use Rattle.sig_scan.proofs.Common.{List, ℕ, ◌+◌, ◌-◌, ◌<◌, arith, subst, sym, IsUnlisted, Entry}
+use Rattle.sig_scan.proofs.Common.{List, ℕ, ◌+◌, ◌-◌, ◌<◌, arith, subst, sym, IsUnlisted, Entry, false}
 use Rattle.sig_scan.proofs.FilterLemmas.{ArePassed, ArePassed-on, ArePassed-unmarked, AreUnmarked}
 use Rattle.sig_scan.proofs.filter.Filter.next_listed.Goals as goal
 

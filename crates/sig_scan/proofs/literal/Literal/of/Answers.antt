@@ -1,14 +1,26 @@
-use Rattle.sig_scan.proofs.Common.{◌≡◌, ◌-◌, ℕ, List, arith, drop, length, subst, take, length-drop, take_all, Item, BeginsWith}
-use Rattle.sig_scan.proofs.LiteralLemmas.{IsLiteralOf-behind}
+use Rattle.sig_scan.proofs.Common.{take, ◌-◌, ◌≡◌, List, arith, drop, length, rules, ℕ, length-drop, take_all, Item, ◌+◌, subst, AreFixed, BeginsWith}
+use Rattle.sig_scan.proofs.LiteralLemmas.{AreFixed-next, AreFixed-none, IsLiteralOf-behind}
 use Rattle.sig_scan.proofs.literal.Literal.of.Goals as goal
 
 -- the items from one on
 rest_is : (items : List Item) (i : ℕ) → take (length items - i) (drop i items) ≡ drop i items
 rest_is items i = take_all (length items - i) (drop i items) (rw length-drop (omega arith))
 
-pub returns : goal.returns
-returns c =
+pub loop-i-init : goal.loop-i-init
+loop-i-init c = record { best = search rules; few = omega arith; fixed = AreFixed-none c.args.items.now }
+
+pub loop-i-preserved : goal.loop-i-preserved
+loop-i-preserved c =
     let items = c.args.items.now in
-    let begin : ℕ = c.rarest_run-begin.result.0 in
-    IsLiteralOf-behind items begin c.rarest_run-begin.result.1 c.run_of.result c.run_of.ensures.at c.rarest_run-begin.ensures.fixed
-    (subst (λ (l : List Item). BeginsWith l c.run_of.result.text c.run_of.result.other) (rest_is items begin) c.run_of.ensures.begins)
+    let i : ℕ = c.loop-i.i in
+    let least = c.loop-i.auto.i in
+    let last : i - 1 + 1 ≡ i = omega arith in
+    let fixed = subst (λ n. AreFixed (take n items) c.in-Some.next) last
+    (AreFixed-next items (i - 1) c.loop-i.at c.in-Some.next c.index-items-i.result (omega arith) c.index-items-i.is c.in-Some.ensures.order c.in-Some.ensures.long
+    c.loop-i.invariant.fixed) in
+    let begins = subst (λ (l : List Item). BeginsWith l c.run_of.result.text c.run_of.result.other) (rest_is items i) c.run_of.ensures.begins in
+    record {
+      best = c.rarer-best.ensures items c.loop-i.invariant.best (IsLiteralOf-behind items i c.in-Some.next c.run_of.result c.run_of.ensures.at fixed begins);
+      few = c.in-Some.ensures.few;
+      fixed = let same : i ≡ i + 1 - 1 = omega arith in subst (λ n. AreFixed (take n items) c.in-Some.next) same fixed;
+    }
