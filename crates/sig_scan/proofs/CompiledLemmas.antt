@@ -54,6 +54,8 @@ AreAdded-push table may_hit index to owners courses g x same_len signature at ad
     let len = length-append owners (index ∷ []) in
     let len_s = length-append sequences (x ∷ []) in
     let flag : Bool = get_or may_hit index false in
+    let more : (n : ℕ) (s : SequenceView) → HasSequence owners sequences n s → HasSequence (owners ++ index ∷ []) (sequences ++ x ∷ []) n s = λ n s was.
+    record { place = was.place; owner = pushed owners index n was.place was.owner; sequence = pushed sequences x s was.place was.sequence } in
     record {
       sequences = sequences ++ x ∷ [];
       count = omega arith;
@@ -75,23 +77,13 @@ AreAdded-push table may_hit index to owners courses g x same_len signature at ad
           ];
       has = λ n j h s low signature_n sequence.
           elim (cases_lt n index) [
-            | inl before ↦ (let was = added.has n j h s (inl before) signature_n sequence in
-                record {
-                  place = was.place;
-                  owner = pushed owners index n was.place was.owner;
-                  sequence = pushed sequences x s was.place was.sequence;
-                })
+            | inl before ↦ more n s (added.has n j h s (inl before) signature_n sequence)
             | inr behind ↦ (
                 let both : (n ≡ index) × (j < to + 1) = elim low [ inl before ↦ absurd (omega arith) | inr here ↦ here ] in
                 let n_is = both.0 in
                 let most = both.1 in
                 elim (cases_lt j to) [
-                  | inl early ↦ (let was = added.has n j h s (inr (n_is, early)) signature_n sequence in
-                      record {
-                        place = was.place;
-                        owner = pushed owners index n was.place was.owner;
-                        sequence = pushed sequences x s was.place was.sequence;
-                      })
+                  | inl early ↦ more n s (added.has n j h s (inr (n_is, early)) signature_n sequence)
                   | inr late ↦ (
                       let j_is : j ≡ to = omega arith in
                       let same : h ≡ g = one_value (slice_get table.signatures index) h g (subst (λ m. slice_get table.signatures m ≡ Some h) n_is signature_n) signature in

@@ -59,19 +59,24 @@ impl Model for Literal {
 }
 
 impl Literal {
-    /// The rarest literal of the items, by a guess: where it can be all of them, that is the one. Of those
-    /// that are as rare it is the last one.
+    /// A literal of the items. Where it can be all of them, that is the one; else it is the rarest one by a
+    /// guess, or the last that is as rare, when runs of places of one byte or one of two are cut into eights.
     pub(crate) fn of(items: &[Item]) -> Literal
         ensures { IsLiteralOf items.now result }
     {
         let mut best = Literal::front(items);
         let mut at = 0;
+        let mut end = best.text().len();
         for i in 1..items.len() {
             match behind(&items[i - 1], at) {
                 Some(next) => at = next,
                 None => return best,
             }
-            best = rarer(best, run_of(&items[i..], at));
+            if end <= i {
+                let here = run_of(&items[i..], at);
+                end = i + here.text().len();
+                best = rarer(best, here);
+            }
         }
         best
     }
