@@ -1,5 +1,5 @@
 -- A table that is compiled sequence by sequence: the courses of the signatures that are to be hit.
-use Rattle.sig_scan.proofs.Common.{◌≡◌, ◌∙◌, ℕ, ◌+◌, ◌≤◌, ◌<◌, inl, inr, All, Bool, List, [], ◌∷◌, ◌++◌, Some, ap, arith, false, true, get_or, length, subst, sym, All-nil, get_or_from_slice_get, slice_get-get_or, slice_get_within, slice_get, IsBoundedCourse, course_if, IsProgramOf, IsWholeProgramOf, ProgramView, AreBounded, CourseView, StageView, course_of, SequenceView, SignatureView, TableView, ◌⊎◌, length-append, refl, get_or-append_seam, cases_lt, get_or_append_left, All-push, Hits, Stands, AreCoursesOf, AreNeeded, HasSequence, owner}
+use Rattle.sig_scan.proofs.Common.{◌≡◌, ◌∙◌, ℕ, ◌+◌, ◌≤◌, ◌<◌, inl, inr, All, Bool, List, [], ◌∷◌, ◌++◌, Some, ap, arith, false, true, get_or, length, subst, sym, All-nil, get_or_from_slice_get, slice_get-get_or, slice_get_within, slice_get, IsBoundedCourse, course_if, IsProgramOf, IsWholeProgramOf, ProgramView, AreBounded, CourseView, StageView, course_of, SequenceView, SignatureView, TableView, ◌⊎◌, length-append, refl, get_or-append_seam, cases_lt, get_or_append_left, All-push, Hits, Stands, AreCoursesOf, AreNeeded, HasSequence}
 use Rattle.sig_scan.proofs.CutLemmas.{stages-bounded, tail-bounded}
 use Rattle.sig_scan.proofs.FilterLemmas.{push_cases}
 use Rattle.sig_scan.proofs.ScanLemmas.{one_value}

@@ -1,5 +1,5 @@
 -- A sequence stands where its stages stand in turn.
-use Rattle.sig_scan.proofs.Common.{◌≡◌, ℕ, ◌+◌, ◌-◌, ◌≤◌, List, [], ◌∷◌, ◌++◌, length, take, drop, Option, None, Some, refl, subst, sym, ap, ◌∙◌, arith, append_assoc, length-append, ◌↔◌, All, IfSome, slice_range, ⊤, append-nil, length-drop, length-take-le, take-append-drop, take_at, drop_at, All-cons, All-head, All-nil, All-push, All-tail, drop_split, IsBytes, Item, IsAtMost, Lang, Position, Cut, AreBounded, IsBoundedItem, Lies, InTurn, CourseStands, StageEnds, StageView, TailView, all_but_last, course_of, last_items, stages_of, max, min}
+use Rattle.sig_scan.proofs.Common.{◌≡◌, ℕ, ◌+◌, ◌≤◌, List, [], ◌∷◌, ◌++◌, length, take, drop, Option, None, Some, refl, sym, ap, arith, append_assoc, length-append, ◌↔◌, All, IfSome, slice_range, ⊤, append-nil, length-drop, length-take-le, take-append-drop, take_at, drop_at, All-cons, All-head, All-nil, All-push, All-tail, drop_split, IsBytes, Item, IsAtMost, Position, Cut, AreBounded, IsBoundedItem, Lies, InTurn, CourseStands, StageEnds, StageView, TailView, all_but_last, course_of, last_items, stages_of, max, min}
 use Rattle.sig_table.specs.Standing.{StandsAt}
 use Rattle.sig_expr.specs.declared.item.Item.TheVariants as item
 use Rattle.sig_table.specs.declared.position.Position.TheVariants as position
@@ -21,52 +21,36 @@ Found-cut : (until : Option ℕ) (from min : ℕ) (before later : List Item) (fi
     → (end : ℕ) × StageEnds (record { items = before; until = until; delay = min }) file from end × Found None (end + min) later file E
 Found-cut until from min before later file E f =
     let cut = Lies-split before (item.Gap min None ∷ later) file f.start f.end f.lies in
-    let gap = Lies-behind_gap min later file cut.0 f.end cut.2 in (
-      cut.0,
-      record { start = f.start; not_before = f.not_before; not_behind = f.not_behind; lies = cut.1 },
-      record { start = gap.0; end = f.end; not_before = gap.1; not_behind = tt; lies = gap.2; is_end = f.is_end },
-    )
+    let gap = Lies-behind_gap min later file cut.0 f.end cut.2 in
+    search (arith, tt)
 
 -- the converse
 Found-join : (until : Option ℕ) (from min end : ℕ) (before later : List Item) (file : List ℕ) (E : ℕ → Type 0) → IsBytes file
     → StageEnds (record { items = before; until = until; delay = min }) file from end → Found None (end + min) later file E
     → Found until from (before ++ item.Gap min None ∷ later) file E
-Found-join until from min end before later file E bytes ends f = record {
-  start = ends.start;
-  end = f.end;
-  not_before = ends.not_before;
-  not_behind = ends.not_behind;
-  lies = Lies-join before (item.Gap min None ∷ later) file ends.start end f.end ends.lies (Lies-gap min later file end f.start f.end bytes f.not_before f.lies);
-  is_end = f.is_end;
-}
-
--- the same items
-Found-same : (until : Option ℕ) (from : ℕ) (xs ys : List Item) (file : List ℕ) (E : ℕ → Type 0) → xs ≡ ys → Found until from xs file E
-    → Found until from ys file E
-Found-same until from xs ys file E same f = subst (λ (l : List Item). Found until from l file E) same f
+Found-join until from min end before later file E bytes ends f =
+    let lies = Lies-join before _ file ends.start end f.end ends.lies (Lies-gap min later file end f.start f.end bytes f.not_before f.lies) in
+    search
 
 -- to stages without a tail, and back
 InTurn-from_Found : (until : Option ℕ) (from : ℕ) (before later : List Item) (file : List ℕ) → Found until from (before ++ later) file (λ e. ⊤)
     → InTurn file from (stages_of until before later) None
 InTurn-from_Found until from before [] file f =
-    let g = Found-same until from _ _ file (λ e. ⊤) (append-nil before) f in
-    let within = g.lies.within in
-    (g.end, record { start = g.start; not_before = g.not_before; not_behind = g.not_behind; lies = g.lies }, omega arith)
+    let g = rw append-nil at f in
+    (g.end, record { start = g.start; not_before = g.not_before; not_behind = g.not_behind; lies = g.lies }, omega (arith, g.lies.within))
 InTurn-from_Found until from before (item.Gap min None ∷ later) file f =
     let cut = Found-cut until from min before later file (λ e. ⊤) f in
     (cut.0, cut.1, InTurn-from_Found None (cut.0 + min) [] later file cut.2)
-InTurn-from_Found until from before (i ∷ later) file f =
-    InTurn-from_Found until from (before ++ i ∷ []) later file (Found-same until from _ _ file (λ e. ⊤) (sym (append_assoc before (i ∷ []) later)) f)
+InTurn-from_Found until from before (i ∷ later) file f = InTurn-from_Found until from (before ++ i ∷ []) later file (rw append_assoc f)
 
 Found-from_InTurn : (until : Option ℕ) (from : ℕ) (before later : List Item) (file : List ℕ) → IsBytes file
     → InTurn file from (stages_of until before later) None → Found until from (before ++ later) file (λ e. ⊤)
-Found-from_InTurn until from before [] file bytes (end, ends, rest) =
-    Found-same until from _ _ file (λ e. ⊤) (sym (append-nil before))
+Found-from_InTurn until from before [] file bytes (end, ends, rest) = rw append-nil
     (record { start = ends.start; end = end; not_before = ends.not_before; not_behind = ends.not_behind; lies = ends.lies; is_end = tt })
 Found-from_InTurn until from before (item.Gap min None ∷ later) file bytes (end, ends, rest) =
     Found-join until from min end before later file (λ e. ⊤) bytes ends (Found-from_InTurn None (end + min) [] later file bytes rest)
 Found-from_InTurn until from before (i ∷ later) file bytes turn =
-    Found-same until from _ _ file (λ e. ⊤) (append_assoc before (i ∷ []) later) (Found-from_InTurn until from (before ++ i ∷ []) later file bytes turn)
+    rw append_assoc at (Found-from_InTurn until from (before ++ i ∷ []) later file bytes turn)
 
 -- a word may end here that has so many bytes behind it
 abbrev IsNearEnd : ℕ → ℕ → List ℕ → ℕ → Type 0
@@ -85,131 +69,89 @@ stages_of-some until before (i ∷ later) = stages_of-some until (before ++ i �
 InTurnTo-more : (min max : ℕ) (file : List ℕ) (from : ℕ) (s : StageView) (stages : List StageView)
     (some : (t : StageView) × (ts : List StageView) × (stages ≡ t ∷ ts))
     → InTurnTo min max file from (s ∷ stages) ↔ ((end : ℕ) × StageEnds s file from end × InTurnTo min max file (end + s.delay) stages)
-InTurnTo-more min max file from s stages (t, ts, is) =
-    let P : List StageView → Type 0 = λ l. InTurnTo min max file from (s ∷ l) ↔
-    ((end : ℕ) × StageEnds s file from end × InTurnTo min max file (end + s.delay) l) in
-    subst P (sym is) (λ h. h, λ h. h)
+InTurnTo-more min max file from s stages (t, ts, is) = rw is (λ h. h, λ h. h)
 
 -- to stages and a tail, and back
 InTurnTo-from_Found : (min max from : ℕ) (before later : List Item) (file : List ℕ) → Found None from (before ++ later) file (IsNearEnd min max file)
     → InTurnTo min max file from (stages_of None before later)
 InTurnTo-from_Found min max from before [] file f =
-    let g = Found-same None from _ _ file (IsNearEnd min max file) (append-nil before) f in
+    let g = rw append-nil at f in
     record { start = g.start; end = g.end; not_before = g.not_before; lies = g.lies; least = g.is_end.0; greatest = g.is_end.1 }
 InTurnTo-from_Found min max from before (item.Gap least None ∷ later) file f =
     let cut = Found-cut None from least before later file (IsNearEnd min max file) f in
     (InTurnTo-more min max file from _ (stages_of None [] later) (stages_of-some None [] later)).1
     (cut.0, cut.1, InTurnTo-from_Found min max (cut.0 + least) [] later file cut.2)
-InTurnTo-from_Found min max from before (i ∷ later) file f =
-    InTurnTo-from_Found min max from (before ++ i ∷ []) later file
-    (Found-same None from _ _ file (IsNearEnd min max file) (sym (append_assoc before (i ∷ []) later)) f)
+InTurnTo-from_Found min max from before (i ∷ later) file f = InTurnTo-from_Found min max from (before ++ i ∷ []) later file (rw append_assoc f)
 
 Found-from_InTurnTo : (min max from : ℕ) (before later : List Item) (file : List ℕ) → IsBytes file → InTurnTo min max file from (stages_of None before later)
     → Found None from (before ++ later) file (IsNearEnd min max file)
-Found-from_InTurnTo min max from before [] file bytes t =
-    Found-same None from _ _ file (IsNearEnd min max file) (sym (append-nil before))
+Found-from_InTurnTo min max from before [] file bytes t = rw append-nil
     (record { start = t.start; end = t.end; not_before = t.not_before; not_behind = tt; lies = t.lies; is_end = (t.least, t.greatest) })
 Found-from_InTurnTo min max from before (item.Gap least None ∷ later) file bytes turn =
     let cut = (InTurnTo-more min max file from _ (stages_of None [] later) (stages_of-some None [] later)).0 turn in
     Found-join None from least cut.0 before later file (IsNearEnd min max file) bytes cut.1
     (Found-from_InTurnTo min max (cut.0 + least) [] later file bytes cut.2)
 Found-from_InTurnTo min max from before (i ∷ later) file bytes turn =
-    Found-same None from _ _ file (IsNearEnd min max file) (append_assoc before (i ∷ []) later)
-    (Found-from_InTurnTo min max from (before ++ i ∷ []) later file bytes turn)
+    rw append_assoc at (Found-from_InTurnTo min max from (before ++ i ∷ []) later file bytes turn)
 
 -- a cut of a file says where a word lies, and back
 length-Cut : (items : List Item) (file : List ℕ) (c : Cut items file) → length c.front + length c.word + length c.back ≡ length file
-length-Cut items file c =
-    sym (ap length c.cut ∙ length-append (c.front ++ c.word) c.back ∙ ap (λ n. n + length c.back) (length-append c.front c.word))
+length-Cut items file c = omega (arith, ap length c.cut, length-append (c.front ++ c.word) c.back, length-append c.front c.word)
 
 Lies-from_Cut : (items : List Item) (file : List ℕ) (c : Cut items file) → Lies items file (length c.front) (length c.front + length c.word)
 Lies-from_Cut items file c =
-    let whole = length-Cut items file c in
-    let rest : drop (length c.front) file ≡ c.word ++ c.back =
-    ap (drop (length c.front)) (c.cut ∙ append_assoc c.front c.word c.back) ∙ drop_at c.front (c.word ++ c.back) (length c.front) refl in
-    let len : (length c.front + length c.word) - length c.front ≡ length c.word = omega arith in
-    let word : slice_range file (length c.front) (length c.front + length c.word) ≡ c.word =
-    ap (λ n. take n (drop (length c.front) file)) len ∙ ap (take (length c.word)) rest ∙ take_at c.word c.back (length c.word) refl in
-    record { in_order = omega arith; within = omega arith; is_word = subst (Lang items) (sym word) c.is_word }
+    grind (
+      arith,
+      length-Cut items file c,
+      c.cut,
+      append_assoc c.front c.word c.back,
+      drop_at c.front (c.word ++ c.back) (length c.front) refl,
+      take_at c.word c.back (length c.word) refl,
+    )
 
 Cut-from_Lies : (items : List Item) (file : List ℕ) (start end : ℕ) → Lies items file start end
     → (c : Cut items file) × (length c.front ≡ start) × (end + length c.back ≡ length file)
 Cut-from_Lies items file start end l =
-    let order = l.in_order in
-    let within = l.within in
-    let back = length-drop end file in
-    let c : Cut items file = record {
-      front = take start file;
-      word = slice_range file start end;
-      back = drop end file;
-      cut =
-          sym (take-append-drop start file)
-          ∙ ap (λ (l : List ℕ). take start file ++ l) (drop_split file start end order)
-          ∙ sym (append_assoc (take start file) (slice_range file start end) (drop end file));
-      is_word = l.is_word;
-    } in
-    (c, length-take-le start file (omega arith), omega arith)
+    let cut : file ≡ (take start file ++ slice_range file start end) ++ drop end file =
+    rw append_assoc (rw (← drop_split file start end l.in_order) (sym (take-append-drop start file))) in
+    let c : Cut items file = record { front = take start file; word = slice_range file start end; back = drop end file; cut = cut; is_word = l.is_word } in
+    (c, omega (arith, length-take-le start file), omega (arith, length-drop end file))
+
+-- a cut is found
+Found-from_Cut : (until : Option ℕ) (from : ℕ) (items : List Item) (file : List ℕ) (E : ℕ → Type 0) (c : Cut items file) → from ≤ length c.front
+    → IsAtMost until (length c.front) → E (length c.front + length c.word) → Found until from items file E
+Found-from_Cut until from items file E c low high is_end = search (Lies-from_Cut items file c)
 
 -- to a word and back, at each position
 pub Stands-in_turn : (p : Position) (items : List Item) (file : List ℕ) → IsBytes file
     → StandsAt p items file ↔ CourseStands (course_of (record { position = p; items = items })) file
 Stands-in_turn (position.Bof min max) items file bytes = (
-  λ h. InTurn-from_Found (Some max) min [] items file
-      (record {
-        start = length h.0.front;
-        end = length h.0.front + length h.0.word;
-        not_before = h.1;
-        not_behind = h.2;
-        lies = Lies-from_Cut items file
-            h.0;
-        is_end = tt;
-      }),
+  λ (c, low, high). InTurn-from_Found (Some max) min [] items file (Found-from_Cut (Some max) min items file (λ e. ⊤) c low high tt),
   λ turn.
       let f = Found-from_InTurn (Some max) min [] items file bytes turn in
       let cut = Cut-from_Lies items file f.start f.end f.lies in
-      let low = f.not_before in
-      let high = f.not_behind in
-      let len = cut.1 in
-      (cut.0, omega arith, omega arith),
+      (cut.0, omega (arith, f.not_before), omega (arith, f.not_behind)),
 )
 Stands-in_turn (position.Eof min max) items file bytes = (
-  λ h.
-      let len = length-Cut items file h.0 in
-      let low = h.1 in
-      let high = h.2 in
-      InTurnTo-from_Found min max 0 [] items file (record {
-        start = length h.0.front;
-        end = length h.0.front + length h.0.word;
-        not_before = omega arith;
-        not_behind = tt;
-        lies = Lies-from_Cut items file
-            h.0;
-        is_end = (omega arith, omega arith);
-      }),
+  λ (c, low, high).
+      let len = length-Cut items file c in
+      InTurnTo-from_Found min max 0 [] items file (Found-from_Cut None 0 items file (IsNearEnd min max file) c (omega arith) tt (omega arith, omega arith)),
   λ turn.
       let f = Found-from_InTurnTo min max 0 [] items file bytes turn in
       let cut = Cut-from_Lies items file f.start f.end f.lies in
-      let low = f.is_end.0 in
-      let high = f.is_end.1 in
-      let len = cut.2 in
-      (cut.0, omega arith, omega arith),
+      (cut.0, omega (arith, f.is_end.0), omega (arith, f.is_end.1)),
 )
 Stands-in_turn position.Variable items file bytes = (
-  λ c. InTurn-from_Found None 0 [] items file (record
-      { start = length c.front; end = length c.front + length c.word; not_before = omega arith; not_behind = tt; lies = Lies-from_Cut items file c; is_end = tt }),
+  λ c. InTurn-from_Found None 0 [] items file (Found-from_Cut None 0 items file (λ e. ⊤) c (omega arith) tt tt),
   λ turn. let f = Found-from_InTurn None 0 [] items file bytes turn in (Cut-from_Lies items file f.start f.end f.lies).0,
 )
 
 -- no stage has an unbounded gap, if the items before have none
 stages_of-bounded : (until : Option ℕ) (before later : List Item) → AreBounded before
     → All (λ (t : StageView). AreBounded t.items) (stages_of until before later)
-stages_of-bounded until before [] bounded =
-    let P : StageView → Type 0 = λ t. AreBounded t.items in
-    All-cons P (record { items = before; until = until; delay = 0 }) [] bounded (All-nil P)
+stages_of-bounded until before [] bounded = All-cons (λ (t : StageView). AreBounded t.items) _ [] bounded (All-nil (λ (t : StageView). AreBounded t.items))
 stages_of-bounded until before (item.Gap min None ∷ later) bounded =
-    let P : StageView → Type 0 = λ t. AreBounded t.items in
-    All-cons P (record { items = before; until = until; delay = min }) (stages_of None [] later) bounded
-    (stages_of-bounded None [] later (All-nil IsBoundedItem))
+    All-cons (λ (t : StageView). AreBounded t.items) _ (stages_of None [] later) bounded (stages_of-bounded None [] later (All-nil IsBoundedItem))
 stages_of-bounded until before (i ∷ later) bounded = stages_of-bounded until (before ++ i ∷ []) later (All-push IsBoundedItem before i bounded tt)
 
 -- what holds of the items of each stage holds of those before the last one and of the last items

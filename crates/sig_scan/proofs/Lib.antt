@@ -12,13 +12,9 @@ mod ShortLemmas
 mod HeldLemmas
 mod WaitLemmas
 mod ClassLemmas
-mod GapLemmas
-mod HopLemmas
 mod ItemLemmas
 mod MarkLemmas
-mod OneOfLemmas
 mod PartLemmas
-mod RangeLemmas
 mod ReachLemmas
 mod ReadLemmas
 mod SetLemmas

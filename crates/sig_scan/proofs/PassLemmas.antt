@@ -1,17 +1,10 @@
 -- Sequences go on to what the prefilter found.
-use Rattle.sig_scan.proofs.Common.{◌≡◌, ◌∙◌, ℕ, ◌+◌, ◌-◌, ◌≤◌, ◌<◌, inl, inr, All, List, [], ◌∷◌, ◌++◌, ap, arith, drop, get_or, length, length-append, map, max, min, Option, Some, subst, sym, take, slice_get, option_map, ◌↔◌, slice_index, slice_range, cases_lt, get_or-drop, get_or-take, length-drop, length-map, length-take-le, take_all, get_or_from_slice_get, slice_get-get_or, slice_get-map, slice_get_within, SequenceView, Entry, Course, State, course_in, AreLiteralsOf, AreMissed, IsLiteralOf, LiteralView, StandsAt, ArePast, Lies, InTurnAt, IsShort, WaitsAt, CourseView, StageView, TailView, false}
+use Rattle.sig_scan.proofs.Common.{◌≡◌, ◌∙◌, ℕ, ◌+◌, ◌-◌, ◌≤◌, ◌<◌, inl, inr, All, List, [], ◌∷◌, ◌++◌, ap, arith, drop, get_or, length, length-append, map, max, min, Option, Some, subst, sym, take, slice_get, option_map, ◌↔◌, slice_index, slice_range, cases_lt, get_or-drop, get_or-take, length-drop, length-take-le, take_all, get_or_from_slice_get, slice_get-get_or, slice_get-map, slice_get_within, SequenceView, Entry, Course, State, course_in, AreLiteralsOf, AreMissed, IsLiteralOf, LiteralView, StandsAt, ArePast, Lies, InTurnAt, IsShort, WaitsAt, CourseView, StageView, TailView, false}
 use Rattle.sig_scan.proofs.AttemptLemmas.{Lies-take}
 use Rattle.sig_scan.proofs.LengthLemmas.{Lies-span}
 use Rattle.sig_scan.proofs.LiesLemmas.{Lies-seen_both}
 use Rattle.sig_scan.proofs.StateLemmas.{Lies-at_hand, Waits-skipped, stages-next}
 use Rattle.sig_scan.proofs.TurnLemmas.{InTurn-past}
-
--- a place of a mapped list
-pub within_map : (cs : List Course) (k : ℕ) (c : CourseView) (stages : List StageView) → slice_get (map (course_in stages) cs) k ≡ Some c → k < length cs
-within_map cs k c stages at =
-    let inside = slice_get_within (map (course_in stages) cs) k c at in
-    let len = length-map cs (course_in stages) in
-    omega arith
 
 -- a stage of a course, among all stages
 pub slice_get-range : (stages : List StageView) (a b j : ℕ) (u : StageView) → j < b - a → slice_get stages (a + j) ≡ Some u

@@ -1,125 +1,62 @@
 -- Where words end that begin at given offsets.
-use Rattle.sig_scan.proofs.Common.{◌≡◌, ℕ, ◌+◌, ◌-◌, ◌≤◌, List, [], ◌++◌, length, take, drop, refl, subst, ap, ◌∙◌, sym, arith, take-add, length-append, slice_range, drop-drop, length-take-le, length-drop, take_at, drop_at, HasBit, HasBits, Reaches, set}
+use Rattle.sig_scan.proofs.Common.{◌≡◌, ℕ, ◌+◌, ◌-◌, ◌≤◌, List, [], ◌++◌, length, drop, refl, subst, ap, ◌∙◌, sym, arith, take-add, length-append, slice_range, drop-drop, length-take-le, length-drop, take_at, drop_at, HasBit, HasBits, Reaches, set}
 
 -- the same words from starts in other words
 pub Reaches-starts : (W : List ℕ → Type 0) (file : List ℕ) (S T : ℕ → Type 0) (e : ℕ) → ((a : ℕ) → a ≤ length file → S a → T a) → Reaches W file S e →
     Reaches W file T e
-Reaches-starts W file S T e to r =
-    let start_to_end = r.in_order in
-    let end_within = r.within in
-    record {
-      start = r.start;
-      is_start = to r.start (omega arith) r.is_start;
-      in_order = r.in_order;
-      within = r.within;
-      is_word = r.is_word;
-    }
-
--- the same starts and words in other words
-pub Reaches-words : (V W : List ℕ → Type 0) (file : List ℕ) (S : ℕ → Type 0) (e : ℕ) → ((w : List ℕ) → V w → W w) → Reaches V file S e → Reaches W file S e
-Reaches-words V W file S e to r =
-    record {
-      start = r.start;
-      is_start = r.is_start;
-      in_order = r.in_order;
-      within = r.within;
-      is_word = to (slice_range file r.start e) r.is_word;
-    }
+Reaches-starts W file S T e to r = search (arith, to)
 
 -- how long a part of a file is
 pub length-slice_range : (file : List ℕ) (a e : ℕ) → a ≤ e → e ≤ length file → length (slice_range file a e) ≡ e - a
-length-slice_range file a e order within = length-take-le (e - a) (drop a file) (rw length-drop (omega arith))
+length-slice_range file a e order within = grind (arith, length-take-le (e - a) (drop a file), length-drop a file)
 
 -- a part of a file is cut at an offset
 pub slice_range-split : (file : List ℕ) (a m e : ℕ) → a ≤ m → m ≤ e → slice_range file a e ≡ slice_range file a m ++ slice_range file m e
-slice_range-split file a m e am me =
-    let whole : e - a ≡ (m - a) + (e - m) = omega arith in
-    let middle : a + (m - a) ≡ m = omega arith in
-    rw (whole, take-add (m - a) (e - m) (drop a file), drop-drop (m - a) a file, middle) refl
+slice_range-split file a m e am me = grind (arith, take-add (m - a) (e - m) (drop a file), drop-drop (m - a) a file)
 
 -- the front and the back of a list, by the front's length
 same_pieces : (xs ys u v : List ℕ) → xs ++ ys ≡ u ++ v → length xs ≡ length u → (xs ≡ u) × (ys ≡ v)
-same_pieces xs ys u v e len = (
-  sym (take_at xs ys (length u) len) ∙ ap (take (length u)) e ∙ take_at u v (length u) refl,
-  sym (drop_at xs ys (length u) len) ∙ ap (drop (length u)) e ∙ drop_at u v (length u) refl,
-)
+same_pieces xs ys u v e len =
+    grind (arith, take_at xs ys (length u) len, take_at u v (length u) refl, drop_at xs ys (length u) len, drop_at u v (length u) refl)
+
+-- a part of a file that is two words joined is the one and then, from its end on, the other
+pub slice_range-words : (V W : List ℕ → Type 0) (file : List ℕ) (a e : ℕ) → a ≤ e → e ≤ length file
+    → (u v : List ℕ) × (slice_range file a e ≡ u ++ v) × V u × W v → (m : ℕ) × (a ≤ m) × (m ≤ e) × V (slice_range file a m) × W (slice_range file m e)
+slice_range-words V W file a e order within (u, v, joined, first, second) =
+    let whole : e - a ≡ length u + length v = sym (length-slice_range file a e order within) ∙ ap length joined ∙ length-append u v in
+    let m : ℕ = a + length u in
+    let len = length-slice_range file a m (omega arith) (omega arith) in
+    let same = same_pieces (slice_range file a m) (slice_range file m e) u v (sym (slice_range-split file a m e (omega arith) (omega arith)) ∙ joined) (omega arith) in
+    (m, omega arith, omega arith, subst V (sym same.0) first, subst W (sym same.1) second)
 
 -- a word that is two words joined ends where the second one does, that begins where the first one ends
 pub Reaches-split : (U V W : List ℕ → Type 0) (file : List ℕ) (S : ℕ → Type 0) (e : ℕ) →
     ((w : List ℕ) → U w → (u v : List ℕ) × (w ≡ u ++ v) × V u × W v) → Reaches U file S e → Reaches W file (Reaches V file S) e
 Reaches-split U V W file S e cut r =
-    let start_to_end : r.start ≤ e = r.in_order in
-    let end_within : e ≤ length file = r.within in
-    let pieces = cut (slice_range file r.start e) r.is_word in
-    let u : List ℕ = pieces.0 in
-    let v : List ℕ = pieces.1 in
-    let joined : slice_range file r.start e ≡ u ++ v = pieces.2 in
-    let len : e - r.start ≡ length u + length v = sym (length-slice_range file r.start e start_to_end end_within) ∙ ap length joined ∙ length-append u v in
-    let m : ℕ = r.start + length u in
-    let low : r.start ≤ m = omega arith in
-    let high : m ≤ e = omega arith in
-    let fits : m ≤ length file = omega arith in
-    let front_len : length (slice_range file r.start m) ≡ length u = length-slice_range file r.start m low fits ∙ omega arith in
-    let same = same_pieces (slice_range file r.start m) (slice_range file m e) u v (sym (slice_range-split file r.start m e low high) ∙ joined) front_len in
-    record {
-      start = m;
-      is_start = record { start = r.start; is_start = r.is_start; in_order = low; within = fits; is_word = subst V (sym same.0) pieces.3 };
-      in_order = high;
-      within = r.within;
-      is_word = subst W (sym same.1) pieces.4;
-    }
+    let parts = slice_range-words V W file r.start e r.in_order r.within (cut (slice_range file r.start e) r.is_word) in
+    let first : Reaches V file S parts.0 = record { start = r.start; is_start = r.is_start; in_order = parts.1; within = omega arith; is_word = parts.3 } in
+    record { start = parts.0; is_start = first; in_order = parts.2; within = r.within; is_word = parts.4 }
 
 -- the converse
 pub Reaches-join : (U V W : List ℕ → Type 0) (file : List ℕ) (S : ℕ → Type 0) (e : ℕ) → ((w u v : List ℕ) → w ≡ u ++ v → V u → W v → U w) →
     Reaches W file (Reaches V file S) e → Reaches U file S e
 Reaches-join U V W file S e join r =
     let first = r.is_start in
-    let start_to_middle : first.start ≤ r.start = first.in_order in
-    let middle_to_end : r.start ≤ e = r.in_order in
-    record {
-      start = first.start;
-      is_start = first.is_start;
-      in_order = omega arith;
-      within = r.within;
-      is_word = join _ _ _ (slice_range-split file first.start r.start e start_to_middle middle_to_end) first.is_word r.is_word;
-    }
+    let word = join _ _ _ (slice_range-split file first.start r.start e first.in_order r.in_order) first.is_word r.is_word in
+    record { start = first.start; is_start = first.is_start; in_order = omega arith; within = r.within; is_word = word }
 
 -- where the empty word ends
 Reaches-nil : (file : List ℕ) (S : ℕ → Type 0) (e : ℕ) → Reaches (λ w. w ≡ []) file S e → S e
-Reaches-nil file S e r =
-    let order = r.in_order in
-    let within = r.within in
-    let len : e - r.start ≡ 0 = sym (length-slice_range file r.start e r.in_order r.within) ∙ ap length r.is_word in
-    let same : r.start ≡ e = omega arith in
-    subst S same r.is_start
+Reaches-nil file S e r = grind (arith, length-slice_range file r.start e r.in_order r.within, ap length r.is_word)
 
 -- the empty word stands everywhere in a file
 Reaches-nil_at : (file : List ℕ) (S : ℕ → Type 0) (e : ℕ) → S e → e ≤ length file → Reaches (λ w. w ≡ []) file S e
-Reaches-nil_at file S e h within = record {
-  start = e;
-  is_start = h;
-  in_order = omega arith;
-  within = within;
-  is_word = (let none : e - e ≡ 0 = omega arith in rw none refl);
-}
+Reaches-nil_at file S e h within = record { start = e; is_start = h; in_order = omega arith; within = within; is_word = grind arith }
 
 -- the rest of the words, from the offsets of the set on, ends where all of the words do
 pub record Carries (U W : List ℕ → Type 0) (file : List ℕ) (S : ℕ → Type 0) (set : List ℕ) : Type 0 where
   pub sound : (e : ℕ) → Reaches W file (HasBit set) e → Reaches U file S e
   pub complete : (e : ℕ) → Reaches U file S e → Reaches W file (HasBit set) e
-
--- all words are still to come
-pub Carries-start : (U : List ℕ → Type 0) (file set : List ℕ) → Carries U U file (HasBit set) set
-Carries-start U file set = record { sound = λ e r. r; complete = λ e r. r }
-
--- from one set to the next
-pub Carries-more : (U V W W' : List ℕ → Type 0) (file : List ℕ) (S : ℕ → Type 0) (old new : List ℕ) →
-    ((w : List ℕ) → W w → (u v : List ℕ) × (w ≡ u ++ v) × V u × W' v) → ((w u v : List ℕ) → w ≡ u ++ v → V u → W' v → W w) → Carries U W file S old →
-    HasBits (Reaches V file (HasBit old)) new → Carries U W' file S new
-Carries-more U V W W' file S old new cut join carries next = record {
-  sound = λ e r. carries.sound e (Reaches-join W V W' file (HasBit old) e join (Reaches-starts W' file _ _ e (λ a _ h. next.sound a h) r));
-  complete = λ e r. Reaches-starts W' file _ _ e (λ a _ h. next.complete a h) (Reaches-split W V W' file (HasBit old) e cut (carries.complete e r));
-}
 
 -- no word is still to come
 pub HasBits-from_carries : (U : List ℕ → Type 0) (file : List ℕ) (S : ℕ → Type 0) (set : List ℕ) → ((a : ℕ) → HasBit set a → a ≤ length file) →
@@ -134,11 +71,5 @@ pub HasBits-from_none : (U W : List ℕ → Type 0) (file : List ℕ) (S : ℕ �
     ((a : ℕ) → HasBit set a → a ≤ length file) → Carries U W file S set → HasBits (Reaches U file S) set
 HasBits-from_none U W file S set none within carries = record {
   sound = λ o h. absurd (none o (within o h) h);
-  complete = λ o r.
-      absurd (
-      let left = carries.complete o r in
-      let order = left.in_order in
-      let fits = left.within in
-      none left.start (omega arith) left.is_start
-      );
+  complete = λ o r. (let left = carries.complete o r in absurd (none left.start (omega arith) left.is_start));
 }

@@ -1,5 +1,5 @@
 -- The states of all sequences: one after the other is settled.
-use Rattle.sig_scan.proofs.Common.{◌≡◌, ◌∙◌, ℕ, ◌+◌, ◌-◌, ◌≤◌, ◌<◌, ◌⊎◌, ◌^◌, inl, inr, All, Bool, List, ◌++◌, ap, append_assoc, arith, drop, get_or, get_or-set_other, get_or-set_same, length, length-append, min, None, Option, Some, subst, sym, take, true, length-set, set, cases_eq, cases_lt, length-drop, length-take-le, take-append-drop, All-append, All-get_or, get_or_from_slice_get, slice_get-get_or, slice_get_past, slice_get_within, slice_get, IfSome, IsBytes, IsBoundedCourse, IsHeld, AreBounded, span, AllWait, AreExcluded, AreDone, IsShortCourse, TailIsShort, WaitsAt, CourseView, StageView, TailView, Waits, State, slice_get-within, Hits, SequenceView, TableView, false, false≢true, SignatureView, ProgramView, owner, Knows, not, refl, max, [], drop_all}
+use Rattle.sig_scan.proofs.Common.{◌≡◌, ◌∙◌, ℕ, ◌+◌, ◌-◌, ◌≤◌, ◌<◌, ◌⊎◌, ◌^◌, inl, inr, All, Bool, List, ◌++◌, ap, append_assoc, arith, drop, get_or, get_or-set_other, get_or-set_same, length, length-append, min, None, Option, Some, subst, sym, take, true, length-set, set, cases_eq, cases_lt, length-drop, length-take-le, take-append-drop, All-append, All-get_or, get_or_from_slice_get, slice_get-get_or, slice_get_past, slice_get_within, slice_get, IfSome, IsBytes, IsBoundedCourse, IsHeld, AreBounded, span, AllWait, AreExcluded, AreDone, IsShortCourse, TailIsShort, WaitsAt, CourseView, StageView, TailView, Waits, State, slice_get-within, Hits, SequenceView, TableView, false, false≢true, SignatureView, ProgramView, Knows, not, refl, [], drop_all}
 use Rattle.sig_scan.proofs.StateLemmas.{Waits-tail}
 use Rattle.sig_scan.proofs.WaitLemmas.{Waits-fed}
 

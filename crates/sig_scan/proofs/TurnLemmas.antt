@@ -1,5 +1,5 @@
 -- Stages in turn: from an earlier offset on, and behind the first end of the first one.
-use Rattle.sig_scan.proofs.Common.{◌≡◌, ℕ, ◌+◌, ◌-◌, ◌≤◌, ◌<◌, List, [], ◌∷◌, ◌++◌, length, length-append, Option, None, Some, subst, inl, inr, arith, ◌↔◌, cases_lt, IsAtMost, AreBounded, span, Lies, InTurn, IsFirstEnd, TailStandsIfAny, StageEnds, StageView, TailStands, TailView, max}
+use Rattle.sig_scan.proofs.Common.{◌≡◌, ℕ, ◌+◌, ◌-◌, ◌≤◌, ◌<◌, List, [], ◌∷◌, ◌++◌, length, length-append, Option, None, Some, subst, inl, inr, arith, ◌↔◌, cases_lt, IsAtMost, AreBounded, span, Lies, InTurn, IsFirstEnd, TailStandsIfAny, StageEnds, StageView, TailStands, TailView}
 use Rattle.sig_scan.proofs.LengthLemmas.{Lies-span}
 use Rattle.sig_scan.proofs.LiesLemmas.{Lies-behind, Lies-seen_both}
 

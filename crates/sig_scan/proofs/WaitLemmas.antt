@@ -1,6 +1,6 @@
 -- What a sequence waits for: at the beginning, behind more bytes, behind a first end, and past what
 -- was tried.
-use Rattle.sig_scan.proofs.Common.{ℕ, ◌+◌, ◌≤◌, ◌<◌, List, [], ◌∷◌, ◌++◌, length, Option, append_assoc, arith, subst, sym, ◌↔◌, append-nil, All-append, All-nil, IsBytes, IsAtMost, Stands, SequenceView, AreBounded, span, Lies, NeverStands, InTurn, IsFirstEnd, StageView, TailView, Waits, course_of, ◌∙◌, Bool, ap, false, refl, true, Item, HasSight, Follows}
+use Rattle.sig_scan.proofs.Common.{ℕ, ◌+◌, ◌≤◌, ◌<◌, List, [], ◌∷◌, ◌++◌, length, Option, append_assoc, arith, subst, sym, ◌↔◌, append-nil, All-append, All-nil, IsBytes, IsAtMost, Stands, SequenceView, AreBounded, span, Lies, InTurn, IsFirstEnd, StageView, TailView, Waits, course_of, ◌∙◌, Bool, ap, false, refl, true, Item, HasSight, Follows}
 use Rattle.sig_scan.proofs.CutLemmas.{Stands-in_turn}
 use Rattle.sig_scan.proofs.LengthLemmas.{Lies-in_sight}
 use Rattle.sig_scan.proofs.TurnLemmas.{InTurn-first, InTurn-past, IsFirstEnd-seen}
@@ -60,11 +60,3 @@ Waits-last s file from stages tail is = record {
   residual = λ more none.
       subst (λ (l : List ℕ). Stands s l ↔ InTurn l from stages tail) (sym (ap (λ (m : List ℕ). file ++ m) none ∙ append-nil file)) is;
 }
-
--- where no word of the first stage may begin any more, the sequence never stands
-pub Waits-never : (s : SequenceView) (t : StageView) (file : List ℕ) (from : ℕ) (stages : List StageView) (tail : Option TailView)
-    → ((x : ℕ) → from ≤ x → ¬ IsAtMost t.until x) → Waits false s file from (t ∷ stages) tail → NeverStands s file
-Waits-never s t file from stages tail none waits more bytes stands =
-    let turn = (waits.residual more bytes).0 stands in
-    let ends = turn.1 in
-    none ends.start ends.not_before ends.not_behind

@@ -64,10 +64,6 @@ pub record IsWholeProgramOf (table : TableView) (program : ProgramView) : Type 0
 abbrev pub course_in : List StageView → Course → CourseView
 course_in stages c = record { from = c.from; stages = slice_range stages c.first c.end; tail = c.tail }
 
--- the number of its signature
-abbrev pub owner : Course → ℕ
-owner c = c.signature
-
 -- the stages of a course are added to the list, and these are their places
 pub record AddsCourse (old new : List StageView) (c : Course) (course : CourseView) : Type 0 where
   pub stages : new ≡ old ++ course.stages

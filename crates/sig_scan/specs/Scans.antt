@@ -125,7 +125,7 @@ pub record IsScan (room : ℕ) (scan : ScanView) : Type 0 where
 -- what is known behind this file: its last bytes are at hand, each sequence of a signature that may hit the file waits for what its state
 -- says, and an excluded signature hits no file that so begins
 pub record Knows (table : TableView) (file : List ℕ) (program : ProgramView) (keep base : ℕ) (bytes : List ℕ) (states : List State)
-  (may_hit : List Bool) : Type 0 where
+    (may_hit : List Bool) : Type 0 where
   pub sequences : List SequenceView
   pub are : AreSequencesOf table program.owners sequences
   pub size : length may_hit ≡ length table.signatures

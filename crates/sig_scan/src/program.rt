@@ -27,11 +27,10 @@ use sig_table::{Position, Sequence, SigId, Table};
 use std::alloc::{AllocError, Global};
 use std::marker::Model;
 
-// A sequence: its signature, the first offset at which it may begin, where its stages stand among those
-// of the table, and its tail.
+// A sequence: the first offset at which it may begin, where its stages stand among those of the table, and
+// its tail.
 #[derive(Debug, Drop)]
 struct Course {
-    signature: usize,
     from: u16,
     first: usize,
     end: usize,
@@ -42,6 +41,8 @@ struct Course {
 #[derive(Debug, Drop)]
 pub(crate) struct Program {
     stages: Vec<Stage>,
+    // Of each sequence its signature, apart from its course, since each file asks for all of them.
+    owners: Vec<usize>,
     courses: Vec<Course>,
     // Of each sequence, what is known of it at the beginning of a file.
     states: Vec<State>,
@@ -54,15 +55,16 @@ pub(crate) struct Program {
 
 impl Model for Program {
     ghost use Rattle.std.specs.Prelude.{◌≡◌, length, map};
-    ghost use Rattle.sig_scan.specs.Courses.{IsCompiled, ProgramView, course_in, owner};
+    ghost use Rattle.sig_scan.specs.Courses.{IsCompiled, ProgramView, course_in};
     ghost use Rattle.sig_scan.specs.Scans.{AreFirst};
 
     ghost Value = { ProgramView };
 
-    ghost view = { λ p. record { owners = map owner p.courses.items; courses = map (course_in p.stages.items) p.courses.items } };
+    ghost view = { λ p. record { owners = p.owners.items; courses = map (course_in p.stages.items) p.courses.items } };
 
     ghost invariant = { λ p. IsCompiled p.keep p.early p.late p.stages.items p.courses.items
-        × (length p.states.items ≡ length p.courses.items) × AreFirst (map (course_in p.stages.items) p.courses.items) p.states.items };
+        × (length p.owners.items ≡ length p.courses.items) × (length p.states.items ≡ length p.courses.items)
+        × AreFirst (map (course_in p.stages.items) p.courses.items) p.states.items };
 }
 
 impl Program {
@@ -73,19 +75,22 @@ impl Program {
     {
         let most = 2 * table.signature_count();
         let mut stages = Vec::with_capacity(alloc, most)?;
+        let mut owners = Vec::with_capacity(alloc, most)?;
         let mut courses = Vec::with_capacity(alloc, most)?;
         for index in 0..table.signature_count() {
             for sequence in table.sequences_of(SigId(index as u16)) {
-                let course = add_course(alloc, sequence, index, may_hit[index], &mut stages)?;
+                let course = add_course(alloc, sequence, may_hit[index], &mut stages)?;
                 courses.push(course)?;
+                owners.push(index)?;
             }
         }
         let states = first_states(alloc, &stages, &courses)?;
-        let early = filter_of(alloc, &stages, &courses, true)?;
-        let late = filter_of(alloc, &stages, &courses, false)?;
+        let early = filter_of(alloc, &stages, &owners, &courses, true)?;
+        let late = filter_of(alloc, &stages, &owners, &courses, false)?;
         let keep = keep_of(&stages, &courses);
         Ok(Program {
             stages,
+            owners,
             courses,
             states,
             early,
@@ -141,7 +146,7 @@ impl Program {
         requires { sequence < length self.now.courses }
         ensures { slice_get self.now.owners sequence ≡ Some result }
     {
-        self.courses[sequence].signature
+        self.owners[sequence]
     }
 
     // Finds for each sequence of a signature that the file may hit an offset before which no word of the stage that it
@@ -201,9 +206,11 @@ fn first_state(course: &Course, stages: &[Stage]) -> State
 fn filter_of(
     alloc: Global,
     stages: &[Stage],
+    owners: &[usize],
     courses: &[Course],
     is_early: bool,
 ) -> Result<Filter, AllocError>
+    requires { length owners.now ≡ length courses.now }
     ensures { IfOk result (AreLiteralsOf (map (course_in stages.now) courses.now)) }
 {
     let mut filter = Filter::new(alloc)?;
@@ -214,6 +221,7 @@ fn filter_of(
                 &mut filter,
                 &stages[stage],
                 course,
+                owners[sequence],
                 sequence,
                 done,
                 is_early,
@@ -229,6 +237,7 @@ fn add_literal(
     filter: &mut Filter,
     stage: &Stage,
     course: &Course,
+    signature: usize,
     sequence: usize,
     done: usize,
     is_early: bool,
@@ -243,13 +252,7 @@ fn add_literal(
     if !is_wanted || stage.literal.text().len() < 4 {
         return Ok(());
     }
-    filter.add(
-        &stage.literal,
-        stage.until,
-        course.signature,
-        sequence,
-        done,
-    )
+    filter.add(&stage.literal, stage.until, signature, sequence, done)
 }
 
 // The same of these stages and tails.
@@ -274,20 +277,17 @@ fn keep_of(stages: &[Stage], courses: &[Course]) -> usize
 fn add_course(
     alloc: Global,
     sequence: &Sequence,
-    signature: usize,
     may_hit: bool,
     stages: &mut Vec<Stage>,
 ) -> Result<Course, AllocError>
     ensures adds { IfOk result (λ course. AddsCourse stages.old.items stages.new.items course (course_if may_hit sequence.now)) }
-    ensures signature { IfOk result (λ course. course.signature ≡ signature) }
     ensures sequence { IsSequence sequence.now }
 {
     if may_hit {
-        return add_stages(alloc, sequence, signature, stages);
+        return add_stages(alloc, sequence, stages);
     }
     let _ = sequence.expr();
     Ok(Course {
-        signature,
         from: 0,
         first: stages.len(),
         end: stages.len(),
@@ -299,11 +299,9 @@ fn add_course(
 fn add_stages(
     alloc: Global,
     sequence: &Sequence,
-    signature: usize,
     stages: &mut Vec<Stage>,
 ) -> Result<Course, AllocError>
     ensures adds { IfOk result (λ course. AddsCourse stages.old.items stages.new.items course (course_of sequence.now)) }
-    ensures signature { IfOk result (λ course. course.signature ≡ signature) }
     ensures sequence { IsSequence sequence.now }
 {
     let items = sequence.expr().items();
@@ -312,7 +310,6 @@ fn add_stages(
         Position::Bof { min, max } => {
             cut_whole(alloc, items, Some(u32::from(max)), stages)?;
             Ok(Course {
-                signature,
                 from: min,
                 first,
                 end: stages.len(),
@@ -322,7 +319,6 @@ fn add_stages(
         Position::Eof { min, max } => {
             let last = cut(alloc, items, None, stages)?.into_items();
             Ok(Course {
-                signature,
                 from: 0,
                 first,
                 end: stages.len(),
@@ -332,7 +328,6 @@ fn add_stages(
         Position::Variable => {
             cut_whole(alloc, items, None, stages)?;
             Ok(Course {
-                signature,
                 from: 0,
                 first,
                 end: stages.len(),

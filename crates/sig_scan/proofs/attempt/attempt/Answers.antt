@@ -1,4 +1,4 @@
-use Rattle.sig_scan.proofs.Common.{arith, min, unwrap_or}
+use Rattle.sig_scan.proofs.Common.{arith}
 use Rattle.sig_scan.proofs.AttemptLemmas.{IsFirstOf-second}
 use Rattle.sig_scan.proofs.attempt.attempt.Goals as goal
 

@@ -1,4 +1,4 @@
-use Rattle.sig_scan.proofs.Common.{◌∙◌, ◌≡◌, List, ap, arith, subst, sym, ℕ, AreExcluded, BufferView, IsScanOf, true}
+use Rattle.sig_scan.proofs.Common.{◌∙◌, ◌≡◌, List, ap, arith, subst, sym, ℕ, AreExcluded, BufferView, IsScanOf}
 use Rattle.sig_scan.proofs.ReadLemmas.{HitFormatsOfSome-read, IsRead-more}
 use Rattle.sig_scan.proofs.block_core.scan_on.Goals as goal
 

@@ -1,4 +1,4 @@
-use Rattle.sig_scan.proofs.Common.{◌≤◌, ℕ, List, ap, arith, get_or, length, sym, subst, get_or_default, set, AreOwned, State, max, true}
+use Rattle.sig_scan.proofs.Common.{◌≤◌, ℕ, List, ap, arith, get_or, length, sym, subst, get_or_default, set, AreOwned, State}
 use Rattle.sig_scan.proofs.FilterLemmas.{AreOwned-set}
 use Rattle.sig_scan.proofs.filter.begin.Goals as goal
 use Rattle.sig_scan.proofs.filter.begin.Goals.{then-is_wanted+then-k-states+then-k-found+then-states-k, else-is_wanted}

@@ -1,4 +1,4 @@
-use Rattle.sig_scan.proofs.Common.{get_or, inl, inr, get_or_default, State, false, true}
+use Rattle.sig_scan.proofs.Common.{get_or, inl, inr, get_or_default, State}
 use Rattle.sig_scan.proofs.FilterLemmas.{IsPassedAt-none, IsPassedAt-set}
 use Rattle.sig_scan.proofs.filter.compare.Goals as goal
 use Rattle.sig_scan.proofs.filter.compare.Goals.{else-k-states-via-then-k-states+else-k-found, else-k-states-via-else-k-states}

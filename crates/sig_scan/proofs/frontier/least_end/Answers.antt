@@ -1,4 +1,4 @@
-use Rattle.sig_scan.proofs.Common.{◌+◌, length, set}
+use Rattle.sig_scan.proofs.Common.{◌+◌, length}
 use Rattle.sig_scan.proofs.WindowLemmas.{least_by_set}
 use Rattle.sig_scan.proofs.frontier.least_end.Goals as goal
 

@@ -1,4 +1,4 @@
-use Rattle.sig_scan.proofs.Common.{◌<◌, arith, get_or, length, subst, sym, AreExcluded, Head, true}
+use Rattle.sig_scan.proofs.Common.{◌<◌, arith, get_or, length, subst, sym, AreExcluded, Head}
 use Rattle.sig_scan.proofs.HeadLemmas.{AreExcluded-head}
 use Rattle.sig_scan.proofs.head.exclude.Goals as goal
 use Rattle.sig_scan.proofs.head.exclude.Goals.{else-k-may_hit, then-k-may_hit+then-not-may_stand}

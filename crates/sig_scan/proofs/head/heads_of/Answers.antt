@@ -1,4 +1,4 @@
-use Rattle.sig_scan.proofs.Common.{arith, length, sym, subst, ◌<◌, All-push, All-same, slice_get-within, AreHeadsOf, IsHeadOf, Head, Vec, Global, true}
+use Rattle.sig_scan.proofs.Common.{arith, length, sym, subst, ◌<◌, All-push, All-same, slice_get-within, AreHeadsOf, IsHeadOf, Head, Vec, Global}
 use Rattle.sig_scan.proofs.HeadLemmas.{IsHeadOf-sequence}
 use Rattle.sig_scan.proofs.head.heads_of.Goals as goal
 use Rattle.sig_scan.proofs.head.heads_of.Goals.{in-Some+in_ok-push, in_default}

@@ -1,4 +1,4 @@
-use Rattle.sig_scan.proofs.Common.{ap, arith, longest_of, true}
+use Rattle.sig_scan.proofs.Common.{ap, arith, longest_of}
 use Rattle.sig_scan.proofs.LengthLemmas.{alternatives-next}
 use Rattle.sig_scan.proofs.lengths.span_of_any.Goals as goal
 

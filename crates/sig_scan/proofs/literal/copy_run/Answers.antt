@@ -1,4 +1,4 @@
-use Rattle.sig_scan.proofs.Common.{arith, IsEitherOf, min, true}
+use Rattle.sig_scan.proofs.Common.{arith, IsEitherOf}
 use Rattle.sig_scan.proofs.LiteralLemmas.{BeginsWith-more}
 use Rattle.sig_scan.proofs.literal.copy_run.Goals as goal
 

@@ -1,4 +1,4 @@
-use Rattle.sig_scan.proofs.Common.{◌≡◌, ◌↔◌, ◌⊎◌, ℕ, ◌+◌, ◌*◌, bit_at, HasBit, HasWord, set}
+use Rattle.sig_scan.proofs.Common.{◌≡◌, ◌↔◌, ◌⊎◌, ℕ, ◌+◌, ◌*◌, bit_at, HasBit, HasWord}
 use Rattle.sig_scan.proofs.marks.add_word.Given as goal
 
 -- the bits of the bytes so far are added, and the others are left

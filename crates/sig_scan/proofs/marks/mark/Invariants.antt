@@ -1,4 +1,4 @@
-use Rattle.sig_scan.proofs.Common.{◌≡◌, ◌*◌, ◌/◌, ◌-◌, ◌≤◌, length, MarksBelow, set}
+use Rattle.sig_scan.proofs.Common.{◌≡◌, ◌*◌, ◌/◌, ◌-◌, ◌≤◌, length, MarksBelow}
 use Rattle.sig_scan.proofs.marks.mark.Given as goal
 
 -- the offsets so far

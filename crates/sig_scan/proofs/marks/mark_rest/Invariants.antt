@@ -1,4 +1,4 @@
-use Rattle.sig_scan.proofs.Common.{MarksBelow, set}
+use Rattle.sig_scan.proofs.Common.{MarksBelow}
 use Rattle.sig_scan.proofs.marks.mark_rest.Given as goal
 
 -- the offsets so far

@@ -1,4 +1,4 @@
-use Rattle.sig_scan.proofs.Common.{◌≡◌, ◌++◌, ◌∷◌, [], ◌∙◌, List, Some, None, ap, subst, sym, length, rules, ◌≤◌, Item, AddsCourse, StageView, TailView, course_of, stages_of, span, max, min}
+use Rattle.sig_scan.proofs.Common.{◌≡◌, ◌++◌, ◌∷◌, [], ◌∙◌, List, Some, None, ap, subst, sym, length, rules, ◌≤◌, Item, AddsCourse, StageView, TailView, course_of, stages_of, span}
 use Rattle.sig_scan.proofs.HeldLemmas.{last-short}
 use Rattle.sig_scan.proofs.ProgramLemmas.{AddsCourse-to_end}
 use Rattle.sig_scan.proofs.program.add_stages.Goals as goal
@@ -26,7 +26,6 @@ returns-in_ok-cut-in-Eof-clause-adds c =
     let end : c.len-in-Eof.result ≡ length new = search rules in
     let tail : c.of.result ≡ record { items = last.items; min = c.in-Eof.min; max = c.in-Eof.max } =
     c.of.ensures ∙ ap (λ (l : List Item). record { items = l; min = c.in-Eof.min; max = c.in-Eof.max }) c.into_items-last.ensures in
-    let P : TailView → Type 0 = λ t. AddsCourse old new (record { signature = c.args.signature; from = 0; first = c.len-first.result; end = c.len-in-Eof.result; tail = Some t })
+    let P : TailView → Type 0 = λ t. AddsCourse old new (record { from = 0; first = c.len-first.result; end = c.len-in-Eof.result; tail = Some t })
     (course_of s) in
-    subst P (sym tail)
-    (AddsCourse-to_end old new s last c.in-Eof.min c.in-Eof.max _ _ _ (sym c.in-Eof.ensures) same first end)
+    subst P (sym tail) (AddsCourse-to_end old new s last c.in-Eof.min c.in-Eof.max _ _ (sym c.in-Eof.ensures) same first end)

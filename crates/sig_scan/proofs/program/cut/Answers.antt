@@ -1,5 +1,5 @@
-use Rattle.sig_scan.proofs.Common.{◌≡◌, ◌++◌, ◌∷◌, [], List, Ok, Err, Result, arith, subst, sym, AllocError, IfOk, StageView, stages_of, false, true}
-use Rattle.sig_scan.proofs.ProgramLemmas.{stages_of-last, stages_of-more, stages_of-same}
+use Rattle.sig_scan.proofs.Common.{◌++◌, [], List, arith, StageView, stages_of}
+use Rattle.sig_scan.proofs.ProgramLemmas.{stages_of-more, stages_of-same}
 use Rattle.sig_scan.proofs.program.cut.Goals as goal
 use Rattle.sig_scan.proofs.program.cut.Goals.{in-Some+in_ok-stage+in_ok-push, in_default}
 
@@ -22,12 +22,3 @@ loop-i-preserved c =
           w.in_default.ensures c.loop-i.invariant.same in
           record { in_range = omega arith; same = (rw (w.stages-is, w.until-is, w.begin-is) next) })
     ]
-
-on_ok : (r : Result StageView AllocError) (P : StageView → Type 0) (v : StageView) → IfOk r (λ s. s ≡ v) → P v → IfOk r P
-on_ok (Ok s) P v is p = subst P (sym is) p
-on_ok (Err e) P v is p = tt
-
-pub returns : goal.returns
-returns c = on_ok c.of-2.result (λ s. c.loop-i.stages.items ++ s ∷ [] ≡ c.args.stages.now.items ++ stages_of c.args.until [] c.args.items.now) _ c.of-2.ensures
-    (stages_of-last c.args.items.now c.loop-i.stages.items (c.args.stages.now.items ++ stages_of c.args.until [] c.args.items.now)
-    c.loop-i.until c.loop-i.begin c.loop-i.i c.loop-i.auto.i-end c.loop-i-test.false c.loop-i.invariant.same)

@@ -1,4 +1,4 @@
-use Rattle.sig_scan.proofs.Common.{◌∷◌, [], arith, length-append, true}
+use Rattle.sig_scan.proofs.Common.{◌∷◌, [], arith, length-append}
 use Rattle.sig_scan.proofs.FirstLemmas.{AreFirst-pushed}
 use Rattle.sig_scan.proofs.program.first_states.Goals as goal
 

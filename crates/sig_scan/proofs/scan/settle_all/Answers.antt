@@ -1,4 +1,4 @@
-use Rattle.sig_scan.proofs.Common.{arith, refl, ◌++◌, ◌+◌, ◌<◌, ◌∙◌, ◌≡◌, ◌≤◌, All, Bool, List, Some, ap, drop, false, get_or, length, not, subst, sym, true, ℕ, set, slice_get-get_or, slice_get_within, slice_get, slice_get-within, SequenceView, TableView, AreDone, AreExcluded, IsBase, IsShort, IsShortCourse, Knows, NeverStands, WaitsAt, CourseView, StageView, State, max, owner}
+use Rattle.sig_scan.proofs.Common.{arith, refl, ◌++◌, ◌+◌, ◌<◌, ◌∙◌, ◌≡◌, ◌≤◌, All, Bool, List, Some, ap, drop, false, get_or, length, not, subst, sym, true, ℕ, set, slice_get-get_or, slice_get_within, slice_get, slice_get-within, SequenceView, TableView, AreDone, AreExcluded, IsBase, IsShort, IsShortCourse, Knows, NeverStands, WaitsAt, CourseView, StageView, State}
 use Rattle.sig_scan.proofs.PassLemmas.{Waits-found}
 use Rattle.sig_scan.proofs.ScanLemmas.{All-at, AllMoved, AllMoved-set, AllMoved-skip, AreDone-set, AreExcluded-set, Knows-settled, Waits-rest, slice_get-set_other, true_from_not}
 use Rattle.sig_scan.proofs.scan.settle_all.Goals as goal
@@ -66,56 +66,60 @@ loop-k-preserved c =
           let on : (before : List ℕ) → IsBase before base → (s : SequenceView) (course : CourseView) → slice_get courses k ≡ Some course
           → WaitsAt s before bytes old.from (drop old.done course.stages) course.tail
           → WaitsAt s before bytes next.from (drop next.done course.stages) course.tail = (
-            λ before counted s course here waits.
-            let few = All-at (IsShortCourse reach) courses k course here c.requires.held in
-            let from = w.max.result in
-            let P : List StageView → Type 0 = λ l. All (IsShort reach) l → WaitsAt s before bytes from (drop old.done l) course.tail
-            → WaitsAt s before bytes next.from (drop next.done l) course.tail in
-            let went = Waits-found s course.stages course.tail before bytes old.done old.from (get_or c.args.found.now k 0) limit from reach few.stages
-            (omega arith) (omega arith) (λ x low high. c.requires.past k x course old here first low high) waits in
-            subst P (w.stages_of-stages.ensures course here) (λ each u. w.settle-settled.ensures.waits s before course.tail counted each u)
-            few.stages went) in
-          (subst (λ l. Now c.if-may_hit-signature.states l) (sym w.may_hit-is) (subst (λ ts. Now ts (set flags own b)) (sym w.states-is) (
-            AreDone-set courses states k v within
-                (λ course here. subst (λ (l : List StageView). next.done ≤ length l) (w.stages_of-stages.ensures course here) w.settle-settled.ensures.done)
-                c.loop-k.invariant.done,
-            λ i low.
-                let far : (i ≡ k → ⊥) = λ same. omega arith in
-                slice_get-set_other states k i v far ∙ c.loop-k.invariant.kept i (omega arith),
-            λ table file known. (
-                let before = known.before in
-                let was = c.loop-k.invariant.settled table file known in (
-                  AllMoved-set k limit own known.sequences program flags before bytes states old v b within inside owner may at
-                      (λ _ s course here waits.
-                      Waits-rest s course.stages course.tail before bytes next.done next.from limit w.saturating_sub.result reach
-                      (All-at (IsShortCourse reach) courses k course here c.requires.held).tail (omega arith) w.saturating_sub.ensures
-                      (subst (λ (l : List StageView). next.done < length l → limit ≤ next.from) (w.stages_of-stages.ensures course here)
-                      w.settle-settled.ensures.settled)
-                      (on before known.counted s course here waits))
-                      was.0,
-                  AreExcluded-set table flags file own b inside
-                      (λ out h signature more are hits.
-                      let course = slice_get-within courses k (omega arith) in
-                      let many = known.are.count in
-                      let low = slice_get_within program.owners k own owner in
-                      let s = slice_get-within known.sequences k (omega arith) in
-                      let waits = (was.0 k own s.0 course.0 old owner may s.1 course.1 at).1 (omega arith) in
-                      let there = subst (λ (l : List StageView). WaitsAt s.0 before bytes next.from (drop next.done l) course.0.tail)
-                      (sym (w.stages_of-stages.ensures course.0 course.1)) (on before known.counted s.0 course.0 course.1 waits) in
-                      let never = w.is_past.ensures (true_from_not w.is_past.result out) s.0 before bytes course.0.tail known.counted there in
-                      subst (NeverStands s.0) (sym known.cut) never more are (known.are.needed k own s.0 h owner s.1 signature (file ++ more) hits))
-                      was.1,
-                )),
-          )), w.frontier-is ∙ w.settle-settled.ensures.room ∙ c.loop-k.invariant.room))
+          λ before counted s course here waits.
+          let few = All-at (IsShortCourse reach) courses k course here c.requires.held in
+          let from = w.max.result in
+          let P : List StageView → Type 0 = λ l. All (IsShort reach) l → WaitsAt s before bytes from (drop old.done l) course.tail
+          → WaitsAt s before bytes next.from (drop next.done l) course.tail in
+          let went = Waits-found s course.stages course.tail before bytes old.done old.from (get_or c.args.found.now k 0) limit from reach few.stages
+          (omega arith) (omega arith) (λ x low high. c.requires.past k x course old here first low high) waits in
+          subst P (w.stages_of-stages.ensures course here) (λ each u. w.settle-settled.ensures.waits s before course.tail counted each u)
+          few.stages went) in (
+            subst (λ l. Now c.if-may_hit-signature.states l) (sym w.may_hit-is) (subst (λ ts. Now ts (set flags own b)) (sym w.states-is) (
+              AreDone-set courses states k v within
+                  (λ course here. subst (λ (l : List StageView). next.done ≤ length l) (w.stages_of-stages.ensures course here) w.settle-settled.ensures.done)
+                  c.loop-k.invariant.done,
+              λ i low.
+                  let far : (i ≡ k → ⊥) = λ same. omega arith in
+                  slice_get-set_other states k i v far ∙ c.loop-k.invariant.kept i (omega arith),
+              λ table file known. (
+                  let before = known.before in
+                  let was = c.loop-k.invariant.settled table file known in (
+                    AllMoved-set k limit own known.sequences program flags before bytes states old v b within inside owner may at
+                        (λ _ s course here waits.
+                        Waits-rest s course.stages course.tail before bytes next.done next.from limit w.saturating_sub.result reach
+                        (All-at (IsShortCourse reach) courses k course here c.requires.held).tail (omega arith) w.saturating_sub.ensures
+                        (subst (λ (l : List StageView). next.done < length l → limit ≤ next.from) (w.stages_of-stages.ensures course here)
+                        w.settle-settled.ensures.settled)
+                        (on before known.counted s course here waits))
+                        was.0,
+                    AreExcluded-set table flags file own b inside
+                        (λ out h signature more are hits.
+                        let course = slice_get-within courses k (omega arith) in
+                        let many = known.are.count in
+                        let low = slice_get_within program.owners k own owner in
+                        let s = slice_get-within known.sequences k (omega arith) in
+                        let waits = (was.0 k own s.0 course.0 old owner may s.1 course.1 at).1 (omega arith) in
+                        let there = subst (λ (l : List StageView). WaitsAt s.0 before bytes next.from (drop next.done l) course.0.tail)
+                        (sym (w.stages_of-stages.ensures course.0 course.1)) (on before known.counted s.0 course.0 course.1 waits) in
+                        let never = w.is_past.ensures (true_from_not w.is_past.result out) s.0 before bytes course.0.tail known.counted there in
+                        subst (NeverStands s.0) (sym known.cut) never more are (known.are.needed k own s.0 h owner s.1 signature (file ++ more) hits))
+                        was.1,
+                  )),
+            )),
+            w.frontier-is ∙ w.settle-settled.ensures.room ∙ c.loop-k.invariant.room,
+          ))
       | else-may_hit-signature w ↦ (
-          let never : slice_get flags own ≡ Some false = slice_get-get_or flags own false inside ∙ ap (λ (b : Bool). Some b) w.if-may_hit-signature.false in
-          (subst (λ l. Now c.if-may_hit-signature.states l) (sym w.may_hit-is) (subst (λ ts. Now ts flags) (sym w.states-is) (
-            c.loop-k.invariant.done,
-            λ i low. c.loop-k.invariant.kept i (omega arith),
-            λ table file known. (
-                let was = c.loop-k.invariant.settled table file known in
-                (AllMoved-skip k limit own known.sequences program flags known.before bytes states owner never was.0, was.1)),
-          )), w.frontier-is ∙ c.loop-k.invariant.room))
+          let never : slice_get flags own ≡ Some false = slice_get-get_or flags own false inside ∙ ap (λ (b : Bool). Some b) w.if-may_hit-signature.false in (
+            subst (λ l. Now c.if-may_hit-signature.states l) (sym w.may_hit-is) (subst (λ ts. Now ts flags) (sym w.states-is) (
+              c.loop-k.invariant.done,
+              λ i low. c.loop-k.invariant.kept i (omega arith),
+              λ table file known. (
+                  let was = c.loop-k.invariant.settled table file known in
+                  (AllMoved-skip k limit own known.sequences program flags known.before bytes states owner never was.0, was.1)),
+            )),
+            w.frontier-is ∙ c.loop-k.invariant.room,
+          ))
     ] in
     record { room = now.1; done = now.0.0; kept = now.0.1; settled = now.0.2 }
 

@@ -1,4 +1,4 @@
-use Rattle.sig_scan.proofs.Common.{arith, drop, false, true, false≢true, drop_all}
+use Rattle.sig_scan.proofs.Common.{arith, drop, false, false≢true, drop_all}
 use Rattle.sig_scan.proofs.StateLemmas.{InTurn-beyond, InTurn-end, InTurn-tail, Stands-left}
 use Rattle.sig_scan.proofs.state.stands.Goals as goal
 

@@ -1,23 +1,17 @@
-use Rattle.sig_scan.proofs.Common.{◌≡◌, ◌∙◌, ◌+◌, ◌-◌, ◌≤◌, ℕ, List, ap, ap₂, drop, length, sym, take, arith, zero-add, drop-take, length-drop, length-take-le, length-paste, take-paste, copy_within, BufferView}
+use Rattle.sig_scan.proofs.Common.{◌≡◌, ◌∙◌, ◌-◌, ◌≤◌, ℕ, List, ap, ap₂, drop, length, take, arith, drop-take, length-drop, length-take-le, length-paste, take-paste, copy_within, BufferView}
 use Rattle.sig_scan.proofs.buffer.Buffer.take_off.Goals as goal
 
--- what is left of the bytes, moved to the front
+-- what is left of the bytes, moved to the front, and the room stays
 moved : (xs ys : List ℕ) (count len : ℕ) → count ≤ len → len ≤ length xs → ys ≡ copy_within xs count len 0
-    → take (len - count) ys ≡ drop count (take len xs)
+    → (length ys ≡ length xs) × (take (len - count) ys ≡ drop count (take len xs))
 moved xs ys count len few within is =
-    let n : ℕ = len - count in
-    let all : count + n ≡ len = omega arith in
-    let size : n ≤ length (drop count xs) = rw length-drop (omega arith) in
-    let pasted : take n (copy_within xs count len 0) ≡ take n (drop count xs) =
-    ap (λ k. take k (copy_within xs count len 0)) (sym (zero-add n)) ∙ take-paste xs 0 (drop count xs) n (omega arith) size in
-    ap (take n) is ∙ pasted ∙ sym (drop-take count n xs) ∙ ap (λ k. drop count (take k xs)) all
-
--- and the room stays
-same_room : (xs ys : List ℕ) (count len : ℕ) → count ≤ len → len ≤ length xs → ys ≡ copy_within xs count len 0 → length ys ≡ length xs
-same_room xs ys count len few within is =
-    let n : ℕ = len - count in
-    let size : n ≤ length (drop count xs) = rw length-drop (omega arith) in
-    ap length is ∙ length-paste xs 0 (drop count xs) n (omega arith) size
+    grind (
+      arith,
+      length-drop count xs,
+      take-paste xs 0 (drop count xs) (len - count),
+      length-paste xs 0 (drop count xs) (len - count),
+      drop-take count (len - count) xs,
+    )
 
 pub returns : goal.returns
 returns c =
@@ -30,5 +24,5 @@ returns c =
     let before : len ≤ length xs = let inside = c.self.invariant in omega arith in
     let taken = length-take-le len xs before in
     let few : count ≤ len = omega arith in
-    ap₂ View (same_room xs ys count len few before c.copy_within.ensures.items) (moved xs ys count len few before c.copy_within.ensures.items)
-    ∙ ap (λ (w : BufferView). record { room = w.room; bytes = drop count w.bytes }) c.self.view_is
+    let now = moved xs ys count len few before c.copy_within.ensures.items in
+    ap₂ View now.0 now.1 ∙ ap (λ (w : BufferView). record { room = w.room; bytes = drop count w.bytes }) c.self.view_is

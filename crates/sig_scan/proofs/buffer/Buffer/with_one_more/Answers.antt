@@ -7,6 +7,5 @@ returns c =
     let len = c.self.inside.len in
     let inside : len < length xs = c.self.invariant in (
       get_or xs len 0,
-      ap (take (len + 1)) c.deref.ensures.value ∙ take_more xs len 0 inside
-          ∙ ap (λ (w : BufferView). w.bytes ++ get_or xs len 0 ∷ []) c.self.view_is,
+      ap (take (len + 1)) c.deref.ensures.value ∙ take_more xs len 0 inside ∙ ap (λ (w : BufferView). w.bytes ++ get_or xs len 0 ∷ []) c.self.view_is,
     )

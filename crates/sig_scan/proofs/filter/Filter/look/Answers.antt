@@ -1,5 +1,5 @@
-use Rattle.sig_scan.proofs.Common.{◌≡◌, ◌∙◌, ◌+◌, ◌≤◌, List, Some, ℕ, ap, arith, length, subst, sym, take, length-take-le, slice_get, AreOwned, IsFilter, Entry, false}
-use Rattle.sig_scan.proofs.FilterLemmas.{AreLowered-twice, AreMissed-last, AreOwned-lowered, ArePassedBelow, ArePassedBelow-first, ArePassedBelow-next, IsPassedAt-lowered}
+use Rattle.sig_scan.proofs.Common.{◌≡◌, ◌∙◌, ◌+◌, ◌≤◌, List, Some, ℕ, ap, arith, length, subst, take, length-take-le, slice_get, AreOwned, IsFilter, Entry}
+use Rattle.sig_scan.proofs.FilterLemmas.{AreLowered-twice, AreMissed-last, AreOwned-lowered, ArePassedBelow-first, ArePassedBelow-next, IsPassedAt-lowered}
 use Rattle.sig_scan.proofs.filter.Filter.look.Goals as goal
 use Rattle.sig_scan.proofs.filter.Filter.look.Goals.{then-place-gt0, else-place-gt0}
 
@@ -16,44 +16,39 @@ places-init c = record {
       (c.deref.ensures.value ∙ c.self.view_is) c.begin-end.ensures.owned;
   passed = ArePassedBelow-first c.args.self.now (take c.begin-end.result c.args.bytes.now) c.args.states.now c.next_listed-place.result c.begin-end.new.found
       (windows c.self.inside.marks.items c.self.inside.slots.items c.self.inside.entries.items c.args.self.now c.self.invariant c.self.view_is)
-      (λ i w e at low high room has. c.next_listed-place.ensures.passed i w e at low high room has);
+      c.next_listed-place.ensures.passed;
 }
 
 pub places-preserved : goal.places-preserved
 places-preserved c =
     let entries = c.args.self.now in
     let bytes = take c.begin-end.result c.args.bytes.now in
-    let len : ℕ = length c.args.bytes.now in
-    let end = c.begin-end.result in
-    let first = c.args.found.now in
     let states = c.args.states.now in
     let place = c.places.place in
-    let next = c.next_listed-place-in-places.result in
+    let next = c.next_listed-place-in-places in
     let old = c.places.found in
-    let middle = c.visit.new.found in
     let inside = windows c.self.inside.marks.items c.self.inside.slots.items c.self.inside.entries.items entries c.self.invariant c.self.view_is in
-    let Now : List ℕ → Type 0 = λ l. AreOwned entries states len end first l × ArePassedBelow entries bytes states next l in
-    let now : Now c.if-place-gt0.found =
     elim c.if-place-gt0.branch [
       | then-place-gt0 w ↦ (
           let new = w.visit-then-place-gt0.new.found in
-          let lower = AreLowered-twice old middle new c.visit.ensures.lowered w.visit-then-place-gt0.ensures.lowered in
-          subst Now (sym w.found-is) (
-            AreOwned-lowered entries states len end first old new lower c.places.invariant.owned,
-            ArePassedBelow-next entries bytes states place next old new lower
-                (λ i e at has. IsPassedAt-lowered e bytes states place middle new w.visit-then-place-gt0.ensures.lowered (c.visit.ensures.passed i e at has))
-                (λ i e some at has. w.visit-then-place-gt0.ensures.passed i e at has) inside c.next_listed-place-in-places.ensures.passed
-                c.places.invariant.passed,
-          ))
-      | else-place-gt0 w ↦ (
-          let none = w.if-place-gt0.false in
-          subst Now (sym w.found-is) (
-            AreOwned-lowered entries states len end first old middle c.visit.ensures.lowered c.places.invariant.owned,
-            ArePassedBelow-next entries bytes states place next old middle c.visit.ensures.lowered c.visit.ensures.passed
-                (λ i e some at has. absurd (omega arith)) inside c.next_listed-place-in-places.ensures.passed c.places.invariant.passed,
-          ))
-    ] in
-    record { even = c.next_listed-place-in-places.ensures.even; few = c.next_listed-place-in-places.ensures.few; owned = now.0; passed = now.1 }
+          let lower = AreLowered-twice old c.visit.new.found new c.visit.ensures.lowered w.visit-then-place-gt0.ensures.lowered in
+          rw w.found-is (record {
+            even = next.ensures.even;
+            few = next.ensures.few;
+            owned = AreOwned-lowered entries states (length c.args.bytes.now) c.begin-end.result c.args.found.now old new lower c.places.invariant.owned;
+            passed = ArePassedBelow-next entries bytes states place next.result old new lower
+                (λ i e at has. IsPassedAt-lowered e bytes states place c.visit.new.found new w.visit-then-place-gt0.ensures.lowered (c.visit.ensures.passed i e at has))
+                (λ i e some at has. w.visit-then-place-gt0.ensures.passed i e at has) inside next.ensures.passed c.places.invariant.passed;
+          }))
+      | else-place-gt0 w ↦ rw w.found-is (record {
+        even = next.ensures.even;
+        few = next.ensures.few;
+        owned = AreOwned-lowered entries states (length c.args.bytes.now) c.begin-end.result c.args.found.now old c.visit.new.found c.visit.ensures.lowered
+            c.places.invariant.owned;
+        passed = ArePassedBelow-next entries bytes states place next.result old c.visit.new.found c.visit.ensures.lowered c.visit.ensures.passed
+            (λ i e some at has. absurd (omega (arith, w.if-place-gt0.false))) inside next.ensures.passed c.places.invariant.passed;
+      })
+    ]
 
 pub returns : goal.returns
 returns c =

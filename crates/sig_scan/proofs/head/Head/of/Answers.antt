@@ -1,4 +1,4 @@
-use Rattle.sig_scan.proofs.Common.{◌≡◌, ◌∙◌, ◌∷◌, List, ap, drop, refl, subst, sym, drop_more, Item, Position, SequenceView, false, max, min}
+use Rattle.sig_scan.proofs.Common.{◌≡◌, ◌∙◌, ◌∷◌, List, ap, drop, refl, subst, sym, drop_more, Item, Position, SequenceView}
 use Rattle.sig_table.specs.Standing.{StandsAt}
 use Rattle.sig_table.specs.declared.position.Position.TheVariants as position
 use Rattle.sig_scan.proofs.HeadLemmas.{HasHead-first}

@@ -1,4 +1,4 @@
-use Rattle.sig_scan.proofs.Common.{ℕ, ◌+◌, ◌∙◌, arith, length, refl, sym, false≢true, slice_range, LiteralView, byte_of, false, true}
+use Rattle.sig_scan.proofs.Common.{ℕ, ◌+◌, ◌∙◌, arith, length, refl, sym, false≢true, slice_range, LiteralView, byte_of}
 use Rattle.sig_scan.proofs.LiesLemmas.{length-slice_range}
 use Rattle.sig_scan.proofs.LiteralLemmas.{Nowhere-end, Nowhere-next, Nowhere-passed}
 use Rattle.sig_scan.proofs.literal.Literal.first_by.Goals as goal

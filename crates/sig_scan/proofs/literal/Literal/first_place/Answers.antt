@@ -1,4 +1,4 @@
-use Rattle.sig_scan.proofs.Common.{◌≡◌, ◌+◌, List, ℕ, subst, IsFirst, OccursAt, LiteralView, StandsAt, true}
+use Rattle.sig_scan.proofs.Common.{◌≡◌, ◌+◌, List, ℕ, subst, IsFirst, OccursAt, LiteralView, StandsAt}
 use Rattle.sig_scan.proofs.LiteralLemmas.{IsFirst-same, OccursAt-stands, StandsAt-occurs}
 use Rattle.sig_scan.proofs.literal.Literal.first_place.Goals as goal
 

@@ -1,4 +1,4 @@
-use Rattle.sig_scan.proofs.Common.{◌≡◌, ◌∙◌, ◌++◌, ◌∷◌, [], ◌+◌, ◌<◌, All, All-push, Bool, List, ap, arith, false, get_or, length, length-map, map, map_push, refl, rules, slice_get, slice_get-within, slice_get_read, subst, sym, AreFirst, AreLiteralsOf, Course, CourseView, IsBoundedCourse, SequenceView, StageView, course_if, course_in, owner, Some, true}
+use Rattle.sig_scan.proofs.Common.{◌≡◌, ◌∙◌, ◌++◌, ◌∷◌, [], ◌+◌, ◌<◌, All, All-push, Bool, List, ap, arith, false, get_or, length, length-map, map, refl, rules, slice_get, slice_get-within, slice_get_read, subst, sym, AreFirst, AreLiteralsOf, Course, CourseView, IsBoundedCourse, SequenceView, StageView, course_if, course_in, Some, length-append}
 use Rattle.sig_scan.proofs.CompiledLemmas.{AreAdded, AreAdded-next, AreAdded-none, AreAdded-push, IsProgramOf-added, course_if-bounded}
 use Rattle.sig_scan.proofs.HeldLemmas.{AreHeld-push}
 use Rattle.sig_scan.proofs.ProgramLemmas.{AreCourses-push}
@@ -9,8 +9,8 @@ loop-index-init c = record {
   within = search rules;
   held = search rules;
   bounded = search rules;
-  added = subst (λ (cs : List Course). AreAdded c.args.table.now c.args.may_hit.now 0 0 (map owner cs) (map (course_in c.in_ok-stages.stages.items) cs))
-      (sym c.in_ok-courses.ensures.items) (AreAdded-none c.args.table.now c.args.may_hit.now);
+  count = search rules;
+  added = rw (c.in_ok-courses.ensures.items, c.in_ok-owners.ensures.items) (AreAdded-none c.args.table.now c.args.may_hit.now);
 }
 
 pub loop-sequence-preserved : goal.loop-sequence-preserved
@@ -27,7 +27,8 @@ loop-sequence-preserved c =
     let cs = c.loop-sequence.courses.items in
     let course = c.in_ok-course.course in
     let courses : List CourseView = map (course_in old) cs in
-    let size : length courses ≡ length (map owner cs) = length-map cs (course_in old) ∙ sym (length-map cs owner) in
+    let owners = c.loop-sequence.owners.items in
+    let size : length courses ≡ length owners = length-map cs (course_in old) ∙ sym c.loop-sequence.invariant.count in
     let within : index < length table.signatures = omega arith in
     let g = slice_get-within table.signatures index within in
     let same = c.sequences_of-sequence-items.ensures.of_view g.0 g.1 in
@@ -35,17 +36,18 @@ loop-sequence-preserved c =
     (slice_get_read sequences (length sequences) i x refl c.loop-sequence-test.true c.sequence-item.is) in
     let more = AreCourses-push old stages cs courses course (course_if b x) (record { same = refl; within = c.loop-sequence.invariant.within })
     c.in_ok-course.ensures.adds in
-    let added = AreAdded-push table flags index i (map owner cs) courses g.0 x size g.1 at c.loop-sequence.invariant.added in
-    let owners : map owner cs ++ index ∷ [] ≡ map owner (cs ++ course ∷ []) =
-    ap (λ n. map owner cs ++ n ∷ []) (sym c.in_ok-course.ensures.signature) ∙ sym (map_push owner cs course) in
+    let added = AreAdded-push table flags index i owners courses g.0 x size g.1 at c.loop-sequence.invariant.added in
     let bounded = All-push IsBoundedCourse courses (course_if b x) c.loop-sequence.invariant.bounded (course_if-bounded b x) in
-    let Now : List CourseView → Type 0 = λ l. All IsBoundedCourse l × AreAdded table flags index (i + 1) (map owner (cs ++ course ∷ [])) l in
-    let now : Now (map (course_in stages) (cs ++ course ∷ [])) =
-    subst Now (sym more.same) (bounded, subst (λ l. AreAdded table flags index (i + 1) l (courses ++ course_if b x ∷ [])) owners added) in
-    rw c.in_ok-push.ensures.items (record {
+    let Now : List CourseView → Type 0 = λ l. All IsBoundedCourse l × AreAdded table flags index (i + 1) (owners ++ index ∷ []) l in
+    let now : Now (map (course_in stages) (cs ++ course ∷ [])) = subst Now (sym more.same) (bounded, added) in
+    let many = length-append owners (index ∷ []) in
+    let count = length-append cs (course ∷ []) in
+    let was = c.loop-sequence.invariant.count in
+    rw (c.in_ok-push.ensures.items, c.in_ok-push-2.ensures.items) (record {
       within = more.within;
       held = AreHeld-push old stages cs course b x c.loop-sequence.invariant.held c.in_ok-course.ensures.adds c.in_ok-course.ensures.sequence;
       bounded = now.0;
+      count = omega arith;
       added = now.1;
     })
 
@@ -61,6 +63,7 @@ loop-index-preserved c =
       within = c.loop-sequence.invariant.within;
       held = c.loop-sequence.invariant.held;
       bounded = c.loop-sequence.invariant.bounded;
+      count = c.loop-sequence.invariant.count;
       added = AreAdded-next table c.args.may_hit.now index c.loop-sequence.sequence-index _ _ g.0 g.1 (omega arith) c.loop-sequence.invariant.added;
     }
 
@@ -76,9 +79,10 @@ invariant_of-result c =
         few = search rules;
         within = c.loop-index.invariant.within;
         bounded = c.loop-index.invariant.bounded;
-        early_literals = subst (λ l. Early l courses) c.deref-3.ensures.value (subst (Early c.deref-3.result.now) c.deref-4.ensures.value c.in_ok-early.ensures);
-        late_literals = subst (λ l. Late l courses) c.deref-5.ensures.value (subst (Late c.deref-5.result.now) c.deref-6.ensures.value c.in_ok-late.ensures);
+        early_literals = subst (λ l. Early l courses) c.deref-3.ensures.value (subst (Early c.deref-3.result.now) c.deref-5.ensures.value c.in_ok-early.ensures);
+        late_literals = subst (λ l. Late l courses) c.deref-6.ensures.value (subst (Late c.deref-6.result.now) c.deref-8.ensures.value c.in_ok-late.ensures);
       },
+      search rules,
       search rules,
       subst (λ l. First l courses) c.deref.ensures.value (subst (First c.deref.result.now) c.deref-2.ensures.value c.in_ok-states.ensures.first),
     )

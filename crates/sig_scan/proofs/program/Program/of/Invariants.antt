@@ -1,4 +1,4 @@
-use Rattle.sig_scan.proofs.Common.{All, map, AreHeld, IsBoundedCourse, StandsIn, course_in, owner}
+use Rattle.sig_scan.proofs.Common.{All, map, AreHeld, IsBoundedCourse, StandsIn, course_in, ◌≡◌, length}
 use Rattle.sig_scan.proofs.CompiledLemmas.{AreAdded}
 use Rattle.sig_scan.proofs.program.Program.of.Given as goal
 
@@ -8,7 +8,8 @@ invariant-loop-index l = record {
   within : All (StandsIn l.stages.items) l.courses.items;
   held : AreHeld 65535 l.stages.items l.courses.items;
   bounded : All IsBoundedCourse (map (course_in l.stages.items) l.courses.items);
-  added : AreAdded l.table l.may_hit l.index 0 (map owner l.courses.items) (map (course_in l.stages.items) l.courses.items);
+  count : length l.owners.items ≡ length l.courses.items;
+  added : AreAdded l.table l.may_hit l.index 0 l.owners.items (map (course_in l.stages.items) l.courses.items);
 }
 
 -- and of the sequences before
@@ -17,5 +18,6 @@ invariant-loop-sequence l = record {
   within : All (StandsIn l.stages.items) l.courses.items;
   held : AreHeld 65535 l.stages.items l.courses.items;
   bounded : All IsBoundedCourse (map (course_in l.stages.items) l.courses.items);
-  added : AreAdded l.table l.may_hit l.index l.sequence-index (map owner l.courses.items) (map (course_in l.stages.items) l.courses.items);
+  count : length l.owners.items ≡ length l.courses.items;
+  added : AreAdded l.table l.may_hit l.index l.sequence-index l.owners.items (map (course_in l.stages.items) l.courses.items);
 }

@@ -11,8 +11,8 @@ returns-clause-past c =
     let byte = c.with_one_more-bytes.ensures in (
       byte.0,
       subst (ArePast courses states (self.buffer.bytes ++ byte.0 ∷ [])) (sym items)
-      (subst (λ (l : List ℕ). ArePast courses states l found) byte.1
-      (subst (λ (l : List State). ArePast courses l c.with_one_more-bytes.result.now found) c.deref.ensures.value c.look.ensures)),
+          (subst (λ (l : List ℕ). ArePast courses states l found) byte.1
+          (subst (λ (l : List State). ArePast courses l c.with_one_more-bytes.result.now found) c.deref.ensures.value c.look.ensures)),
     )
 
 pub returns-clause-of : goal.returns-clause-of

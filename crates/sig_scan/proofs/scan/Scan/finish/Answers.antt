@@ -1,4 +1,4 @@
-use Rattle.sig_scan.proofs.Common.{◌≡◌, ap, ◌+◌, ◌<◌, ◌∙◌, All, Bool, List, Some, arith, false, length, subst, sym, true, ℕ, set, length-set, slice_get-get_or, slice_get_within, slice_get, slice_get-within, TableView, AreSequencesOf, ProgramView, EndsPast, IsScanOf, ScanView, AreNeeded, owner}
+use Rattle.sig_scan.proofs.Common.{◌≡◌, ap, ◌+◌, ◌<◌, ◌∙◌, All, Bool, List, Some, arith, false, length, subst, sym, true, ℕ, set, length-set, slice_get-get_or, slice_get_within, slice_get, slice_get-within, TableView, AreSequencesOf, ProgramView, EndsPast, IsScanOf, ScanView, AreNeeded}
 use Rattle.sig_scan.proofs.MarkedLemmas.{AreMarked-all, AreMarkedTo, AreMarkedTo-none, AreMarkedTo-set, AreMarkedTo-skip}
 use Rattle.sig_scan.proofs.ScanLemmas.{All-at}
 use Rattle.sig_scan.proofs.scan.Scan.finish.Goals as goal
@@ -15,10 +15,11 @@ loop-k-init c =
       past = c.close.ensures.past;
       len = ap length same;
       marked = λ table file of.
-          let known = c.close.ensures.of table file of in
-          (known,
-          subst (λ l. AreMarkedTo 0 table file c.self.inside.program.now.owners known.sequences c.close.new.self.may_hit l) (sym same)
-          (AreMarkedTo-none table file c.self.inside.program.now.owners known.sequences c.close.new.self.may_hit known.excluded));
+          let known = c.close.ensures.of table file of in (
+            known,
+            subst (λ l. AreMarkedTo 0 table file c.self.inside.program.now.owners known.sequences c.close.new.self.may_hit l) (sym same)
+                (AreMarkedTo-none table file c.self.inside.program.now.owners known.sequences c.close.new.self.may_hit known.excluded),
+          );
     }
 
 pub bounds-marks-signature : goal.bounds-marks-signature
@@ -59,10 +60,11 @@ loop-k-preserved c =
                 let many : length known.sequences ≡ length program.owners = known.are.count ∙ ap (λ (v : ProgramView). length v.owners) c.loop-k.invariant.program in
                 let s = slice_get-within known.sequences k (omega arith) in
                 let needed = subst (λ (v : ProgramView). AreNeeded table v.owners known.sequences) c.loop-k.invariant.program known.are.needed in
-                let own_is = subst (λ (v : ProgramView). slice_get v.owners k ≡ Some own) (sym c.loop-k.invariant.program) owner in
-                (known,
-                AreMarkedTo-set k own table file program.owners known.sequences self.may_hit marks w.stands.result s.0 inside mark owner s.1 needed
-                (w.stands.ensures.stands table file known own s.0 c.loop-k.invariant.past own_is (was.1.still own mark) s.1) was.1)),
+                let own_is = subst (λ (v : ProgramView). slice_get v.owners k ≡ Some own) (sym c.loop-k.invariant.program) owner in (
+                  known,
+                  AreMarkedTo-set k own table file program.owners known.sequences self.may_hit marks w.stands.result s.0 inside mark owner s.1 needed
+                      (w.stands.ensures.stands table file known own s.0 c.loop-k.invariant.past own_is (was.1.still own mark) s.1) was.1,
+                )),
           )))
       | else-marks-signature w ↦ subst (λ v. Now v c.if-marks-signature.marks) (sym w.self-is) (subst (Now self) (sym w.marks-is) (
         c.loop-k.invariant.program,
