@@ -1,7 +1,5 @@
 -- Lists of bytes: the empty one, one behind a byte, and two joined.
-use Rattle.std.proofs.Common.{ℕ, ◌<◌, List, [], ◌∷◌, ◌++◌}
-use Rattle.std.proofs.lemmas.List.Elements.{All-nil, All-cons, All-head, All-tail, All-append}
-use Rattle.sig_bits.specs.Bytes.{IsBytes}
+use Rattle.sig_auto.proofs.Common.{ℕ, ◌<◌, List, [], ◌∷◌, ◌++◌, All-nil, All-cons, All-head, All-tail, All-append, IsBytes}
 
 abbrev IsByte : ℕ → Type 0
 IsByte b = b < 256

@@ -1,10 +1,5 @@
 -- Where the runs of a file end, byte by byte.
-use Rattle.std.proofs.Common.{◌≡◌, ℕ, ◌≤◌, List, [], ◌∷◌, ◌++◌, subst, sym, ap, refl, inl, inr, arith}
-use Rattle.std.proofs.lemmas.Bool.{cases_eq, eq-eqb, ne_eqb}
-use Rattle.sig_auto.specs.Runs.{EndsIn, Run, Steps}
-use Rattle.sig_auto.specs.Tracks.{Follows}
-use Rattle.sig_auto.specs.Trees.{Tree}
-use Rattle.sig_auto.specs.TreeSlots.{Takes, slots_of}
+use Rattle.sig_auto.proofs.Common.{◌≡◌, ℕ, ◌≤◌, List, [], ◌∷◌, ◌++◌, subst, sym, ap, refl, arith, eq-eqb, ne_eqb, EndsIn, Run, Steps, Follows, Tree, Takes, slots_of}
 use Rattle.sig_auto.proofs.LocalLemmas.{IsSlot, is_first-slot, follows-slots}
 use Rattle.sig_auto.proofs.RunLemmas.{follows_shown, only_last, run_states}
 
@@ -20,9 +15,7 @@ one_more tree p [] [] front r b q steps e follows takes = (subst (λ x. Follows 
 one_more tree p [] (x ∷ states) front r b q steps e follows takes = absurd steps
 one_more tree p (c ∷ file) [] front r b q steps e follows takes = absurd steps
 one_more tree p (c ∷ file) (x ∷ states) [] r b q steps e follows takes = absurd (cc)
-one_more tree p (c ∷ file) (x ∷ states) (y ∷ front) r b q steps e follows takes =
-    let rest : x ∷ states ≡ front ++ r ∷ [] = cc in
-    (steps.0, steps.1, one_more tree x file states front r b q steps.2 rest follows takes)
+one_more tree p (c ∷ file) (x ∷ states) (y ∷ front) r b q steps e follows takes = grind (arith, one_more tree x file states front r b q steps.2)
 
 pub ends_further : (tree : Tree) (file : List ℕ) (r b q : ℕ) → EndsIn tree file r → Follows tree r q → Takes tree q b → EndsIn tree (file ++ b ∷ []) q
 ends_further tree file r b q ends follows takes =
@@ -82,10 +75,7 @@ ends_before tree file b q ends =
 
 -- only slots follow a state
 pub next_is_slot : (tree : Tree) (p q : ℕ) → Follows tree p q → IsSlot tree 0 q
-next_is_slot tree p q f = elim (cases_eq p 0) [
-  | inl start ↦ is_first-slot tree 0 q (rw (eq-eqb p 0 start) at (follows_shown tree p q f))
-  | inr other ↦ (follows-slots tree 0 p q (rw (ne_eqb p 0 other) at (follows_shown tree p q f))).1
-]
+next_is_slot tree p q f = grind (arith, is_first-slot tree 0 q, eq-eqb, follows_shown tree p q f, follows-slots tree 0 p q, ne_eqb)
 
 -- so the last state is one, or the first
 pub last_is_slot : (tree : Tree) (p : ℕ) (file states front : List ℕ) (q : ℕ) → p ≤ slots_of tree → Steps tree p file states → p ∷ states ≡ front ++ q ∷ [] → q ≤ slots_of tree
@@ -93,7 +83,4 @@ last_is_slot tree p [] [] front q within steps e = subst (λ x. x ≤ slots_of t
 last_is_slot tree p [] (x ∷ states) front q within steps e = absurd steps
 last_is_slot tree p (c ∷ file) [] front q within steps e = absurd steps
 last_is_slot tree p (c ∷ file) (x ∷ states) [] q within steps e = absurd (cc)
-last_is_slot tree p (c ∷ file) (x ∷ states) (y ∷ front) q within steps e =
-    let rest : x ∷ states ≡ front ++ q ∷ [] = cc in
-    let slot = next_is_slot tree p x steps.0 in
-    last_is_slot tree x file states front q (omega arith) steps.2 rest
+last_is_slot tree p (c ∷ file) (x ∷ states) (y ∷ front) q within steps e = grind (arith, next_is_slot tree p x steps.0, last_is_slot tree x file states front q)

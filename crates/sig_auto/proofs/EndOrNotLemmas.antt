@@ -1,21 +1,10 @@
 -- A file has a run that ends in a state, or it has none: which of the two is told by a search over the states before.
-use Rattle.std.proofs.Common.{◌==◌, ◌⊎◌, if◌then◌else◌, ℕ, zero, suc, ◌+◌, ◌/◌, ◌%◌, ◌<◌, ◌≤◌, List, [], ◌∷◌, ◌++◌, slice_index, append_assoc, subst, sym, ◌∙◌, inl, inr, arith}
-use Rattle.std.specs.Int.{bit_at}
-use Rattle.std.proofs.lemmas.Bool.{cases_Bool, cases_eq, false≢true, ne_eqb}
-use Rattle.std.proofs.lemmas.List.{append-nil}
-use Rattle.sig_auto.specs.Local.{is_last, is_nullable}
-use Rattle.sig_auto.specs.Runs.{EndsIn, FollowsOn, IsStepOf}
-use Rattle.sig_auto.specs.Successions.{succeeds}
-use Rattle.sig_auto.specs.Tracks.{Accepting, Follows}
-use Rattle.sig_auto.specs.Trees.{Tree}
-use Rattle.sig_auto.specs.TreeSlots.{Takes, slots_of}
-use Rattle.sig_auto.specs.Trim.{IsTrim}
+use Rattle.sig_auto.proofs.Common.{◌⊎◌, ℕ, zero, suc, ◌+◌, ◌/◌, ◌%◌, ◌<◌, ◌≤◌, List, [], ◌∷◌, ◌++◌, slice_index, append_assoc, subst, sym, inl, inr, arith, bit_at, cases_eq, false≢true, ne_eqb, append-nil, EndsIn, FollowsOn, IsStepOf, Accepting, Follows, Tree, Takes, slots_of, IsTrim, HasBit}
 use Rattle.sig_auto.proofs.EndLemmas.{begin_only, ends_before, ends_further}
 use Rattle.sig_auto.proofs.LocalLemmas.{follows-slots}
 use Rattle.sig_auto.proofs.RunLemmas.{follows_shown}
 use Rattle.sig_auto.proofs.SuccessorLemmas.{follows_and_takes}
 use Rattle.sig_auto.proofs.TrimLemmas.{accepting_exact, follows_exact}
-use Rattle.sig_bits.specs.BitSets.{HasBit}
 
 -- ---- a search over numbers
 
@@ -25,24 +14,12 @@ pub record SomeBelow (P : ℕ → Type 0) (bound : ℕ) : Type 0 where
   pub within : number < bound
   pub holds : P number
 
-one_more : (P : ℕ → Type 0) (n : ℕ) → SomeBelow P n → SomeBelow P (suc n)
-one_more P n found = let within = found.within in record { number = found.number; within = omega arith; holds = found.holds }
-
 none_more : (P : ℕ → Type 0) (n : ℕ) → ¬ P n → ¬ SomeBelow P n → ¬ SomeBelow P (suc n)
-none_more P n fails none found = elim (cases_eq found.number n) [
-  | inl same ↦ fails (subst P same found.holds)
-  | inr other ↦ none (let within = found.within in record { number = found.number; within = omega arith; holds = found.holds })
-]
+none_more P n fails none found = grind arith
 
 pub some_or_none : (P : ℕ → Type 0) → ((k : ℕ) → P k ⊎ ¬ P k) → (n : ℕ) → SomeBelow P n ⊎ ¬ SomeBelow P n
 some_or_none P each zero = inr (λ found. let within = found.within in omega arith)
-some_or_none P each (suc n) = elim (each n) [
-  | inl holds ↦ inl (record { number = n; within = omega arith; holds = holds })
-  | inr fails ↦ elim (some_or_none P each n) [
-    | inl found ↦ inl (one_more P n found)
-    | inr none ↦ inr (none_more P n fails none)
-  ]
-]
+some_or_none P each (suc n) = grind (arith, none_more P n, some_or_none P each n)
 
 -- ---- a state with a property leads to another on a byte, or none does
 
@@ -51,37 +28,18 @@ abbrev Leads : Tree → (ℕ → Type 0) → ℕ → ℕ → ℕ → Type 0
 Leads tree P b q p = P p × Follows tree p q × Takes tree q b
 
 follows_or_not : (tree : Tree) (p b q : ℕ) → IsTrim tree → FollowsOn tree p b q ⊎ ¬ FollowsOn tree p b q
-follows_or_not tree p b q trim =
-    let exact = follows_and_takes tree p b q (Follows tree p q) (follows_exact tree trim p q) in
-    elim (cases_Bool (succeeds tree p b q)) [
-      | inl passes ↦ inl (exact.0 passes)
-      | inr fails ↦ inr (λ step. false≢true (sym fails ∙ exact.1 step))
-    ]
+follows_or_not tree p b q trim = grind (arith, follows_and_takes tree p b q (Follows tree p q) (follows_exact tree trim p q), follows_exact tree trim p q, false≢true)
 
 -- some track ends with the state, or none does
 pub accepting_or_not : (tree : Tree) → IsTrim tree → (q : ℕ) → Accepting tree q ⊎ ¬ Accepting tree q
-accepting_or_not tree trim q =
-    let exact = accepting_exact tree trim q in
-    elim (cases_Bool (if q == 0 then is_nullable tree else is_last tree 0 q)) [
-      | inl passes ↦ inl (exact.0 passes)
-      | inr fails ↦ inr (λ ends. false≢true (sym fails ∙ exact.1 ends))
-    ]
+accepting_or_not tree trim q = grind (arith, accepting_exact tree trim q, false≢true)
 
 leads_or_not : (tree : Tree) (P : ℕ → Type 0) (b q p : ℕ) → IsTrim tree → P p ⊎ ¬ P p → Leads tree P b q p ⊎ ¬ Leads tree P b q p
-leads_or_not tree P b q p trim own = elim own [
-  | inr fails ↦ inr (λ h. fails h.0)
-  | inl holds ↦ elim (follows_or_not tree p b q trim) [
-    | inl step ↦ inl (holds, step.0, step.1)
-    | inr none ↦ inr (λ h. none (h.1, h.2))
-  ]
-]
+leads_or_not tree P b q p trim own = grind (arith, follows_or_not tree p b q trim)
 
 -- only the start and slots are followed
 pub followed_is_state : (tree : Tree) (p q : ℕ) → Follows tree p q → p ≤ slots_of tree
-followed_is_state tree p q f = elim (cases_eq p 0) [
-  | inl start ↦ omega arith
-  | inr other ↦ let slot = (follows-slots tree 0 p q (rw (ne_eqb p 0 other) at (follows_shown tree p q f))).0 in omega arith
-]
+followed_is_state tree p q f = grind (arith, follows-slots tree 0 p q, ne_eqb, follows_shown tree p q f)
 
 some_leads_or_not : (tree : Tree) (P : ℕ → Type 0) (b q : ℕ) → IsTrim tree → ((p : ℕ) → P p ⊎ ¬ P p) → ((p : ℕ) × P p × Follows tree p q × Takes tree q b) ⊎ ¬ ((p : ℕ) × P p × Follows tree p q × Takes tree q b)
 some_leads_or_not tree P b q trim each = elim (some_or_none (Leads tree P b q) (λ p. leads_or_not tree P b q p trim (each p)) (slots_of tree + 1)) [
@@ -110,10 +68,7 @@ begin_or_not tree q = elim (cases_eq q 0) [
 ]
 
 go_on_or_not : (tree : Tree) (file : List ℕ) (b : ℕ) → IsTrim tree → EndOrNot tree file → EndOrNot tree (file ++ b ∷ [])
-go_on_or_not tree file b trim each q = elim (some_leads_or_not tree (EndsIn tree file) b q trim each) [
-  | inl led ↦ inl (ends_further tree file led.0 b q led.1 led.2 led.3)
-  | inr none ↦ inr (λ ends. none (ends_before tree file b q ends))
-]
+go_on_or_not tree file b trim each q = grind (arith, some_leads_or_not tree (EndsIn tree file) b q trim each, ends_further tree file, ends_before tree file b q)
 
 end_behind_or_not : (tree : Tree) (front bytes : List ℕ) → IsTrim tree → EndOrNot tree front → EndOrNot tree (front ++ bytes)
 end_behind_or_not tree front [] trim each = subst (EndOrNot tree) (sym (append-nil front)) each

@@ -1,26 +1,37 @@
 -- Lemmas of this crate.
-mod AlikeLemmas
+mod Common
 mod BeginLemmas
 mod ByteLemmas
-mod ClassLemmas
 mod CutLemmas
 mod EndLemmas
 mod EndOrNotLemmas
 pub mod Exports
-mod LaterLemmas
 mod LocalLemmas
-mod PruneLemmas
 mod RowLemmas
 mod RowPushLemmas
 mod RunLaws
 mod RunLemmas
-mod RunTreeLemmas
-mod SameLemmas
-mod SideLemmas
-mod SpelledLemmas
-mod StepLemmas
 mod SuccessorLemmas
 mod TakenLemmas
 mod TrimLemmas
 mod WholeLemmas
 mod WordLemmas
+-- These are of the form by cells.
+mod WayLemmas
+mod ShapeLemmas
+mod TreeLemmas
+mod LeadLemmas
+mod FlatLemmas
+mod LineLemmas
+mod JoinLemmas
+mod BehindLemmas
+mod CellLemmas
+mod BuildLemmas
+mod CellWholeLemmas
+mod CellTakenLemmas
+mod CellSuccessorLemmas
+mod CellSideLemmas
+mod KeepLemmas
+mod CellStepLemmas
+mod CellPassLemmas
+mod CellStepTold

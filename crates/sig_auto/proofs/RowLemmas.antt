@@ -1,41 +1,21 @@
 -- The words of the rows of a bracket: those before an end, after an end, and from one end to another.
-use Rattle.std.proofs.Common.{◌≡◌, ◌⊎◌, ◌↔◌, ℕ, ◌+◌, ◌-◌, ◌<◌, ◌≤◌, Bool, true, false, nat_lt, nat_eq, cond, List, [], ◌∷◌, ◌++◌, length, refl, sym, ap, ◌∙◌, inl, inr, arith, eq-eqb, ne_eqb, tests, rules}
+use Rattle.sig_auto.proofs.Common.{◌≡◌, ◌⊎◌, ◌↔◌, ℕ, ◌+◌, ◌-◌, ◌<◌, ◌≤◌, Bool, true, false, nat_lt, nat_eq, cond, List, [], ◌∷◌, ◌++◌, length, refl, inl, inr, arith, eq-eqb, ne_eqb, tests, rules, Class, Within, InClass, any, only, above, behind, below, between, inner_at, lower_at, only_these, rest, upper_at, row_tree, rows_tree, TreeWord, IsBytes, IsBefore-cases, IsBefore-lower, IsBefore-same, IsUpTo-before, IsUpTo-behind, IsUpTo-cases, IsUpTo-first, IsUpTo-itself, IsUpTo-rest, IsBefore, IsBytesOf, IsUpTo}
 use Rattle.sig_auto.proofs.ByteLemmas.{IsBytes-nil, IsBytes-cons, IsBytes-head, IsBytes-tail}
-use Rattle.sig_auto.specs.declared.class.Class.{Class}
-use Rattle.sig_auto.specs.declared.class.Class.TheVariants.{Within}
-use Rattle.sig_auto.specs.Classes.{InClass, any, only}
-use Rattle.sig_auto.specs.Rows.{above, behind, below, between, inner_at, lower_at, only_these, rest, upper_at}
-use Rattle.sig_auto.specs.Trees.{row_tree, rows_tree}
-use Rattle.sig_auto.specs.Unfolded.{TreeWord}
-use Rattle.sig_bits.specs.Bytes.{IsBytes}
-use Rattle.sig_expr.proofs.Exports.{IsBefore-cases, IsBefore-lower, IsBefore-same, IsUpTo-before, IsUpTo-behind, IsUpTo-cases, IsUpTo-first, IsUpTo-itself, IsUpTo-rest}
-use Rattle.sig_expr.specs.Words.{IsBefore, IsBytesOf, IsUpTo}
 
 -- a word of a row: a byte of its first class, and a word of the others
 row_word : (c : Class) (cs : List Class) (b : ℕ) (v : List ℕ) → InClass c b → TreeWord (row_tree cs) v → TreeWord (row_tree (c ∷ cs)) (b ∷ v)
 row_word c cs b v h k = (b ∷ [], v, refl, (b, refl, h), k)
-
-of_row : (c : Class) (cs : List Class) (w : List ℕ) → TreeWord (row_tree (c ∷ cs)) w → (b : ℕ) × (v : List ℕ) × (w ≡ b ∷ v) × InClass c b × TreeWord (row_tree cs) v
-of_row c cs w h = (h.3.0, h.1, h.2 ∙ ap (λ u. u ++ h.1) h.3.1, h.3.2, h.4)
 
 -- any bytes, as many as these
 rest_word : (xs w : List ℕ) → IsBytesOf (length xs) w → TreeWord (row_tree (rest xs)) w
 rest_word [] [] h = refl
 rest_word [] (b ∷ w) h = let len = h.0 in absurd (omega arith)
 rest_word (x ∷ xs) [] h = let len = h.0 in absurd (omega arith)
-rest_word (x ∷ xs) (b ∷ w) h =
-    let len = h.0 in
-    let byte = IsBytes-head b w h.1 in
-    row_word any (rest xs) b w (omega arith, omega arith) (rest_word xs w (omega arith, IsBytes-tail b w h.1))
+rest_word (x ∷ xs) (b ∷ w) h = grind (arith, IsBytes-head b w h.1, row_word any (rest xs) b w, IsBytes-tail b w h.1, rest_word xs w)
 
 of_rest : (xs w : List ℕ) → TreeWord (row_tree (rest xs)) w → IsBytesOf (length xs) w
 of_rest [] w h = rw h (refl, IsBytes-nil)
-of_rest (x ∷ xs) w h =
-    let r = of_row any (rest xs) w h in
-    let k = of_rest xs r.1 r.4 in
-    let len = k.0 in
-    let most = r.3.1 in
-    rw r.2 (omega arith, IsBytes-cons r.0 r.1 (omega arith) k.1)
+of_rest (x ∷ xs) w h = grind (arith, IsBytes-cons, of_rest xs)
 
 -- these bytes alone
 only_word : (xs : List ℕ) → TreeWord (row_tree (only_these xs)) xs
@@ -44,13 +24,7 @@ only_word (x ∷ xs) = row_word (only x) (only_these xs) x xs (omega arith, omeg
 
 of_only : (xs w : List ℕ) → TreeWord (row_tree (only_these xs)) w → w ≡ xs
 of_only [] w h = h
-of_only (x ∷ xs) w h =
-    let r = of_row (only x) (only_these xs) w h in
-    let low = r.3.0 in
-    let high = r.3.1 in
-    let first : r.0 ≡ x = omega arith in
-    let others = of_only xs r.1 r.4 in
-    r.2 ∙ cc
+of_only (x ∷ xs) w h = grind (arith, of_only xs)
 
 -- the words of rows are those of the one rows and of the other
 rows_left : (rs ss : List (List Class)) (w : List ℕ) → TreeWord (rows_tree rs) w → TreeWord (rows_tree (rs ++ ss)) w
@@ -78,12 +52,7 @@ behind_word b (r ∷ rs) v (inr h) = inr (behind_word b rs v h)
 
 of_behind : (b : ℕ) (rs : List (List Class)) (w : List ℕ) → TreeWord (rows_tree (behind b rs)) w → (v : List ℕ) × (w ≡ b ∷ v) × TreeWord (rows_tree rs) v
 of_behind b [] w h = absurd h
-of_behind b (r ∷ rs) w (inl h) =
-    let k = of_row (only b) r w h in
-    let low = k.3.0 in
-    let high = k.3.1 in
-    let first : k.0 ≡ b = omega arith in
-    (k.1, k.2 ∙ ap (λ c. c ∷ k.1) first, inl k.4)
+of_behind b (r ∷ rs) w (inl h) = grind arith
 of_behind b (r ∷ rs) w (inr h) = let k = of_behind b rs w h in (k.0, k.1, inr k.2)
 
 -- a byte between two and others: the words of a row that is there where some byte is between them
@@ -91,49 +60,15 @@ first_word : (t : Bool) (low high b : ℕ) (xs v : List ℕ) → t ≡ true → 
 first_word true low high b xs v e h k bytes = inl (row_word (Within low high) (rest xs) b v (h, k) (rest_word xs v bytes))
 first_word false low high b xs v e h k bytes = absurd (cc)
 
-of_first : (t : Bool) (low high : ℕ) (xs w : List ℕ) → TreeWord (rows_tree (cond t ((Within low high ∷ rest xs) ∷ []) [])) w → (t ≡ true) × (b : ℕ) × (v : List ℕ) × (w ≡ b ∷ v) × (low ≤ b) × (b ≤ high) × IsBytesOf (length xs) v
-of_first true low high xs w (inl h) = let r = of_row (Within low high) (rest xs) w h in (refl, r.0, r.1, r.2, r.3.0, r.3.1, of_rest xs r.1 r.4)
-of_first true low high xs w (inr h) = absurd h
-of_first false low high xs w h = absurd h
-
--- what the test of two numbers says
-is_less : (a b : ℕ) → nat_lt a b ≡ true → a < b
-is_less a b h = search (rules, tests)
-
 -- the converse
 pub less_is : (a b : ℕ) → a < b → nat_lt a b ≡ true
 less_is a b h = search (rules, tests)
-
-lower_word : (x b : ℕ) (xs v : List ℕ) → b < x → IsBytesOf (length xs) v → TreeWord (rows_tree (lower_at x xs)) (b ∷ v)
-lower_word x b xs v h bytes = first_word (nat_lt 0 x) 0 (x - 1) b xs v (less_is 0 x (omega arith)) (omega arith) (omega arith) bytes
-
-of_lower : (x : ℕ) (xs w : List ℕ) → TreeWord (rows_tree (lower_at x xs)) w → (b : ℕ) × (v : List ℕ) × (w ≡ b ∷ v) × (b < x) × IsBytesOf (length xs) v
-of_lower x xs w h =
-    let r = of_first (nat_lt 0 x) 0 (x - 1) xs w h in
-    let some = is_less 0 x r.0 in
-    let high = r.5 in
-    (r.1, r.2, r.3, omega arith, r.6)
-
-upper_word : (x b : ℕ) (xs v : List ℕ) → x < b → b < 256 → IsBytesOf (length xs) v → TreeWord (rows_tree (upper_at x xs)) (b ∷ v)
-upper_word x b xs v h byte bytes = first_word (nat_lt x 255) (x + 1) 255 b xs v (less_is x 255 (omega arith)) (omega arith) (omega arith) bytes
-
-of_upper : (x : ℕ) (xs w : List ℕ) → TreeWord (rows_tree (upper_at x xs)) w → (b : ℕ) × (v : List ℕ) × (w ≡ b ∷ v) × (x < b) × (b < 256) × IsBytesOf (length xs) v
-of_upper x xs w h =
-    let r = of_first (nat_lt x 255) (x + 1) 255 xs w h in
-    let low = r.4 in
-    let high = r.5 in
-    (r.1, r.2, r.3, omega arith, omega arith, r.6)
 
 inner_word : (x y b : ℕ) (xs v : List ℕ) → x < b → b < y → IsBytesOf (length xs) v → TreeWord (rows_tree (inner_at x y xs)) (b ∷ v)
 inner_word x y b xs v h k bytes = first_word (nat_lt (x + 1) y) (x + 1) (y - 1) b xs v (less_is (x + 1) y (omega arith)) (omega arith) (omega arith) bytes
 
 of_inner : (x y : ℕ) (xs w : List ℕ) → TreeWord (rows_tree (inner_at x y xs)) w → (b : ℕ) × (v : List ℕ) × (w ≡ b ∷ v) × (x < b) × (b < y) × IsBytesOf (length xs) v
-of_inner x y xs w h =
-    let r = of_first (nat_lt (x + 1) y) (x + 1) (y - 1) xs w h in
-    let some = is_less (x + 1) y r.0 in
-    let low = r.4 in
-    let high = r.5 in
-    (r.1, r.2, r.3, omega arith, omega arith, r.6)
+of_inner x y xs w h = grind (arith, rest, of_rest)
 
 -- one more byte
 longer : (b x : ℕ) (v xs : List ℕ) → b < 256 → IsBytesOf (length xs) v → IsBytesOf (length (x ∷ xs)) (b ∷ v)
@@ -145,48 +80,26 @@ shorter b x v xs h = let len = h.0 in (omega arith, IsBytes-tail b v h.1)
 of_below : (xs w : List ℕ) → IsBytes xs → TreeWord (rows_tree (below xs)) w → IsBytesOf (length xs) w × IsBefore w xs
 of_below [] w bytes h = absurd h
 of_below (x ∷ xs) w bytes h =
-    let byte = IsBytes-head x xs bytes in
-    elim (of_rows (lower_at x xs) (behind x (below xs)) w h) [
-      | inl lower ↦
-          let r = of_lower x xs w lower in
-          let low = r.3 in
-          rw r.2 (longer r.0 x r.1 xs (omega arith) r.4, IsBefore-lower r.0 x r.1 xs r.3)
-      | inr same ↦
-          let r = of_behind x (below xs) w same in
-          let k = of_below xs r.0 (IsBytes-tail x xs bytes) r.2 in
-          rw r.1 (longer x x r.0 xs byte k.0, IsBefore-same x x r.0 xs refl k.1)
-    ]
+    grind (arith, IsBytes-head x xs bytes, of_rows (lower_at x xs) (behind x (below xs)) w h, longer x x, IsBefore-lower, of_behind x (below xs) w, IsBytes-tail x xs bytes, IsBefore-same x x, of_below xs, rest, of_rest)
 
 below_word : (xs w : List ℕ) → IsBytesOf (length xs) w → IsBefore w xs → TreeWord (rows_tree (below xs)) w
 below_word [] [] bytes h = absurd (cc)
 below_word [] (b ∷ w) bytes h = absurd (cc)
 below_word (x ∷ xs) [] bytes h = let len = bytes.0 in absurd (omega arith)
-below_word (x ∷ xs) (b ∷ w) bytes h = elim (IsBefore-cases b x w xs h) [
-  | inl lower ↦ rows_left (lower_at x xs) (behind x (below xs)) (b ∷ w) (lower_word x b xs w lower (shorter b x w xs bytes))
-  | inr same ↦ rows_right (lower_at x xs) (behind x (below xs)) (b ∷ w) (rw same.0 (behind_word x (below xs) w (below_word xs w (shorter b x w xs bytes) same.1)))
-]
+below_word (x ∷ xs) (b ∷ w) bytes h =
+    grind (arith, IsBefore-cases b x w xs h, rows_left (lower_at x xs) (behind x (below xs)) (b ∷ w), shorter b x w xs bytes, rows_right (lower_at x xs) (behind x (below xs)) (b ∷ w), behind_word x (below xs) w, below_word xs w (shorter b x w xs bytes), first_word, less_is)
 
 of_above : (xs w : List ℕ) → IsBytes xs → TreeWord (rows_tree (above xs)) w → IsBytesOf (length xs) w × IsBefore xs w
 of_above [] w bytes h = absurd h
 of_above (x ∷ xs) w bytes h =
-    elim (of_rows (behind x (above xs)) (upper_at x xs) w h) [
-      | inl same ↦
-          let r = of_behind x (above xs) w same in
-          let k = of_above xs r.0 (IsBytes-tail x xs bytes) r.2 in
-          rw r.1 (longer x x r.0 xs (IsBytes-head x xs bytes) k.0, IsBefore-same x x xs r.0 refl k.1)
-      | inr upper ↦
-          let r = of_upper x xs w upper in
-          rw r.2 (longer r.0 x r.1 xs r.4 r.5, IsBefore-lower x r.0 xs r.1 r.3)
-    ]
+    grind (arith, of_rows (behind x (above xs)) (upper_at x xs) w h, of_behind x (above xs) w, IsBytes-tail x xs bytes, longer x x, IsBytes-head x xs bytes, IsBefore-same x x xs, IsBefore-lower x, of_above xs, rest, of_rest)
 
 above_word : (xs w : List ℕ) → IsBytesOf (length xs) w → IsBefore xs w → TreeWord (rows_tree (above xs)) w
 above_word [] [] bytes h = absurd (cc)
 above_word [] (b ∷ w) bytes h = let len = bytes.0 in absurd (omega arith)
 above_word (x ∷ xs) [] bytes h = absurd (cc)
-above_word (x ∷ xs) (b ∷ w) bytes h = elim (IsBefore-cases x b xs w h) [
-  | inl upper ↦ rows_right (behind x (above xs)) (upper_at x xs) (b ∷ w) (upper_word x b xs w upper (IsBytes-head b w bytes.1) (shorter b x w xs bytes))
-  | inr same ↦ rows_left (behind x (above xs)) (upper_at x xs) (b ∷ w) (rw (← same.0) (behind_word x (above xs) w (above_word xs w (shorter b x w xs bytes) same.1)))
-]
+above_word (x ∷ xs) (b ∷ w) bytes h =
+    grind (arith, IsBefore-cases x b xs w h, rows_right (behind x (above xs)) (upper_at x xs) (b ∷ w), IsBytes-head b w bytes.1, shorter b x w xs bytes, rows_left (behind x (above xs)) (upper_at x xs) (b ∷ w), behind_word x (above xs) w, above_word xs w (shorter b x w xs bytes), first_word, less_is)
 
 -- the words before these bytes
 pub below_is : (xs w : List ℕ) → IsBytes xs → TreeWord (rows_tree (below xs)) w ↔ (IsBytesOf (length xs) w × IsBefore w xs)
@@ -201,8 +114,7 @@ abbrev pub split_rows : ℕ → ℕ → List ℕ → List ℕ → List (List Cla
 split_rows x y xs ys = only_these (x ∷ xs) ∷ (behind x (above xs) ++ (inner_at x y xs ++ (behind y (below ys) ++ only_these (y ∷ ys) ∷ [])))
 
 of_split : (x y : ℕ) (xs ys w : List ℕ) → x < y → length xs ≡ length ys → IsBytes (x ∷ xs) → IsBytes (y ∷ ys) → TreeWord (rows_tree (split_rows x y xs ys)) w → IsBytesOf (length (x ∷ xs)) w × IsUpTo (x ∷ xs) w × IsUpTo w (y ∷ ys)
-of_split x y xs ys w order same a b (inl h) =
-    rw (of_only (x ∷ xs) w h) ((refl, a), IsUpTo-itself (x ∷ xs), IsUpTo-before (x ∷ xs) (y ∷ ys) (IsBefore-lower x y xs ys order))
+of_split x y xs ys w order same a b (inl h) = rw (of_only (x ∷ xs) w h) ((refl, a), IsUpTo-itself (x ∷ xs), IsUpTo-before (x ∷ xs) (y ∷ ys) (IsBefore-lower x y xs ys order))
 of_split x y xs ys w order same a b (inr h) =
     let high = IsBytes-head y ys b in
     elim (of_rows (behind x (above xs)) (inner_at x y xs ++ (behind y (below ys) ++ only_these (y ∷ ys) ∷ [])) w h) [
@@ -211,10 +123,7 @@ of_split x y xs ys w order same a b (inr h) =
           let k = of_above xs r.0 (IsBytes-tail x xs a) r.2 in
           rw r.1 (longer x x r.0 xs (IsBytes-head x xs a) k.0, IsUpTo-before (x ∷ xs) (x ∷ r.0) (IsBefore-same x x xs r.0 refl k.1), IsUpTo-before (x ∷ r.0) (y ∷ ys) (IsBefore-lower x y r.0 ys order))
       | inr others ↦ elim (of_rows (inner_at x y xs) (behind y (below ys) ++ only_these (y ∷ ys) ∷ []) w others) [
-        | inl inner ↦
-            let r = of_inner x y xs w inner in
-            let below_y = r.4 in
-            rw r.2 (longer r.0 x r.1 xs (omega arith) r.5, IsUpTo-before (x ∷ xs) (r.0 ∷ r.1) (IsBefore-lower x r.0 xs r.1 r.3), IsUpTo-before (r.0 ∷ r.1) (y ∷ ys) (IsBefore-lower r.0 y r.1 ys r.4))
+        | inl inner ↦ grind (arith, of_inner, longer, IsUpTo-before, IsBefore-lower)
         | inr rest ↦ elim (of_rows (behind y (below ys)) (only_these (y ∷ ys) ∷ []) w rest) [
           | inl last ↦
               let r = of_behind y (below ys) w last in
@@ -238,10 +147,7 @@ split_word x y b xs ys v same bytes low high =
         | inr on_first ↦ rows_left (behind x (above xs)) _ (b ∷ v) (rw (← on_first.0) (behind_word x (above xs) v (above_word xs v rest on_first.1)))
         | inl above_x ↦ rows_right (behind x (above xs)) _ (b ∷ v) (elim (IsUpTo-cases (b ∷ v) (y ∷ ys) high) [
           | inr is_last ↦ rows_right (inner_at x y xs) _ (b ∷ v) (rows_right (behind y (below ys)) _ (b ∷ v) (inl (rw is_last (only_word (y ∷ ys)))))
-          | inl before ↦ elim (IsBefore-cases b y v ys before) [
-            | inl below_y ↦ rows_left (inner_at x y xs) _ (b ∷ v) (inner_word x y b xs v above_x below_y rest)
-            | inr on_last ↦ rows_right (inner_at x y xs) _ (b ∷ v) (rows_left (behind y (below ys)) _ (b ∷ v) (rw on_last.0 (behind_word y (below ys) v (below_word ys v (rw (← same) rest) on_last.1))))
-          ]
+          | inl before ↦ grind (arith, rows_left, inner_word, rows_right, behind_word, below_word)
         ])
       ])
     ]
@@ -256,36 +162,16 @@ between_split x y xs ys h = let apart : nat_eq x y ≡ false = ne_eqb x y (λ e.
 of_between : (xs ys w : List ℕ) → length xs ≡ length ys → IsBefore xs ys → IsBytes xs → IsBytes ys → TreeWord (rows_tree (between xs ys)) w → IsBytesOf (length xs) w × IsUpTo xs w × IsUpTo w ys
 of_between [] ys w same order a b h = absurd h
 of_between (x ∷ xs) [] w same order a b h = absurd h
-of_between (x ∷ xs) (y ∷ ys) w same order a b h = elim (IsBefore-cases x y xs ys order) [
-  | inl lower ↦ of_split x y xs ys w lower (omega arith) a b (rw (between_split x y xs ys lower) at h)
-  | inr level ↦
-      let r = of_behind x (between xs ys) w (rw (between_same x y xs ys level.0) at h) in
-      let k = of_between xs ys r.0 (omega arith) level.1 (IsBytes-tail x xs a) (IsBytes-tail y ys b) r.2 in
-      rw r.1 (
-        longer x x r.0 xs (IsBytes-head x xs a) k.0,
-        IsUpTo-behind x x xs r.0 refl k.1,
-        IsUpTo-behind x y r.0 ys level.0 k.2,
-      )
-]
+of_between (x ∷ xs) (y ∷ ys) w same order a b h =
+    grind (arith, IsBefore-cases x y xs ys order, of_split x y xs ys w, between_split x y xs ys, of_behind x (between xs ys) w, between_same x y xs ys, IsBytes-tail x xs a, IsBytes-tail y ys b, longer x x, IsBytes-head x xs a, IsUpTo-behind x x xs, IsUpTo-behind x y, of_between xs ys)
 
 between_word : (xs ys w : List ℕ) → length xs ≡ length ys → IsBefore xs ys → IsBytesOf (length xs) w → IsUpTo xs w → IsUpTo w ys → TreeWord (rows_tree (between xs ys)) w
 between_word [] [] w same order bytes low high = absurd (cc)
 between_word [] (y ∷ ys) w same order bytes low high = absurd (omega arith)
 between_word (x ∷ xs) [] w same order bytes low high = absurd (omega arith)
 between_word (x ∷ xs) (y ∷ ys) [] same order bytes low high = absurd (low refl)
-between_word (x ∷ xs) (y ∷ ys) (b ∷ v) same order bytes low high = elim (IsBefore-cases x y xs ys order) [
-  | inl lower ↦ rw (between_split x y xs ys lower) (split_word x y b xs ys v (omega arith) bytes low high)
-  | inr level ↦
-      let here : x ≡ b = first_is x y b xs ys v level.0 low high in
-      rw (between_same x y xs ys level.0, ← here) (behind_word x (between xs ys) v (
-      between_word xs ys v (omega arith) level.1 (shorter b x v xs bytes)
-      (IsUpTo-rest x b xs v here low)
-      (IsUpTo-rest b y v ys (sym here ∙ level.0) high)
-      ))
-]
-  where
-    first_is : (x y b : ℕ) (xs ys v : List ℕ) → x ≡ y → IsUpTo (x ∷ xs) (b ∷ v) → IsUpTo (b ∷ v) (y ∷ ys) → x ≡ b
-    first_is x y b xs ys v level low high = let from = IsUpTo-first x b xs v low in let to = IsUpTo-first b y v ys high in omega arith
+between_word (x ∷ xs) (y ∷ ys) (b ∷ v) same order bytes low high =
+    grind (arith, IsBefore-cases x y xs ys order, between_split x y xs ys, split_word x y b xs ys v, between_same x y xs ys, behind_word x (between xs ys) v, shorter b x v xs bytes, IsUpTo-rest x b xs v, IsUpTo-rest b y v ys, IsUpTo-first x b xs v low, IsUpTo-first b y v ys high, between_word xs ys v)
 
 -- the words from the first to the second
 pub between_is : (xs ys w : List ℕ) → length xs ≡ length ys → IsBefore xs ys → IsBytes xs → IsBytes ys → TreeWord (rows_tree (between xs ys)) w ↔ (IsBytesOf (length xs) w × IsUpTo xs w × IsUpTo w ys)

@@ -1,14 +1,5 @@
 -- The laws of the automaton, for proofs of other crates.
-use Rattle.std.proofs.Common.{◌≡◌, ◌↔◌, ◌⊎◌, ℕ, ◌+◌, ◌<◌, ◌≤◌, List, [], ◌∷◌, ◌++◌, inl, inr, arith}
-use Rattle.sig_auto.specs.Runs.{Accepts, EndsIn, IsStepOf}
-use Rattle.sig_auto.specs.Tracks.{Accepting, Follows}
-use Rattle.sig_auto.specs.Trees.{Tree, whole_tree}
-use Rattle.sig_auto.specs.TreeSlots.{Takes, slots_of}
-use Rattle.sig_bits.specs.Bytes.{IsBytes}
-use Rattle.sig_table.specs.Slots.{slot_count}
-use Rattle.sig_table.specs.Standing.{Stands}
-use Rattle.sig_table.specs.Tables.{IsSequence}
-use Rattle.sig_table.specs.Views.{SequenceView}
+use Rattle.sig_auto.proofs.Common.{◌≡◌, ◌↔◌, ◌⊎◌, ℕ, ◌+◌, ◌<◌, ◌≤◌, List, [], ◌∷◌, ◌++◌, inl, inr, arith, Accepts, EndsIn, IsStepOf, Accepting, Follows, Tree, whole_tree, Takes, slots_of, IsBytes, slot_count, Stands, IsSequence, SequenceView}
 use Rattle.sig_auto.proofs.EndLemmas.{begin_only, ends_before, ends_further, last_is_slot, next_is_slot}
 use Rattle.sig_auto.proofs.EndOrNotLemmas.{accepting_or_not, ends_or_not, some_or_none, step_or_not}
 use Rattle.sig_auto.proofs.RunLemmas.{accepts_is_taken, run_states}
@@ -18,11 +9,7 @@ use Rattle.sig_auto.proofs.WordLemmas.{word_is_unfolded}
 
 -- some run of a file accepts exactly where the sequence stands in the file
 pub runs_accept_what_stands : (s : SequenceView) (file : List ℕ) → IsSequence s → IsBytes file → Accepts (whole_tree s) file ↔ Stands s file
-runs_accept_what_stands s file sequence bytes =
-    let run = accepts_is_taken (whole_tree s) file in
-    let taken = taken_is_word (whole_tree s) file in
-    let word = word_is_unfolded s file sequence bytes in
-    (λ accepts. word.0 (taken.1 (run.0 accepts)), λ stands. run.1 (taken.0 (word.1 stands)))
+runs_accept_what_stands s file sequence bytes = grind (arith, accepts_is_taken (whole_tree s) file, taken_is_word (whole_tree s) file, word_is_unfolded s file sequence bytes)
 
 -- an automaton has as many slots as the limit of a sequence counts
 pub slots_are_counted : (s : SequenceView) → IsSequence s → slots_of (whole_tree s) ≡ slot_count s
@@ -38,16 +25,11 @@ runs_go_on tree file b q = (ends_before tree file b q, λ h. ends_further tree f
 
 -- a file is accepted exactly where some run of it ends in an accepting state
 pub accepts_by_an_end : (tree : Tree) (file : List ℕ) → Accepts tree file ↔ ((p : ℕ) × EndsIn tree file p × Accepting tree p)
-accepts_by_an_end tree file = (
-  λ a. (a.last, record { front = a.front; run = a.run }, a.accepting),
-  λ h. let ends : EndsIn tree file h.0 = h.1 in record { front = ends.front; last = h.0; run = ends.run; accepting = h.2 },
-)
+accepts_by_an_end tree file = grind arith
 
 -- each state of a run is the start or a slot
 pub ends_in_a_slot : (tree : Tree) (file : List ℕ) (q : ℕ) → EndsIn tree file q → q ≤ slots_of tree
-ends_in_a_slot tree file q ends =
-    let states = run_states tree file (ends.front ++ q ∷ []) ends.run in
-    last_is_slot tree 0 file states.0 ends.front q (omega arith) states.2 states.1
+ends_in_a_slot tree file q ends = grind (arith, run_states tree file (ends.front ++ q ∷ []) ends.run, last_is_slot tree 0 file)
 
 -- and only slots follow a state
 pub follows_to_a_slot : (tree : Tree) (p q : ℕ) → Follows tree p q → q ≤ slots_of tree
@@ -66,13 +48,7 @@ sets_lead_or_not s set b q is = step_or_not (whole_tree s) set b q (whole_is_tri
 
 -- a run of a file ends in an accepting state, or it does not end in this one or this one is none
 accepting_end_or_not : (s : SequenceView) (file : List ℕ) → IsSequence s → (q : ℕ) → (EndsIn (whole_tree s) file q × Accepting (whole_tree s) q) ⊎ ¬ (EndsIn (whole_tree s) file q × Accepting (whole_tree s) q)
-accepting_end_or_not s file is q = elim (runs_end_or_not s file q is) [
-  | inl ends ↦ elim (accepting_or_not (whole_tree s) (whole_is_trim s is) q) [
-    | inl accepting ↦ inl (ends, accepting)
-    | inr fails ↦ inr (λ both. fails both.1)
-  ]
-  | inr none ↦ inr (λ both. none both.0)
-]
+accepting_end_or_not s file is q = grind (arith, runs_end_or_not, accepting_or_not, whole_is_trim)
 
 -- a sequence stands in a file, or it does not
 pub stands_or_not : (s : SequenceView) (file : List ℕ) → IsSequence s → IsBytes file → Stands s file ⊎ ¬ Stands s file

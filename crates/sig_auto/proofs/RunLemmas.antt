@@ -1,60 +1,30 @@
 -- The runs that accept a file are the tracks whose slots take its bytes.
-use Rattle.std.proofs.Common.{◌≡◌, ◌↔◌, ℕ, ◌<◌, ◌==◌, if◌then◌else◌, true, List, [], ◌∷◌, ◌++◌, append_assoc, subst, sym, ap, ◌∙◌, refl, inl, inr, arith}
-use Rattle.std.proofs.lemmas.Bool.{cases_eq, eq-eqb, ne_eqb}
-use Rattle.sig_auto.specs.Local.{is_first, is_last, follows, is_nullable}
-use Rattle.sig_auto.specs.Runs.{Accepts, Run, Steps}
-use Rattle.sig_auto.specs.Tracks.{Accepting, Follows, Track}
-use Rattle.sig_auto.specs.Trees.{Tree}
-use Rattle.sig_auto.specs.Unfolded.{TakesAll}
+use Rattle.sig_auto.proofs.Common.{◌≡◌, ◌↔◌, ℕ, ◌<◌, ◌==◌, if◌then◌else◌, true, List, [], ◌∷◌, ◌++◌, append_assoc, subst, sym, ap, refl, arith, eq-eqb, ne_eqb, is_first, is_last, follows, is_nullable, Accepts, Run, Steps, Accepting, Follows, Track, Tree, TakesAll}
 use Rattle.sig_auto.proofs.LocalLemmas.{Chain, IsLocal, follows-slots, is_first-slot, local_track, track_begins, track_ends, track_goes, track_skips, track_slot}
 
 -- behind the start a slot begins, behind another it goes
 follows_start : (tree : Tree) (t front back : List ℕ) (q : ℕ) → Track tree 0 t → 0 ∷ t ≡ front ++ 0 ∷ q ∷ back → is_first tree 0 q ≡ true
-follows_start tree t [] back q is e =
-    let same : t ≡ q ∷ back = cc in
-    track_begins tree 0 q back (subst (λ l. Track tree 0 l) same is)
-follows_start tree t (x ∷ front) back q is e =
-    let same : t ≡ front ++ 0 ∷ q ∷ back = cc in
-    let slot = track_slot tree 0 0 front (q ∷ back) (subst (λ l. Track tree 0 l) same is) in
-    absurd (omega arith)
+follows_start tree t [] back q is e = grind (arith, track_begins tree 0 q back)
+follows_start tree t (x ∷ front) back q is e = grind (arith, track_slot tree 0 0 front (q ∷ back))
 
 follows_slot : (tree : Tree) (t front back : List ℕ) (p q : ℕ) → 0 < p → Track tree 0 t → 0 ∷ t ≡ front ++ p ∷ q ∷ back → follows tree 0 p q ≡ true
-follows_slot tree t [] back p q some is e =
-    let same : 0 ≡ p = cc in
-    absurd (omega arith)
-follows_slot tree t (x ∷ front) back p q some is e =
-    let same : t ≡ front ++ p ∷ q ∷ back = cc in
-    track_goes tree 0 p q front back (subst (λ l. Track tree 0 l) same is)
+follows_slot tree t [] back p q some is e = grind arith
+follows_slot tree t (x ∷ front) back p q some is e = grind (arith, track_goes tree 0 p q front back)
 
 accepting_start : (tree : Tree) (t front : List ℕ) → Track tree 0 t → 0 ∷ t ≡ front ++ 0 ∷ [] → is_nullable tree ≡ true
-accepting_start tree t [] is e =
-    let same : t ≡ [] = cc in
-    track_skips tree 0 (subst (λ l. Track tree 0 l) same is)
-accepting_start tree t (x ∷ front) is e =
-    let same : t ≡ front ++ 0 ∷ [] = cc in
-    let slot = track_slot tree 0 0 front [] (subst (λ l. Track tree 0 l) same is) in
-    absurd (omega arith)
+accepting_start tree t [] is e = grind (arith, track_skips tree 0)
+accepting_start tree t (x ∷ front) is e = grind (arith, track_slot tree 0 0 front [])
 
 accepting_slot : (tree : Tree) (t front : List ℕ) (p : ℕ) → 0 < p → Track tree 0 t → 0 ∷ t ≡ front ++ p ∷ [] → is_last tree 0 p ≡ true
-accepting_slot tree t [] p some is e =
-    let same : 0 ≡ p = cc in
-    absurd (omega arith)
-accepting_slot tree t (x ∷ front) p some is e =
-    let same : t ≡ front ++ p ∷ [] = cc in
-    track_ends tree 0 p front (subst (λ l. Track tree 0 l) same is)
+accepting_slot tree t [] p some is e = grind arith
+accepting_slot tree t (x ∷ front) p some is e = grind (arith, track_ends tree 0 p front)
 
 -- the same by one test, with no premise on the tree
 pub follows_shown : (tree : Tree) (p q : ℕ) → Follows tree p q → (if p == 0 then is_first tree 0 q else follows tree 0 p q) ≡ true
-follows_shown tree p q f = elim (cases_eq p 0) [
-  | inl start ↦ rw (eq-eqb p 0 start) (follows_start tree f.track f.front f.back q f.is_track (subst (λ x. 0 ∷ f.track ≡ f.front ++ x ∷ q ∷ f.back) start f.next))
-  | inr other ↦ rw (ne_eqb p 0 other) (follows_slot tree f.track f.front f.back p q (omega arith) f.is_track f.next)
-]
+follows_shown tree p q f = grind (arith, eq-eqb, follows_start, ne_eqb, follows_slot)
 
 pub accepting_shown : (tree : Tree) (p : ℕ) → Accepting tree p → (if p == 0 then is_nullable tree else is_last tree 0 p) ≡ true
-accepting_shown tree p a = elim (cases_eq p 0) [
-  | inl start ↦ rw (eq-eqb p 0 start) (accepting_start tree a.track a.front a.is_track (subst (λ x. 0 ∷ a.track ≡ a.front ++ x ∷ []) start a.last))
-  | inr other ↦ rw (ne_eqb p 0 other) (accepting_slot tree a.track a.front p (omega arith) a.is_track a.last)
-]
+accepting_shown tree p a = grind (arith, eq-eqb, accepting_start tree a.track a.front a.is_track, ne_eqb, accepting_slot tree a.track a.front p)
 
 -- the last of one state is that state
 pub only_last : (p last : ℕ) (front : List ℕ) → p ∷ [] ≡ front ++ last ∷ [] → last ≡ p
@@ -64,35 +34,19 @@ only_last p last (x ∷ (y ∷ front)) e = absurd (cc)
 
 -- the states behind a slot
 steps_local : (tree : Tree) (p last : ℕ) (file states front : List ℕ) → 0 < p → Steps tree p file states → p ∷ states ≡ front ++ last ∷ [] → Accepting tree last → Chain tree 0 p states × TakesAll tree states file
-steps_local tree p last [] [] front some steps e a =
-    let same = only_last p last front e in
-    let at : Accepting tree p = subst (λ x. Accepting tree x) same a in
-    (accepting_slot tree at.track at.front p some at.is_track at.last, tt)
+steps_local tree p last [] [] front some steps e a = grind (arith, only_last p last front e, accepting_slot tree)
 steps_local tree p last [] (q ∷ states) front some steps e a = absurd steps
 steps_local tree p last (byte ∷ bytes) [] front some steps e a = absurd steps
 steps_local tree p last (byte ∷ bytes) (q ∷ states) [] some steps e a = absurd (cc)
-steps_local tree p last (byte ∷ bytes) (q ∷ states) (x ∷ front) some steps e a =
-    let f : Follows tree p q = steps.0 in
-    let go : follows tree 0 p q ≡ true = follows_slot tree f.track f.front f.back p q some f.is_track f.next in
-    let rest : q ∷ states ≡ front ++ last ∷ [] = cc in
-    let more = steps_local tree q last bytes states front (follows-slots tree 0 p q go).1.0 steps.2 rest a in
-    ((go, more.0), (steps.1, more.1))
+steps_local tree p last (byte ∷ bytes) (q ∷ states) (x ∷ front) some steps e a = grind (arith, follows_slot tree, follows-slots tree 0 p q, steps_local tree q last bytes states front)
 
 -- and those behind the start
 start_local : (tree : Tree) (last : ℕ) (file states front : List ℕ) → Steps tree 0 file states → 0 ∷ states ≡ front ++ last ∷ [] → Accepting tree last → IsLocal tree 0 states × TakesAll tree states file
-start_local tree last [] [] front steps e a =
-    let same = only_last 0 last front e in
-    let at : Accepting tree 0 = subst (λ x. Accepting tree x) same a in
-    (accepting_start tree at.track at.front at.is_track at.last, tt)
+start_local tree last [] [] front steps e a = grind (arith, only_last 0 last front e, accepting_start tree)
 start_local tree last [] (q ∷ states) front steps e a = absurd steps
 start_local tree last (byte ∷ bytes) [] front steps e a = absurd steps
 start_local tree last (byte ∷ bytes) (q ∷ states) [] steps e a = absurd (cc)
-start_local tree last (byte ∷ bytes) (q ∷ states) (x ∷ front) steps e a =
-    let f : Follows tree 0 q = steps.0 in
-    let begun : is_first tree 0 q ≡ true = follows_start tree f.track f.front f.back q f.is_track f.next in
-    let rest : q ∷ states ≡ front ++ last ∷ [] = cc in
-    let more = steps_local tree q last bytes states front (is_first-slot tree 0 q begun).0 steps.2 rest a in
-    ((begun, more.0), (steps.1, more.1))
+start_local tree last (byte ∷ bytes) (q ∷ states) (x ∷ front) steps e a = grind (arith, follows_start tree, steps_local tree q last bytes states front, is_first-slot tree 0 q)
 
 -- a run begins with the start
 pub run_states : (tree : Tree) (file states : List ℕ) → Run tree file states → (behind : List ℕ) × (0 ∷ behind ≡ states) × Steps tree 0 file behind
@@ -111,11 +65,7 @@ steps_of : (tree : Tree) (track front : List ℕ) (p : ℕ) (t file : List ℕ) 
 steps_of tree track front p [] [] is e takes = tt
 steps_of tree track front p [] (byte ∷ bytes) is e takes = absurd takes
 steps_of tree track front p (q ∷ t) [] is e takes = absurd takes
-steps_of tree track front p (q ∷ t) (byte ∷ bytes) is e takes = (
-  record { track = track; is_track = is; front = front; back = t; next = e },
-  takes.0,
-  steps_of tree track (front ++ p ∷ []) q t bytes is (e ∙ sym (append_assoc front (p ∷ []) (q ∷ t))) takes.1,
-)
+steps_of tree track front p (q ∷ t) (byte ∷ bytes) is e takes = grind (arith, append_assoc, steps_of tree track (front ++ p ∷ []) q t bytes is)
 
 -- a file is accepted exactly where the slots of some track take its bytes
 pub accepts_is_taken : (tree : Tree) (file : List ℕ) → Accepts tree file ↔ ((t : List ℕ) × Track tree 0 t × TakesAll tree t file)

@@ -1,16 +1,6 @@
 -- The words of a tree, by its tracks and the classes of their slots.
-use Rattle.std.proofs.Common.{◌≡◌, ◌↔◌, ℕ, zero, suc, ◌+◌, ◌-◌, ◌<◌, ◌≤◌, List, [], ◌∷◌, ◌++◌, length, get_or, replicate, refl, sym, ap, subst, ◌∙◌, inl, inr, arith, Option, Some, None, length-append}
-use Rattle.std.specs.Prelude.{⊤}
-use Rattle.std.proofs.lemmas.List.{length-replicate, get_or-replicate, get_or_append_left, get_or-append_right}
+use Rattle.sig_auto.proofs.Common.{◌≡◌, ◌↔◌, ℕ, zero, suc, ◌+◌, ◌-◌, ◌<◌, ◌≤◌, List, [], ◌∷◌, ◌++◌, length, get_or, replicate, refl, sym, ap, subst, ◌∙◌, inl, inr, arith, Option, Some, None, length-append, ⊤, length-replicate, get_or-replicate, get_or_append_left, get_or-append_right, Class, InClass, any, Tree, Never, Empty, Slot, Gap, Then, Or, slots_of, classes_of, class_of, GapTrack, slots_from, Track, TakesAll, TreeWord, IsBytes, gap_slots}
 use Rattle.sig_auto.proofs.ByteLemmas.{IsBytes-nil, IsBytes-cons, IsBytes-head, IsBytes-tail, IsBytes-append}
-use Rattle.sig_auto.specs.declared.class.Class.{Class}
-use Rattle.sig_auto.specs.Classes.{InClass, any}
-use Rattle.sig_auto.specs.Trees.{Tree, Never, Empty, Slot, Gap, Then, Or}
-use Rattle.sig_auto.specs.TreeSlots.{slots_of, classes_of, class_of}
-use Rattle.sig_auto.specs.Tracks.{GapTrack, slots_from, Track}
-use Rattle.sig_auto.specs.Unfolded.{TakesAll, TreeWord}
-use Rattle.sig_bits.specs.Bytes.{IsBytes}
-use Rattle.sig_table.specs.Slots.{gap_slots}
 
 -- each slot takes the byte in its place, where f gives the classes
 abbrev TakesBy : (ℕ → Class) → List ℕ → List ℕ → Type 0
@@ -30,46 +20,31 @@ TakesBy-split f [] t w h = ([], w, refl, tt, h)
 TakesBy-split f (q ∷ s) t [] h = absurd h
 TakesBy-split f (q ∷ s) t (b ∷ w) h = let r = TakesBy-split f s t w h.1 in (b ∷ r.0, r.1, ap (λ l. b ∷ l) r.2, (h.0, r.3), r.4)
 
-in_any : (c : Class) (b : ℕ) → c ≡ any → b < 256 → InClass c b
-in_any c b e h = rw e (omega arith, omega arith)
-
-byte_of_any : (c : Class) (b : ℕ) → c ≡ any → InClass c b → b < 256
-byte_of_any c b e h = let k = rw e at h in let low = k.1 in omega arith
-
 -- the bytes that slots of all bytes take, one after the other
 TakesBy-run : (f : ℕ → Class) (k first : ℕ) (w : List ℕ) → ((q : ℕ) → first ≤ q → q < first + k → f q ≡ any) → IsBytes w → length w ≡ k → TakesBy f (slots_from first k) w
 TakesBy-run f zero first [] h bytes len = tt
 TakesBy-run f zero first (b ∷ w) h bytes len = absurd (omega arith)
 TakesBy-run f (suc k) first [] h bytes len = absurd (omega arith)
-TakesBy-run f (suc k) first (b ∷ w) h bytes len = (
-  in_any (f first) b (h first (omega arith) (omega arith)) (IsBytes-head b w bytes),
-  TakesBy-run f k (first + 1) w (λ q low high. h q (omega arith) (omega arith)) (IsBytes-tail b w bytes) (omega arith),
-)
+TakesBy-run f (suc k) first (b ∷ w) h bytes len = grind (arith, IsBytes-head b w bytes, IsBytes-tail b w bytes, TakesBy-run f k (first + 1) w)
 
 run_taken : (f : ℕ → Class) (k first : ℕ) (w : List ℕ) → ((q : ℕ) → first ≤ q → q < first + k → f q ≡ any) → TakesBy f (slots_from first k) w → IsBytes w × (length w ≡ k)
 run_taken f zero first [] h taken = (IsBytes-nil, refl)
 run_taken f zero first (b ∷ w) h taken = absurd taken
 run_taken f (suc k) first [] h taken = absurd taken
-run_taken f (suc k) first (b ∷ w) h taken =
-    let rest = run_taken f k (first + 1) w (λ q low high. h q (omega arith) (omega arith)) taken.1 in
-    let len = rest.1 in
-    (IsBytes-cons b w (byte_of_any (f first) b (h first (omega arith) (omega arith)) taken.0) rest.0, omega arith)
+run_taken f (suc k) first (b ∷ w) h taken = grind (arith, IsBytes-cons b w, run_taken f k (first + 1) w)
 
 -- the bytes that one slot of all bytes takes, again and again
 TakesBy-again : (f : ℕ → Class) (k q : ℕ) (w : List ℕ) → f q ≡ any → IsBytes w → length w ≡ k → TakesBy f (replicate k q) w
 TakesBy-again f zero q [] h bytes len = tt
 TakesBy-again f zero q (b ∷ w) h bytes len = absurd (omega arith)
 TakesBy-again f (suc k) q [] h bytes len = absurd (omega arith)
-TakesBy-again f (suc k) q (b ∷ w) h bytes len = (in_any (f q) b h (IsBytes-head b w bytes), TakesBy-again f k q w h (IsBytes-tail b w bytes) (omega arith))
+TakesBy-again f (suc k) q (b ∷ w) h bytes len = grind (arith, IsBytes-head b w bytes, IsBytes-tail b w bytes, TakesBy-again f k q w h (IsBytes-tail b w bytes))
 
 again_taken : (f : ℕ → Class) (k q : ℕ) (w : List ℕ) → f q ≡ any → TakesBy f (replicate k q) w → IsBytes w × (length w ≡ k)
 again_taken f zero q [] h taken = (IsBytes-nil, refl)
 again_taken f zero q (b ∷ w) h taken = absurd taken
 again_taken f (suc k) q [] h taken = absurd taken
-again_taken f (suc k) q (b ∷ w) h taken =
-    let rest = again_taken f k q w h taken.1 in
-    let len = rest.1 in
-    (IsBytes-cons b w (byte_of_any (f q) b h taken.0) rest.0, omega arith)
+again_taken f (suc k) q (b ∷ w) h taken = grind (arith, IsBytes-cons, again_taken f k q w h taken.1)
 
 -- the first n bytes, and those behind them
 cut_at : (n : ℕ) (w : List ℕ) → IsBytes w → n ≤ length w → (u v : List ℕ) × (w ≡ u ++ v) × (length u ≡ n) × IsBytes u × IsBytes v
@@ -94,9 +69,7 @@ abbrev Reads : (ℕ → Class) → Tree → ℕ → Type 0
 Reads f tree before = (k q : ℕ) → k < slots_of tree → q ≡ before + k + 1 → f q ≡ get_or (classes_of tree) k any
 
 Reads-left : (f : ℕ → Class) (a b : Tree) (before : ℕ) → Reads f (Then a b) before → Reads f a before
-Reads-left f a b before h k q below is =
-    let len = length_classes a in
-    h k q (omega arith) is ∙ get_or_append_left (classes_of a) (classes_of b) any k (omega arith)
+Reads-left f a b before h k q below is = grind (arith, length_classes a, get_or_append_left)
 
 Reads-right : (f : ℕ → Class) (a b : Tree) (before : ℕ) → Reads f (Then a b) before → Reads f b (before + slots_of a)
 Reads-right f a b before h k q below is =
@@ -119,12 +92,7 @@ gap_is_taken f min None before w h word =
     let t : List ℕ = slots_from (before + 1) min ++ replicate (length c.1) (before + min + 1) in
     let all : TakesBy f t (c.0 ++ c.1) = TakesBy-join f (slots_from (before + 1) min) (replicate (length c.1) (before + min + 1)) c.0 c.1 first last in
     (t, (length c.1, refl), subst (TakesBy f t) (sym c.2) all)
-gap_is_taken f min (Some max) before w h word =
-    let most = word.2 in (
-      slots_from (before + 1) (length w),
-      (length w, word.1, word.2, refl),
-      TakesBy-run f (length w) (before + 1) w (λ q low high. Reads-gap f min (Some max) before q h (omega arith) (omega arith)) word.0 refl,
-    )
+gap_is_taken f min (Some max) before w h word = grind (arith, TakesBy-run f (length w) (before + 1) w, Reads-gap f min (Some max) before)
 
 gap_taken : (f : ℕ → Class) (min : ℕ) (max : Option ℕ) (before : ℕ) (w t : List ℕ) → Reads f (Gap min max) before → GapTrack min max before t → TakesBy f t w → TreeWord (Gap min max) w
 gap_taken f min None before w t h track taken =
@@ -133,12 +101,7 @@ gap_taken f min None before w t h track taken =
     let last = again_taken f track.0 (before + min + 1) s.1 (Reads-gap f min None before (before + min + 1) h (omega arith) (omega arith)) s.4 in
     let len = first.1 in
     rw s.2 (IsBytes-append s.0 s.1 first.0 last.0, rw (length-append s.0 s.1) (omega arith), tt)
-gap_taken f min (Some max) before w t h track taken =
-    let low = track.1 in
-    let high = track.2 in
-    let r = run_taken f track.0 (before + 1) w (λ q l g. Reads-gap f min (Some max) before q h (omega arith) (omega arith)) (rw track.3 at taken) in
-    let len = r.1 in
-    (r.0, omega arith, omega arith)
+gap_taken f min (Some max) before w t h track taken = grind (arith, run_taken f track.0 (before + 1) w, Reads-gap f min (Some max) before)
 
 -- a word is taken by some track
 is_taken : (f : ℕ → Class) (tree : Tree) (before : ℕ) (w : List ℕ) → Reads f tree before → TreeWord tree w → Taken f tree before w
@@ -150,12 +113,8 @@ is_taken f (Then a b) before w h word =
     let one = is_taken f a before word.0 (Reads-left f a b before h) word.3 in
     let two = is_taken f b (before + slots_of a) word.1 (Reads-right f a b before h) word.4 in
     (one.0 ++ two.0, (one.0, two.0, refl, one.1, two.1), rw word.2 (TakesBy-join f one.0 two.0 word.0 word.1 one.2 two.2))
-is_taken f (Or a b) before w h (inl word) =
-    let one = is_taken f a before w (Reads-left f a b before h) word in
-    (one.0, inl one.1, one.2)
-is_taken f (Or a b) before w h (inr word) =
-    let two = is_taken f b (before + slots_of a) w (Reads-right f a b before h) word in
-    (two.0, inr two.1, two.2)
+is_taken f (Or a b) before w h (inl word) = grind (arith, Reads-left f a b before h, is_taken f a before w (Reads-left f a b before h) word)
+is_taken f (Or a b) before w h (inr word) = grind (arith, Reads-right, is_taken f b (before + slots_of a) w (Reads-right f a b before h) word)
 
 -- what some track takes is a word
 taken_word : (f : ℕ → Class) (tree : Tree) (before : ℕ) (w t : List ℕ) → Reads f tree before → Track tree before t → TakesBy f t w → TreeWord tree w
@@ -169,14 +128,9 @@ taken_word f (Slot c) before (b ∷ []) t h track taken =
 taken_word f (Slot c) before (b ∷ d ∷ w) t h track taken = let k = rw track at taken in absurd k.1
 taken_word f (Gap min max) before w t h track taken = gap_taken f min max before w t h track taken
 taken_word f (Then a b) before w t h track taken =
-    let s = TakesBy-split f track.0 track.1 w (rw track.2 at taken) in
-    (s.0, s.1, s.2, taken_word f a before s.0 track.0 (Reads-left f a b before h) track.3 s.3, taken_word f b (before + slots_of a) s.1 track.1 (Reads-right f a b before h) track.4 s.4)
+    grind (arith, TakesBy-split f track.0 track.1 w, Reads-left f a b before h, Reads-right f a b before h, taken_word f a before, taken_word f b (before + slots_of a))
 taken_word f (Or a b) before w t h (inl track) taken = inl (taken_word f a before w t (Reads-left f a b before h) track taken)
 taken_word f (Or a b) before w t h (inr track) taken = inr (taken_word f b (before + slots_of a) w t (Reads-right f a b before h) track taken)
-
--- the classes of a whole tree
-Reads-all : (tree : Tree) → Reads (class_of tree) tree 0
-Reads-all tree k q below is = let same : q - 1 ≡ k = omega arith in ap (λ i. get_or (classes_of tree) i any) same
 
 TakesAll-from : (tree : Tree) (t w : List ℕ) → TakesBy (class_of tree) t w → TakesAll tree t w
 TakesAll-from tree [] [] h = tt
@@ -192,7 +146,4 @@ TakesBy-from tree (q ∷ t) (b ∷ w) h = (h.0, TakesBy-from tree t w h.1)
 
 -- a list is a word exactly where some track takes it
 pub taken_is_word : (tree : Tree) (w : List ℕ) → TreeWord tree w ↔ ((t : List ℕ) × Track tree 0 t × TakesAll tree t w)
-taken_is_word tree w = (
-  λ h. (let r = is_taken (class_of tree) tree 0 w (Reads-all tree) h in (r.0, r.1, TakesAll-from tree r.0 w r.2)),
-  λ h. taken_word (class_of tree) tree 0 w h.0 (Reads-all tree) h.1 (TakesBy-from tree h.0 w h.2),
-)
+taken_is_word tree w = grind (arith, is_taken (class_of tree) tree 0 w, TakesAll-from tree, taken_word (class_of tree) tree 0 w, TakesBy-from tree)

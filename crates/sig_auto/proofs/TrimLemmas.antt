@@ -1,13 +1,5 @@
 -- In a tree in which each slot stands in some track, the slots that begin, end and go next to each other do so in some track.
-use Rattle.std.proofs.Common.{◌≡◌, ◌↔◌, Bool, false, ℕ, zero, suc, ◌+◌, ◌-◌, ◌≤◌, ◌==◌, if◌then◌else◌, true, List, [], ◌∷◌, ◌++◌, Option, Some, None, append_assoc, subst, sym, ap, ◌∙◌, refl, inl, inr, arith}
-use Rattle.std.proofs.lemmas.Bool.{cases_eq, cases_lt, eq-eqb, ne_eqb}
-use Rattle.sig_expr.specs.Words.{IsAtMost}
-use Rattle.sig_table.specs.Slots.{gap_slots}
-use Rattle.sig_auto.specs.Local.{is_first, is_last, follows, is_nullable}
-use Rattle.sig_auto.specs.Tracks.{Accepting, Follows, slots_from, Track}
-use Rattle.sig_auto.specs.Trees.{Tree, Never, Empty, Slot, Gap, Then, Or}
-use Rattle.sig_auto.specs.TreeSlots.{slots_of}
-use Rattle.sig_auto.specs.Trim.{HasTrack, IsTrim}
+use Rattle.sig_auto.proofs.Common.{◌≡◌, ◌↔◌, Bool, false, ℕ, zero, suc, ◌+◌, ◌-◌, ◌≤◌, ◌==◌, if◌then◌else◌, true, List, [], ◌∷◌, ◌++◌, Option, Some, None, append_assoc, subst, sym, ap, ◌∙◌, refl, inl, inr, arith, cases_eq, cases_lt, eq-eqb, ne_eqb, IsAtMost, gap_slots, is_first, is_last, follows, is_nullable, Accepting, Follows, slots_from, Track, Tree, Never, Empty, Slot, Gap, Then, Or, slots_of, HasTrack, IsTrim}
 use Rattle.sig_auto.proofs.LocalLemmas.{Chain, Chain-or_left, Chain-or_left_from, Chain-or_right, Chain-or_right_from, Chain-then, Chain-then_cut, Chain-then_right, Chain-then_right_from, IsLocal, IsLocal-or_left, IsLocal-or_right, IsLocal-then, IsSlot, is_first-slot, is_last-slot, gap_begins, gap_climb, gap_ends-from, gap_local_none, gap_local_some, gap_next, follows-slots, local_track}
 use Rattle.sig_auto.proofs.RunLemmas.{accepting_shown, follows_shown}
 
@@ -22,16 +14,7 @@ has_local (Then a b) before h =
     let u = has_local a before h.0 in
     let v = has_local b (before + slots_of a) h.1 in
     (u.0 ++ v.0, IsLocal-then a b before u.0 v.0 u.1 v.1)
-has_local (Or a b) before h =
-    elim h [
-      | inl first ↦ (let t = has_local a before first in (t.0, IsLocal-or_left a b before t.0 t.1))
-      | inr second ↦ (let t = has_local b (before + slots_of a) second in (t.0, IsLocal-or_right a b before t.0 t.1))
-    ]
-
-pub has_track : (tree : Tree) (before : ℕ) → HasTrack tree → (t : List ℕ) × Track tree before t
-has_track tree before h =
-    let t = has_local tree before h in
-    (t.0, local_track tree before t.0 t.1)
+has_local (Or a b) before h = grind (arith, IsLocal-or_left, IsLocal-or_right, has_local a before, has_local b (before + slots_of a))
 
 -- a gap whose least length is not above its greatest has as many slots
 gap_least : (min : ℕ) (max : Option ℕ) → IsAtMost max min → min ≤ gap_slots min max
@@ -40,21 +23,14 @@ gap_least min (Some max) h = h
 
 -- the slots of a gap before p
 gap_reach : (min : ℕ) (max : Option ℕ) (before n p : ℕ) (v : List ℕ) → before + 1 + n ≡ p → p ≤ before + gap_slots min max → Chain (Gap min max) before p v → IsLocal (Gap min max) before (slots_from (before + 1) n ++ p ∷ v)
-gap_reach min max before zero p v is high h =
-    let same : before + 1 ≡ p = omega arith in
-    (subst (λ x. is_first (Gap min max) before x ≡ true) same (gap_begins min max before (omega arith)), h)
-gap_reach min max before (suc m) p v is high h =
-    let same : before + 1 + m + 1 ≡ p = omega arith in
-    let last : follows (Gap min max) before (before + 1 + m) p ≡ true = subst (λ x. follows (Gap min max) before (before + 1 + m) x ≡ true) same (gap_next min max before (before + 1 + m) (omega arith) (omega arith)) in
-    (gap_begins min max before (omega arith), gap_climb min max before (before + 1) m (p ∷ v) (omega arith) (omega arith) (last, h))
+gap_reach min max before zero p v is high h = grind (arith, gap_begins min max before)
+gap_reach min max before (suc m) p v is high h = grind (arith, gap_next, gap_begins, gap_climb)
 
 -- some slots come before p, whatever comes behind it
 reach : (tree : Tree) (before p : ℕ) → IsTrim tree → IsSlot tree before p → (u : List ℕ) × ((v : List ℕ) → Chain tree before p v → IsLocal tree before (u ++ p ∷ v))
 reach Never before p trim slot = absurd (omega arith)
 reach Empty before p trim slot = absurd (omega arith)
-reach (Slot c) before p trim slot =
-    let same : p ≡ before + 1 = omega arith in
-    ([], λ v h. (eq-eqb p (before + 1) same, h))
+reach (Slot c) before p trim slot = grind (arith, eq-eqb)
 reach (Gap min max) before p trim slot =
     let same : before + 1 + (p - (before + 1)) ≡ p = omega arith in
     (slots_from (before + 1) (p - (before + 1)), λ v h. gap_reach min max before (p - (before + 1)) p v same slot.1 h)
@@ -64,9 +40,7 @@ reach (Then a b) before p trim slot =
           let w = has_local a before trim.2 in
           let r = reach b (before + slots_of a) p trim.1 (high, omega arith) in (
             w.0 ++ r.0,
-            λ v h.
-                subst (λ l. IsLocal (Then a b) before l) (sym (append_assoc w.0 r.0 (p ∷ v)))
-                (IsLocal-then a b before w.0 (r.0 ++ p ∷ v) w.1 (r.1 v (Chain-then_right_from a b before p v high h))),
+            λ v h. grind (arith, append_assoc, IsLocal-then, Chain-then_right_from),
           )
       | inr low ↦
           let r = reach a before p trim.0 (slot.0, low) in (
@@ -79,14 +53,7 @@ reach (Then a b) before p trim slot =
           )
     ]
 reach (Or a b) before p trim slot =
-    elim (cases_lt (before + slots_of a) p) [
-      | inl high ↦
-          let r = reach b (before + slots_of a) p trim.1 (high, omega arith) in
-          (r.0, λ v h. IsLocal-or_right a b before (r.0 ++ p ∷ v) (r.1 v (Chain-or_right_from a b before p v high h)))
-      | inr low ↦
-          let r = reach a before p trim.0 (slot.0, low) in
-          (r.0, λ v h. IsLocal-or_left a b before (r.0 ++ p ∷ v) (r.1 v (Chain-or_left_from a b before p v low h)))
-    ]
+    grind (arith, IsLocal-or_right a b before, Chain-or_right_from a b before p, IsLocal-or_left a b before, Chain-or_left_from a b before p, reach b (before + slots_of a) p trim.1, reach a before p trim.0)
 
 -- some slots come behind p, up to an end
 pub goes_on : (tree : Tree) (before p : ℕ) → IsTrim tree → IsSlot tree before p → (v : List ℕ) × Chain tree before p v
@@ -101,44 +68,26 @@ goes_on (Gap min max) before p trim slot =
     )
 goes_on (Then a b) before p trim slot =
     elim (cases_lt (before + slots_of a) p) [
-      | inl high ↦
-          let r = goes_on b (before + slots_of a) p trim.1 (high, omega arith) in
-          (r.0, Chain-then_right a b before p r.0 r.1)
+      | inl high ↦ grind (arith, Chain-then_right, goes_on b (before + slots_of a) p trim.1)
       | inr low ↦
           let r = goes_on a before p trim.0 (slot.0, low) in
           let w = has_local b (before + slots_of a) trim.3 in
           (r.0 ++ w.0, Chain-then a b before p r.0 w.0 r.1 w.1)
     ]
-goes_on (Or a b) before p trim slot =
-    elim (cases_lt (before + slots_of a) p) [
-      | inl high ↦
-          let r = goes_on b (before + slots_of a) p trim.1 (high, omega arith) in
-          (r.0, Chain-or_right a b before p r.0 r.1)
-      | inr low ↦
-          let r = goes_on a before p trim.0 (slot.0, low) in
-          (r.0, Chain-or_left a b before p r.0 r.1)
-    ]
+goes_on (Or a b) before p trim slot = grind (arith, Chain-or_right, Chain-or_left, goes_on b (before + slots_of a) p trim.1, goes_on a before p trim.0)
 
 -- the tests find tracks
 pub skips_track : (tree : Tree) (before : ℕ) → is_nullable tree ≡ true → Track tree before []
 skips_track tree before h = local_track tree before [] h
 
 pub begins_track : (tree : Tree) (before q : ℕ) → IsTrim tree → is_first tree before q ≡ true → (v : List ℕ) × Track tree before (q ∷ v)
-begins_track tree before q trim h =
-    let v = goes_on tree before q trim (is_first-slot tree before q h) in
-    (v.0, local_track tree before (q ∷ v.0) (h, v.1))
+begins_track tree before q trim h = grind (arith, goes_on tree before q trim (is_first-slot tree before q h), is_first-slot tree before q h, local_track tree before)
 
 pub ends_track : (tree : Tree) (before p : ℕ) → IsTrim tree → is_last tree before p ≡ true → (u : List ℕ) × Track tree before (u ++ p ∷ [])
-ends_track tree before p trim h =
-    let u = reach tree before p trim (is_last-slot tree before p h) in
-    (u.0, local_track tree before (u.0 ++ p ∷ []) (u.1 [] h))
+ends_track tree before p trim h = grind (arith, reach tree before p trim (is_last-slot tree before p h), is_last-slot tree before p h, local_track tree before)
 
 pub goes_track : (tree : Tree) (before p q : ℕ) → IsTrim tree → follows tree before p q ≡ true → (u v : List ℕ) × Track tree before (u ++ p ∷ q ∷ v)
-goes_track tree before p q trim h =
-    let slots = follows-slots tree before p q h in
-    let u = reach tree before p trim slots.0 in
-    let v = goes_on tree before q trim slots.1 in
-    (u.0, v.0, local_track tree before (u.0 ++ p ∷ q ∷ v.0) (u.1 (q ∷ v.0) (h, v.1)))
+goes_track tree before p q trim h = grind (arith, follows-slots tree before p q h, reach tree before p trim, goes_on tree before q trim, local_track tree before)
 
 -- the test of two states is whether one follows the other
 pub follows_exact : (tree : Tree) → IsTrim tree → (p q : ℕ) → ((if p == 0 then is_first tree 0 q else follows tree 0 p q) ≡ true) ↔ Follows tree p q
@@ -174,9 +123,6 @@ follows_start tree trim p q b start is = rw start (rw is (follows_exact tree tri
 
 pub follows_slot : (tree : Tree) → IsTrim tree → (p q : ℕ) (b : Bool) → (p == 0) ≡ false → b ≡ follows tree 0 p q → (b ≡ true) ↔ Follows tree p q
 follows_slot tree trim p q b slot is = let law = follows_exact tree trim p q in rw is (simp slot at law)
-
-pub accepting_start : (tree : Tree) → IsTrim tree → (p : ℕ) (b : Bool) → p ≡ 0 → b ≡ is_nullable tree → (b ≡ true) ↔ Accepting tree p
-accepting_start tree trim p b start is = rw start (rw is (accepting_exact tree trim 0))
 
 pub accepting_slot : (tree : Tree) → IsTrim tree → (p : ℕ) (b : Bool) → (p == 0) ≡ false → b ≡ is_last tree 0 p → (b ≡ true) ↔ Accepting tree p
 accepting_slot tree trim p b slot is = let law = accepting_exact tree trim p in rw is (simp slot at law)

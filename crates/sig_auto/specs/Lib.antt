@@ -9,17 +9,26 @@ pub mod ByteCuts
 pub mod Remaining
 -- These are words of the proofs.
 pub mod Begins
-pub mod Counted
 pub mod Cuts
 pub mod Local
-pub mod Same
-pub mod Seen
 pub mod Sides
-pub mod Spelled
 pub mod Stepping
 pub mod Successions
 pub mod Trim
 pub mod Unfolded
+-- These are of the form by cells.
+pub mod Behind
+pub mod Building
+pub mod Cells
+pub mod Flat
+pub mod Joined
+pub mod Joints
+pub mod Parts
+pub mod Props
+pub mod CellSides
+pub mod CellSteps
+pub mod Taken
+pub mod Ways
 -- These are of the crates below, for its clauses.
 pub use Rattle.sig_bits.specs.BitSets
 pub use Rattle.sig_bits.specs.ByteClasses

@@ -1,9 +1,8 @@
--- What an iterator over the successors of a state has still to give.
-use Rattle.std.specs.Prelude.{ℕ, List}
+-- What an iterator over successors has still to give.
+use Rattle.std.specs.Prelude.{ℕ, List, ◌++◌, drop}
 use Rattle.sig_auto.specs.declared.successors.Successors.{Successors}
-use Rattle.sig_auto.specs.Seen.{seen}
-use Rattle.sig_auto.specs.Successions.{successors_above}
+use Rattle.sig_auto.specs.Taken.{own_list, taken_first}
 
--- the successors still to come, in order
+-- the successors still to come
 abbrev pub remaining_of : Successors → List ℕ
-remaining_of successors = successors_above (seen successors.root.now) successors.state successors.byte successors.above
+remaining_of s = own_list s.own ++ taken_first s.byte (drop s.at s.cells.now)

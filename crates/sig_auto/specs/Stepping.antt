@@ -1,7 +1,7 @@
 -- What a set of states does on a byte, in a tree that may be a part of another.
 use Rattle.std.specs.Prelude.{◌≡◌, ◌⊎◌, ℕ, ◌+◌, ◌-◌, ◌<◌, ◌≤◌, Bool, true, List, Option}
 use Rattle.sig_auto.specs.Classes.{InClass}
-use Rattle.sig_auto.specs.Local.{is_first, is_last, follows, loops, is_nullable}
+use Rattle.sig_auto.specs.Local.{is_first, is_last, follows, is_nullable}
 use Rattle.sig_auto.specs.Trees.{Tree}
 use Rattle.sig_auto.specs.TreeSlots.{class_of}
 use Rattle.sig_bits.specs.BitSets.{HasBit}
@@ -17,11 +17,3 @@ IsNext tree before enter from q = ((enter ≡ true) × (is_first tree before q �
 -- and it takes the byte
 abbrev pub IsStepped : Tree → ℕ → Bool → List ℕ → ℕ → ℕ → Type 0
 IsStepped tree before enter from byte q = IsNext tree before enter from q × InClass (class_of tree (q - before)) byte
-
--- the same for the slots of a gap: the first where it is entered, each other behind the one before, and the last behind itself where the gap has no greatest length
-abbrev pub IsNextInGap : ℕ → ℕ → Option ℕ → Bool → List ℕ → ℕ → Type 0
-IsNextInGap before slots max enter from q = (before < q) × (q ≤ before + slots) × (((q ≡ before + 1) × (enter ≡ true)) ⊎ (((before + 1 < q) × HasBit from (q - 1)) ⊎ ((q ≡ before + slots) × (loops max ≡ true) × HasBit from q)))
-
--- what stands behind a gap comes next: the gap is entered and needs no byte, or a state of the set is one of its slots and not before the least
-abbrev pub LeadsInGap : ℕ → ℕ → ℕ → Bool → List ℕ → Type 0
-LeadsInGap before slots min enter from = ((enter ≡ true) × (min ≡ 0)) ⊎ ((p : ℕ) × HasBit from p × (before < p) × (before + min ≤ p) × (p ≤ before + slots))

@@ -1,153 +1,147 @@
-//! The bytes on which a state has successors, and the cuts between them: the bytes on which its
-//! successors are others than on the byte below. So from a cut up to the next one, all bytes lead
-//! to the same states.
+//! What comes behind a state: its own next slot, and the cells that are entered behind it.
+//!
+//! The cell of a slot is found by halving. Of `41{1-2}42` the first slot of the gap has the second for its
+//! own next one, and enters `42`.
 
-ghost use Rattle.std.specs.Prelude.{◌≡◌, ◌↔◌, ℕ, ◌+◌, ◌≤◌, ◌<◌};
-ghost use Rattle.sig_auto.specs.Counted.{IsCounted};
-ghost use Rattle.sig_auto.specs.Cuts.{AddsAllCuts, AddsAlone, AddsCuts, AddsLive};
-ghost use Rattle.sig_auto.specs.Local.{is_last};
-ghost use Rattle.sig_auto.specs.Seen.{seen};
-ghost use Rattle.sig_auto.specs.Successions.{BeginsOn, GoesOn};
-ghost use Rattle.sig_auto.specs.Tracks.{Follows};
-ghost use Rattle.sig_auto.specs.TreeSlots.{Takes, slots_of};
-ghost use Rattle.sig_auto.specs.Trim.{IsTrim};
-ghost use Rattle.sig_bits.specs.ByteClasses.{Holds};
+ghost use Rattle.std.specs.Prelude.{◌≡◌, ◌⊎◌, ◌+◌, ◌<◌, ◌≤◌, ◌↔◌, ℕ, None, Some, IfSome, IsTrue, drop, length, true};
+ghost use Rattle.sig_auto.specs.Behind.{AreReady, IsBehind, IsCellOf, LiesBehind, is_own, slots_in};
+ghost use Rattle.sig_auto.specs.Joined.{entered_first};
+ghost use Rattle.sig_auto.specs.Joints.{AreJoints};
+ghost use Rattle.sig_auto.specs.Ways.{leave, own};
 
-use crate::node::{Node, ends_gap};
-use crate::run::{add_all_alone, add_all_cuts, add_begin_run, add_behind_run, ends_run};
-use sig_bits::ByteClass;
+use crate::cell::Cell;
+use crate::joint::Joints;
 
-impl Node {
-    // Adds the cuts of all its classes.
-    pub(crate) fn add_cuts(&self, cuts: &mut ByteClass)
-        ensures { AddsAllCuts cuts.old cuts.new (seen self.now) }
+/// What comes behind a state.
+#[derive(Clone, Copy, Debug)]
+pub(crate) struct Behind {
+    /// The next slot of its own cell.
+    pub(crate) own: Option<u32>,
+    /// The first cell that is entered; there is none where this is how many cells there are.
+    pub(crate) enters: u32,
+    /// Nothing need come.
+    pub(crate) ends: bool,
+}
+
+impl Cell {
+    // The slot of the cell that goes behind slot p.
+    pub(crate) fn own(&self, p: u32) -> Option<u32>
+        requires { self.now.before + self.now.count ≤ 65535 }
+        ensures is { (q : ℕ) → own self.now p q ≡ is_own result q }
+        ensures within { IfSome result (λ q. q ≤ self.now.before + self.now.count) }
     {
-        match self {
-            Node::Never | Node::Empty | Node::Gap { .. } => {}
-            Node::Slot(class) => class.add_cuts(cuts),
-            Node::Run(classes) => add_all_cuts(classes.as_slice(), cuts),
-            Node::Then(both, _) | Node::Or(both, _) => {
-                both.first.add_cuts(cuts);
-                both.second.add_cuts(cuts);
-            }
-        }
-    }
-
-    // Adds bytes that one of its classes has alone, or lacks alone.
-    pub(crate) fn add_alone(&self, alone: &mut ByteClass)
-        ensures { AddsAlone alone.old alone.new (seen self.now) }
-    {
-        match self {
-            Node::Never | Node::Empty | Node::Gap { .. } => {}
-            Node::Slot(class) => class.add_alone(alone),
-            Node::Run(classes) => add_all_alone(classes.as_slice(), alone),
-            Node::Then(both, _) | Node::Or(both, _) => {
-                both.first.add_alone(alone);
-                both.second.add_alone(alone);
-            }
-        }
-    }
-
-    // The bytes on which some slot follows the state; adds the cuts between them.
-    pub(crate) fn live_bytes(&self, state: usize, cuts: &mut ByteClass) -> ByteClass
-        requires counted { IsCounted self.now }
-        requires trim { IsTrim (seen self.now) }
-        requires few { slots_of (seen self.now) ≤ 65535 }
-        ensures live { (b : ℕ) → b < 256 → Holds result b ↔ ((q : ℕ) × (Follows (seen self.now) state q × Takes (seen self.now) q b)) }
-        ensures cuts { AddsCuts cuts.old cuts.new (λ b q. Follows (seen self.now) state q × Takes (seen self.now) q b) }
-    {
-        let mut live = ByteClass::none();
-        if state == 0 {
-            self.add_begin(&mut live, cuts);
+        let last = self.before + self.count;
+        if p < last {
+            Some(p + 1)
+        } else if self.endless && p == last {
+            Some(p)
         } else {
-            self.add_behind(0, state, &mut live, cuts);
-        }
-        live
-    }
-
-    // Adds the bytes on which a slot begins the tree, and the cuts between them.
-    fn add_begin(&self, live: &mut ByteClass, cuts: &mut ByteClass)
-        requires counted { IsCounted self.now }
-        requires few { slots_of (seen self.now) ≤ 65535 }
-        ensures live { (before : ℕ) → AddsLive live.old live.new (BeginsOn (seen self.now) before) }
-        ensures cuts { (before : ℕ) → AddsCuts cuts.old cuts.new (BeginsOn (seen self.now) before) }
-    {
-        match self {
-            Node::Never | Node::Empty => {}
-            Node::Slot(class) => {
-                live.extend(&class.bytes());
-                class.add_cuts(cuts);
-            }
-            Node::Run(classes) => add_begin_run(classes.as_slice(), live, cuts),
-            Node::Gap { .. } => {
-                if self.slots() > 0 {
-                    *live = ByteClass::all();
-                }
-            }
-            Node::Then(both, _) => {
-                both.first.add_begin(live, cuts);
-                if both.first.is_nullable() {
-                    both.second.add_begin(live, cuts);
-                }
-            }
-            Node::Or(both, _) => {
-                both.first.add_begin(live, cuts);
-                both.second.add_begin(live, cuts);
-            }
+            None
         }
     }
 
-    // Adds the bytes on which a slot goes behind p, and the cuts between them. Answers whether some
-    // track ends with p.
-    fn add_behind(
-        &self,
-        before: usize,
-        p: usize,
-        live: &mut ByteClass,
-        cuts: &mut ByteClass,
-    ) -> bool
-        requires counted { IsCounted self.now }
-        requires few { before + slots_of (seen self.now) ≤ 65535 }
-        ensures live { AddsLive live.old live.new (GoesOn (seen self.now) before p) }
-        ensures cuts { AddsCuts cuts.old cuts.new (GoesOn (seen self.now) before p) }
-        ensures last { result ≡ is_last (seen self.now) before p }
+    // Whether slot p leaves the cell.
+    pub(crate) fn leaves(&self, p: u32) -> bool
+        ensures yes { IsTrue result → leave self.now p ≡ Some self.now.behind }
+        ensures not { (result ≡ true → ⊥) → leave self.now p ≡ None }
     {
-        if !self.has_slot(before, p) {
-            return false;
+        self.before as u64 + self.least as u64 <= p as u64
+    }
+}
+
+// How many slots the cells have.
+pub(crate) fn slots(cells: &[Cell]) -> u32
+    requires { AreReady cells.now }
+    ensures { result ≡ slots_in cells.now }
+{
+    if cells.is_empty() {
+        return 0;
+    }
+    let last = &cells[cells.len() - 1];
+    last.before + last.count
+}
+
+// The place of the cell that has the slot.
+pub(crate) fn find(cells: &[Cell], p: u32) -> usize
+    requires ready { AreReady cells.now }
+    requires above { 0 < p }
+    requires within { p ≤ slots_in cells.now }
+    ensures { IsCellOf cells.now p result }
+{
+    let guess = (p - 1) as usize;
+    if guess < cells.len() && cells[guess].before == p - 1 {
+        return guess;
+    }
+    let mut low = 0;
+    let mut high = cells.len();
+    while high - low > 1 {
+        let half = low + (high - low) / 2;
+        if cells[half].before < p {
+            low = half;
+        } else {
+            high = half;
         }
-        match self {
-            Node::Never | Node::Empty => false,
-            Node::Slot(_) => p == before + 1,
-            Node::Run(classes) => {
-                add_behind_run(classes.as_slice(), before, p, live, cuts);
-                ends_run(before, self.slots(), p)
+    }
+    low
+}
+
+impl Behind {
+    // Whether q is the own next slot.
+    pub(crate) fn has(&self, q: u32) -> bool
+        ensures { result ≡ is_own self.now.own q }
+    {
+        match self.own {
+            Some(own) => q == own,
+            None => false,
+        }
+    }
+
+    // What comes behind the state.
+    pub(crate) fn of(cells: &[Cell], joints: &Joints, p: u32) -> Behind
+        requires ready { AreReady cells.now }
+        requires joints { AreJoints cells.now joints.now }
+        requires within { p ≤ slots_in cells.now }
+        ensures is { IsBehind cells.now p result }
+        ensures order { IfSome result.own (λ q. LiesBehind q (drop result.enters cells.now)) }
+    {
+        if p == 0 {
+            return Behind {
+                own: None,
+                enters: joints.start,
+                ends: joints.nullable,
+            };
+        }
+        let k = find(cells, p);
+        let cell = &cells[k];
+        let joint = &joints.each[k];
+        if cell.leaves(p) {
+            Behind {
+                own: cell.own(p),
+                enters: joint.enters,
+                ends: joint.ends,
             }
-            Node::Gap { min, max } => {
-                let end = before + self.slots();
-                if p < end || max.is_none() {
-                    *live = ByteClass::all();
-                }
-                ends_gap(before, *min, end, p)
-            }
-            Node::Then(both, _) => {
-                let between = before + both.first.slots();
-                if between < p {
-                    return both.second.add_behind(between, p, live, cuts);
-                }
-                if !both.first.add_behind(before, p, live, cuts) {
-                    return false;
-                }
-                both.second.add_begin(live, cuts);
-                both.second.is_nullable()
-            }
-            Node::Or(both, _) => {
-                let between = before + both.first.slots();
-                if between < p {
-                    both.second.add_behind(between, p, live, cuts)
-                } else {
-                    both.first.add_behind(before, p, live, cuts)
-                }
+        } else {
+            Behind {
+                own: cell.own(p),
+                enters: cells.len() as u32,
+                ends: false,
             }
         }
     }
+}
+
+// Whether slot q is entered where this cell is.
+pub(crate) fn is_entered(cells: &[Cell], joints: &Joints, from: u32, q: u32) -> bool
+    requires ready { AreReady cells.now }
+    requires joints { AreJoints cells.now joints.now }
+    ensures { result ≡ entered_first (drop from cells.now) q }
+{
+    let mut at = from as usize;
+    while at < cells.len() {
+        if cells[at].before + 1 == q {
+            return true;
+        }
+        at = joints.each[at].beside as usize;
+    }
+    false
 }

@@ -3,18 +3,18 @@
 //! Some run of a file accepts exactly where the sequence stands in it (`specs/Runs.antt`).
 #![tactic(auto)]
 
-mod alike;
 mod auto;
 mod behind;
+mod build;
+mod bytes;
+mod cell;
 mod class;
 mod class_word;
+mod joint;
 mod laws;
-mod node;
-mod run;
 mod start;
 mod step;
 mod successors;
-mod unroll;
 
 pub use auto::Auto;
 pub use laws::{

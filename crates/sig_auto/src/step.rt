@@ -1,155 +1,104 @@
-//! Sets of states: what a byte leads to, without memory of its own, and which states accept.
+//! Steps of a set of states.
 //!
-//! One walk over the tree from left to right carries one bit: whether what stands next is entered,
-//! since a state of the set ends what stands before it. So the work is that of the slots, however
-//! many states the set has.
+//! One pass over the cells, from the first to the last. That a cell is entered is noted in the new set
+//! itself, at its first slot; when the pass comes to the cell, it enters the cell beside it, and keeps the
+//! slot only if it takes the byte. A gap of any length is one cell, whose slots are shifted by whole bytes.
 
-ghost use Rattle.std.specs.Prelude.{◌≡◌, ◌+◌, ◌*◌, ◌<◌, ◌≤◌, ◌↔◌, ◌⊎◌, ℕ, IfOk, IsTrue, length};
-ghost use Rattle.sig_auto.specs.Counted.{IsCounted};
-ghost use Rattle.sig_auto.specs.Runs.{IsStepOf};
-ghost use Rattle.sig_auto.specs.Seen.{seen};
-ghost use Rattle.sig_auto.specs.Stepping.{IsNextInGap, IsStepped, Leads, LeadsInGap};
-ghost use Rattle.sig_auto.specs.Tracks.{Accepting};
-ghost use Rattle.sig_auto.specs.TreeSlots.{set_len, slots_of};
-ghost use Rattle.sig_auto.specs.Trim.{IsTrim};
+ghost use Rattle.std.specs.Prelude.{◌≡◌, ◌≢◌, ◌⊎◌, ◌↔◌, ◌+◌, ◌*◌, ◌<◌, ◌≤◌, ℕ, IsTrue, length};
+ghost use Rattle.sig_auto.specs.Behind.{AreReady, slots_in};
+ghost use Rattle.sig_auto.specs.CellSteps.{GoesWithin, IsCellStep, IsFirstOf, IsLeft, IsSomePassed};
+ghost use Rattle.sig_auto.specs.Joints.{AreJoints};
 ghost use Rattle.sig_bits.specs.BitSets.{HasBit};
 
-use crate::node::Node;
-use crate::run::{step_run, step_slot};
+use crate::cell::Cell;
+use crate::joint::Joints;
 use sig_bits::{any_between, clear, get_bit, set_bit, shift_into};
-use std::alloc::{AllocError, Global};
 
-impl Node {
-    // Makes `to` the set of all states that follow a state of `from` and take the byte.
-    pub(crate) fn step_set(&self, from: &[u8], byte: u8, to: &mut [u8])
-        requires counted { IsCounted self.now }
-        requires trim { IsTrim (seen self.now) }
-        requires few { slots_of (seen self.now) ≤ 65535 }
-        requires from_len { length from.now ≡ set_len (seen self.now) }
-        requires to_len { length to.old ≡ set_len (seen self.now) }
-        ensures { (q : ℕ) → HasBit to.new q ↔ IsStepOf (seen self.now) from.now byte q }
-    {
-        clear(to);
-        self.step(0, get_bit(from, 0), byte, from, to);
-    }
-
-    // The set of the accepting states.
-    pub(crate) fn accepting_set(&self, alloc: Global) -> Result<Vec<u8>, AllocError>
-        requires counted { IsCounted self.now }
-        requires trim { IsTrim (seen self.now) }
-        requires few { slots_of (seen self.now) ≤ 65535 }
-        ensures len { IfOk result (λ set. length set.items ≡ set_len (seen self.now)) }
-        ensures states { IfOk result (λ set. (p : ℕ) → HasBit set.items p ↔ Accepting (seen self.now) p) }
-    {
-        let mut set = vec![in alloc; 0; (self.slots() + 8) / 8]?;
-        self.add_accepting(&mut set);
-        Ok(set)
-    }
-
-    // Adds the accepting states.
-    fn add_accepting(&self, to: &mut [u8])
-        requires counted { IsCounted self.now }
-        requires trim { IsTrim (seen self.now) }
-        requires few { slots_of (seen self.now) ≤ 65535 }
-        requires to_len { length to.old ≡ set_len (seen self.now) }
-        ensures { (p : ℕ) → HasBit to.new p ↔ (HasBit to.old p ⊎ Accepting (seen self.now) p) }
-    {
-        for p in 0..self.slots() + 1 {
-            add_if(to, p, self.is_accepting(p));
-        }
-    }
-
-    // Whether some track ends with p, or the empty track is one where p is the start.
-    pub(crate) fn is_accepting(&self, p: usize) -> bool
-        requires counted { IsCounted self.now }
-        requires trim { IsTrim (seen self.now) }
-        requires few { slots_of (seen self.now) ≤ 65535 }
-        ensures { IsTrue result ↔ Accepting (seen self.now) p }
-    {
-        if p == 0 {
-            self.is_nullable()
-        } else {
-            self.is_last(0, p)
-        }
-    }
-
-    // Adds the slots that follow a state of `from` and take the byte, and those that begin the tree
-    // where it is entered. Says whether what stands behind the tree is entered.
-    pub(crate) fn step(
-        &self,
-        before: usize,
-        enter: bool,
-        byte: u8,
-        from: &[u8],
-        to: &mut [u8],
-    ) -> bool
-        requires counted { IsCounted self.now }
-        requires slots { before + slots_of (seen self.now) ≤ 65535 }
-        requires from_len { before + slots_of (seen self.now) < 8 * length from.now }
-        requires to_len { before + slots_of (seen self.now) < 8 * length to.old }
-        ensures leads { IsTrue result ↔ Leads (seen self.now) before enter from.now }
-        ensures states { (q : ℕ) → HasBit to.new q ↔ (HasBit to.old q ⊎ IsStepped (seen self.now) before enter from.now byte q) }
-    {
-        match self {
-            Node::Never => false,
-            Node::Empty => enter,
-            Node::Slot(class) => step_slot(*class, before, enter, byte, from, to),
-            Node::Run(classes) => step_run(classes.as_slice(), before, enter, byte, from, to),
-            Node::Gap { min, max } => {
-                step_gap(before, self.slots(), *max, enter, from, to);
-                gap_leads(before, self.slots(), *min, enter, from)
-            }
-            Node::Then(both, _) => {
-                let led = both.first.step(before, enter, byte, from, to);
-                both.second
-                    .step(before + both.first.slots(), led, byte, from, to)
-            }
-            Node::Or(both, _) => {
-                let first = both.first.step(before, enter, byte, from, to);
-                let second = both
-                    .second
-                    .step(before + both.first.slots(), enter, byte, from, to);
-                first || second
-            }
-        }
+// Makes `to` the set of all slots that come behind a state of `from` and take the byte.
+pub(crate) fn step(cells: &[Cell], joints: &Joints, from: &[u8], byte: u8, to: &mut [u8])
+    requires ready { AreReady cells.now }
+    requires joints { AreJoints cells.now joints.now }
+    requires from_len { slots_in cells.now < 8 * length from.now }
+    requires to_len { slots_in cells.now < 8 * length to.old }
+    ensures { (q : ℕ) → HasBit to.new q ↔ IsCellStep cells.now joints.now from.now byte q }
+{
+    clear(to);
+    enter_if(cells, joints.start, get_bit(from, 0), to);
+    for k in 0..cells.len() {
+        pass(cells, joints, k, from, byte, to);
     }
 }
 
-// Adds the slots of a gap in the same way: the first where the gap is entered, each other behind
-// the one before, and the last behind itself where the gap has no greatest length. They take any
-// byte.
-fn step_gap(before: usize, slots: usize, max: Option<u32>, enter: bool, from: &[u8], to: &mut [u8])
-    requires slots { before + slots ≤ 65535 }
-    requires from_len { before + slots < 8 * length from.now }
-    requires to_len { before + slots < 8 * length to.old }
-    ensures { (q : ℕ) → HasBit to.new q ↔ (HasBit to.old q ⊎ IsNextInGap before slots max enter from.now q) }
+// Goes on over one cell.
+fn pass(cells: &[Cell], joints: &Joints, k: usize, from: &[u8], byte: u8, to: &mut [u8])
+    requires ready { AreReady cells.now }
+    requires joints { AreJoints cells.now joints.now }
+    requires within { k < length cells.now }
+    requires from_len { slots_in cells.now < 8 * length from.now }
+    requires to_len { slots_in cells.now < 8 * length to.old }
+    requires passed { IsSomePassed cells.now joints.now from.now byte to.old k }
+    ensures { IsSomePassed cells.now joints.now from.now byte to.new (k + 1) }
 {
-    if slots == 0 {
+    let cell = cells[k];
+    let joint = joints.each[k];
+    let first = cell.before as usize + 1;
+    let takes = cell.class.contains(byte);
+    enter_if(cells, joint.beside, get_bit(to, first), to);
+    enter_if(cells, joint.enters, is_left(cell, from), to);
+    keep_if(to, first, takes);
+    add_within(cell, from, takes, to);
+}
+
+// Adds the first slot of the cell at this place, if there is one and it is entered.
+fn enter_if(cells: &[Cell], at: u32, is_entered: bool, to: &mut [u8])
+    requires ready { AreReady cells.now }
+    requires to_len { slots_in cells.now < 8 * length to.old }
+    ensures { (s : ℕ) → HasBit to.new s ↔ (HasBit to.old s ⊎ (IsTrue is_entered × IsFirstOf cells.now at s)) }
+{
+    if !is_entered {
         return;
     }
-    let last = before + slots;
-    shift_into(to, from, before + 1, last);
-    add_if(to, before + 1, enter);
-    add_if(to, last, max.is_none() && get_bit(from, last));
-}
-
-// Adds a slot, or nothing.
-fn add_if(to: &mut [u8], q: usize, wanted: bool)
-    requires { q < 8 * length to.old }
-    ensures { (j : ℕ) → HasBit to.new j ↔ (HasBit to.old j ⊎ ((j ≡ q) × IsTrue wanted)) }
-{
-    if wanted {
-        set_bit(to, q);
+    if let Some(cell) = cells.get(at as usize) {
+        set_bit(to, cell.before as usize + 1);
     }
 }
 
-// Whether what stands behind a gap is entered: no byte is needed, or one of its slots may be its
-// last.
-fn gap_leads(before: usize, slots: usize, min: u32, enter: bool, from: &[u8]) -> bool
-    requires slots { before + slots ≤ 65535 }
-    requires from_len { before + slots < 8 * length from.now }
-    ensures { IsTrue result ↔ LeadsInGap before slots min enter from.now }
+// Whether a state of the set leaves the cell.
+fn is_left(cell: Cell, from: &[u8]) -> bool
+    requires few { cell.before + cell.count ≤ 65535 }
+    requires from_len { cell.before + cell.count < 8 * length from.now }
+    ensures { IsTrue result ↔ IsLeft cell from.now }
 {
-    let least = (min as usize).max(1);
-    (enter && min == 0) || any_between(from, before + least, before + slots + 1)
+    let before = cell.before as usize;
+    let least = before.saturating_add(cell.least as usize).max(before + 1);
+    any_between(from, least, before + cell.count as usize + 1)
+}
+
+// Takes the slot out of the set, unless it is to be kept.
+fn keep_if(set: &mut [u8], slot: usize, is_kept: bool)
+    requires { slot < 8 * length set.old }
+    ensures { (s : ℕ) → HasBit set.new s ↔ (HasBit set.old s × ((s ≢ slot) ⊎ IsTrue is_kept)) }
+{
+    if !is_kept {
+        set[slot / 8] &= !(1 << (slot % 8));
+    }
+}
+
+// Adds the slots of the cell that come behind a state of the set within it, if they take the byte.
+fn add_within(cell: Cell, from: &[u8], takes: bool, to: &mut [u8])
+    requires some { 0 < cell.count }
+    requires few { cell.before + cell.count ≤ 65535 }
+    requires from_len { cell.before + cell.count < 8 * length from.now }
+    requires to_len { cell.before + cell.count < 8 * length to.old }
+    ensures { (s : ℕ) → HasBit to.new s ↔ (HasBit to.old s ⊎ (IsTrue takes × GoesWithin cell from.now s)) }
+{
+    if !takes {
+        return;
+    }
+    let first = cell.before as usize + 1;
+    let last = cell.before as usize + cell.count as usize;
+    shift_into(to, from, first, last);
+    if cell.endless && get_bit(from, last) {
+        set_bit(to, last);
+    }
 }

@@ -1,4 +1,4 @@
-use Rattle.std.proofs.Common.{ap, map}
+use Rattle.sig_auto.proofs.Common.{ap, map}
 use Rattle.sig_auto.proofs.RowPushLemmas.{outside_is}
 use Rattle.sig_auto.proofs.class_word.outside_rows.Goals as goal
 

@@ -1,4 +1,4 @@
-use Rattle.std.proofs.Common.{◌≡◌, ◌<◌, ◌+◌, ◌-◌, ◌++◌, ap, arith, length, map, rules, slice_index, tests, ◌∙◌}
+use Rattle.sig_auto.proofs.Common.{◌≡◌, ◌<◌, ◌+◌, ◌-◌, ◌++◌, ap, arith, length, map, rules, slice_index, tests, ◌∙◌}
 use Rattle.sig_auto.proofs.RowPushLemmas.{above_passed, above_pushed, pushed_above, pushed_row}
 use Rattle.sig_auto.proofs.class_word.push_above.Goals as goal
 

@@ -1,5 +1,4 @@
-use Rattle.std.proofs.Common.{◌≡◌, ◌≤◌, ◌-◌, ◌++◌, drop, length, map, take}
-use Rattle.sig_auto.specs.Rows.{above, behind_these}
+use Rattle.sig_auto.proofs.Common.{◌≡◌, ◌≤◌, ◌-◌, ◌++◌, drop, length, map, take, above, behind_these}
 use Rattle.sig_auto.proofs.class_word.push_above.Given as goal
 
 -- the rows that agree on more bytes

@@ -1,4 +1,4 @@
-use Rattle.std.proofs.Common.{◌≡◌, ◌<◌, ◌++◌, ap, length, map, rules, slice_index, sym, tests, ◌∙◌}
+use Rattle.sig_auto.proofs.Common.{◌≡◌, ◌<◌, ◌++◌, ap, length, map, rules, slice_index, sym, tests, ◌∙◌}
 use Rattle.sig_auto.proofs.RowPushLemmas.{below_passed, below_pushed, pushed_below, pushed_row}
 use Rattle.sig_auto.proofs.class_word.push_below.Goals as goal
 

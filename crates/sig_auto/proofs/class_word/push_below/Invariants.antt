@@ -1,5 +1,4 @@
-use Rattle.std.proofs.Common.{◌≡◌, ◌++◌, drop, map, take}
-use Rattle.sig_auto.specs.Rows.{behind_these, below}
+use Rattle.sig_auto.proofs.Common.{◌≡◌, ◌++◌, drop, map, take, behind_these, below}
 use Rattle.sig_auto.proofs.class_word.push_below.Given as goal
 
 -- the rows so far, and those that agree on more bytes

@@ -1,6 +1,5 @@
-use Rattle.std.proofs.Common.{◌≡◌, ◌<◌, ◌≤◌, ap, false, length, map, min, nat_eq, refl, rules, slice_index, sym, tests, ◌∙◌}
+use Rattle.sig_auto.proofs.Common.{◌≡◌, ◌<◌, ◌≤◌, ap, false, length, map, min, nat_eq, refl, rules, slice_index, sym, tests, ◌∙◌, between}
 use Rattle.sig_auto.proofs.RowPushLemmas.{agree_more, behind_none, between_differs, between_ended, between_passed, pushed_row, range_is}
-use Rattle.sig_auto.specs.Rows.{between}
 use Rattle.sig_auto.proofs.class_word.range_rows.Goals as goal
 
 pub loop-j-init : goal.loop-j-init

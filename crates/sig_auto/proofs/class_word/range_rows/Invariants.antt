@@ -1,5 +1,4 @@
-use Rattle.std.proofs.Common.{◌≡◌, [], drop, take}
-use Rattle.sig_auto.specs.Rows.{behind_these, between}
+use Rattle.sig_auto.proofs.Common.{◌≡◌, [], drop, take, behind_these, between}
 use Rattle.sig_auto.proofs.class_word.range_rows.Given as goal
 
 -- both agree so far, and no row is made

@@ -1,4 +1,4 @@
-use Rattle.std.proofs.Common.{length}
+use Rattle.sig_auto.proofs.Common.{length}
 use Rattle.sig_auto.proofs.start.+is_below_some.Given as goal
 
 abbrev pub decreases-is_below_some : goal.decreases-is_below_some

@@ -1,4 +1,4 @@
-use Rattle.std.proofs.Common.{◌∙◌}
+use Rattle.sig_auto.proofs.Common.{◌∙◌}
 use Rattle.sig_auto.proofs.BeginLemmas.{accepts_ends, accepts_items}
 use Rattle.sig_auto.proofs.start.accepts_empty.Goals as goal
 

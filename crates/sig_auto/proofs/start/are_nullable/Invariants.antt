@@ -1,7 +1,4 @@
-use Rattle.std.proofs.Common.{◌≡◌, drop}
-use Rattle.sig_auto.specs.Local.{is_nullable}
-use Rattle.sig_auto.specs.Trees.{Tree, items_tree}
-use Rattle.sig_expr.specs.Profile.{ItemsSound}
+use Rattle.sig_auto.proofs.Common.{◌≡◌, drop, is_nullable, Tree, items_tree, ItemsSound}
 use Rattle.sig_auto.proofs.start.are_nullable.Given as goal
 
 -- all items so far can be skipped

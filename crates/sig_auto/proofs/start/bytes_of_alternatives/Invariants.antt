@@ -1,8 +1,4 @@
-use Rattle.std.proofs.Common.{◌↔◌, ◌⊎◌, ℕ, ◌<◌, drop, map}
-use Rattle.sig_auto.specs.Begins.{Begins}
-use Rattle.sig_auto.specs.Trees.{alternatives_tree}
-use Rattle.sig_bits.specs.ByteClasses.{Holds}
-use Rattle.sig_expr.specs.Profile.{AlternativesSound}
+use Rattle.sig_auto.proofs.Common.{◌↔◌, ◌⊎◌, ℕ, ◌<◌, drop, map, Begins, alternatives_tree, Holds, AlternativesSound}
 use Rattle.sig_auto.proofs.start.bytes_of_alternatives.Given as goal
 
 -- the bytes so far begin an alternative, and those of the others are still to come

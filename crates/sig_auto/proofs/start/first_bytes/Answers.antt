@@ -1,4 +1,4 @@
-use Rattle.std.proofs.Common.{◌∙◌, sym}
+use Rattle.sig_auto.proofs.Common.{◌∙◌, sym}
 use Rattle.sig_auto.proofs.BeginLemmas.{first_answer, before_answer}
 use Rattle.sig_auto.proofs.start.first_bytes.Goals as goal
 

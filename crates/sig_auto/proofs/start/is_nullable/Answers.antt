@@ -1,4 +1,4 @@
-use Rattle.std.proofs.Common.{sym}
+use Rattle.sig_auto.proofs.Common.{sym}
 use Rattle.sig_auto.proofs.BeginLemmas.{item_not_nullable}
 use Rattle.sig_auto.proofs.start.is_nullable.Goals as goal
 

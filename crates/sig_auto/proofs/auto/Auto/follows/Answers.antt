@@ -1,24 +1,21 @@
-use Rattle.std.proofs.Common.{◌≡◌, ◌==◌, false, rules, tests}
-use Rattle.sig_auto.proofs.SpelledLemmas.{followed, spelled_same, spelled_trim, spelled_within}
-use Rattle.sig_auto.proofs.TrimLemmas.{follows_slot, follows_start}
-use Rattle.sig_auto.specs.Seen.{seen}
-use Rattle.sig_auto.specs.Trees.{whole_tree}
+use Rattle.sig_auto.proofs.Common.{arith, true, false}
+use Rattle.sig_auto.proofs.CellLemmas.{follows_else, follows_then, in_slots, none_follows, out_of_slots, ready}
 use Rattle.sig_auto.proofs.auto.Auto.follows.Goals as goal
 
-pub is_first-requires-clause-few : goal.is_first-requires-clause-few
-is_first-requires-clause-few c = spelled_within c.self.inside.root _ c.self.invariant.spells
+pub slots-requires : goal.slots-requires
+slots-requires c = ready c.self.inside.cells.items _ _ c.self.invariant.spells c.as_slice-cells.ensures.value
 
-pub follows-requires-clause-few : goal.follows-requires-clause-few
-follows-requires-clause-few c = spelled_within c.self.inside.root _ c.self.invariant.spells
+pub returns-then-p-slots : goal.returns-then-p-slots
+returns-then-p-slots c = none_follows c.self.inside.cells.items _ c.args.self.now c.args.p c.args.q c.self.invariant.spells c.self.view_is (out_of_slots c.self.inside.cells.items _ _ c.args.self.now c.args.p c.slots.result c.self.invariant.spells c.self.view_is c.as_slice-cells.ensures.value c.slots.ensures (omega arith))
 
-pub returns-then-p-eq0 : goal.returns-then-p-eq0
-returns-then-p-eq0 c =
-    let zero : c.args.p ≡ 0 = search (rules, tests) in
-    followed (seen c.self.inside.root) (whole_tree c.args.self.now) c.args.p c.args.q (spelled_same c.self.inside.root _ c.args.self.now c.self.invariant.spells c.self.view_is)
-    (follows_start (seen c.self.inside.root) (spelled_trim c.self.inside.root _ c.self.invariant.spells) c.args.p c.args.q c.is_first.result zero c.is_first.ensures)
+pub of-behind-requires-clause-ready : goal.of-behind-requires-clause-ready
+of-behind-requires-clause-ready c = ready c.self.inside.cells.items _ _ c.self.invariant.spells c.as_slice-cells.ensures.value
 
-pub returns-else-p-eq0 : goal.returns-else-p-eq0
-returns-else-p-eq0 c =
-    let slot : (c.args.p == 0) ≡ false = search (rules, tests) in
-    followed (seen c.self.inside.root) (whole_tree c.args.self.now) c.args.p c.args.q (spelled_same c.self.inside.root _ c.args.self.now c.self.invariant.spells c.self.view_is)
-    (follows_slot (seen c.self.inside.root) (spelled_trim c.self.inside.root _ c.self.invariant.spells) c.args.p c.args.q c.follows.result slot c.follows.ensures)
+pub is_entered-requires-clause-ready : goal.is_entered-requires-clause-ready
+is_entered-requires-clause-ready c = ready c.self.inside.cells.items _ _ c.self.invariant.spells c.as_slice-cells.ensures.value
+
+pub returns-then-has : goal.returns-then-has
+returns-then-has c = follows_then c.self.inside.cells.items _ _ c.args.self.now c.args.p c.args.q c.of-behind.result c.has.result c.self.invariant.spells c.self.view_is c.as_slice-cells.ensures.value (in_slots c.self.inside.cells.items _ _ c.args.self.now c.args.p c.slots.result c.self.invariant.spells c.self.view_is c.as_slice-cells.ensures.value c.slots.ensures (omega arith)) c.of-behind.ensures.is c.has.ensures c.if-has.true
+
+pub returns-else-has : goal.returns-else-has
+returns-else-has c = follows_else c.self.inside.cells.items _ _ c.args.self.now c.args.p c.args.q c.of-behind.result c.has.result c.is_entered.result c.self.invariant.spells c.self.view_is c.as_slice-cells.ensures.value (in_slots c.self.inside.cells.items _ _ c.args.self.now c.args.p c.slots.result c.self.invariant.spells c.self.view_is c.as_slice-cells.ensures.value c.slots.ensures (omega arith)) c.of-behind.ensures.is c.has.ensures c.is_entered.ensures c.if-has.false

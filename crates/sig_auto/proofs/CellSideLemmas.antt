@@ -1,0 +1,119 @@
+-- Bytes that all cells take alike are those that all slots do, and bytes on which cells are entered.
+use Rattle.sig_auto.proofs.Common.{◌≡◌, ◌↔◌, ◌⊎◌, ◌∙◌, ℕ, suc, ◌+◌, ◌-◌, ◌<◌, ◌≤◌, inl, inr, List, [], ◌∷◌, drop, get_or, length, length-append, None, Option, replicate, Some, true, ap, arith, refl, subst, sym, Contains, slice_get, cases_Bool, cases_lt, eqb-true, false≢true, or_cases, or_left, or_right, get_or_append_left, get_or-append_right, get_or-replicate, length-replicate, get_or_from_slice_get, slice_get_within, ByteClass, AddsCuts, AddsLive, in_class, InClass, any, EachSide, EnteredOn, OwnOn, SlotOn, FollowsOn, TakesAlike, SameSide, class_in, spread, taken_first, whole_tree, class_of, slots_of, cells_in, Cell, Joint, Joints, IsBehind, IsCellOf, is_own, Behind, Lined, Spells, entered_first, AreJoints, SequenceView}
+use Rattle.sig_auto.proofs.CellLemmas.{behind_told, spelled_lined, spelled_slots}
+use Rattle.sig_auto.proofs.CellSuccessorLemmas.{class_here, class_is, classes, own_is_own}
+use Rattle.sig_auto.proofs.CellTakenLemmas.{Classed, contains_cons, contains_here, contains_there, in_class_exact, members_from, none_taken, passes_here, takes_here}
+use Rattle.sig_auto.proofs.CutLemmas.{cuts_both, live_both}
+use Rattle.sig_auto.proofs.JoinLemmas.{here_of}
+use Rattle.sig_auto.proofs.LineLemmas.{class_at, lined_later, spread_of}
+use Rattle.sig_auto.proofs.TakenLemmas.{length_classes}
+
+-- the class of each slot is that of a cell
+each_slot : (cs : List Cell) (a b : ℕ) → EachSide cs a b → (i : ℕ) → i < length (spread cs) → SameSide (get_or (spread cs) i any) a b
+each_slot [] a b each i low = absurd (omega arith)
+each_slot (c ∷ cs) a b each i low =
+    let long : length (replicate c.count c.class) ≡ c.count = length-replicate c.count c.class in
+    elim (cases_lt i c.count) [
+      | inl inside ↦
+          subst (λ x. SameSide x a b)
+          (sym (get_or_append_left (replicate c.count c.class) (spread cs) any i (omega arith) ∙ get_or-replicate c.count i c.class any inside))
+          (each 0 c refl)
+      | inr past ↦
+          let all = length-append (replicate c.count c.class) (spread cs) in
+          subst (λ x. SameSide x a b) (sym (get_or-append_right (replicate c.count c.class) (spread cs) c.count i any long past))
+          (each_slot cs a b (λ k d at. each (suc k) d at) (i - c.count) (omega arith))
+    ]
+
+spread_many : (cells list : List Cell) (s now : SequenceView) → Spells cells s → s ≡ now → list ≡ cells → length (spread list) ≡ slots_of (whole_tree now)
+spread_many cells list s now h same is = grind (arith, spread_of (whole_tree s) 0 0 0 (cells_in (whole_tree s)), length_classes (whole_tree s))
+
+-- so all cells take two bytes alike exactly where all slots do
+pub sides_told : (cells list : List Cell) (s now : SequenceView) (a b : ℕ) → Spells cells s → s ≡ now → list ≡ cells → EachSide list a b
+    → TakesAlike (whole_tree now) a b
+sides_told cells list s now a b h same is each q low high = grind (arith, spread_many cells list s now h same is, class_is cells s now q h same, each_slot list a b each (q - 1))
+
+pub sides_found : (cells list : List Cell) (s now : SequenceView) (a b : ℕ) → Spells cells s → s ≡ now → list ≡ cells
+    → TakesAlike (whole_tree now) a b → EachSide list a b
+sides_found cells list s now a b h same is alike k c at =
+    let lined = spelled_lined cells s h in
+    let here : slice_get cells k ≡ Some c = subst (λ l. slice_get l k ≡ Some c) is at in
+    let inside = slice_get_within cells k c here in
+    let cut : drop k cells ≡ c ∷ drop (k + 1) cells = here_of cells k c inside ∙ ap (λ x. x ∷ drop (k + 1) cells) (get_or_from_slice_get cells k c c here) in
+    let later = lined_later cells (drop (k + 1) cells) 0 k c lined cut in
+    let some = later.1 in
+    let order = later.3 in
+    let many = spelled_slots cells s h in
+    let q : ℕ = c.before + 1 in
+    let first : get_or (spread cells) (q - (0 + 1)) any ≡ c.class = class_at cells (drop (k + 1) cells) 0 k q c lined cut (omega arith) (omega arith) in
+    let index : q - 1 ≡ q - (0 + 1) = omega arith in
+    let class : class_of (whole_tree now) q ≡ c.class = sym (class_is cells s now q h same) ∙ ap (λ i. get_or (spread cells) i any) index ∙ first in
+    subst (λ x. InClass x a ↔ InClass x b) class (alike q (omega arith) (omega (arith, ap (λ v. slots_of (whole_tree v)) same)))
+
+-- ---- cells that are entered
+
+entered_either : (cells : List Cell) (joints : Joints) (k : ℕ) (d : Cell) (e : Joint) → AreJoints cells joints → k < length cells
+    → e ≡ get_or joints.each.items k e → (b q : ℕ)
+    → EnteredOn cells k b q ↔ (SlotOn (get_or cells k d).class ((get_or cells k d).before + 1) b q ⊎ EnteredOn cells e.beside b q)
+entered_either cells joints k d e joined low e_is b q =
+    let c : Cell = get_or cells k d in
+    let rest : List ℕ = taken_first b (drop e.beside cells) in
+    elim (cases_Bool (in_class c.class b)) [
+      | inl met ↦ (
+          let takes : InClass c.class b = (in_class_exact c.class b).0 met in
+          let now : taken_first b (drop k cells) ≡ (c.before + 1) ∷ rest = takes_here cells joints k b d e joined low e_is takes in (
+            λ at. grind (arith, contains_cons),
+            λ at. subst (λ l. Contains l q) (sym now) (elim at [
+              | inl here ↦ subst (λ n. Contains ((c.before + 1) ∷ rest) n) (sym here.0) (contains_here (c.before + 1) rest)
+              | inr more ↦ contains_there (c.before + 1) q rest more
+            ]),
+          ))
+      | inr apart ↦ (
+          let not : InClass c.class b → ⊥ = λ is. false≢true (sym apart ∙ (in_class_exact c.class b).1 is) in
+          let now : taken_first b (drop k cells) ≡ rest = passes_here cells joints k b d e joined low e_is not in (
+            λ at. inr (subst (λ l. Contains l q) now at),
+            λ at. subst (λ l. Contains l q) (sym now) (elim at [ inl here ↦ absurd (not here.1) | inr more ↦ more ]),
+          ))
+    ]
+
+pub entered_live : (cells : List Cell) (joints : Joints) (k : ℕ) (d : Cell) (e : Joint) (old mid new : ByteClass) → AreJoints cells joints
+    → k < length cells → e ≡ get_or joints.each.items k e → ((q : ℕ) → AddsLive old mid (SlotOn (get_or cells k d).class q))
+    → AddsLive mid new (EnteredOn cells e.beside) → AddsLive old new (EnteredOn cells k)
+entered_live cells joints k d e old mid new joined low e_is first more =
+    live_both old mid new (EnteredOn cells k) (SlotOn (get_or cells k d).class ((get_or cells k d).before + 1)) (EnteredOn cells e.beside)
+    (entered_either cells joints k d e joined low e_is) (first ((get_or cells k d).before + 1)) more
+
+pub entered_cuts : (cells : List Cell) (joints : Joints) (k : ℕ) (d : Cell) (e : Joint) (old mid new : ByteClass) → AreJoints cells joints
+    → k < length cells → e ≡ get_or joints.each.items k e → ((q : ℕ) → AddsCuts old mid (SlotOn (get_or cells k d).class q))
+    → AddsCuts mid new (EnteredOn cells e.beside) → AddsCuts old new (EnteredOn cells k)
+entered_cuts cells joints k d e old mid new joined low e_is first more =
+    cuts_both old mid new (EnteredOn cells k) (SlotOn (get_or cells k d).class ((get_or cells k d).before + 1)) (EnteredOn cells e.beside)
+    (entered_either cells joints k d e joined low e_is) (first ((get_or cells k d).before + 1)) more
+
+-- behind the last cell none is entered
+pub none_on : (cells : List Cell) (k b q : ℕ) → length cells ≤ k → EnteredOn cells k b q → ⊥
+none_on cells k b q past at = grind (arith, none_taken cells k b past)
+
+-- ---- what follows a state: its own next slot, and the cells that are entered behind it
+
+pub own_on_slot : (cells : List Cell) (own : Option ℕ) (q k : ℕ) (d : Cell) → Lined 0 cells → IsCellOf cells q k → own ≡ Some q → (b x : ℕ)
+    → OwnOn cells own b x ↔ SlotOn (get_or cells k d).class q b x
+own_on_slot cells own q k d lined at is b x = grind (arith, class_here cells q k d lined at)
+
+own_from : (own : Option ℕ) (q : ℕ) → is_own own q ≡ true → own ≡ Some q
+own_from None q is = absurd (false≢true is)
+own_from (Some x) q is = ap (λ n. Some n) (sym (eqb-true q x is))
+
+pub behind_either : (cells list : List Cell) (s now : SequenceView) (p : ℕ) (b : Behind) → Spells cells s → s ≡ now → list ≡ cells
+    → p ≤ slots_of (whole_tree now) → IsBehind list p b → (byte q : ℕ)
+    → FollowsOn (whole_tree now) p byte q ↔ (OwnOn list b.own byte q ⊎ EnteredOn list b.enters byte q)
+behind_either cells list s now p b h same is most told byte q =
+    let law = behind_told cells list list s now p q b (is_own b.own q) (entered_first (drop b.enters list) q) h same is is most told refl refl in
+    let all : Classed (class_of (whole_tree now)) list = subst (Classed (class_of (whole_tree now))) (sym is) (classes cells s now h same) in
+    let walk = members_from (class_of (whole_tree now)) byte q b.enters list all in
+    let class : class_in list q ≡ class_of (whole_tree now) q = ap (λ x. class_in x q) is ∙ class_is cells s now q h same in (
+      λ on. grind (arith, or_cases, own_from),
+      λ at. elim at [
+        | inl one ↦ grind (arith, or_left, own_is_own)
+        | inr other ↦ grind (arith, or_right)
+      ],
+    )

@@ -1,0 +1,12 @@
+use Rattle.sig_auto.proofs.Common.{◌-◌, length, EnteredOn, AddsCuts, AddsLive, ByteClass}
+use Rattle.sig_auto.proofs.bytes.add_entered.Given as goal
+
+-- with what the cells from here on add, all is added
+abbrev pub invariant-loop-at : goal.invariant-loop-at
+invariant-loop-at l = record {
+  live : (all : ByteClass) → AddsLive l.live all (EnteredOn l.cells l.at) → AddsLive l.fn.live all (EnteredOn l.cells l.from);
+  cuts : (all : ByteClass) → AddsCuts l.cuts all (EnteredOn l.cells l.at) → AddsCuts l.fn.cuts all (EnteredOn l.cells l.from);
+}
+
+abbrev pub decreases-loop-at : goal.decreases-loop-at
+decreases-loop-at l = length l.cells - l.at

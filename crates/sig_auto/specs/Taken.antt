@@ -1,0 +1,36 @@
+-- The slots that are entered on a byte, in order.
+use Rattle.std.specs.Prelude.{◌≡◌, ◌⊎◌, ℕ, ◌+◌, ◌-◌, ◌&&◌, if◌then◌else◌, List, [], ◌∷◌, ◌++◌, get_or, replicate, Option, Some, None}
+use Rattle.sig_auto.specs.declared.class.Class.{Class}
+use Rattle.sig_auto.specs.Classes.{InClass, any}
+use Rattle.sig_auto.specs.Successions.{in_class}
+use Rattle.sig_auto.specs.declared.cell.Cell.{Cell}
+use Rattle.sig_auto.specs.Ways.{meets, onward}
+
+-- the first slots of the cells that are entered behind the joint and take the byte
+abbrev pub taken : ℕ → Option ℕ → List Cell → List ℕ
+taken byte j [] = []
+taken byte j (c ∷ cs) = if meets c j && in_class c.class byte then (c.before + 1) ∷ taken byte (onward c j) cs else taken byte (onward c j) cs
+
+-- those that are entered where the first of the cells is
+abbrev pub taken_first : ℕ → List Cell → List ℕ
+taken_first byte [] = []
+taken_first byte (c ∷ cs) = taken byte (Some c.front) (c ∷ cs)
+
+-- the class of each slot, in order
+abbrev pub spread : List Cell → List Class
+spread [] = []
+spread (c ∷ cs) = replicate c.count c.class ++ spread cs
+
+-- the class of slot q
+abbrev pub class_in : List Cell → ℕ → Class
+class_in cells q = get_or (spread cells) (q - 1) any
+
+-- the own next slot, if there is one
+abbrev pub own_list : Option ℕ → List ℕ
+own_list None = []
+own_list (Some q) = q ∷ []
+
+-- the slot, where it takes the byte
+abbrev pub IsOwnOn : List Cell → Option ℕ → ℕ → Option ℕ → Type 0
+IsOwnOn cells None byte r = r ≡ None
+IsOwnOn cells (Some q) byte r = ((r ≡ Some q) × InClass (class_in cells q) byte) ⊎ ((r ≡ None) × (InClass (class_in cells q) byte → ⊥))
