@@ -8,6 +8,7 @@ pub mod Verdicts
 pub mod Growing
 -- The vocabulary of proofs.
 pub mod Blockers
+pub mod Bounds
 pub mod Chains
 pub mod Fields
 pub mod RowFaults
