@@ -1,9 +1,9 @@
 -- Bits of bytes, and of lists of bytes.
-use Rattle.std.proofs.Common.{◌≡◌, ◌≢◌, ◌↔◌, ◌⊎◌, inl, inr, ⊎_elim, ℕ, ◌+◌, ◌-◌, ◌*◌, ◌/◌, ◌%◌, ◌^◌, ◌<◌, min, max, List, length, get_or, set, get_or-set_same, get_or-set_other, replicate, refl, sym, ap, ◌∙◌, arith, w8, bit_and, bit_or}
+use Rattle.std.proofs.Common.{◌≡◌, ◌≢◌, ◌↔◌, ◌⊎◌, inl, inr, ⊎_elim, ℕ, ◌+◌, ◌-◌, ◌*◌, ◌/◌, ◌%◌, ◌^◌, ◌<◌, ◌≤◌, min, max, List, length, get_or, set, get_or-set_same, get_or-set_other, replicate, refl, sym, ap, ◌∙◌, arith, subst, w8, bit_and, bit_or}
 use Rattle.std.specs.Int.{bit_at, bit_not, trailing_zeros}
 use Rattle.std.proofs.lemmas.List.{get_or_past, get_or-replicate, length-replicate}
-use Rattle.std.proofs.lemmas.Nat.{and_le_l}
-use Rattle.std.proofs.lemmas.Nat.Bits.{bit_at_and, bit_at_or, bit_at_not, bit_at-zero, bit_at-lt, bit_at-trailing_zeros, bit_at_ones, bit_at_set_same, bit_at_set_other}
+use Rattle.std.proofs.lemmas.Nat.{and_le_l, shr-shr, shr_le}
+use Rattle.std.proofs.lemmas.Nat.Bits.{bit_at_and, bit_at_or, bit_at_not, bit_at-zero, bit_at-lt, bit_at_above, bit_at-trailing_zeros, bit_at_ones, bit_at_set_same, bit_at_set_other}
 use Rattle.std.proofs.lemmas.Bool.{cases_eq, cases_lt}
 use Rattle.sig_bits.specs.BitSets.{HasBit}
 
@@ -186,3 +186,40 @@ not_every_bit a b k small small' some every =
     let found = some_common_bit (get_or a k 0) (bit_not w8 (get_or b k 0)) small some in
     let turned = bit_at_not-iff (get_or b k 0) found.0 small' found.1 in
     turned.0 found.3 (bit_in_byte b k found.0 found.1 (every (8 * k + found.0) (HasBit-in_byte a k found.0 found.1 found.2)))
+
+-- ---- the bits of a byte from one of them on
+
+-- a bit of what is left of a byte
+bit_at_rest : (x from j : ℕ) → bit_at (x / 2 ^ from) j ≡ bit_at x (from + j)
+bit_at_rest x from j = ap (λ n. n % 2) (shr-shr x from j)
+
+-- a bit of the byte at b, from b on, is one of what is left of the byte
+bit_from_here : (bits : List ℕ) (b a : ℕ) → b ≤ a → a / 8 ≡ b / 8 → HasBit bits a → bit_at (get_or bits (b / 8) 0 / 2 ^ (b % 8)) (a - b) ≡ 1
+unfolding HasBit
+bit_from_here bits b a from same h =
+    let bit : a % 8 ≡ b % 8 + (a - b) = omega arith in
+    bit_at_rest (get_or bits (b / 8) 0) (b % 8) (a - b) ∙ (rw (same, bit) at h)
+
+-- the lowest bit of what is left of the byte at b
+pub lowest_from_here : (bits : List ℕ) (b : ℕ) → ((k : ℕ) → get_or bits k 0 < 256) → get_or bits (b / 8) 0 / 2 ^ (b % 8) ≢ 0
+    → (HasBit bits (b + trailing_zeros w8 (get_or bits (b / 8) 0 / 2 ^ (b % 8)))) × ((a : ℕ) → b ≤ a → a < b + trailing_zeros w8 (get_or bits (b / 8) 0 / 2 ^ (b % 8)) → HasBit bits a → ⊥)
+lowest_from_here bits b small some =
+    let x : ℕ = get_or bits (b / 8) 0 in
+    let rest : ℕ = x / 2 ^ (b % 8) in
+    let lowest = bit_at-trailing_zeros w8 rest (omega arith) (omega (arith, small (b / 8), shr_le x (b % 8))) in
+    let t : ℕ = trailing_zeros w8 rest in
+    let read : bit_at x (b % 8 + t) ≡ 1 = sym (bit_at_rest x (b % 8) t) ∙ lowest.1 in
+    let within : b % 8 + t < 8 = ⊎_elim (λ lt. lt) (λ past. omega (arith, bit_at_above x 8 (b % 8 + t) (small (b / 8)) past)) (cases_lt (b % 8 + t) 8) in
+    let here : 8 * (b / 8) + (b % 8 + t) ≡ b + t = omega arith in (
+      subst (HasBit bits) here (HasBit-in_byte bits (b / 8) (b % 8 + t) within read),
+      λ a from below h.
+          let zero = lowest.2 (a - b) (omega arith) in
+          let one = bit_from_here bits b a from (omega arith) h in
+          omega arith,
+    )
+
+-- nothing is left of the byte at b
+pub none_from_here : (bits : List ℕ) (b a : ℕ) → b ≤ a → a / 8 ≡ b / 8 → get_or bits (b / 8) 0 / 2 ^ (b % 8) ≡ 0 → HasBit bits a → ⊥
+none_from_here bits b a from same none h =
+    let one = rw none at (bit_from_here bits b a from same h) in
+    omega (arith, bit_at-zero (a - b))

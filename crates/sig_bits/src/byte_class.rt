@@ -97,13 +97,11 @@ impl ByteClass {
     {
         let mut b = from;
         while b < 256 {
-            if b % 8 == 0 && self.bits[b / 8] == 0 {
-                b += 8;
-            } else if get_bit(&self.bits, b) {
-                return Some(b as u8);
-            } else {
-                b += 1;
+            let rest = self.bits[b / 8] >> (b % 8);
+            if rest != 0 {
+                return Some((b + rest.trailing_zeros() as usize) as u8);
             }
+            b += 8 - b % 8;
         }
         None
     }
