@@ -2,6 +2,7 @@
 use Rattle.std.proofs.Common.{◌≡◌, ◌≢◌, ◌↔◌, ◌⊎◌, inl, inr, ⊎_elim, ℕ, ◌+◌, ◌-◌, ◌*◌, ◌/◌, ◌%◌, ◌^◌, ◌<◌, ◌≤◌, min, max, List, length, get_or, set, get_or-set_same, get_or-set_other, replicate, refl, sym, ap, ◌∙◌, arith, subst, w8, bit_and, bit_or}
 use Rattle.std.specs.Int.{bit_at, bit_not, trailing_zeros}
 use Rattle.std.proofs.lemmas.List.{get_or_past, get_or-replicate, length-replicate}
+use Rattle.std.proofs.Math.Nat.{div-one}
 use Rattle.std.proofs.lemmas.Nat.{and_le_l, shr-shr, shr_le}
 use Rattle.std.proofs.lemmas.Nat.Bits.{bit_at_and, bit_at_or, bit_at_not, bit_at-zero, bit_at-lt, bit_at_above, bit_at-trailing_zeros, bit_at_ones, bit_at_set_same, bit_at_set_other}
 use Rattle.std.proofs.lemmas.Bool.{cases_eq, cases_lt}
@@ -189,8 +190,8 @@ not_every_bit a b k small small' some every =
 
 -- ---- the bits of a byte from one of them on
 
--- a bit of what is left of a byte
-bit_at_rest : (x from j : ℕ) → bit_at (x / 2 ^ from) j ≡ bit_at x (from + j)
+-- a bit of what is left of a number
+pub bit_at_rest : (x from j : ℕ) → bit_at (x / 2 ^ from) j ≡ bit_at x (from + j)
 bit_at_rest x from j = ap (λ n. n % 2) (shr-shr x from j)
 
 -- a bit of the byte at b, from b on, is one of what is left of the byte
@@ -218,8 +219,22 @@ lowest_from_here bits b small some =
           omega arith,
     )
 
--- nothing is left of the byte at b
-pub none_from_here : (bits : List ℕ) (b a : ℕ) → b ≤ a → a / 8 ≡ b / 8 → get_or bits (b / 8) 0 / 2 ^ (b % 8) ≡ 0 → HasBit bits a → ⊥
-none_from_here bits b a from same none h =
-    let one = rw none at (bit_from_here bits b a from same h) in
-    omega (arith, bit_at-zero (a - b))
+-- the lowest bit of byte k
+pub lowest_of_byte : (bits : List ℕ) (k : ℕ) → ((j : ℕ) → get_or bits j 0 < 256) → get_or bits k 0 ≢ 0
+    → (HasBit bits (8 * k + trailing_zeros w8 (get_or bits k 0))) × ((a : ℕ) → 8 * k ≤ a → a < 8 * k + trailing_zeros w8 (get_or bits k 0) → HasBit bits a → ⊥)
+lowest_of_byte bits k small some =
+    subst (λ x. HasBit bits (8 * k + trailing_zeros w8 x) × ((a : ℕ) → 8 * k ≤ a → a < 8 * k + trailing_zeros w8 x → HasBit bits a → ⊥)) whole
+    (lowest_from_here bits (8 * k) small (λ none. some (sym whole ∙ none)))
+  where
+    whole : get_or bits (8 * k / 8) 0 / 2 ^ (8 * k % 8) ≡ get_or bits k 0
+    whole =
+        let place : 8 * k / 8 ≡ k = omega arith in
+        let first : 8 * k % 8 ≡ 0 = omega arith in
+        rw (place, first) (div-one (get_or bits k 0))
+
+-- nothing is left of the byte at b, and nothing is in those from the next one up to another
+pub none_up_to : (bits : List ℕ) (b k a : ℕ) → get_or bits (b / 8) 0 / 2 ^ (b % 8) ≡ 0 → ((j : ℕ) → b / 8 + 1 ≤ j → j < k → get_or bits j 0 ≡ 0) → b ≤ a → a / 8 < k → HasBit bits a → ⊥
+none_up_to bits b k a none empty from below h =
+    ⊎_elim (λ (here : a / 8 ≡ b / 8). let one = rw none at (bit_from_here bits b a from here h) in omega (arith, bit_at-zero (a - b)))
+    (λ (past : a / 8 ≢ b / 8). no_bit_at_zero bits a (empty (a / 8) (omega arith) below) h)
+    (cases_eq (a / 8) (b / 8))

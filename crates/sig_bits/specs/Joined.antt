@@ -1,5 +1,5 @@
 -- Numbers joined by their bits, one after the other.
-use Rattle.std.specs.Prelude.{◌≡◌, ◌≢◌, ℕ, ◌<◌, ◌≤◌, List, length, slice_index, bit_and}
+use Rattle.std.specs.Prelude.{◌≡◌, ◌≢◌, ℕ, ◌<◌, ◌≤◌, List, MatchOption, Option, length, slice_index, bit_and}
 use Rattle.std.specs.Int.{bit_not, w8}
 
 -- what came out is 0 exactly where all of the numbers f k are, from the first k up to the second
@@ -18,3 +18,9 @@ missing_at a b k = bit_and (slice_index a k) (bit_not w8 (slice_index b k))
 pub record HasLanes (lanes : List ℕ) (f : ℕ → ℕ) : Type 0 where
   pub len : length lanes ≡ 32
   pub each : (k : ℕ) → k < 32 → slice_index lanes k ≡ f k
+
+-- the place of the first number of the list that is not 0, from one place on, or none where all are 0
+abbrev pub IsFirstNonzero : List ℕ → ℕ → Option ℕ → Type 0
+IsFirstNonzero numbers from found =
+    MatchOption found ((k : ℕ) → from ≤ k → slice_index numbers k ≡ 0)
+    (λ k. (from ≤ k) × (k < length numbers) × (slice_index numbers k ≢ 0) × ((j : ℕ) → from ≤ j → j < k → slice_index numbers j ≡ 0))

@@ -4,6 +4,7 @@ ghost use Rattle.std.specs.Prelude.{◌≡◌, ◌⊎◌, ℕ, ◌<◌, ◌≤�
 ghost use Rattle.sig_bits.specs.ByteClasses.{Holds, IsLowestFrom};
 
 use crate::bit_sets::{get_bit, or_into, set_bit, subset};
+use crate::lanes::first_nonzero;
 
 /// A set of bytes, as a slot of an automaton takes them.
 #[derive(Clone, Copy, Debug, PartialEq, Eq)]
@@ -95,15 +96,15 @@ impl ByteClass {
     pub fn lowest_from(&self, from: usize) -> Option<u8>
         ensures { IsLowestFrom self.now from result }
     {
-        let mut b = from;
-        while b < 256 {
-            let rest = self.bits[b / 8] >> (b % 8);
-            if rest != 0 {
-                return Some((b + rest.trailing_zeros() as usize) as u8);
-            }
-            b += 8 - b % 8;
+        if from >= 256 {
+            return None;
         }
-        None
+        let rest = self.bits[from / 8] >> (from % 8);
+        if rest != 0 {
+            return Some((from + rest.trailing_zeros() as usize) as u8);
+        }
+        let k = first_nonzero(&self.bits, from / 8 + 1)?;
+        Some((8 * k + self.bits[k].trailing_zeros() as usize) as u8)
     }
 
     /// Whether the byte is in it.

@@ -1,7 +1,8 @@
 //! Lanes: the next 32 bytes of a slice as one vector.
 
-ghost use Rattle.std.specs.Prelude.{◌+◌, ◌≤◌, length, slice_index};
-ghost use Rattle.sig_bits.specs.Joined.{HasLanes, IsJoined};
+ghost use Rattle.std.specs.Prelude.{◌≡◌, ◌≢◌, ◌↔◌, ◌+◌, ◌^◌, ◌<◌, ◌≤◌, ℕ, length, slice_index};
+ghost use Rattle.std.specs.Int.{bit_at};
+ghost use Rattle.sig_bits.specs.Joined.{HasLanes, IsFirstNonzero, IsJoined};
 
 use std::simd::prelude::*;
 
@@ -20,7 +21,22 @@ pub(crate) fn load(bytes: &[u8], from: usize) -> u8x32
 /// A bit for each lane that is not 0.
 #[inline(always)]
 pub(crate) fn nonzero(lanes: u8x32) -> u64
-    ensures { IsJoined (slice_index lanes) 0 32 result }
+    ensures joined { IsJoined (slice_index lanes) 0 32 result }
+    ensures each { (k : ℕ) → k < 32 → ((bit_at result k ≡ 1) ↔ (slice_index lanes k ≢ 0)) }
+    ensures few { result < 2 ^ 32 }
 {
     lanes.simd_ne(u8x32::splat(0)).to_bitmask()
+}
+
+/// The place of the first byte that is not 0, from one place on.
+pub(crate) fn first_nonzero(bytes: &[u8; 32], from: usize) -> Option<usize>
+    requires { from ≤ 32 }
+    ensures { IsFirstNonzero bytes.now from result }
+{
+    let later = nonzero(load(bytes, 0)) >> from;
+    if later == 0 {
+        None
+    } else {
+        Some(from + later.trailing_zeros() as usize)
+    }
 }
