@@ -1,5 +1,5 @@
 -- What comes behind a state.
-use Rattle.sig_auto.proofs.Common.{◌||◌, ◌≡◌, ℕ, zero, suc, ◌+◌, ◌-◌, ◌<◌, ◌≤◌, ◌==◌, true, false, List, [], ◌∷◌, drop, get_or, length, Option, Some, None, Fits, w32, sym, ap, ◌∙◌, subst, inl, inr, arith, IfSome, and_from, cases_lt, cond-false, cond-true, eq-eqb, le-leb, lt-ltb, ne_eqb, any, Behind, Cell, Joint, Joints, IsBehind, IsCellOf, LiesBehind, is_own, slots_in, Lined, entered_first, is_joint, joint_past, seek, AreJoints, IsJoint, entered, exit, gone, has_slot, land, leave, own}
+use Rattle.sig_auto.proofs.Common.{◌||◌, ◌≡◌, ℕ, zero, suc, ◌+◌, ◌-◌, ◌<◌, ◌≤◌, ◌==◌, true, false, List, [], ◌∷◌, drop, get_or, length, Option, Some, None, Fits, w32, refl, sym, ap, is_some, ◌∙◌, subst, inl, inr, arith, IfSome, and_from, and_parts, cases_lt, cond-false, cond-true, eq-eqb, eqb-true, le-leb, leb-true, lt-ltb, ltb-true, ne_eqb, or_cases, any, Behind, Cell, Joint, Joints, IsBehind, IsCellOf, LiesBehind, is_own, slots_in, Lined, entered_first, is_joint, joint_past, seek, AreJoints, IsJoint, entered, exit, gone, has_slot, land, leave, own}
 use Rattle.sig_auto.proofs.JoinLemmas.{drop_past, drop_some, here_of, onward_here, onward_other}
 use Rattle.sig_auto.proofs.LineLemmas.{exit_at, gone_at, lined_later}
 use Rattle.sig_auto.proofs.WayLemmas.{entered_past, land_past, passes_none}
@@ -188,6 +188,25 @@ behind_after cells joints p k d e enters (Some q) lined h at e_is within is =
 pub behind_nothing : (cells : List Cell) (enters : ℕ) (o : Option ℕ) → enters ≡ length cells → IfSome o (λ q. LiesBehind q (drop enters cells))
 behind_nothing cells enters None is = tt
 behind_nothing cells enters (Some q) is = record { before = q; most = omega arith; lined = subst (Lined q) (sym (drop_past cells enters (omega arith))) tt }
+
+-- ---- the cell of the own slot
+
+own_within : (c : Cell) (p q : ℕ) → has_slot c p ≡ true → own c p q ≡ true → has_slot c q ≡ true
+own_within c p q slot is = grind (arith, and_parts, or_cases, ltb-true, leb-true, eqb-true, and_from, lt-ltb, le-leb)
+
+pub own_cell : (cells : List Cell) (p k r : ℕ) (d : Cell) (o : Option ℕ) → IsCellOf cells p k → ((q : ℕ) → own (get_or cells k d) p q ≡ is_own o q) → (is_some o ≡ true → r ≡ k) → IfSome o (λ q. IsCellOf cells q r)
+own_cell cells p k r d None at owns place = tt
+own_cell cells p k r d (Some q) at owns place =
+    let c : Cell = get_or cells k d in
+    let here = here_of cells k d (is_in cells p k at) in
+    let both : at.cell ∷ at.rest ≡ c ∷ drop (k + 1) cells = sym at.is ∙ here in
+    let head : at.cell ≡ c = cc in
+    subst (IsCellOf cells q) (sym (place refl)) (record {
+      cell = c;
+      rest = drop (k + 1) cells;
+      is = here;
+      slot = own_within c p q (subst (λ x. has_slot x p ≡ true) head at.slot) (owns q ∙ eq-eqb q q refl);
+    })
 
 -- a cell that begins with the slot
 pub guessed : (cells : List Cell) (p k : ℕ) (d : Cell) → Lined 0 cells → 0 < p → k < length cells → (get_or cells k d).before ≡ p - 1 → IsCellOf cells p k

@@ -1,5 +1,5 @@
 -- What is known of cells that spell a sequence.
-use Rattle.sig_auto.proofs.Common.{◌||◌, ◌≡◌, ◌↔◌, ℕ, ◌+◌, ◌<◌, ◌≤◌, ◌/◌, ◌==◌, if◌then◌else◌, Bool, true, false, List, drop, get_or, length, Option, Some, None, refl, sym, ap, ◌∙◌, subst, inl, inr, arith, option_eq, eqb-true, cases_eq, cases_lt, cond-false, cond-true, eq-eqb, false_from_ne_true, false≢true, ne_eqb, follows, is_first, is_last, is_nullable, Tree, Never, Empty, Slot, Gap, Then, Or, whole_tree, class_of, set_len, slots_of, Accepting, Follows, HasTrack, IsTrim, SequenceView, IsSequence, Behind, Cell, AreReady, EndsAt, IsBehind, IsCellOf, is_own, slots_in, HasBit, cells_in, cells_of, IsFlat, Bounded, Lined, Spells, entered_first, is_joint, entered, exit, gone, land}
+use Rattle.sig_auto.proofs.Common.{◌||◌, ◌≡◌, ◌↔◌, ℕ, ◌+◌, ◌<◌, ◌≤◌, ◌/◌, ◌==◌, if◌then◌else◌, Bool, true, false, List, drop, get_or, length, IfSome, Option, Some, None, refl, sym, ap, ◌∙◌, subst, inl, inr, arith, option_eq, eqb-true, cases_eq, cases_lt, cond-false, cond-true, eq-eqb, false_from_ne_true, false≢true, ne_eqb, follows, is_first, is_last, is_nullable, Tree, Never, Empty, Slot, Gap, Then, Or, whole_tree, class_of, set_len, slots_of, Accepting, Follows, HasTrack, IsTrim, SequenceView, IsSequence, Behind, Cell, AreReady, EndsAt, IsBehind, IsCellOf, LiesBehind, ComesBehind, is_own, slots_in, HasBit, cells_in, cells_of, cells_of_sequence, IsFlat, Bounded, Lined, Spells, entered_first, is_joint, entered, exit, gone, land}
 use lib.Dec.{eqb}
 use Rattle.sig_auto.proofs.TrimLemmas.{accepting_slot, follows_slot, follows_start}
 use Rattle.sig_auto.proofs.BeginLemmas.{accepts_nullable}
@@ -131,11 +131,6 @@ pub class_found : (cells : List Cell) (s now : SequenceView) (q k : ℕ) (d : Ce
 class_found cells s now q k d h same at =
     grind (arith, is_in cells q k at, here_of cells k d, slot_parts at.cell q at.slot, class_at cells (drop (k + 1) cells) 0 k q, spelled_lined cells s h, spread_of (whole_tree s) 0 0 0 (cells_in (whole_tree s)))
 
-pub alike : (cells : List Cell) (s now : SequenceView) (p q : ℕ) (one other : Behind) → Spells cells s → s ≡ now → p ≤ slots_in cells → q ≤ slots_in cells → IsBehind cells p one → IsBehind cells q other →
-    one.own ≡ other.own → one.enters ≡ other.enters → (next : ℕ) → Follows (whole_tree now) p next ↔ Follows (whole_tree now) q next
-alike cells s now p q one other h same p_in q_in is is_other own enters next =
-    grind (arith, behind_follows cells s now p next one (is_own one.own next) (entered_first (drop one.enters cells) next) h same p_in is refl refl, behind_follows cells s now q next other (is_own one.own next) (entered_first (drop one.enters cells) next) h same q_in is_other)
-
 -- the same where the cells are read as a slice
 pub class_told : (cells list : List Cell) (s now : SequenceView) (q k : ℕ) (c : Cell) → Spells cells s → s ≡ now → list ≡ cells → c ≡ get_or cells k c → IsCellOf list q k → c.class ≡ class_of (whole_tree now) q
 class_told cells list s now q k c h same is here at = grind (arith, class_found cells s now q k c h same)
@@ -144,11 +139,6 @@ pub behind_told : (cells list other : List Cell) (s now : SequenceView) (p q : �
     own ≡ is_own b.own q → enters ≡ entered_first (drop b.enters other) q → ((own || enters) ≡ true) ↔ Follows (whole_tree now) p q
 behind_told cells list other s now p q b own enters h same is is_other most told own_is enters_is =
     behind_follows cells s now p q b own enters h same (within cells cells s now p h same refl most) (subst (λ x. IsBehind x p b) is told) own_is (enters_is ∙ ap (λ x. entered_first (drop b.enters x) q) is_other)
-
-pub alike_told : (cells list more : List Cell) (s now : SequenceView) (p q : ℕ) (one other : Behind) → Spells cells s → s ≡ now → list ≡ cells → more ≡ cells → p ≤ slots_of (whole_tree now) → q ≤ slots_of (whole_tree now) → IsBehind list p one → IsBehind more q other →
-    one.own ≡ other.own → one.enters ≡ other.enters → (next : ℕ) → Follows (whole_tree now) p next ↔ Follows (whole_tree now) q next
-alike_told cells list more s now p q one other h same is is_more p_in q_in one_is other_is own enters =
-    alike cells s now p q one other h same (within cells cells s now p h same refl p_in) (within cells cells s now q h same refl q_in) (subst (λ x. IsBehind x p one) is one_is) (subst (λ x. IsBehind x q other) is_more other_is) own enters
 
 pub out_of_slots : (cells list : List Cell) (s now : SequenceView) (p n : ℕ) → Spells cells s → s ≡ now → list ≡ cells → n ≡ slots_in list → n < p → slots_of (whole_tree now) < p
 out_of_slots cells list s now p n h same is told above = grind (arith, slots_are cells list s now n h same is told)
@@ -203,3 +193,37 @@ few_slots cells list s n h is told = grind (arith, spelled_slots, whole_slots)
 pub set_room : (cells list : List Cell) (s : SequenceView) (set : List ℕ) → Spells cells s → list ≡ cells → length set ≡ (slots_in list + 8) / 8
     → length set ≡ set_len (whole_tree s)
 set_room cells list s set h is len = len ∙ ap (λ n. (n + 8) / 8) (ap slots_in is ∙ spelled_slots cells s h)
+
+-- ---- what comes behind a state, in the words of its sequence
+
+pub of_sequence : (s : SequenceView) → IsSequence s → Spells (cells_of_sequence s) s
+of_sequence s h = record { sequence = h; same = refl }
+
+pub spelled_are : (cells list : List Cell) (s now : SequenceView) → Spells cells s → s ≡ now → list ≡ cells → list ≡ cells_of_sequence now
+spelled_are cells list s now h same is = is ∙ h.same ∙ ap cells_of_sequence same
+
+pub comes_behind : (cells list : List Cell) (s now : SequenceView) (p : ℕ) (b : Behind) → Spells cells s → s ≡ now → list ≡ cells → p ≤ slots_of (whole_tree now) → IsBehind list p b
+    → IfSome b.own (λ q. LiesBehind q (drop b.enters list)) → IfSome b.own (λ q. IsCellOf list q b.cell) → ComesBehind now p b
+comes_behind cells list s now p b h same is state told order cell =
+    let sequence : IsSequence now = subst IsSequence same h.sequence in
+    let here = spelled_are cells list s now h same is in
+    record {
+      sequence = sequence;
+      state = state;
+      few = few_slots cells cells s (slots_of (whole_tree now)) h refl (sym (spelled_slots cells s h ∙ ap (λ x. slots_of (whole_tree x)) same));
+      is = subst (λ x. IsBehind x p b) here told;
+      order = subst (λ x. IfSome b.own (λ q. LiesBehind q (drop b.enters x))) here order;
+      cell = subst (λ x. IfSome b.own (λ q. IsCellOf x q b.cell)) here cell;
+    }
+
+pub cell_there : (list : List Cell) (s : SequenceView) (p : ℕ) (b : Behind) → list ≡ cells_of_sequence s → ComesBehind s p b → IfSome b.own (λ q. IsCellOf list q b.cell)
+cell_there list s p b here h = subst (λ x. IfSome b.own (λ q. IsCellOf x q b.cell)) (sym here) h.cell
+
+pub comes_follows : (s : SequenceView) (p q : ℕ) (b : Behind) → ComesBehind s p b → ((is_own b.own q || entered_first (drop b.enters (cells_of_sequence s)) q) ≡ true) ↔ Follows (whole_tree s) p q
+comes_follows s p q b h =
+    let cells : List Cell = cells_of_sequence s in
+    behind_told cells cells cells s s p q b (is_own b.own q) (entered_first (drop b.enters cells) q) (of_sequence s h.sequence) refl refl refl h.state h.is refl refl
+
+pub alike : (s : SequenceView) (p q : ℕ) (one other : Behind) → ComesBehind s p one → ComesBehind s q other → one.own ≡ other.own → one.enters ≡ other.enters
+    → (next : ℕ) → Follows (whole_tree s) p next ↔ Follows (whole_tree s) q next
+alike s p q one other h g own enters next = grind (arith, comes_follows s p next one h, comes_follows s q next other g)

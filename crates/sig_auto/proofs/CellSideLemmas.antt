@@ -1,9 +1,9 @@
 -- Bytes that all cells take alike are those that all slots do, and bytes on which cells are entered.
-use Rattle.sig_auto.proofs.Common.{◌≡◌, ◌↔◌, ◌⊎◌, ◌∙◌, ℕ, suc, ◌+◌, ◌-◌, ◌<◌, ◌≤◌, inl, inr, List, [], ◌∷◌, drop, get_or, length, length-append, None, Option, replicate, Some, true, ap, arith, refl, subst, sym, Contains, slice_get, cases_Bool, cases_lt, eqb-true, false≢true, or_cases, or_left, or_right, get_or_append_left, get_or-append_right, get_or-replicate, length-replicate, get_or_from_slice_get, slice_get_within, ByteClass, AddsCuts, AddsLive, in_class, InClass, any, EachSide, EnteredOn, OwnOn, SlotOn, FollowsOn, TakesAlike, SameSide, class_in, spread, taken_first, whole_tree, class_of, slots_of, cells_in, Cell, Joint, Joints, IsBehind, IsCellOf, is_own, Behind, Lined, Spells, entered_first, AreJoints, SequenceView}
-use Rattle.sig_auto.proofs.CellLemmas.{behind_told, spelled_lined, spelled_slots}
+use Rattle.sig_auto.proofs.Common.{◌≡◌, ◌↔◌, ◌⊎◌, ◌∙◌, ℕ, suc, ◌+◌, ◌-◌, ◌<◌, ◌≤◌, inl, inr, List, [], ◌∷◌, drop, get_or, IfSome, is_some, length, length-append, None, Option, replicate, Some, true, ap, arith, refl, subst, sym, Contains, slice_get, cases_Bool, cases_lt, eqb-true, false≢true, or_cases, or_left, or_right, get_or_append_left, get_or-append_right, get_or-replicate, length-replicate, get_or_from_slice_get, slice_get_within, ByteClass, AddsCuts, AddsLive, in_class, InClass, any, EachSide, EnteredOn, OwnOn, SlotOn, FollowsOn, TakesAlike, SameSide, class_in, spread, taken_first, whole_tree, class_of, slots_of, cells_in, Cell, Joint, Joints, ComesBehind, IsCellOf, is_own, cells_of_sequence, Behind, Lined, Spells, AreJoints, SequenceView}
+use Rattle.sig_auto.proofs.CellLemmas.{comes_follows, of_sequence, spelled_lined, spelled_slots}
 use Rattle.sig_auto.proofs.CellSuccessorLemmas.{class_here, class_is, classes, own_is_own}
-use Rattle.sig_auto.proofs.CellTakenLemmas.{Classed, contains_cons, contains_here, contains_there, in_class_exact, members_from, none_taken, passes_here, takes_here}
-use Rattle.sig_auto.proofs.CutLemmas.{cuts_both, live_both}
+use Rattle.sig_auto.proofs.CellTakenLemmas.{contains_cons, contains_here, contains_there, in_class_exact, members_from, none_taken, passes_here, takes_here}
+use Rattle.sig_auto.proofs.CutLemmas.{cuts_as, cuts_both, live_as, live_both}
 use Rattle.sig_auto.proofs.JoinLemmas.{here_of}
 use Rattle.sig_auto.proofs.LineLemmas.{class_at, lined_later, spread_of}
 use Rattle.sig_auto.proofs.TakenLemmas.{length_classes}
@@ -95,22 +95,34 @@ none_on cells k b q past at = grind (arith, none_taken cells k b past)
 
 -- ---- what follows a state: its own next slot, and the cells that are entered behind it
 
-pub own_on_slot : (cells : List Cell) (own : Option ℕ) (q k : ℕ) (d : Cell) → Lined 0 cells → IsCellOf cells q k → own ≡ Some q → (b x : ℕ)
+own_on_slot : (cells : List Cell) (own : Option ℕ) (q k : ℕ) (d : Cell) → Lined 0 cells → IsCellOf cells q k → own ≡ Some q → (b x : ℕ)
     → OwnOn cells own b x ↔ SlotOn (get_or cells k d).class q b x
 own_on_slot cells own q k d lined at is b x = grind (arith, class_here cells q k d lined at)
+
+-- what the class of its cell adds
+pub own_live : (cells : List Cell) (own : Option ℕ) (k : ℕ) (d : Cell) (old new : ByteClass) → Lined 0 cells → IfSome own (λ q. IsCellOf cells q k) → is_some own ≡ true
+    → ((q : ℕ) → AddsLive old new (SlotOn (get_or cells k d).class q)) → AddsLive old new (OwnOn cells own)
+own_live cells None k d old new lined at some adds = absurd (false≢true some)
+own_live cells (Some q) k d old new lined at some adds = live_as old new (OwnOn cells (Some q)) (SlotOn (get_or cells k d).class q) (own_on_slot cells (Some q) q k d lined at refl) (adds q)
+
+pub own_cuts : (cells : List Cell) (own : Option ℕ) (k : ℕ) (d : Cell) (old new : ByteClass) → Lined 0 cells → IfSome own (λ q. IsCellOf cells q k) → is_some own ≡ true
+    → ((q : ℕ) → AddsCuts old new (SlotOn (get_or cells k d).class q)) → AddsCuts old new (OwnOn cells own)
+own_cuts cells None k d old new lined at some adds = absurd (false≢true some)
+own_cuts cells (Some q) k d old new lined at some adds = cuts_as old new (OwnOn cells (Some q)) (SlotOn (get_or cells k d).class q) (own_on_slot cells (Some q) q k d lined at refl) (adds q)
 
 own_from : (own : Option ℕ) (q : ℕ) → is_own own q ≡ true → own ≡ Some q
 own_from None q is = absurd (false≢true is)
 own_from (Some x) q is = ap (λ n. Some n) (sym (eqb-true q x is))
 
-pub behind_either : (cells list : List Cell) (s now : SequenceView) (p : ℕ) (b : Behind) → Spells cells s → s ≡ now → list ≡ cells
-    → p ≤ slots_of (whole_tree now) → IsBehind list p b → (byte q : ℕ)
-    → FollowsOn (whole_tree now) p byte q ↔ (OwnOn list b.own byte q ⊎ EnteredOn list b.enters byte q)
-behind_either cells list s now p b h same is most told byte q =
-    let law = behind_told cells list list s now p q b (is_own b.own q) (entered_first (drop b.enters list) q) h same is is most told refl refl in
-    let all : Classed (class_of (whole_tree now)) list = subst (Classed (class_of (whole_tree now))) (sym is) (classes cells s now h same) in
-    let walk = members_from (class_of (whole_tree now)) byte q b.enters list all in
-    let class : class_in list q ≡ class_of (whole_tree now) q = ap (λ x. class_in x q) is ∙ class_is cells s now q h same in (
+pub behind_either : (list : List Cell) (s : SequenceView) (p : ℕ) (b : Behind) → list ≡ cells_of_sequence s → ComesBehind s p b → (byte q : ℕ)
+    → FollowsOn (whole_tree s) p byte q ↔ (OwnOn list b.own byte q ⊎ EnteredOn list b.enters byte q)
+behind_either list s p b here h byte q =
+    let cells : List Cell = cells_of_sequence s in
+    let spells = of_sequence s h.sequence in
+    let law = comes_follows s p q b h in
+    let walk = members_from (class_of (whole_tree s)) byte q b.enters cells (classes cells s s spells refl) in
+    let class : class_in cells q ≡ class_of (whole_tree s) q = class_is cells s s q spells refl in
+    subst (λ x. FollowsOn (whole_tree s) p byte q ↔ (OwnOn x b.own byte q ⊎ EnteredOn x b.enters byte q)) (sym here) (
       λ on. grind (arith, or_cases, own_from),
       λ at. elim at [
         | inl one ↦ grind (arith, or_left, own_is_own)

@@ -13,7 +13,7 @@ pub use Rattle.std.proofs.lemmas.Option.{get_or_from_slice_get, slice_get-get_or
 pub use Rattle.std.specs.Int.{bit_at}
 pub use Rattle.std.specs.List.{slice_get}
 pub use Rattle.std.specs.List.Sorted.{IsStrictlyIncreasing}
-pub use Rattle.std.specs.Option.{option_eq}
+pub use Rattle.std.specs.Option.{is_some, option_eq}
 pub use Rattle.std.specs.Prelude.{⊤, IfSome}
 pub use Rattle.sig_bits.proofs.Exports.{zeros_have_no_bit}
 unfoldable pub use Rattle.sig_bits.specs.BitSets.{HasBit}
@@ -38,7 +38,7 @@ pub use Rattle.sig_auto.specs.Behind.{AreReady, EndsAt, IsBehind, IsCellOf, Lies
 pub use Rattle.sig_auto.specs.Building.{Puts}
 pub use Rattle.sig_auto.specs.CellSides.{EachSide, EnteredOn, OwnOn, SlotOn}
 pub use Rattle.sig_auto.specs.CellSteps.{GoesIn, GoesWithin, IsAhead, IsCellStep, IsEntered, IsFirstOf, IsLeft, IsPassed, IsSomePassed, LeavesFor}
-pub use Rattle.sig_auto.specs.Cells.{cells_in, cells_of, gap_cell, middle, slot_cell}
+pub use Rattle.sig_auto.specs.Cells.{cells_in, cells_of, cells_of_sequence, gap_cell, middle, slot_cell}
 pub use Rattle.sig_auto.specs.Classes.{InClass, any, only}
 pub use Rattle.sig_auto.specs.Cuts.{AddsCuts, AddsLive}
 pub use Rattle.sig_auto.specs.Flat.{IsFirm, IsFlat}
@@ -49,8 +49,10 @@ pub use Rattle.sig_auto.specs.Parts.{part_tree}
 pub use Rattle.sig_auto.specs.Rows.{above, behind, behind_these, below, between, inner_at, lower_at, only_these, rest, upper_at}
 pub use Rattle.sig_auto.specs.Runs.{Accepts, EndsIn, FollowsOn, IsStepOf, Run, Steps, TakesAlike}
 pub use Rattle.sig_auto.specs.Sides.{SameSide}
+pub use Rattle.sig_auto.specs.States.{ComesBehind}
+unfoldable pub use Rattle.sig_auto.specs.States.{followers}
 pub use Rattle.sig_auto.specs.Successions.{BeginsOn, in_class, succeeds}
-pub use Rattle.sig_auto.specs.Taken.{IsOwnOn, class_in, own_list, spread, taken, taken_first}
+pub use Rattle.sig_auto.specs.Taken.{class_in, own_list, own_taken, spread, taken, taken_first}
 pub use Rattle.sig_auto.specs.Tracks.{Accepting, Follows, GapTrack, Track, slots_from}
 pub use Rattle.sig_auto.specs.TreeSlots.{Takes, class_of, classes_of, set_len, slots_of}
 pub use Rattle.sig_auto.specs.Trees.{Empty, Gap, Never, Or, Slot, Then, Tree, alternatives_tree, atom_tree, atoms_tree, back_tree, bracket_tree, front_tree, item_tree, items_tree, row_tree, rows_tree, whole_tree}

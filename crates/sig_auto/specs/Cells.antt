@@ -1,12 +1,13 @@
 -- The cells that a tree takes.
-use Rattle.std.specs.Prelude.{◌≡◌, ℕ, ◌+◌, ◌==◌, if◌then◌else◌, Bool, true, false, List, [], ◌∷◌, ◌++◌, Option, Some, None}
+use Rattle.std.specs.Prelude.{ℕ, ◌+◌, ◌==◌, if◌then◌else◌, false, List, [], ◌∷◌, ◌++◌, Option}
 use Rattle.sig_auto.specs.declared.class.Class.{Class}
 use Rattle.sig_auto.specs.Classes.{any}
 use Rattle.sig_auto.specs.Local.{loops}
-use Rattle.sig_auto.specs.Trees.{Tree, Never, Empty, Slot, Gap, Then, Or}
+use Rattle.sig_auto.specs.Trees.{Tree, Never, Empty, Slot, Gap, Then, Or, whole_tree}
 use Rattle.sig_auto.specs.TreeSlots.{slots_of}
 use Rattle.sig_auto.specs.declared.cell.Cell.{Cell}
 use Rattle.sig_table.specs.Slots.{gap_slots}
+use Rattle.sig_table.specs.Views.{SequenceView}
 
 -- how many cells it takes: one for a slot, and one for a gap that has slots
 abbrev pub cells_in : Tree → ℕ
@@ -37,3 +38,7 @@ cells_of (Slot c) i n front behind = slot_cell c n front behind ∷ []
 cells_of (Gap min max) i n front behind = if gap_slots min max == 0 then [] else gap_cell min max n front behind ∷ []
 cells_of (Then a b) i n front behind = cells_of a i n front (middle front behind i (cells_in a) (cells_in b)) ++ cells_of b (i + cells_in a) (n + slots_of a) (middle front behind i (cells_in a) (cells_in b)) behind
 cells_of (Or a b) i n front behind = cells_of a i n front behind ++ cells_of b (i + cells_in a) (n + slots_of a) front behind
+
+-- the cells of a sequence
+abbrev pub cells_of_sequence : SequenceView → List Cell
+cells_of_sequence s = cells_of (whole_tree s) 0 0 0 (cells_in (whole_tree s))

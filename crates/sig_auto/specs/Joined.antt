@@ -1,8 +1,7 @@
 -- What is behind each cell: where one goes on from it.
-use Rattle.std.specs.Prelude.{◌≡◌, ℕ, ◌+◌, ◌==◌, ◌≤◌, ◌<◌, if◌then◌else◌, Bool, true, false, List, [], ◌∷◌, drop, length, Option, Some, None, ⊤}
-use Rattle.sig_auto.specs.Trees.{whole_tree}
+use Rattle.std.specs.Prelude.{◌≡◌, ℕ, ◌+◌, ◌==◌, ◌≤◌, ◌<◌, if◌then◌else◌, Bool, false, List, [], ◌∷◌, Option, Some, None, ⊤}
 use Rattle.sig_auto.specs.declared.cell.Cell.{Cell}
-use Rattle.sig_auto.specs.Cells.{cells_in, cells_of}
+use Rattle.sig_auto.specs.Cells.{cells_of_sequence}
 use Rattle.sig_auto.specs.Ways.{entered, is_skipped}
 use Rattle.sig_table.specs.Tables.{IsSequence}
 use Rattle.sig_table.specs.Views.{SequenceView}
@@ -39,4 +38,4 @@ entered_first (c ∷ cs) q = entered (Some c.front) (c ∷ cs) q
 -- the cells are those of the sequence
 pub record Spells (cells : List Cell) (s : SequenceView) : Type 0 where
   pub sequence : IsSequence s
-  pub same : cells ≡ cells_of (whole_tree s) 0 0 0 (cells_in (whole_tree s))
+  pub same : cells ≡ cells_of_sequence s

@@ -7,6 +7,7 @@ pub mod Tracks
 pub mod Runs
 pub mod ByteCuts
 pub mod Remaining
+pub mod States
 -- These are words of the proofs.
 pub mod Begins
 pub mod Cuts

@@ -1,7 +1,7 @@
 -- The slots that are entered on a byte, in order.
-use Rattle.std.specs.Prelude.{◌≡◌, ◌⊎◌, ℕ, ◌+◌, ◌-◌, ◌&&◌, if◌then◌else◌, List, [], ◌∷◌, ◌++◌, get_or, replicate, Option, Some, None}
+use Rattle.std.specs.Prelude.{ℕ, ◌+◌, ◌-◌, ◌&&◌, if◌then◌else◌, List, [], ◌∷◌, ◌++◌, get_or, replicate, Option, Some, None}
 use Rattle.sig_auto.specs.declared.class.Class.{Class}
-use Rattle.sig_auto.specs.Classes.{InClass, any}
+use Rattle.sig_auto.specs.Classes.{any}
 use Rattle.sig_auto.specs.Successions.{in_class}
 use Rattle.sig_auto.specs.declared.cell.Cell.{Cell}
 use Rattle.sig_auto.specs.Ways.{meets, onward}
@@ -30,7 +30,7 @@ abbrev pub own_list : Option ℕ → List ℕ
 own_list None = []
 own_list (Some q) = q ∷ []
 
--- the slot, where it takes the byte
-abbrev pub IsOwnOn : List Cell → Option ℕ → ℕ → Option ℕ → Type 0
-IsOwnOn cells None byte r = r ≡ None
-IsOwnOn cells (Some q) byte r = ((r ≡ Some q) × InClass (class_in cells q) byte) ⊎ ((r ≡ None) × (InClass (class_in cells q) byte → ⊥))
+-- the own next slot, if there is one and it takes the byte
+abbrev pub own_taken : List Cell → Option ℕ → ℕ → List ℕ
+own_taken cells None byte = []
+own_taken cells (Some q) byte = if in_class (class_in cells q) byte then q ∷ [] else []

@@ -1,22 +1,28 @@
 //! What comes behind a state: its own next slot, and the cells that are entered behind it.
 //!
-//! The cell of a slot is found by halving. Of `41{1-2}42` the first slot of the gap has the second for its
-//! own next one, and enters `42`.
+//! The cell of a slot is found by halving, once for a state; then it is asked on many bytes. Of
+//! `41{1-2}42` the first slot of the gap has the second for its own next one, and enters `42`.
 
 ghost use Rattle.std.specs.Prelude.{◌≡◌, ◌⊎◌, ◌+◌, ◌<◌, ◌≤◌, ◌↔◌, ℕ, None, Some, IfSome, IsTrue, drop, length, true};
 ghost use Rattle.sig_auto.specs.Behind.{AreReady, IsBehind, IsCellOf, LiesBehind, is_own, slots_in};
 ghost use Rattle.sig_auto.specs.Joined.{entered_first};
 ghost use Rattle.sig_auto.specs.Joints.{AreJoints};
+ghost use Rattle.sig_auto.specs.States.{ComesBehind};
+ghost use Rattle.sig_auto.specs.Tracks.{Follows};
+ghost use Rattle.sig_auto.specs.Trees.{whole_tree};
 ghost use Rattle.sig_auto.specs.Ways.{leave, own};
+ghost use Rattle.sig_table.specs.Views.{SequenceView};
 
 use crate::cell::Cell;
 use crate::joint::Joints;
 
-/// What comes behind a state.
-#[derive(Clone, Copy, Debug)]
-pub(crate) struct Behind {
+/// What comes behind a state of an automaton, without the automaton.
+#[derive(Clone, Copy, Debug, PartialEq, Eq)]
+pub struct Behind {
     /// The next slot of its own cell.
     pub(crate) own: Option<u32>,
+    /// The place of the cell of that slot; 0 where there is none.
+    pub(crate) cell: u32,
     /// The first cell that is entered; there is none where this is how many cells there are.
     pub(crate) enters: u32,
     /// Nothing need come.
@@ -86,6 +92,14 @@ pub(crate) fn find(cells: &[Cell], p: u32) -> usize
 }
 
 impl Behind {
+    /// Whether the same states are found to follow. Where it is not found, they may be the same. It is
+    /// found of the last slots of the alternatives of a list.
+    pub fn leads_like(&self, other: &Behind) -> bool
+        ensures { IsTrue result → (s : SequenceView) (p q : ℕ) → ComesBehind s p self.now → ComesBehind s q other.now → (next : ℕ) → Follows (whole_tree s) p next ↔ Follows (whole_tree s) q next }
+    {
+        self.own == other.own && self.enters == other.enters
+    }
+
     // Whether q is the own next slot.
     pub(crate) fn has(&self, q: u32) -> bool
         ensures { result ≡ is_own self.now.own q }
@@ -103,10 +117,12 @@ impl Behind {
         requires within { p ≤ slots_in cells.now }
         ensures is { IsBehind cells.now p result }
         ensures order { IfSome result.own (λ q. LiesBehind q (drop result.enters cells.now)) }
+        ensures cell { IfSome result.own (λ q. IsCellOf cells.now q result.cell) }
     {
         if p == 0 {
             return Behind {
                 own: None,
+                cell: 0,
                 enters: joints.start,
                 ends: joints.nullable,
             };
@@ -114,15 +130,19 @@ impl Behind {
         let k = find(cells, p);
         let cell = &cells[k];
         let joint = &joints.each[k];
+        let own = cell.own(p);
+        let place = if own.is_some() { k as u32 } else { 0 };
         if cell.leaves(p) {
             Behind {
-                own: cell.own(p),
+                own,
+                cell: place,
                 enters: joint.enters,
                 ends: joint.ends,
             }
         } else {
             Behind {
-                own: cell.own(p),
+                own,
+                cell: place,
                 enters: cells.len() as u32,
                 ends: false,
             }

@@ -17,6 +17,7 @@ mod step;
 mod successors;
 
 pub use auto::Auto;
+pub use behind::Behind;
 pub use laws::{
     accepts_by_an_end, runs_accept_what_stands, runs_are_decided, runs_begin, runs_go_on,
     slots_are_counted, states_are_slots,

@@ -11,7 +11,6 @@ ghost use Rattle.sig_auto.specs.Taken.{taken_first};
 
 use crate::cell::Cell;
 use crate::joint::Joints;
-use std::alloc::AllocError;
 
 /// An iterator over the states that follow a state and take a byte, rising.
 #[derive(Debug, Drop)]
@@ -23,25 +22,6 @@ pub struct Successors<'a> {
     pub(crate) byte: u8,
     ghost ready: { AreReady cells.now } by { AreReady-prop cells.now },
     ghost joined: { AreJoints cells.now joints.now } by { AreJoints-prop cells.now joints.now },
-}
-
-impl Clone for Successors<'_> {
-    ghost use Rattle.std.specs.Prelude.{⊤};
-    ghost use Rattle.sig_auto.specs.Remaining.{remaining_of};
-
-    ghost is_clone = { λ one two. remaining_of two ≡ remaining_of one };
-
-    ghost is_infallible = { λ _. ⊤ };
-
-    fn clone(&self) -> Result<Self, AllocError> {
-        Ok(Successors {
-            cells: self.cells,
-            joints: self.joints,
-            own: self.own,
-            at: self.at,
-            byte: self.byte,
-        })
-    }
 }
 
 impl Iterator for Successors<'_> {

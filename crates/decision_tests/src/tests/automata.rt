@@ -394,11 +394,19 @@ const ALIKE: &[(u32, u32, bool)] = &[
     (0, 1, false),
 ];
 
+// Whether the same states follow them; none where one is no state.
+fn leads_like(auto: &Auto, p: u32, q: u32) -> Option<bool> {
+    if p > auto.slots() || q > auto.slots() {
+        return None;
+    }
+    Some(auto.behind(p).leads_like(&auto.behind(q)))
+}
+
 #[test]
-fn states_that_go_on_alike(rt: HostRuntime) {
+fn states_that_lead_alike(rt: HostRuntime) {
     let auto = automaton(rt.alloc(), "BOF,0,,(41|4243|44)(45|46)").expect(&rt, "loads");
     for (p, q, wanted) in ALIKE {
-        assert!(rt; auto.go_on_alike(*p, *q) == *wanted, "{p} and {q}");
+        assert!(rt; leads_like(&auto, *p, *q) == Some(*wanted), "{p} and {q}");
     }
 }
 
@@ -413,20 +421,26 @@ fn class_of(bytes: &[u8]) -> ByteClass {
 
 // Whether it goes on behind the state by these bytes, and has cuts at just those.
 fn leads_on(auto: &Auto, p: u32, live: ByteClass, at: &[u8]) -> bool {
+    if p > auto.slots() {
+        return false;
+    }
     let mut cuts = ByteClass::none();
-    auto.live_bytes(p, &mut cuts) == live && cuts == class_of(at)
+    auto.live_bytes(auto.behind(p), &mut cuts) == live && cuts == class_of(at)
 }
 
 // Whether any byte leads on behind the states 1 and 4 of `(41|[42:44])??46`, and 46 alone behind 3: there are
 // cuts at it and behind it, and none at 41.
 fn leads_on_by_46(auto: &Auto) -> bool {
+    if auto.slots() < 4 {
+        return false;
+    }
     let mut cuts = ByteClass::none();
-    auto.live_bytes(1, &mut cuts) == ByteClass::all()
-        && auto.live_bytes(3, &mut cuts) == ByteClass::of_byte(0x46)
+    auto.live_bytes(auto.behind(1), &mut cuts) == ByteClass::all()
+        && auto.live_bytes(auto.behind(3), &mut cuts) == ByteClass::of_byte(0x46)
         && cuts.contains(0x46)
         && cuts.contains(0x47)
         && !cuts.contains(0x41)
-        && auto.live_bytes(4, &mut cuts) == ByteClass::all()
+        && auto.live_bytes(auto.behind(4), &mut cuts) == ByteClass::all()
 }
 
 // Whether its slots are cut at these bytes, and perhaps at 0.
@@ -452,25 +466,6 @@ fn bytes_that_lead_on(rt: HostRuntime) {
     assert!(rt; leads_on_by_46(&auto));
     assert!(rt; has_cuts(&auto, &[0, 0x41, 0x42, 0x45, 0x46, 0x47]));
     assert!(rt; has_alone(&auto, &[0x41, 0x46]));
-}
-
-// Whether the successors and their copy go on alike.
-fn copy_goes_on(auto: &Auto) -> Option<bool> {
-    let mut successors = auto.successors(2, 0x42);
-    let first = successors.next();
-    let mut copy = successors.clone().ok()?;
-    Some(
-        first == Some(3)
-            && successors.next() == Some(4)
-            && copy.next() == Some(4)
-            && copy.next().is_none(),
-    )
-}
-
-#[test]
-fn a_copy_of_the_successors_has_the_same_to_come(rt: HostRuntime) {
-    let auto = automaton(rt.alloc(), "BOF,0,,41{1-2}42").expect(&rt, "loads");
-    assert!(rt; copy_goes_on(&auto) == Some(true));
 }
 
 // Puts so many of the same parts behind the text.

@@ -1,18 +1,9 @@
-use Rattle.sig_auto.proofs.Common.{◌≡◌, Some, get_or, rules, OwnOn, SlotOn}
-use Rattle.sig_auto.proofs.CellSideLemmas.{own_on_slot}
-use Rattle.sig_auto.proofs.CutLemmas.{cuts_as, live_as}
+use Rattle.sig_auto.proofs.Common.{sym, ◌∙◌}
+use Rattle.sig_auto.proofs.CellSideLemmas.{own_cuts, own_live}
 use Rattle.sig_auto.proofs.auto.add_own.Goals as goal
 
-pub returns-in-Some-clause-live : goal.returns-in-Some-clause-live
-returns-in-Some-clause-live c =
-    let cells = c.args.cells.now in
-    let is : c.args.own ≡ Some c.in-Some.q = search rules in
-    live_as c.args.live.now c.add_class.new.live (OwnOn cells c.args.own) (SlotOn (get_or cells c.find.result _).class c.in-Some.q)
-    (own_on_slot cells c.args.own c.in-Some.q c.find.result _ c.requires.ready.lined c.find.ensures is) (c.add_class.ensures.live c.in-Some.q)
+pub returns-then-is_some-clause-live : goal.returns-then-is_some-clause-live
+returns-then-is_some-clause-live c = own_live c.args.cells.now c.args.behind.own c.args.behind.cell _ c.args.live.now c.add_class.new.live c.requires.ready.lined c.requires.cell (sym c.is_some.ensures ∙ c.if-is_some.true) c.add_class.ensures.live
 
-pub returns-in-Some-clause-cuts : goal.returns-in-Some-clause-cuts
-returns-in-Some-clause-cuts c =
-    let cells = c.args.cells.now in
-    let is : c.args.own ≡ Some c.in-Some.q = search rules in
-    cuts_as c.args.cuts.now c.add_class.new.cuts (OwnOn cells c.args.own) (SlotOn (get_or cells c.find.result _).class c.in-Some.q)
-    (own_on_slot cells c.args.own c.in-Some.q c.find.result _ c.requires.ready.lined c.find.ensures is) (c.add_class.ensures.cuts c.in-Some.q)
+pub returns-then-is_some-clause-cuts : goal.returns-then-is_some-clause-cuts
+returns-then-is_some-clause-cuts c = own_cuts c.args.cells.now c.args.behind.own c.args.behind.cell _ c.args.cuts.now c.add_class.new.cuts c.requires.ready.lined c.requires.cell (sym c.is_some.ensures ∙ c.if-is_some.true) c.add_class.ensures.cuts
