@@ -1,5 +1,7 @@
 -- Bytes that all cells take alike are those that all slots do, and bytes on which cells are entered.
-use Rattle.sig_auto.proofs.Common.{◌≡◌, ◌↔◌, ◌⊎◌, ◌∙◌, ℕ, suc, ◌+◌, ◌-◌, ◌<◌, ◌≤◌, inl, inr, List, [], ◌∷◌, drop, get_or, IfSome, is_some, length, length-append, None, Option, replicate, Some, true, ap, arith, refl, subst, sym, Contains, slice_get, cases_Bool, cases_lt, eqb-true, false≢true, or_cases, or_left, or_right, get_or_append_left, get_or-append_right, get_or-replicate, length-replicate, get_or_from_slice_get, slice_get_within, ByteClass, AddsCuts, AddsLive, in_class, InClass, any, EachSide, EnteredOn, OwnOn, SlotOn, FollowsOn, TakesAlike, SameSide, class_in, spread, taken_first, whole_tree, class_of, slots_of, cells_in, Cell, Joint, Joints, ComesBehind, IsCellOf, is_own, cells_of_sequence, Behind, Lined, Spells, AreJoints, SequenceView}
+use Rattle.sig_auto.proofs.Common.{◌≡◌, ◌↔◌, ◌⊎◌, ◌∙◌, ℕ, suc, ◌+◌, ◌-◌, ◌<◌, ◌≤◌, inl, inr, List, [], ◌∷◌, drop, get_or, IfSome, is_some, length, length-append, None, Option, replicate, Some, true, ap, arith, refl, subst, sym, Contains, slice_get, cases_Bool, cases_lt, eqb-true, false≢true, or_cases, or_left, or_right, get_or_append_left, get_or-append_right, get_or-replicate, length-replicate, get_or_from_slice_get, slice_get_within, ByteClass, AddsCuts, AddsLive, in_class, InClass, any, EachSide, EnteredOn, OwnOn, SlotOn, FollowsOn, TakesAlike, SameSide, Class, Outside, Within, class_in, spread, taken_first, whole_tree, class_of, slots_of, cells_in, Cell, Joint, Joints, ComesBehind, IsCellOf, is_own, cells_of_sequence, Behind, Lined, Spells, AreJoints, SequenceView}
+use Rattle.sig_auto.specs.Classes.{IsSpelled}
+use Rattle.sig_bits.specs.Groups.{InSpan, SameSide as SpanSide}
 use Rattle.sig_auto.proofs.CellLemmas.{comes_follows, of_sequence, spelled_lined, spelled_slots}
 use Rattle.sig_auto.proofs.CellSuccessorLemmas.{class_here, class_is, classes, own_is_own}
 use Rattle.sig_auto.proofs.CellTakenLemmas.{contains_cons, contains_here, contains_there, in_class_exact, members_from, none_taken, passes_here, takes_here}
@@ -7,6 +9,30 @@ use Rattle.sig_auto.proofs.CutLemmas.{cuts_as, cuts_both, live_as, live_both}
 use Rattle.sig_auto.proofs.JoinLemmas.{here_of}
 use Rattle.sig_auto.proofs.LineLemmas.{class_at, lined_later, spread_of}
 use Rattle.sig_auto.proofs.TakenLemmas.{length_classes}
+
+-- a byte is in a span, or its class is what is outside
+outside_or_in : (first last b : ℕ) → b < 256 → InClass (Outside first last) b ⊎ InSpan first last b
+outside_or_in first last b low = elim (cases_lt b first) [
+  | inl before ↦ inl (low, inl before)
+  | inr from ↦ elim (cases_lt last b) [ inl past ↦ inl (low, inr past) | inr to ↦ inr (omega arith, omega arith) ]
+]
+
+outside_not_in : (first last b : ℕ) → InClass (Outside first last) b → InSpan first last b → ⊥
+outside_not_in first last b out inside = elim (out.1) [ inl before ↦ omega (arith, before, inside.0) | inr past ↦ omega (arith, past, inside.1) ]
+
+-- a class takes two bytes alike exactly where its span does
+pub spelled_side : (c : Class) (first last a b : ℕ) → IsSpelled c first last → a < 256 → b < 256 → SameSide c a b ↔ SpanSide first last a b
+spelled_side (Within x y) first last a b is in_a in_b = rw (is.0, is.1) (λ k. k, λ k. k)
+spelled_side (Outside x y) first last a b is in_a in_b = rw (is.0, is.1) (
+  λ k. (λ inside. into a b in_b k.1 inside, λ inside. into b a in_a k.0 inside),
+  λ k. (λ out. out_of a b in_b k.1 out, λ out. out_of b a in_a k.0 out),
+)
+  where
+    into : (p q : ℕ) → q < 256 → (InClass (Outside x y) q → InClass (Outside x y) p) → InSpan x y p → InSpan x y q
+    into p q low f inside = elim (outside_or_in x y q low) [ inl out ↦ absurd (outside_not_in x y p (f out) inside) | inr in_q ↦ in_q ]
+
+    out_of : (p q : ℕ) → q < 256 → (InSpan x y q → InSpan x y p) → InClass (Outside x y) p → InClass (Outside x y) q
+    out_of p q low f out = elim (outside_or_in x y q low) [ inl out_q ↦ out_q | inr inside ↦ absurd (outside_not_in x y p out (f inside)) ]
 
 -- the class of each slot is that of a cell
 each_slot : (cs : List Cell) (a b : ℕ) → EachSide cs a b → (i : ℕ) → i < length (spread cs) → SameSide (get_or (spread cs) i any) a b

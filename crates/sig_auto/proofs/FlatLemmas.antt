@@ -1,5 +1,5 @@
 -- The tree of a sequence is flat.
-use Rattle.sig_auto.proofs.Common.{◌≡◌, ℕ, ◌<◌, false, List, [], ◌∷◌, length, refl, arith, and_left, or_from, Class, is_nullable, above, below, between, Tree, Gap, alternatives_tree, atom_tree, atoms_tree, back_tree, item_tree, items_tree, row_tree, rows_tree, whole_tree, Atom, Item, AlternativesSound, AtomSound, AtomsSound, ItemSound, ItemsSound, SequenceView, IsSequence, IsFirm, IsFlat}
+use Rattle.sig_auto.proofs.Common.{◌≡◌, ℕ, ◌<◌, false, List, [], ◌∷◌, length, refl, arith, and_left, or_from, Class, is_nullable, above, below, between, Tree, alternatives_tree, atom_tree, atoms_tree, back_tree, item_tree, items_tree, row_tree, rows_tree, whole_tree, Atom, Item, AlternativesSound, AtomSound, AtomsSound, ItemSound, ItemsSound, SequenceView, IsSequence, IsFirm, IsFlat}
 use Rattle.sig_auto.proofs.WholeLemmas.{Long, Long-append, long_above, long_below, long_between}
 use Rattle.sig_auto.proofs.BeginLemmas.{item_not_nullable}
 use Rattle.sig_expr.specs.declared.item.Atom.TheVariants as atom

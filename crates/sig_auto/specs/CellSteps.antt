@@ -1,5 +1,5 @@
 -- A step of a set of states, in the words of the cells.
-use Rattle.std.specs.Prelude.{◌≡◌, ◌⊎◌, ◌↔◌, ℕ, ◌+◌, ◌<◌, ◌≤◌, Bool, true, List, Option, Some, drop}
+use Rattle.std.specs.Prelude.{◌≡◌, ◌⊎◌, ◌↔◌, ℕ, ◌+◌, ◌<◌, ◌≤◌, true, List, Some, drop}
 use Rattle.std.specs.List.{slice_get}
 use Rattle.sig_bits.specs.BitSets.{HasBit}
 use Rattle.sig_auto.specs.declared.cell.Cell.{Cell}

@@ -1,5 +1,5 @@
 -- The joints behind cells.
-use Rattle.std.specs.Prelude.{◌≡◌, ◌↔◌, ℕ, ◌+◌, List, ◌∷◌, drop, length, slice_index_or, Option, Some}
+use Rattle.std.specs.Prelude.{◌≡◌, ◌↔◌, ℕ, ◌+◌, List, ◌∷◌, drop, length, slice_index_or, Some}
 use Rattle.sig_auto.specs.declared.cell.Cell.{Cell}
 use Rattle.sig_auto.specs.declared.joint.Joint.{Joint}
 use Rattle.sig_auto.specs.declared.joint.Joints.{Joints}

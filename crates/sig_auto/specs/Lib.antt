@@ -33,6 +33,7 @@ pub mod Ways
 -- These are of the crates below, for its clauses.
 pub use Rattle.sig_bits.specs.BitSets
 pub use Rattle.sig_bits.specs.ByteClasses
+pub use Rattle.sig_bits.specs.Groups
 pub use Rattle.sig_bits.specs.Bytes
 pub use Rattle.sig_expr.specs.Words
 pub use Rattle.sig_table.specs.Views

@@ -1,5 +1,5 @@
 -- Bytes that no class of a tree tells apart.
-use Rattle.std.specs.Prelude.{◌↔◌, ℕ, ⊤}
+use Rattle.std.specs.Prelude.{◌↔◌, ℕ}
 use Rattle.sig_auto.specs.declared.class.Class.{Class}
 use Rattle.sig_auto.specs.Classes.{InClass}
 

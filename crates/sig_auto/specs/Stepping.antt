@@ -1,5 +1,5 @@
 -- What a set of states does on a byte, in a tree that may be a part of another.
-use Rattle.std.specs.Prelude.{◌≡◌, ◌⊎◌, ℕ, ◌+◌, ◌-◌, ◌<◌, ◌≤◌, Bool, true, List, Option}
+use Rattle.std.specs.Prelude.{◌≡◌, ◌⊎◌, ℕ, ◌-◌, Bool, true, List}
 use Rattle.sig_auto.specs.Classes.{InClass}
 use Rattle.sig_auto.specs.Local.{is_first, is_last, follows, is_nullable}
 use Rattle.sig_auto.specs.Trees.{Tree}

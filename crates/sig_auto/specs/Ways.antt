@@ -1,5 +1,5 @@
 -- Where the slots of cells lead: a slot of a cell goes to the next one of it, or leaves it for the joint behind it; behind a joint the cells begin that stand there, and a cell that may be skipped leads on to the joint behind it.
-use Rattle.std.specs.Prelude.{ℕ, ◌+◌, ◌==◌, ◌&&◌, ◌||◌, nat_le, nat_lt, if◌then◌else◌, Bool, true, false, List, [], ◌∷◌, Option, Some, None}
+use Rattle.std.specs.Prelude.{ℕ, ◌+◌, ◌==◌, ◌&&◌, ◌||◌, nat_le, nat_lt, if◌then◌else◌, Bool, false, List, [], ◌∷◌, Option, Some, None}
 use Rattle.sig_auto.specs.declared.cell.Cell.{Cell}
 
 -- the cell begins behind this joint

@@ -3,28 +3,27 @@
 //! Of the cells `41`, `[42:43]` and `41` the bytes 41, 42, 43 and 44 are cuts: at each some cell takes the
 //! byte and not the one below, or the other way round. Between two cuts all bytes do the same.
 
-ghost use Rattle.std.specs.Prelude.{◌≡◌, ◌≢◌, ◌↔◌, ◌+◌, ◌<◌, ℕ, Contains, IsTrue, drop};
+ghost use Rattle.std.specs.Prelude.{◌↔◌, ◌+◌, ◌<◌, ℕ};
 ghost use Rattle.sig_auto.specs.Behind.{AreReady};
 ghost use Rattle.sig_auto.specs.CellSides.{EachSide, EnteredOn, SlotOn};
 ghost use Rattle.sig_auto.specs.Cuts.{AddsCuts, AddsLive};
 ghost use Rattle.sig_auto.specs.Joints.{AreJoints};
 ghost use Rattle.sig_bits.specs.ByteClasses.{Holds};
+ghost use Rattle.sig_bits.specs.Groups.{Together};
 
 use crate::cell::Cell;
 use crate::class::Class;
 use crate::joint::Joints;
-use sig_bits::ByteClass;
+use sig_bits::{ByteClass, Groups};
 
-// Whether each cell takes both bytes or neither.
-pub(crate) fn all_same_side(cells: &[Cell], a: u8, b: u8) -> bool
-    ensures { IsTrue result ↔ EachSide cells.now a b }
+// Splits each group of which some cell takes some bytes and not others.
+pub(crate) fn split_groups(cells: &[Cell], groups: &mut Groups)
+    ensures { (a b : ℕ) → a < 256 → b < 256 → (Together groups.new a b ↔ (Together groups.old a b × EachSide cells.now a b)) }
 {
     for cell in cells {
-        if !cell.class.same_side(a, b) {
-            return false;
-        }
+        let (first, last) = cell.class.ends();
+        groups.split(first, last);
     }
-    true
 }
 
 // Adds each byte that some cell takes without the byte below, or the other way round.
@@ -33,15 +32,6 @@ pub(crate) fn add_all_cuts(cells: &[Cell], cuts: &mut ByteClass)
 {
     for cell in cells {
         cell.class.add_cuts(cuts);
-    }
-}
-
-// Adds bytes that some cell takes alone, or does not take alone.
-pub(crate) fn add_all_alone(cells: &[Cell], alone: &mut ByteClass)
-    ensures { (a b : ℕ) → a < 256 → b < 256 → a ≢ b → EachSide cells.now a b → Holds alone.new b → Holds alone.old b }
-{
-    for cell in cells {
-        cell.class.add_alone(alone);
     }
 }
 

@@ -4,7 +4,7 @@
 //! outside 41 to 43. So a class takes three bytes, and it separates a byte from the one below only
 //! at the ends of its span. Callers of this crate get a `ByteClass`.
 
-ghost use Rattle.std.specs.Prelude.{◌≡◌, ◌↔◌, ◌≢◌, ℕ, ◌+◌, ◌<◌, IfSome, IsTrue};
+ghost use Rattle.std.specs.Prelude.{◌≡◌, ◌↔◌, ℕ, ◌+◌, ◌<◌, IfSome, IsTrue};
 ghost use Rattle.sig_auto.specs.Classes.{InClass, IsSpelled};
 ghost use Rattle.sig_auto.specs.Sides.{SameSide};
 ghost use Rattle.sig_bits.specs.ByteClasses.{Holds};
@@ -55,25 +55,8 @@ impl Class {
         }
     }
 
-    /// Adds the one byte that it has, or lacks.
-    pub fn add_alone(self, alone: &mut ByteClass)
-        ensures { (a b : ℕ) → a < 256 → b < 256 → a ≢ b → SameSide self a b → Holds alone.new b → Holds alone.old b }
-    {
-        let (first, last) = self.ends();
-        if first == last {
-            alone.insert(first);
-        }
-    }
-
-    /// Whether it has both bytes or neither.
-    pub fn same_side(self, a: u8, b: u8) -> bool
-        ensures { IsTrue result ↔ SameSide self a b }
-    {
-        self.contains(a) == self.contains(b)
-    }
-
-    // The two bytes that it is spelled with.
-    fn ends(self) -> (u8, u8)
+    /// The two bytes that it is spelled with.
+    pub fn ends(self) -> (u8, u8)
         ensures { IsSpelled self result.0 result.1 }
     {
         match self {

@@ -120,11 +120,4 @@ impl ByteClass {
     {
         subset(&self.bits, &[0; 32])
     }
-
-    /// Whether both bytes are in it, or both are not.
-    pub fn same_side(&self, a: u8, b: u8) -> bool
-        ensures { IsTrue result ↔ (Holds self.now a ↔ Holds self.now b) }
-    {
-        self.contains(a) == self.contains(b)
-    }
 }

@@ -1,7 +1,7 @@
 //! The automaton of a sequence: its slots, what follows them, the bytes on which it goes on.
 
 use sig_auto::{Auto, accepts_empty, first_bytes};
-use sig_bits::{ByteClass, FromRead};
+use sig_bits::{ByteClass, FromRead, Groups};
 use sig_table::{Sequence, SigId, Table};
 use std::alloc::Global;
 
@@ -364,21 +364,13 @@ fn a_set_accepts_by_one_of_its_states(rt: HostRuntime) {
     }
 }
 
-// Two bytes, and whether each class of `(41|[42:44])??46` has both or neither.
-const SIDES: &[(u8, u8, bool)] = &[
-    (0x42, 0x44, true),
-    (0x00, 0xFF, true),
-    (0x41, 0x42, false),
-    (0x44, 0x45, false),
-    (0x46, 0x47, false),
-];
-
 #[test]
-fn bytes_on_the_same_sides(rt: HostRuntime) {
+fn bytes_in_groups(rt: HostRuntime) {
     let auto = automaton(rt.alloc(), "BOF,0,,(41|[42:44])??46").expect(&rt, "loads");
-    for (a, b, wanted) in SIDES {
-        assert!(rt; auto.same_side(*a, *b) == *wanted, "{a} and {b}");
-    }
+    let mut groups = Groups::one();
+    auto.split_groups(&mut groups);
+    // 41, 42 to 44, 46, and all others.
+    assert!(rt; groups.lowest() == class_of(&[0, 0x41, 0x42, 0x46]));
 }
 
 // Two states of `(41|4243|44)(45|46)`, and whether the same ones follow them.
@@ -451,13 +443,6 @@ fn has_cuts(auto: &Auto, at: &[u8]) -> bool {
     cuts == class_of(at)
 }
 
-// Whether these bytes stand alone in it.
-fn has_alone(auto: &Auto, bytes: &[u8]) -> bool {
-    let mut alone = ByteClass::none();
-    auto.add_alone(&mut alone);
-    alone == class_of(bytes)
-}
-
 #[test]
 fn bytes_that_lead_on(rt: HostRuntime) {
     let auto = automaton(rt.alloc(), "BOF,0,,(41|[42:44])??46").expect(&rt, "loads");
@@ -465,7 +450,6 @@ fn bytes_that_lead_on(rt: HostRuntime) {
     assert!(rt; leads_on(&auto, 0, first, &[0x41, 0x42, 0x45]));
     assert!(rt; leads_on_by_46(&auto));
     assert!(rt; has_cuts(&auto, &[0, 0x41, 0x42, 0x45, 0x46, 0x47]));
-    assert!(rt; has_alone(&auto, &[0x41, 0x46]));
 }
 
 // Puts so many of the same parts behind the text.

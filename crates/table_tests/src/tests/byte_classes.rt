@@ -1,6 +1,6 @@
 //! Classes of bytes.
 
-use sig_bits::ByteClass;
+use sig_bits::{ByteClass, Groups};
 
 // Whether the classes of 41, of the capitals and of all others have the byte as they should.
 fn is_held_alone(byte: u8) -> bool {
@@ -18,14 +18,6 @@ fn are_empty_alone() -> bool {
         && ByteClass::none().is_empty()
 }
 
-// Whether bytes are on the same side of the capitals just where they should be.
-fn have_sides() -> bool {
-    let capitals = ByteClass::range(0x41, 0x5a);
-    capitals.same_side(0x41, 0x5a)
-        && capitals.same_side(0x40, 0x5b)
-        && !capitals.same_side(0x40, 0x41)
-}
-
 // Whether two classes have the bytes of either and those of both.
 fn are_joined_and_met() -> bool {
     let first = ByteClass::range(0x41, 0x43);
@@ -40,7 +32,6 @@ fn a_class_holds_its_bytes_alone(rt: HostRuntime) {
         assert!(rt; is_held_alone(byte), "{byte}");
     }
     assert!(rt; are_empty_alone());
-    assert!(rt; have_sides());
     assert!(rt; are_joined_and_met());
     assert!(rt; ByteClass::all() == ByteClass::range(0, 255));
 }
@@ -72,4 +63,33 @@ fn classes_are_put_together(rt: HostRuntime) {
     ends.extend(&capitals);
     assert!(rt; ends.intersection(capitals) == capitals);
     assert!(rt; ends.contains(0xff));
+}
+
+// The class of these bytes.
+fn class_of(bytes: &[u8]) -> ByteClass {
+    let mut class = ByteClass::none();
+    for byte in bytes {
+        class.insert(*byte);
+    }
+    class
+}
+
+// Spans, one after the other, and the lowest bytes of the groups that each leaves.
+const SPLITS: &[(u8, u8, &[u8])] = &[
+    (0x41, 0x42, &[0, 0x41]),
+    (0x42, 0x50, &[0, 0x41, 0x42, 0x43]),
+    (0x42, 0x50, &[0, 0x41, 0x42, 0x43]),
+    (0, 0x41, &[0, 0x41, 0x42, 0x43, 0x51]),
+    (0, 255, &[0, 0x41, 0x42, 0x43, 0x51]),
+    (2, 1, &[0, 0x41, 0x42, 0x43, 0x51]),
+];
+
+#[test]
+fn groups_are_split_by_spans(rt: HostRuntime) {
+    let mut groups = Groups::one();
+    assert!(rt; groups.lowest() == ByteClass::of_byte(0));
+    for (first, last, wanted) in SPLITS {
+        groups.split(*first, *last);
+        assert!(rt; groups.lowest() == class_of(*wanted), "{first} to {last}");
+    }
 }

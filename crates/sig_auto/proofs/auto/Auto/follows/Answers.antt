@@ -1,4 +1,4 @@
-use Rattle.sig_auto.proofs.Common.{arith, true, false}
+use Rattle.sig_auto.proofs.Common.{arith}
 use Rattle.sig_auto.proofs.CellLemmas.{follows_else, follows_then, in_slots, none_follows, out_of_slots, ready}
 use Rattle.sig_auto.proofs.auto.Auto.follows.Goals as goal
 

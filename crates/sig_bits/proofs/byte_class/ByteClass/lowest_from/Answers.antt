@@ -1,4 +1,4 @@
-use Rattle.std.proofs.Common.{◌≡◌, ◌≢◌, ◌/◌, ◌%◌, ◌-◌, ◌+◌, ◌^◌, ◌<◌, ◌≤◌, ◌*◌, ⊎_elim, length, arith, rules, subst, sym, None, Some}
+use Rattle.std.proofs.Common.{◌≡◌, ◌/◌, ◌+◌, ⊎_elim, arith, rules, subst, sym, None, Some}
 use Rattle.std.proofs.lemmas.Bool.{cases_lt}
 use Rattle.sig_bits.specs.ByteClasses.{Holds, IsLowestFrom}
 use Rattle.sig_bits.specs.Joined.{IsFirstNonzero}
