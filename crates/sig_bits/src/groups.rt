@@ -15,17 +15,19 @@ use std::marker::Model;
 #[derive(Debug, Drop)]
 pub struct Groups {
     leads: [u8; 256],
+    // Bytes that are alone in their groups.
+    alone: ByteClass,
 }
 
 impl Model for Groups {
     ghost use Rattle.std.specs.Prelude.{List, ℕ};
-    ghost use Rattle.sig_bits.specs.Groups.{AreLeads};
+    ghost use Rattle.sig_bits.specs.Groups.{AreAlone, AreLeads};
 
     ghost Value = { List ℕ };
 
     ghost view = { λ g. g.leads };
 
-    ghost invariant = { λ g. AreLeads g.leads };
+    ghost invariant = { λ g. AreLeads g.leads × AreAlone g.leads g.alone };
 }
 
 impl Groups {
@@ -33,7 +35,10 @@ impl Groups {
     pub fn one() -> Groups
         ensures { (a b : ℕ) → a < 256 → b < 256 → Together result a b }
     {
-        Groups { leads: [0; 256] }
+        Groups {
+            leads: [0; 256],
+            alone: ByteClass::none(),
+        }
     }
 
     /// The lowest byte of each group.
@@ -55,9 +60,27 @@ impl Groups {
     pub fn split(&mut self, first: u8, last: u8)
         ensures { (a b : ℕ) → a < 256 → b < 256 → (Together self.new a b ↔ (Together self.old a b × SameSide first last a b)) }
     {
-        if splits(&self.leads, first, last) {
+        if first == last {
+            self.split_off(first);
+        } else if (first, last) != (0, 255) && splits(&self.leads, first, last) {
             self.leads = split(&self.leads, first, last);
         }
+    }
+
+    // Leaves the byte alone in its group. Most spans are of one byte, so this looks at all bytes only once
+    // for each, and not at all where another leads its group.
+    fn split_off(&mut self, byte: u8)
+        ensures { (a b : ℕ) → a < 256 → b < 256 → (Together self.new a b ↔ (Together self.old a b × SameSide byte byte a b)) }
+    {
+        if self.alone.contains(byte) {
+            return;
+        }
+        if self.leads[byte as usize] == byte {
+            self.leads = split(&self.leads, byte, byte);
+        } else {
+            self.leads[byte as usize] = byte;
+        }
+        self.alone.insert(byte);
     }
 }
 
