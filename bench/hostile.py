@@ -38,6 +38,8 @@ PAIRS = "higher,lower\n"
 LONGEST = 60  # seconds that a run may take
 PUID = r"(x-)?fmt/[1-9]\d{0,8}"
 COUNTS = r"pairs \d+ decided \d+ ambiguous"
+ALIVE = rf"alive {PUID} [1-9]\d* \d+( [0-9a-f]+)?\n"
+FATES = r"\d+ alive \d+ dead"
 # What each subcommand may print, by its status.
 SAID = {
     "match": {0: rf"({PUID} [1-9]\d*\n)*"},
@@ -45,8 +47,12 @@ SAID = {
     "witness": {0: rf"ambiguous {PUID} {PUID}\n", 1: r"not ambiguous\n"},
     "check": {0: r"accepted\n", 1: r"refused C([1-9]|1[0-2]) [^\n]+\n"},
     "conflicts": {0: rf"{COUNTS} 0 unknown 0\n", 1: rf"((ambiguous|unknown) {PUID} {PUID} [1-9]\d* [1-9]\d*( [0-9a-f]+)*\n)+{COUNTS} \d+ unknown \d+\n"},
+    "dead": {0: rf"({ALIVE})*formats {FATES} 0 unknown 0 signatures {FATES} 0 unknown 0\n",
+             1: rf"((dead|unknown) {PUID}( [1-9]\d*)?\n|{ALIVE})+formats {FATES} \d+ unknown \d+ signatures {FATES} \d+ unknown \d+\n"},
     "find": {0: rf"(decided|witness {PUID} {PUID})\n([0-9a-f]*\n)?", 1: r"gave up [1-9]\d* [1-9]\d*\n"},
 }
+# What stands on standard error beside an answer.
+TOLD = {("find", 1): r"(over 64 signatures outrank [1-9]\d* or [1-9]\d*: see conflicts|more than [1-9]\d* rows)\n"}
 FAULTS = {
     2: r"signatures: L2 header\n|priorities: L2 header\n|(signatures|priorities) row [1-9]\d*: L([3-9]|1[0-57]) [^\n]+\n",
     3: r"cannot open [^\n]*\n|read failed\n",
@@ -277,7 +283,8 @@ class Runs:
         broken = broken_rule(words, *answer)
         if broken:
             raise Failed(f"{words}: {broken}: {answer}")
-        if TABLE_FILES[0] in words and answer[2] != (self.refusal + "\n" if self.refusal else ""):
+        told = "" if (words[0], answer[0]) in TOLD else answer[2]
+        if TABLE_FILES[0] in words and told != (self.refusal + "\n" if self.refusal else ""):
             raise Failed(f"{words}: {answer}, and the plain judge of tables says {self.refusal}")
         return answer
 
@@ -297,7 +304,7 @@ def broken_rule(words, status, out, err):
     if status > 3:
         return "a status that is not specified"
     said = SAID.get(words[0], {}).get(status) if words else None
-    if err == "" and said and re.fullmatch(said, out):
+    if said and re.fullmatch(said, out) and re.fullmatch(TOLD.get((words[0], status), ""), err):
         return None
     if out != "":
         return "an output that is not specified"
@@ -367,6 +374,9 @@ def searched(runs, kind, signatures, budget):
     if answer[0] > 0:
         if os.path.exists(os.path.join(runs.folder, "out")):
             raise Failed(f"find wrote OUT with {answer}")
+        reasons = f"over 64 signatures outrank {' or '.join(answer[1].split()[2:])}: see conflicts\n", f"more than {budget} rows\n"
+        if answer[0] == 1 and answer[2] not in reasons:
+            raise Failed(f"find tells of other signatures, or of another budget: {answer}")
         return
     if answer[1] == "decided\n":
         if runs.run("check", *TABLE_FILES, "out")[1] != "accepted\n":
@@ -402,6 +412,48 @@ def settled(runs, kind, budget):
         raise Failed(f"find and conflicts differ: {found} {answer}")
 
 
+def lived(runs, kind, signatures, budget):
+    """`dead`; the file of a line leaves its format and none that is called dead, and lines and counts are those of the table."""
+    answer = runs.run("dead", "--hex", "--budget", str(budget), *TABLE_FILES)
+    runs.count(kind, named(answer))
+    if answer[0] > 1:
+        return
+    *lines, last = [line.split() for line in answer[1].splitlines()]
+    if is_plain(signatures):
+        table = plain_check.read_table(*(os.path.join(runs.folder, name) for name in TABLE_FILES))
+        if not are_lives(table, lines, last) or (answer[0] == 0) != all(words[0] == "alive" for words in lines):
+            raise Failed(f"dead has other lines, other counts or another status: {answer}")
+        runs.count("lines of dead that are those of the table", "")
+    dead = {words[1] for words in lines if words[0] == "dead" and len(words) == 2}
+    for words in [words for words in lines if words[0] == "alive"][:5]:
+        file = bytes.fromhex("".join(words[4:]))
+        runs.put("file", file)
+        left = {line.split()[0] for line in runs.run("match", *TABLE_FILES, "file")[1].splitlines()}
+        if len(file) != int(words[3]) or len(file) >= budget or words[1] not in left or left & dead:
+            raise Failed(f"dead says {words} and {dead}, and match leaves {left}")
+
+
+def are_lives(table, lines, last):
+    """Whether lines of `dead --hex` stand for each format of the table, or for each of its signatures, in order, and are counted."""
+    fates = {tuple(words[1:min(len(words), 3)]): words[0] for words in lines}
+    order, of_formats, of_signatures = [], [], []
+    for format, puid in enumerate(table.puids):
+        keys = [(puid, str(table.signatures[it].number)) for it in table.signatures_of(format)]
+        if (puid,) in fates:
+            order.append((puid,))
+            of_formats.append(fates[puid,])
+        else:
+            order += keys
+            of_formats.append("alive" if "alive" in [fates.get(key) for key in keys] else "none")
+            of_signatures += [fates.get(key) for key in keys]
+    kinds = ("alive", "dead", "unknown")
+    counts = [int(word) for word in last[1::2]]
+    return (list(fates) == order and len(lines) == len(order)
+            and counts[:4] == [len(table.puids), *(of_formats.count(kind) for kind in kinds)]
+            and counts[4] == len(table.signatures) == sum(counts[5:]) and counts[5] == of_signatures.count("alive")
+            and all(least <= count for least, count in zip((of_signatures.count(kind) for kind in kinds), counts[5:])))
+
+
 def shown(runs, kind):
     """`show`, and what it shows is a table that is shown as itself."""
     answer = runs.run("show", *TABLE_FILES)
@@ -416,15 +468,17 @@ def shown(runs, kind):
 
 def words_case(runs, chance):
     """A command line that is mixed up. A usage fault has some lines, and each other answer its form."""
-    words = [chance.choice(["match", "show", "check", "witness", "find", "conflicts", "--all", "--out", "--budget", "--hex", "--progress", "0", "1",
-                            "4294967296", "-1", "--", "-", "", "none", "signatures.csv", "priorities.csv", "certificate",
+    words = [chance.choice(["match", "show", "check", "witness", "find", "conflicts", "dead", "--all", "--with-names", "--out", "--budget",
+                            "--hex", "--progress", "0", "1", "4294967296", "-1", "--", "-", "", "none", "signatures.csv", "priorities.csv", "certificate",
                             "--al", "match=1", "/", "n\u00e4me", "a\x1bb"]) for _ in range(chance.randrange(7))]
     words = [word.encode() if chance.random() < 0.9 else word.encode() + b"\xff" for word in words]
     runs.clear("out")
     done = subprocess.run([runs.program, *words], cwd=runs.folder, capture_output=True, timeout=LONGEST)
     runs.runs += 1
     runs.count("command lines", f"status {done.returncode}")
-    err = re.sub(rb"\A(\r\d+ of \d+ (products|pairs))+\n", b"", done.stderr) if b"--progress" in words else done.stderr
+    err = re.sub(rb"\A(\r\d+ of \d+ (products|pairs|formats))+\n", b"", done.stderr) if b"--progress" in words else done.stderr
+    if words[:1] == [b"find"] and done.returncode == 1:
+        err = re.sub(rf"\A{TOLD['find', 1]}\Z".encode(), b"", err)
     is_fault = done.returncode in (2, 3) and done.stdout == b"" and err.endswith(b"\n")
     is_line = err.count(b"\n") == 1 or err.startswith(b"error: ") or err.startswith(b"Usage")
     if not (is_fault and is_line or done.returncode in (0, 1) and done.stdout != b"" and err == b""):
@@ -476,7 +530,7 @@ class Cases:
         chance, seed = self.chance, self.chance.choice(self.seeds)
         signatures, priorities = self.changed_table(seed)
         self.runs.put_table(signatures, priorities)
-        kind = chance.randrange(5)
+        kind = chance.randrange(6)
         if kind == 0:
             matched(self.runs, "tables, match", signatures, self.file())
         elif kind == 1:
@@ -485,8 +539,10 @@ class Cases:
             judged(self.runs, "tables, check", signatures, priorities, chance.choice(seed.certificates))
         elif kind == 3:
             searched(self.runs, "tables, find", signatures, chance.choice([1, 2, 10, 300]))
-        else:
+        elif kind == 4:
             settled(self.runs, "tables, conflicts", chance.choice([1, 2, 10, 300]))
+        else:
+            lived(self.runs, "tables, dead", signatures, chance.choice([1, 2, 10, 300]))
 
     def matching(self):
         seed = self.chance.choice(self.seeds)
@@ -498,6 +554,7 @@ class Cases:
         self.runs.put_table(seed.signatures, seed.priorities)
         searched(self.runs, "searches", seed.signatures, self.chance.choice([1, 3, 10, 50, 300, 2000]))
         settled(self.runs, "searches of all pairs", self.chance.choice([1, 3, 10, 50, 300, 2000]))
+        lived(self.runs, "searches of all formats", seed.signatures, self.chance.choice([1, 3, 10, 50, 300, 2000]))
 
     def words(self):
         words_case(self.runs, self.chance)

@@ -9,7 +9,7 @@ does its reads and writes by `read` and `write`. A small library that is loaded 
 on, until a run meets no refusal. What each command must answer with ample memory was worked out by hand.
 
 - Growths: the answer is the one with ample memory, or status 3, the line `out of memory` on standard
-  error and nothing on standard output; `find` then makes no OUT. Of `conflicts` whole lines from the
+  error and nothing on standard output; `find` then makes no OUT. Of `conflicts` and `dead` whole lines from the
   front may stand, and not the last one.
 - Reads, whole and in pieces of one byte: status 3 and `read failed`, with nothing on standard output.
 - Openings: status 3 and `cannot open NAME`, with the name that was refused.
@@ -150,12 +150,15 @@ TWO_IN_VERSION_2 = OF_TWO.replace(" 01 00000001", " 02 00000001")
 OF_BOTH_ENDS = ONE_PAIR + "01 0000 00000005 00000000 00010001 00010002 00020001 00020002"
 FIND = ["find", "--budget", "100", "--out", "out"]
 SETTLE = ["conflicts", "--budget", "100", "--hex"]
+DEAD = ["dead", "--budget", "100", "--hex"]
 DECIDED = "pairs 1 decided 1 ambiguous 0 unknown 0\n"
 # Nine words that may stand anywhere, so many that one look at a file is for all of them.
 NINE_WORDS = (HEADER + "".join(f"fmt/{n},{n},Variable,,,4142434{n}\n" for n in range(1, 9))
               + "fmt/9,9,Variable,,,4142434445\nfmt/10,10,BOF,0,,4142\nfmt/10,11,EOF,0,,5A\nfmt/11,12,BOF,0,9,41*5A\n", PAIRS)
 # A file of two pieces, with a word across the cut.
 TWO_PIECES = b"\0" * 262_142 + b"ABCDE" + b"\0" * 40_000 + b"Z"
+# Each file that begins with 41 42 is hit by the second format, which is over the third.
+OVER = (BLOCKED[0], PAIRS + "fmt/3,fmt/1\nfmt/2,fmt/3\n")
 # The file `41` leaves any two of them.
 THREE_ALIKE = (HEADER + "fmt/1,1,BOF,0,,41\nfmt/2,2,BOF,0,,41\nfmt/3,3,BOF,0,,41\n", PAIRS)
 THREE_PAIRS = ("ambiguous fmt/1 fmt/2 1 2 1 41\nambiguous fmt/1 fmt/3 1 3 1 41\nambiguous fmt/2 fmt/3 2 3 1 41\n"
@@ -170,6 +173,8 @@ CASES = [
     ("one format", ONE_FORMAT, bytes.fromhex("50534143 01 00000000"), ["check"], (0, "accepted\n", "")),
     ("one format", ONE_FORMAT, None, FIND, (0, "decided\n", "")),
     ("one format", ONE_FORMAT, None, SETTLE, (0, "pairs 0 decided 0 ambiguous 0 unknown 0\n", "")),
+    ("one format", ONE_FORMAT, None, DEAD,
+     (0, "alive fmt/1 1 2 4142\nformats 1 alive 1 dead 0 unknown 0 signatures 1 alive 1 dead 0 unknown 0\n", "")),
     ("two words", TWO, b"AB", ["match"], (0, "fmt/1 1\n", "")),
     ("two words", TWO, bytes.fromhex(OF_TWO), ["check"], (0, "accepted\n", "")),
     ("two words", TWO, bytes.fromhex(ONE_PAIR + "01 0000 00000001 00000000"), ["check"],
@@ -185,9 +190,12 @@ CASES = [
     ("both ends", BOTH_ENDS, None, ["show"], (0, HEADER + "fmt/1,1,BOF,0,0,41\nfmt/2,2,EOF,0,0,41\n\n" + PAIRS, "")),
     ("both ends", BOTH_ENDS, bytes.fromhex(OF_BOTH_ENDS), ["check"], (1, "refused C9 bad pair 0 table 0 row 2\n", "")),
     ("both ends", BOTH_ENDS, None, [*FIND, "--hex"], (0, "witness fmt/1 fmt/2\n41\n", "")),
-    ("both ends", BOTH_ENDS, None, ["find", "--budget", "1", "--out", "out"], (1, "gave up 1 2\n", "")),
+    ("both ends", BOTH_ENDS, None, ["find", "--budget", "1", "--out", "out"], (1, "gave up 1 2\n", "more than 1 rows\n")),
     ("both ends", BOTH_ENDS, None, SETTLE, (1, "ambiguous fmt/1 fmt/2 1 2 1 41\npairs 1 decided 0 ambiguous 1 unknown 0\n", "")),
     ("three alike", THREE_ALIKE, None, SETTLE, (1, THREE_PAIRS, "")),
+    ("one over another", OVER, None, DEAD,
+     (1, "alive fmt/1 1 2 4100\nalive fmt/2 2 2 0042\ndead fmt/3\n"
+         "formats 3 alive 2 dead 1 unknown 0 signatures 3 alive 2 dead 1 unknown 0\n", "")),
     ("two blockers", TWO_BLOCKERS, None, SETTLE, (0, "pairs 2 decided 2 ambiguous 0 unknown 0\n", "")),
     ("one blocker", BLOCKED, b"AB", ["match"], (0, "fmt/3 3\n", "")),
     ("one blocker", BLOCKED, b"AB", ["match", "--all"], (0, "fmt/1 1\nfmt/2 2\nfmt/3 3\n", "")),
@@ -226,8 +234,9 @@ OF_TWO_FILES = [
 FILES = ("file", "other")
 
 # Command lines that open nothing, or nothing that is there, with their status.
-LINES = [(["--version"], 0), (["--help"], 0), (["find", "--help"], 0), (["conflicts", "--help"], 0), ([], 2), (["nothing"], 2), (["match", "none"], 2),
-         (["find", "--budget", "0", "--out", "out", "none", "none"], 2), (["match", "none", "none", "none"], 3)]
+LINES = [(["--version"], 0), (["--help"], 0), (["find", "--help"], 0), (["conflicts", "--help"], 0), (["dead", "--help"], 0), ([], 2), (["nothing"], 2),
+         (["match", "none"], 2), (["find", "--budget", "0", "--out", "out", "none", "none"], 2), (["find", "none", "none"], 2),
+         (["match", "none", "none", "none"], 3), (["match", "--with-names", "none", "none", "none"], 3), (["dead", "none", "none"], 3)]
 
 
 class Program:
@@ -306,7 +315,7 @@ class Case:
 
     def without_memory(self, _, answer, written):
         is_ample = (answer, written) == (self.ample, self.written)
-        lines = self.ample[1].splitlines(True) if self.words[0] == "conflicts" else [""]
+        lines = self.ample[1].splitlines(True) if self.words[0] in ("conflicts", "dead") else [""]
         fronts = ["".join(lines[:count]) for count in range(len(lines))]
         status, out, err = answer
         told = ["out of memory\n"] + [front + "out of memory\n" for front in self.fronts_of_reports()]

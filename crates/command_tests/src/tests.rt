@@ -3,6 +3,7 @@
 
 mod checking;
 mod conflicting;
+mod dying;
 mod failing;
 mod finding;
 mod matching;

@@ -1,5 +1,6 @@
 mod automata;
 mod certificates;
 mod finding;
+mod lives;
 mod pairs;
 mod products;

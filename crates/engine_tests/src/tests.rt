@@ -1,4 +1,5 @@
 mod failing;
+mod finding;
 mod judging;
 mod many_files;
 mod worked_rows;

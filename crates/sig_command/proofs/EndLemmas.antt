@@ -20,7 +20,7 @@ use Rattle.sig_command.specs.Requests.{Behind, HasFiles, IsFaultOf, IsLaterFault
 use Rattle.sig_command.specs.Several.{ReportsFiles}
 use Rattle.sig_command.specs.Statuses.{kind_status, status_of, table_status}
 use Rattle.sig_command.specs.declared.args.Request.{Request}
-use Rattle.sig_command.specs.declared.args.Request.TheVariants.{Check, Conflicts, Find, Match, MatchMany, Show, Witness}
+use Rattle.sig_command.specs.declared.args.Request.TheVariants.{Check, Conflicts, Dead, Find, Match, MatchMany, Show, Witness}
 use Rattle.sig_command.specs.declared.fault.Fault.{Fault}
 use Rattle.sig_command.specs.declared.fault.Fault.TheVariants.{CannotOpen, CutShort, NotText, Run, SomeFiles, Table}
 
@@ -38,6 +38,7 @@ memory_first failed held request before after err = (inl refl, go request)
     go (MatchMany all table files) = refl
     go (Find table budget out hex progress) = tt
     go (Conflicts table budget hex progress) = tt
+    go (Dead table budget hex progress) = tt
     go (Check table certificate) = tt
     go (Witness table file) = tt
 
@@ -45,9 +46,10 @@ memory_first failed held request before after err = (inl refl, go request)
 pub has_files : (found : Option (Text × List Row)) (request : Request) → Asks found request → HasFiles request
 has_files found (Show table) asks = tt
 has_files found (Match all table file) asks = tt
-has_files found (MatchMany all table files) asks = let many = asks.3.many in omega (arith, many)
+has_files found (MatchMany all table files) asks = asks.3.some
 has_files found (Find table budget out hex progress) asks = tt
 has_files found (Conflicts table budget hex progress) asks = tt
+has_files found (Dead table budget hex progress) asks = tt
 has_files found (Check table certificate) asks = tt
 has_files found (Witness table file) asks = tt
 
@@ -113,6 +115,7 @@ files_are_reported failed held (Find table budget out hex progress) status befor
     never (inl same) = let bad : SomeFiles ≡ CannotOpen out = same in cc
     never (inr same) = let bad : SomeFiles ≡ Run run.Write = same in cc
 files_are_reported failed held (Conflicts table budget hex progress) status before after is_failed err_before mid err_after is joins sound reports = absurd (no_files failed held (Conflicts table budget hex progress) (λ never. never) is)
+files_are_reported failed held (Dead table budget hex progress) status before after is_failed err_before mid err_after is joins sound reports = absurd (no_files failed held (Dead table budget hex progress) (λ never. never) is)
 files_are_reported failed held (Check table certificate) status before after is_failed err_before mid err_after is joins sound reports = absurd (no_files failed held (Check table certificate) (λ never. never) is)
 files_are_reported failed held (Witness table file) status before after is_failed err_before mid err_after is joins sound reports = absurd (no_files failed held (Witness table file) (λ never. never) is)
 
@@ -163,10 +166,11 @@ fault_keeps_errors failed held words request reason status is_failed written err
 }
 
 -- nor is want of memory
-pub memory_tells : {E : Type 0} (words : List Text) (status : ℕ) (is_failed : Bool) (err last : E) (written written_after : Option (List ℕ)) → (AreTaken words → status ≡ 3) → TellsBy words status is_failed err last written written_after
-memory_tells words status is_failed err last written written_after refused = λ taken low.
-    let three = refused taken in
-    absurd (omega (arith, low, three))
+pub memory_tells : {E : Type 0} (held : Holding) (words : List Text) (status : ℕ) (out_before out_after : Option (List ℕ)) (is_failed : Bool) (err last : E) (written written_after : Option (List ℕ)) → (AreTaken words → status ≡ 3) → TellsBy held words status out_before out_after is_failed err last written written_after
+memory_tells held words status out_before out_after is_failed err last written written_after refused = record {
+  yes = λ taken zero. let three = refused taken in absurd (omega (arith, zero, three));
+  no = λ taken one. let three = refused taken in absurd (omega (arith, one, three));
+}
 
 -- ---- a fault of the words
 

@@ -1,6 +1,7 @@
 -- Lemmas of this crate.
 pub mod BudgetLemmas
 pub mod EndLemmas
+pub mod FindLemmas
 pub mod OnceLemmas
 pub mod RequestLemmas
 pub mod RowLemmas

@@ -1,5 +1,5 @@
 -- What an accepted certificate means for the lines of a match.
-use Rattle.std.proofs.Common.{◌≡◌, ◌∙◌, ◌≤◌, ℕ, Bool, true, false, List, length, Option, Some, None, Result, Ok, Err, ap, ap₂, refl, subst, sym}
+use Rattle.std.proofs.Common.{◌≡◌, ◌∙◌, ◌≤◌, ℕ, Bool, true, false, List, [], ◌∷◌, length, map, Option, Some, Result, Ok, Err, ap, ap₂, subst, sym}
 use Rattle.std.specs.Borrow.{Bor}
 use Rattle.std.specs.Prelude.{is_ok}
 use Rattle.std.proofs.lemmas.Option.{same_Some}
@@ -9,10 +9,11 @@ use Rattle.sig_cert.specs.Deciding.{Decided}
 use Rattle.sig_cert.specs.Verdicts.{Verdict}
 use Rattle.sig_cert.specs.declared.error.CheckError.{CheckError}
 use Rattle.sig_command.specs.Requests.{Answers}
-use Rattle.sig_command.specs.declared.args.Request.TheVariants.{Check, Match}
-use Rattle.sig_engines.specs.Judged.{AddsVerdict}
+use Rattle.sig_command.specs.Several.{AreTexts, IsOneLineOf}
+use Rattle.sig_command.specs.declared.args.Request.TheVariants.{Check, Match, MatchMany}
 use Rattle.sig_engines.specs.Lines.{lines_of}
-use Rattle.sig_engines.specs.Stores.{ReadsAs}
+use Rattle.sig_engines.specs.ManyFiles.{AreLinesOf}
+use Rattle.sig_engines.specs.Stores.{IsTableOf, ReadsAs}
 use Rattle.sig_engines.specs.declared.store.TablePaths.{TablePaths}
 use Rattle.sig_core.specs.declared.results.Hit.{Hit}
 use Rattle.sig_table.specs.Loading.{records_of, table_of}
@@ -36,15 +37,36 @@ accepts : (table : TableView) (certificate : List ℕ) (verdict : Result Unit Ch
 accepts table certificate (Ok accepted) is agreed = is
 accepts table certificate (Err fault) is agreed = cc
 
--- the line of a decided table's file
-pub one_line : (files : List ℕ → Option (List ℕ)) (table : TablePaths) (certificate name : Bor (List ℕ)) (is_yes : Bool) (checked_before checked_after before after : Option (List ℕ)) → Answers (Some files) (Check table certificate) true checked_before checked_after → Answers (Some files) (Match false table name) is_yes before after → (t : TableView) × (hits : List Hit) × (length hits ≤ 1) × Adds before (lines_of t hits) after
-one_line files table certificate name is_yes checked_before checked_after before after checked matched =
+-- the table of an accepted certificate is decided, also where it is read for a match
+table_is_decided : (files : List ℕ → Option (List ℕ)) (table : TablePaths) (certificate : Bor (List ℕ)) (checked_before checked_after : Option (List ℕ)) (t : TableView) → Answers (Some files) (Check table certificate) true checked_before checked_after → IsTableOf (Some files) table t → Decided t
+table_is_decided files table certificate checked_before checked_after t checked is =
     let of : TableView = checked.0 in
     let cert : List ℕ = checked.2 in
     let verdict = checked.5 in
     let accepted = accepts of cert verdict.verdict verdict.is_of_it verdict.accepts in
     let decided : Decided of = closed_decides of cert checked.1.limits (accepted_is_closed of cert checked.3 accepted) in
+    subst Decided (same_table files table of t checked.1.read is.read) decided
+
+-- the line of a decided table's file
+pub one_line : (files : List ℕ → Option (List ℕ)) (table : TablePaths) (certificate name : Bor (List ℕ)) (is_yes : Bool) (checked_before checked_after before after : Option (List ℕ)) → Answers (Some files) (Check table certificate) true checked_before checked_after → Answers (Some files) (Match false table name) is_yes before after → (t : TableView) × (hits : List Hit) × (length hits ≤ 1) × Adds before (lines_of t hits) after
+one_line files table certificate name is_yes checked_before checked_after before after checked matched =
     let t : TableView = matched.1 in
-    let same : of ≡ t = same_table files table of t checked.1.read matched.2.read in
+    let decided : Decided t = table_is_decided files table certificate checked_before checked_after t checked matched.2 in
     let lines = matched.6 in
-    (t, lines.hits, one_is_left t matched.3 lines.hits (subst Decided same decided) matched.4 lines.are_asked, lines.adds)
+    (t, lines.hits, one_is_left t matched.3 lines.hits decided matched.4 lines.are_asked, lines.adds)
+
+-- a text of each name is one of another kind, if each of the first kind is
+weaker_texts : (P Q : List ℕ → List ℕ → Type 0) → ((name text : List ℕ) → P name text → Q name text) → (names : List (List ℕ)) (text : List ℕ) → AreTexts P names text → AreTexts Q names text
+weaker_texts P Q each [] text are = are
+weaker_texts P Q each (name ∷ names) text are = (are.0, are.1, are.2, each name are.0 are.3, weaker_texts P Q each names are.1 are.4)
+
+-- the lines of several of its files
+pub one_line_each : (files : List ℕ → Option (List ℕ)) (table : TablePaths) (certificate : Bor (List ℕ)) (names : Bor (List (Bor (List ℕ)))) (is_yes : Bool) (checked_before checked_after before after : Option (List ℕ)) → Answers (Some files) (Check table certificate) true checked_before checked_after → Answers (Some files) (MatchMany false table names) is_yes before after → (t : TableView) × (text : List ℕ) × AreTexts (IsOneLineOf t) (map (λ n. n.now) names.now) text × Adds before text after
+one_line_each files table certificate names is_yes checked_before checked_after before after checked matched =
+    let t : TableView = matched.1 in
+    let decided : Decided t = table_is_decided files table certificate checked_before checked_after t checked matched.2 in
+    let added = matched.3 in
+    (t, added.text, weaker_texts (AreLinesOf false t (Some files)) (IsOneLineOf t) (one t decided) (map (λ (n : Bor (List ℕ)). n.now) names.now) added.text added.are_lines, added.adds)
+  where
+    one : (t : TableView) → Decided t → (name text : List ℕ) → AreLinesOf false t (Some files) name text → IsOneLineOf t name text
+    one t decided name text lines = (lines.hits, one_is_left t lines.file lines.hits decided lines.bytes lines.are_asked, lines.are_lines)

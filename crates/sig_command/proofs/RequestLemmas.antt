@@ -9,7 +9,7 @@ use Rattle.clap.specs.declared.error.Error.{Error}
 use Rattle.clap.specs.declared.error.kind.ErrorKind.TheVariants.{DisplayHelp, DisplayVersion, OutOfMemory}
 use Rattle.sig_command.specs.CommandLine.{Asks, NamesBudget, NamesMany, NamesTable}
 use Rattle.sig_command.specs.declared.args.Request.{Request}
-use Rattle.sig_command.specs.declared.args.Request.TheVariants.{Check, Conflicts, Find, Match, MatchMany, Show, Witness}
+use Rattle.sig_command.specs.declared.args.Request.TheVariants.{Check, Conflicts, Dead, Find, Match, MatchMany, Show, Witness}
 use Rattle.sig_engines.specs.declared.store.TablePaths.{TablePaths}
 
 -- one subcommand and its rows are another and its own
@@ -46,12 +46,13 @@ no_show rows missing (Match all table file) asks = other_name (codes "show") (co
 no_show rows missing (MatchMany all table files) asks = other_name (codes "show") (codes "match") rows asks.0 (omega arith) asks.1
 no_show rows missing (Find table budget out hex progress) asks = other_name (codes "show") (codes "find") rows asks.0 (omega arith) asks.1
 no_show rows missing (Conflicts table budget hex progress) asks = other_name (codes "show") (codes "conflicts") rows asks.0 (omega arith) asks.1
+no_show rows missing (Dead table budget hex progress) asks = other_name (codes "show") (codes "dead") rows asks.0 (omega arith) asks.1
 no_show rows missing (Check table certificate) asks = other_name (codes "show") (codes "check") rows asks.0 (omega arith) asks.1
 no_show rows missing (Witness table file) asks = other_name (codes "show") (codes "witness") rows asks.0 (omega arith) asks.1
 
--- several files have a first one
+-- files that are named have a first one
 many_named : (files : List (Bor Text)) (rows : List Row) → NamesMany files rows → ((text : Text) (texts : List Text) → all_of (codes "FILE") rows ≡ Some (text ∷ texts) → ⊥) → ⊥
-many_named [] rows named none = let few : 1 < 0 = named.many in absurd (omega (arith, few))
+many_named [] rows named none = let few : 0 < 0 = named.some in absurd (omega (arith, few))
 many_named (file ∷ files) rows named none = none file.now (map (λ f. f.now) files) named.are
 
 pub no_match : (rows : List Row) → ((table : TablePaths) (text : Text) (texts : List Text) → NamesTable table rows → all_of (codes "FILE") rows ≡ Some (text ∷ texts) → ⊥) → (asked : Request) → Asks (Some (codes "match", rows)) asked → ⊥
@@ -64,6 +65,7 @@ no_match rows missing (MatchMany all table files) asks =
     many_named files.now rows (subst (NamesMany files.now) same asks.3) (λ text texts is. missing table text texts (subst (NamesTable table) same asks.2) is)
 no_match rows missing (Find table budget out hex progress) asks = other_name (codes "match") (codes "find") rows asks.0 (omega arith) asks.1
 no_match rows missing (Conflicts table budget hex progress) asks = other_name (codes "match") (codes "conflicts") rows asks.0 (omega arith) asks.1
+no_match rows missing (Dead table budget hex progress) asks = other_name (codes "match") (codes "dead") rows asks.0 (omega arith) asks.1
 no_match rows missing (Check table certificate) asks = other_name (codes "match") (codes "check") rows asks.0 (omega arith) asks.1
 no_match rows missing (Witness table file) asks = other_name (codes "match") (codes "witness") rows asks.0 (omega arith) asks.1
 
@@ -73,6 +75,7 @@ no_check rows missing (Match all table file) asks = other_name (codes "check") (
 no_check rows missing (MatchMany all table files) asks = other_name (codes "check") (codes "match") rows asks.0 (omega arith) asks.1
 no_check rows missing (Find table budget out hex progress) asks = other_name (codes "check") (codes "find") rows asks.0 (omega arith) asks.1
 no_check rows missing (Conflicts table budget hex progress) asks = other_later (codes "check") (codes "conflicts") rows asks.0 (omega arith) asks.1
+no_check rows missing (Dead table budget hex progress) asks = other_name (codes "check") (codes "dead") rows asks.0 (omega arith) asks.1
 no_check rows missing (Check table certificate) asks =
     let same : asks.0 ≡ rows = rows_of_found (codes "check") rows asks.0 asks.1 in
     missing table certificate.now (subst (NamesTable table) same asks.2) (subst (λ (r : List Row). first_of (codes "CERT") r ≡ Some certificate.now) same asks.3)
@@ -84,6 +87,7 @@ no_witness rows missing (Match all table file) asks = other_name (codes "witness
 no_witness rows missing (MatchMany all table files) asks = other_name (codes "witness") (codes "match") rows asks.0 (omega arith) asks.1
 no_witness rows missing (Find table budget out hex progress) asks = other_name (codes "witness") (codes "find") rows asks.0 (omega arith) asks.1
 no_witness rows missing (Conflicts table budget hex progress) asks = other_name (codes "witness") (codes "conflicts") rows asks.0 (omega arith) asks.1
+no_witness rows missing (Dead table budget hex progress) asks = other_name (codes "witness") (codes "dead") rows asks.0 (omega arith) asks.1
 no_witness rows missing (Check table certificate) asks = other_name (codes "witness") (codes "check") rows asks.0 (omega arith) asks.1
 no_witness rows missing (Witness table file) asks =
     let same : asks.0 ≡ rows = rows_of_found (codes "witness") rows asks.0 asks.1 in
@@ -97,6 +101,7 @@ no_find rows missing (Find table budget out hex progress) asks =
     let same : asks.0 ≡ rows = rows_of_found (codes "find") rows asks.0 asks.1 in
     missing table budget out.now (subst (NamesTable table) same asks.2) (subst (NamesBudget budget) same asks.3) (subst (λ (r : List Row). first_of (codes "OUT") r ≡ Some out.now) same asks.4)
 no_find rows missing (Conflicts table budget hex progress) asks = other_name (codes "find") (codes "conflicts") rows asks.0 (omega arith) asks.1
+no_find rows missing (Dead table budget hex progress) asks = other_name (codes "find") (codes "dead") rows asks.0 (omega arith) asks.1
 no_find rows missing (Check table certificate) asks = other_name (codes "find") (codes "check") rows asks.0 (omega arith) asks.1
 no_find rows missing (Witness table file) asks = other_name (codes "find") (codes "witness") rows asks.0 (omega arith) asks.1
 
@@ -108,8 +113,21 @@ no_conflicts rows missing (Find table budget out hex progress) asks = other_name
 no_conflicts rows missing (Conflicts table budget hex progress) asks =
     let same : asks.0 ≡ rows = rows_of_found (codes "conflicts") rows asks.0 asks.1 in
     missing table budget (subst (NamesTable table) same asks.2) (subst (NamesBudget budget) same asks.3)
+no_conflicts rows missing (Dead table budget hex progress) asks = other_name (codes "conflicts") (codes "dead") rows asks.0 (omega arith) asks.1
 no_conflicts rows missing (Check table certificate) asks = other_later (codes "conflicts") (codes "check") rows asks.0 (omega arith) asks.1
 no_conflicts rows missing (Witness table file) asks = other_name (codes "conflicts") (codes "witness") rows asks.0 (omega arith) asks.1
+
+pub no_dead : (rows : List Row) → ((table : TablePaths) (budget : ℕ) → NamesTable table rows → NamesBudget budget rows → ⊥) → (asked : Request) → Asks (Some (codes "dead", rows)) asked → ⊥
+no_dead rows missing (Show table) asks = other_name (codes "dead") (codes "show") rows asks.0 (omega arith) asks.1
+no_dead rows missing (Match all table file) asks = other_name (codes "dead") (codes "match") rows asks.0 (omega arith) asks.1
+no_dead rows missing (MatchMany all table files) asks = other_name (codes "dead") (codes "match") rows asks.0 (omega arith) asks.1
+no_dead rows missing (Find table budget out hex progress) asks = other_name (codes "dead") (codes "find") rows asks.0 (omega arith) asks.1
+no_dead rows missing (Conflicts table budget hex progress) asks = other_name (codes "dead") (codes "conflicts") rows asks.0 (omega arith) asks.1
+no_dead rows missing (Dead table budget hex progress) asks =
+    let same : asks.0 ≡ rows = rows_of_found (codes "dead") rows asks.0 asks.1 in
+    missing table budget (subst (NamesTable table) same asks.2) (subst (NamesBudget budget) same asks.3)
+no_dead rows missing (Check table certificate) asks = other_name (codes "dead") (codes "check") rows asks.0 (omega arith) asks.1
+no_dead rows missing (Witness table file) asks = other_name (codes "dead") (codes "witness") rows asks.0 (omega arith) asks.1
 
 -- where memory ran out, no help is asked for
 pub no_help : (e : Error) → kind_of e ≡ OutOfMemory → (kind_of e ≡ DisplayHelp) ⊎ (kind_of e ≡ DisplayVersion) → ⊥

@@ -1,5 +1,5 @@
 -- The values of an argument, by the rows of a parse.
-use Rattle.std.proofs.Common.{◌≡◌, ◌<◌, ◌≤◌, Bool, true, false, ◌||◌, List, [], ◌∷◌, Option, Some, None, ap, arith, codes, get_or, length, map, refl, sym, ◌∙◌}
+use Rattle.std.proofs.Common.{◌≡◌, ◌<◌, ◌≤◌, Bool, true, false, ◌||◌, ◌⊎◌, List, [], ◌∷◌, Option, Some, None, ap, arith, codes, get_or, inl, inr, length, map, refl, subst, sym, ◌∙◌}
 use Rattle.std.specs.Prelude.{IsSomeAnd, find, option_and_then, option_map, slice_get}
 use Rattle.std.specs.Borrow.{Bor}
 use Rattle.std.specs.Str.{bytes_eq}
@@ -100,5 +100,9 @@ one_named found [] d some one is = absurd (omega (arith, some))
 one_named found (n ∷ []) d some one is = all_of-rows found (codes "FILE") ∙ sym is
 one_named found (n ∷ m ∷ ns) d some one is = absurd (omega (arith, one))
 
-pub many_named : (found : Found) (names : List (Bor Text)) → 2 ≤ length names → Some (map (λ n. n.now) names) ≡ option_map raw_values (matched_of found (codes "FILE")) → NamesMany names (rows_of found)
-many_named found names many is = record { are = all_of-rows found (codes "FILE") ∙ sym is; many = omega (arith, many) }
+pub many_named : (found : Found) (names : List (Bor Text)) (is_given : Bool) → 0 < length names → (1 < length names) ⊎ (is_given ≡ true) → HasFlag (codes "with-names") is_given (rows_of found) → Some (map (λ n. n.now) names) ≡ option_map raw_values (matched_of found (codes "FILE")) → NamesMany names (rows_of found)
+many_named found names is_given some several flag is = record { are = all_of-rows found (codes "FILE") ∙ sym is; some = some; named = by several }
+  where
+    by : (1 < length names) ⊎ (is_given ≡ true) → (1 < length names) ⊎ HasFlag (codes "with-names") true (rows_of found)
+    by (inl many) = inl many
+    by (inr given) = inr (subst (λ b. HasFlag (codes "with-names") b (rows_of found)) given flag)

@@ -13,7 +13,7 @@ use Rattle.clap.specs.declared.builder.value_parser.ValueParser.TheVariants.{Sig
 use Rattle.clap.specs.declared.error.Error.{Error}
 use Rattle.clap.specs.declared.error.kind.ErrorKind.TheVariants.{DisplayHelp, DisplayVersion}
 use Rattle.sig_command.specs.declared.args.Request.{Request}
-use Rattle.sig_command.specs.declared.args.Request.TheVariants.{Check, Conflicts, Find, Match, MatchMany, Show, Witness}
+use Rattle.sig_command.specs.declared.args.Request.TheVariants.{Check, Conflicts, Dead, Find, Match, MatchMany, Show, Witness}
 use Rattle.sig_engines.specs.declared.store.TablePaths.{TablePaths}
 
 -- the texts of the words
@@ -45,25 +45,33 @@ given name = record (new_rule name) { long = Some name; action = Some SetTrue }
 abbrev pub several : Text → Rule
 several name = record (wanted name) { range = Some (record { start_inclusive = 1; end_inclusive = usize_max }) }
 
--- `match [--all] SIGS PRIOS FILE..`
+-- `match [--all] [--with-names] SIGS PRIOS FILE..`
 abbrev pub match_command : App
-match_command = with_rule (with_rule (of_table (new_app (codes "match"))) (several (codes "FILE"))) (given (codes "all"))
+match_command = with_rule (with_rule (with_rule (of_table (new_app (codes "match"))) (several (codes "FILE"))) (given (codes "all"))) (given (codes "with-names"))
 
--- an option that must be there: two hyphens and its name, and a value behind it
+-- an option: two hyphens and its name, and a value behind it
 abbrev pub named : Text → Text → Rule
-named name value = record (new_rule value) { long = Some name; required = true }
+named name value = record (new_rule value) { long = Some name }
 
--- `--budget N`, of a number from 1 to 4,294,967,295
+-- `--budget N`, of a number from 1 to 4,294,967,295, and of 100,000 where it is left out
 abbrev pub budget_rule : Rule
-budget_rule = record (named (codes "budget") (codes "N")) { parser = Some (Signed (pos 1) (pos 4294967295)) }
+budget_rule = record (named (codes "budget") (codes "N")) { defaults = codes "100000" ∷ []; parser = Some (Signed (pos 1) (pos 4294967295)) }
 
--- `find --budget N --out OUT [--hex] [--progress] SIGS PRIOS`
+-- `--out OUT`, which must be there
+abbrev pub out_rule : Rule
+out_rule = record (named (codes "out") (codes "OUT")) { required = true }
+
+-- `find [--budget N] --out OUT [--hex] [--progress] SIGS PRIOS`
 abbrev pub find_command : App
-find_command = with_rule (with_rule (with_rule (with_rule (of_table (new_app (codes "find"))) budget_rule) (named (codes "out") (codes "OUT"))) (given (codes "hex"))) (given (codes "progress"))
+find_command = with_rule (with_rule (with_rule (with_rule (of_table (new_app (codes "find"))) budget_rule) out_rule) (given (codes "hex"))) (given (codes "progress"))
 
--- `conflicts --budget N [--hex] [--progress] SIGS PRIOS`
+-- `conflicts [--budget N] [--hex] [--progress] SIGS PRIOS`
 abbrev pub conflicts_command : App
 conflicts_command = with_rule (with_rule (with_rule (of_table (new_app (codes "conflicts"))) budget_rule) (given (codes "hex"))) (given (codes "progress"))
+
+-- `dead [--budget N] [--hex] [--progress] SIGS PRIOS`
+abbrev pub dead_command : App
+dead_command = with_rule (with_rule (with_rule (of_table (new_app (codes "dead"))) budget_rule) (given (codes "hex"))) (given (codes "progress"))
 
 -- `check SIGS PRIOS CERT`
 abbrev pub check_command : App
@@ -77,7 +85,7 @@ witness_command = with_rule (of_table (new_app (codes "witness"))) (wanted (code
 abbrev pub program : App
 program =
     let top = on_top (λ s. record s { has_version = true; no_binary_name = true; subcommand_required = true }) (new_app (codes "pronom_sig")) in
-    with_subcommand (with_subcommand (with_subcommand (with_subcommand (with_subcommand (with_subcommand top show_command.top) match_command.top) find_command.top) conflicts_command.top) check_command.top) witness_command.top
+    with_subcommand (with_subcommand (with_subcommand (with_subcommand (with_subcommand (with_subcommand (with_subcommand top show_command.top) match_command.top) find_command.top) conflicts_command.top) dead_command.top) check_command.top) witness_command.top
 
 -- the subcommand of this name with these arguments
 abbrev pub asking : Text → ArgMatches → Option (Text × List Row)
@@ -88,12 +96,7 @@ pub record NamesTable (paths : TablePaths) (rows : List Row) : Type 0 where
   pub signatures : first_of (codes "SIGS") rows ≡ Some paths.signatures.now
   pub priorities : first_of (codes "PRIOS") rows ≡ Some paths.priorities.now
 
--- the files are the values of their argument, in their order, and there are two at least
-pub record NamesMany (files : List (Bor Text)) (rows : List Row) : Type 0 where
-  pub are : all_of (codes "FILE") rows ≡ Some (map (λ f. f.now) files)
-  pub many : 1 < length files
-
--- the value of `--budget` writes this number in decimal, perhaps behind a plus
+-- the value of `--budget`, its default where it is left out, writes this number in decimal, perhaps behind a plus
 pub record NamesBudget (budget : ℕ) (rows : List Row) : Type 0 where
   pub digits : Text
   pub given : one_of (codes "N") rows ≡ Some digits
@@ -107,13 +110,20 @@ pub record HasFlag (name : Text) (is_given : Bool) (rows : List Row) : Type 0 wh
   pub left_out : one_of name rows ≡ Some (codes "false") → is_given ≡ false
   pub absent : one_of name rows ≡ None → is_given ≡ false
 
+-- the files are the values of their argument, in their order: two at least, or one with `--with-names`
+pub record NamesMany (files : List (Bor Text)) (rows : List Row) : Type 0 where
+  pub are : all_of (codes "FILE") rows ≡ Some (map (λ f. f.now) files)
+  pub some : 0 < length files
+  pub named : (1 < length files) ⊎ HasFlag (codes "with-names") true rows
+
 -- the subcommand and its arguments ask for this
 abbrev pub Asks : Option (Text × List Row) → Request → Type 0
 Asks found (Show table) = (rows : List Row) × (found ≡ Some (codes "show", rows)) × NamesTable table rows
-Asks found (Match all table file) = (rows : List Row) × (found ≡ Some (codes "match", rows)) × NamesTable table rows × (all_of (codes "FILE") rows ≡ Some (file.now ∷ [])) × HasFlag (codes "all") all rows
+Asks found (Match all table file) = (rows : List Row) × (found ≡ Some (codes "match", rows)) × NamesTable table rows × (all_of (codes "FILE") rows ≡ Some (file.now ∷ [])) × HasFlag (codes "all") all rows × HasFlag (codes "with-names") false rows
 Asks found (MatchMany all table files) = (rows : List Row) × (found ≡ Some (codes "match", rows)) × NamesTable table rows × NamesMany files.now rows × HasFlag (codes "all") all rows
 Asks found (Find table budget out hex progress) = (rows : List Row) × (found ≡ Some (codes "find", rows)) × NamesTable table rows × NamesBudget budget rows × (first_of (codes "OUT") rows ≡ Some out.now) × HasFlag (codes "hex") hex rows × HasFlag (codes "progress") progress rows
 Asks found (Conflicts table budget hex progress) = (rows : List Row) × (found ≡ Some (codes "conflicts", rows)) × NamesTable table rows × NamesBudget budget rows × HasFlag (codes "hex") hex rows × HasFlag (codes "progress") progress rows
+Asks found (Dead table budget hex progress) = (rows : List Row) × (found ≡ Some (codes "dead", rows)) × NamesTable table rows × NamesBudget budget rows × HasFlag (codes "hex") hex rows × HasFlag (codes "progress") progress rows
 Asks found (Check table certificate) = (rows : List Row) × (found ≡ Some (codes "check", rows)) × NamesTable table rows × (first_of (codes "CERT") rows ≡ Some certificate.now)
 Asks found (Witness table file) = (rows : List Row) × (found ≡ Some (codes "witness", rows)) × NamesTable table rows × (first_of (codes "FILE") rows ≡ Some file.now)
 

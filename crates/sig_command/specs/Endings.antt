@@ -1,13 +1,12 @@
 -- What the status of a run says: of the output, of the error output and of the words.
 use Rattle.std.specs.Prelude.{◌≡◌, ◌≢◌, ℕ, ◌<◌, ◌≤◌, ◌⊎◌, Bool, true, false, List, [], Option}
-use Rattle.clap.specs.Words.{IsAmong, Text, fault_of, subcommand_of}
+use Rattle.clap.specs.Words.{IsAmong, Text, fault_of}
 use Rattle.clap.specs.declared.error.kind.ErrorKind.{ErrorKind}
-use Rattle.sig_command.specs.CommandLine.{AreTaken, Asks, IsHelpAsked, program}
+use Rattle.sig_command.specs.CommandLine.{AreTaken, IsHelpAsked, program}
 use Rattle.sig_command.specs.Faults.{Reports, ReportsLine}
-use Rattle.sig_command.specs.Requests.{AnswersWords, Behind, ReportsFaultOfWords, ShowsAsked}
+use Rattle.sig_command.specs.Requests.{AnswersWords, Behind, ReportsFaultOfWords, ShowsAskedWords}
 use Rattle.sig_command.specs.Several.{ReportsFiles}
 use Rattle.sig_command.specs.Statuses.{kind_status}
-use Rattle.sig_command.specs.declared.args.Request.{Request}
 use Rattle.sig_engines.specs.Stores.{Holding}
 use Rattle.sig_engines.specs.declared.error.RunError.TheVariants.{OutOfMemory}
 use Rattle.sig_command.specs.declared.fault.Fault.TheVariants.{Run}
@@ -34,10 +33,10 @@ abbrev pub ReportsBy : {R W E : Type 0} → (R → Bool) → Type 0 → Holding 
 ReportsBy failed WriteFailed held words status written before after err_failed err_written err_before err_after =
     AreTaken words → 2 ≤ status → ReportsFaultOfWords failed WriteFailed held words status (written before) (written after) (err_failed err_after) (err_written err_before) (err_written err_after)
 
--- with 0 and 1 words that ask for something have progress shown just where they ask for it
-abbrev pub TellsBy : {E : Type 0} → List Text → ℕ → Bool → (before after : E) → Option (List ℕ) → Option (List ℕ) → Type 0
-TellsBy words status is_failed before after written written_after =
-    AreTaken words → status < 2 → (request : Request) × Asks (subcommand_of program words) request × ShowsAsked request is_failed before after written written_after
+-- with 0 and 1 words that ask for something have progress shown just where they ask for it, and with 1 a search over products says why it gave up
+pub record TellsBy {E : Type 0} (held : Holding) (words : List Text) (status : ℕ) (out_before out_after : Option (List ℕ)) (is_failed : Bool) (before after : E) (written written_after : Option (List ℕ)) : Type 0 where
+  pub yes : AreTaken words → status ≡ 0 → ShowsAskedWords held words true out_before out_after is_failed before after written written_after
+  pub no : AreTaken words → status ≡ 1 → ShowsAskedWords held words false out_before out_after is_failed before after written written_after
 
 -- words in which clap finds a fault end as it says of their kind, unless memory ran out or a write failed
 abbrev pub EndsByFault : List Text → ℕ → Type 0

@@ -6,6 +6,7 @@ pub mod Requests
 pub mod Several
 pub mod Statuses
 pub use Rattle.sig_engines.specs.Conflicts
+pub use Rattle.sig_engines.specs.Fates
 pub use Rattle.sig_engines.specs.Finding
 pub use Rattle.sig_engines.specs.Judged
 pub use Rattle.sig_engines.specs.Lines

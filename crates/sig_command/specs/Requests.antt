@@ -10,7 +10,8 @@ use Rattle.sig_engines.specs.Conflicts.{AddsConflicts, AddsFirstPairs}
 use Rattle.sig_command.specs.Faults.{Reports, TellsWrite}
 use Rattle.sig_command.specs.Statuses.{status_of}
 use Rattle.sig_command.specs.Several.{AddsFaults, AddsLinesOfEach, AddsLinesOfSome}
-use Rattle.sig_engines.specs.Finding.{AddsFound, KeepsFound}
+use Rattle.sig_engines.specs.Fates.{AddsFates, AddsFirstFates}
+use Rattle.sig_engines.specs.Finding.{AddsFound, KeepsFound, TellsWhy}
 use Rattle.sig_engines.specs.Judged.{AddsVerdict}
 use Rattle.sig_engines.specs.Lines.{AddsLines}
 use Rattle.sig_engines.specs.ManyFiles.{AddsFiles, CutsFiles, IsPrinted}
@@ -24,9 +25,9 @@ use Rattle.sig_engines.specs.declared.error.RunError.TheVariants.{OutOfMemory, R
 use Rattle.sig_command.specs.declared.fault.Fault.{Fault}
 use Rattle.sig_command.specs.declared.fault.Fault.TheVariants.{CannotOpen, CutShort, NotText, Run, SomeFiles, Table}
 use Rattle.sig_command.specs.declared.args.Request.{Request}
-use Rattle.sig_command.specs.declared.args.Request.TheVariants.{Check, Conflicts, Find, Match, MatchMany, Show, Witness}
+use Rattle.sig_command.specs.declared.args.Request.TheVariants.{Check, Conflicts, Dead, Find, Match, MatchMany, Show, Witness}
 use Rattle.sig_engines.specs.declared.store.TablePaths.{TablePaths}
-use Rattle.sig_engines.specs.declared.progress.Things.TheVariants.{Pairs, Products}
+use Rattle.sig_engines.specs.declared.progress.Things.TheVariants.{Formats, Pairs, Products}
 
 -- there is no file of the name of the signatures; or there is one, and none of the name of the priorities
 abbrev pub IsUnopened : Holding → TablePaths → Bor (List ℕ) → Type 0
@@ -73,6 +74,7 @@ paths_of (Match all table file) = table
 paths_of (MatchMany all table files) = table
 paths_of (Find table budget out hex progress) = table
 paths_of (Conflicts table budget hex progress) = table
+paths_of (Dead table budget hex progress) = table
 paths_of (Check table certificate) = table
 paths_of (Witness table file) = table
 
@@ -87,6 +89,7 @@ IsLaterFault failed held (Match all table file) fault = IsFileFault failed held 
 IsLaterFault failed held (MatchMany all table files) fault = (fault ≡ SomeFiles) ⊎ (fault ≡ Run Write)
 IsLaterFault failed held (Find table budget out hex progress) fault = (fault ≡ CannotOpen out) ⊎ (fault ≡ Run Write)
 IsLaterFault failed held (Conflicts table budget hex progress) fault = IsCutFault fault
+IsLaterFault failed held (Dead table budget hex progress) fault = IsCutFault fault
 IsLaterFault failed held (Check table certificate) fault = IsFileFault failed held certificate fault
 IsLaterFault failed held (Witness table file) fault = IsFileFault failed held file fault
 
@@ -94,13 +97,14 @@ IsLaterFault failed held (Witness table file) fault = IsFileFault failed held fi
 abbrev pub IsFaultOf : {R : Type 0} → (R → Bool) → Holding → Request → Fault → Type 0
 IsFaultOf failed held request fault = IsLoadFault failed held (paths_of request) fault ⊎ ((fault ≡ Run OutOfMemory) ⊎ (HasTable held (paths_of request) × IsLaterFault failed held request fault))
 
--- what is written grows by the canonical files of a table, by the lines that are asked for of what a file hits in a table, by those of each of several files, by the lines of what was found, by those of the pairs of formats of a table, by the line of the verdict on a certificate, or by that of a file that is ambiguous or not; the first three can't be a no
+-- what is written grows by the canonical files of a table, by the lines that are asked for of what a file hits in a table, by those of each of several files, by the lines of what was found, by those of the pairs of formats of a table, by those of its formats that no file can leave, by the line of the verdict on a certificate, or by that of a file that is ambiguous or not; the first three can't be a no
 abbrev pub Answers : Holding → Request → Bool → Option (List ℕ) → Option (List ℕ) → Type 0
 Answers held (Show table) is_yes before after = (is_yes ≡ true) × (t : TableView) × IsTableOf held table t × Adds before (show_text t) after
 Answers held (Match all table name) is_yes before after = (is_yes ≡ true) × (t : TableView) × IsTableOf held table t × (file : List ℕ) × IsBytes file × Holds held name.now file × AddsLines all t file before after
 Answers held (MatchMany all table files) is_yes before after = (is_yes ≡ true) × (t : TableView) × IsTableOf held table t × AddsLinesOfEach all t held (map (λ n. n.now) files.now) before after
 Answers held (Find table budget out hex progress) is_yes before after = (t : TableView) × IsTableOf held table t × AddsFound is_yes hex t budget before after
 Answers held (Conflicts table budget hex progress) is_yes before after = (t : TableView) × IsTableOf held table t × AddsConflicts is_yes hex t budget before after
+Answers held (Dead table budget hex progress) is_yes before after = (t : TableView) × IsTableOf held table t × AddsFates is_yes hex t budget before after
 Answers held (Check table name) is_yes before after = (t : TableView) × IsTableOf held table t × (certificate : List ℕ) × IsBytes certificate × Holds held name.now certificate × AddsVerdict is_yes t certificate before after
 Answers held (Witness table name) is_yes before after = (t : TableView) × IsTableOf held table t × (file : List ℕ) × IsBytes file × Holds held name.now file × AddsWitness is_yes t file before after
 
@@ -115,6 +119,7 @@ MakesOut name_of written failed held (Match all table path) is_yes before after 
 MakesOut name_of written failed held (MatchMany all table files) is_yes before after = ⊤
 MakesOut name_of written failed held (Find table budget out hex progress) is_yes before after = (t : TableView) × IsTableOf held table t × KeepsFound (IsMade name_of written failed held out.now) is_yes hex t budget before after
 MakesOut name_of written failed held (Conflicts table budget hex progress) is_yes before after = ⊤
+MakesOut name_of written failed held (Dead table budget hex progress) is_yes before after = ⊤
 MakesOut name_of written failed held (Check table path) is_yes before after = ⊤
 MakesOut name_of written failed held (Witness table path) is_yes before after = ⊤
 
@@ -122,13 +127,14 @@ MakesOut name_of written failed held (Witness table path) is_yes before after = 
 abbrev pub MakesWords : {F : Type 0} → (name_of written : F → Option (List ℕ)) → (F → Bool) → Holding → List Text → Bool → (before after : Option (List ℕ)) → Type 0
 MakesWords name_of written failed held words is_yes before after = (request : Request) × Asks (subcommand_of program words) request × MakesOut name_of written failed held request is_yes before after
 
--- the pairs of formats of a table are written one by one, so that the lines of the first ones can be all that is written; and of several files those without a fault can be all that are written
+-- the pairs of formats of a table, and its formats, are written one by one, so that the lines of the first ones can be all that is written; and of several files those without a fault can be all that are written
 abbrev pub IsCutRequest : {R : Type 0} → (R → Bool) → Holding → Request → Option (List ℕ) → Option (List ℕ) → Type 0
 IsCutRequest failed held (Show table) before after = ⊥
 IsCutRequest failed held (Match all table path) before after = ⊥
 IsCutRequest failed held (MatchMany all table files) before after = (t : TableView) × IsTableOf held table t × AddsLinesOfSome (IsPrinted failed all t held) (map (λ n. n.now) files.now) before after
 IsCutRequest failed held (Find table budget out hex progress) before after = ⊥
 IsCutRequest failed held (Conflicts table budget hex progress) before after = (t : TableView) × IsTableOf held table t × AddsFirstPairs hex t budget before after
+IsCutRequest failed held (Dead table budget hex progress) before after = (t : TableView) × IsTableOf held table t × AddsFirstFates hex t budget before after
 IsCutRequest failed held (Check table path) before after = ⊥
 IsCutRequest failed held (Witness table path) before after = ⊥
 
@@ -145,13 +151,19 @@ abbrev pub KeepsOrCuts : {R W : Type 0} → (R → Bool) → Holding → Request
 KeepsOrCuts failed held request is_failed written before after =
     is_failed after ≡ false → (after ≡ before) ⊎ IsCutRequest failed held request (written before) (written after)
 
--- unless a write failed, a search over products or over pairs shows its progress where that is asked for, and of several files each of the first that has a fault has a line, but only where there is no answer; nothing else shows any
+-- a search over products gave up, and behind its progress, where that is asked for, it is said why
+abbrev pub ShowsReason : Holding → TablePaths → (progress hex : Bool) → ℕ → Option (List ℕ) → Option (List ℕ) → Type 0
+ShowsReason held paths progress hex budget before after =
+    (t : TableView) × IsTableOf held paths t × (out_before : Option (List ℕ)) × (out_after : Option (List ℕ)) × TellsWhy progress hex t budget out_before out_after before after
+
+-- unless a write failed, a search over products, pairs or formats shows its progress where that is asked for, and one over products that is answered can show why it gave up; of several files each of the first that has a fault has a line, but only where there is no answer; nothing else shows any
 abbrev pub Shows : {R : Type 0} → (R → Bool) → Holding → Request → Bool → Bool → Option (List ℕ) → Option (List ℕ) → Type 0
 Shows failed held (Show table) is_answered is_failed before after = ⊥
 Shows failed held (Match all table path) is_answered is_failed before after = ⊥
 Shows failed held (MatchMany all table files) is_answered is_failed before after = (is_answered ≡ false) × (t : TableView) × IsTableOf held table t × (is_failed ≡ false → AddsFaults (IsPrinted failed all t held) (map (λ n. n.now) files.now) before after)
-Shows failed held (Find table budget out hex progress) is_answered is_failed before after = (progress ≡ true) × (is_failed ≡ false → AddsProgress Products before after)
+Shows failed held (Find table budget out hex progress) is_answered is_failed before after = ((progress ≡ true) × (is_failed ≡ false → AddsProgress Products before after)) ⊎ ((is_answered ≡ true) × (is_failed ≡ false → ShowsReason held table progress hex budget before after))
 Shows failed held (Conflicts table budget hex progress) is_answered is_failed before after = (progress ≡ true) × (is_failed ≡ false → AddsProgress Pairs before after)
+Shows failed held (Dead table budget hex progress) is_answered is_failed before after = (progress ≡ true) × (is_failed ≡ false → AddsProgress Formats before after)
 Shows failed held (Check table path) is_answered is_failed before after = ⊥
 Shows failed held (Witness table path) is_answered is_failed before after = ⊥
 
@@ -186,6 +198,7 @@ Joins failed held (Match all table path) fault before after err_failed err_befor
 Joins failed held (MatchMany all table files) fault before after err_failed err_before err_after = TellsMany failed all held table (map (λ n. n.now) files.now) fault before after err_failed err_before err_after
 Joins failed held (Find table budget out hex progress) fault before after err_failed err_before err_after = ⊤
 Joins failed held (Conflicts table budget hex progress) fault before after err_failed err_before err_after = ⊤
+Joins failed held (Dead table budget hex progress) fault before after err_failed err_before err_after = ⊤
 Joins failed held (Check table path) fault before after err_failed err_before err_after = ⊤
 Joins failed held (Witness table path) fault before after err_failed err_before err_after = ⊤
 
@@ -220,22 +233,31 @@ pub record ReportsFaultOf {R : Type 0} (failed : R → Bool) (WriteFailed : Type
 abbrev pub ReportsFaultOfWords : {R : Type 0} → (R → Bool) → Type 0 → Holding → List Text → ℕ → (before after : Option (List ℕ)) (err_failed : Bool) (err_before err_after : Option (List ℕ)) → Type 0
 ReportsFaultOfWords failed WriteFailed held words status before after err_failed err_before err_after = (request : Request) × Asks (subcommand_of program words) request × ReportsFaultOf failed WriteFailed held request status before after err_failed err_before err_after
 
--- with an answer the error output shows progress just where that is asked for
-abbrev pub ShowsAsked : {E : Type 0} → Request → Bool → (before after : E) → Option (List ℕ) → Option (List ℕ) → Type 0
-ShowsAsked (Show table) is_failed before after written written_after = after ≡ before
-ShowsAsked (Match all table path) is_failed before after written written_after = after ≡ before
-ShowsAsked (MatchMany all table files) is_failed before after written written_after = after ≡ before
-ShowsAsked (Find table budget out hex progress) is_failed before after written written_after = ShowsIf progress Products is_failed before after written written_after
-ShowsAsked (Conflicts table budget hex progress) is_failed before after written written_after = ShowsIf progress Pairs is_failed before after written written_after
-ShowsAsked (Check table path) is_failed before after written written_after = after ≡ before
-ShowsAsked (Witness table path) is_failed before after written written_after = after ≡ before
+-- with an answer the error output shows progress just where that is asked for; and with a no of a search over products it is said why the search gave up, unless a write failed
+abbrev pub ShowsAsked : {E : Type 0} → Holding → Request → Bool → (out_before out_after : Option (List ℕ)) → Bool → (before after : E) → Option (List ℕ) → Option (List ℕ) → Type 0
+ShowsAsked held (Show table) is_yes out_before out_after is_failed before after written written_after = after ≡ before
+ShowsAsked held (Match all table path) is_yes out_before out_after is_failed before after written written_after = after ≡ before
+ShowsAsked held (MatchMany all table files) is_yes out_before out_after is_failed before after written written_after = after ≡ before
+ShowsAsked held (Find table budget out hex progress) true out_before out_after is_failed before after written written_after = ShowsIf progress Products is_failed before after written written_after
+ShowsAsked held (Find table budget out hex progress) false out_before out_after is_failed before after written written_after =
+    is_failed ≡ false → (t : TableView) × IsTableOf held table t × TellsWhy progress hex t budget out_before out_after written written_after
+ShowsAsked held (Conflicts table budget hex progress) is_yes out_before out_after is_failed before after written written_after = ShowsIf progress Pairs is_failed before after written written_after
+ShowsAsked held (Dead table budget hex progress) is_yes out_before out_after is_failed before after written written_after = ShowsIf progress Formats is_failed before after written written_after
+ShowsAsked held (Check table path) is_yes out_before out_after is_failed before after written written_after = after ≡ before
+ShowsAsked held (Witness table path) is_yes out_before out_after is_failed before after written written_after = after ≡ before
 
--- several files are there to be matched
+-- so for what the words ask for
+abbrev pub ShowsAskedWords : {E : Type 0} → Holding → List Text → Bool → (out_before out_after : Option (List ℕ)) → Bool → (before after : E) → Option (List ℕ) → Option (List ℕ) → Type 0
+ShowsAskedWords held words is_yes out_before out_after is_failed before after written written_after =
+    (request : Request) × Asks (subcommand_of program words) request × ShowsAsked held request is_yes out_before out_after is_failed before after written written_after
+
+-- the files that are matched by their names are some
 abbrev pub HasFiles : Request → Type 0
 HasFiles (Show table) = ⊤
 HasFiles (Match all table path) = ⊤
 HasFiles (MatchMany all table files) = 0 < length files.now
 HasFiles (Find table budget out hex progress) = ⊤
 HasFiles (Conflicts table budget hex progress) = ⊤
+HasFiles (Dead table budget hex progress) = ⊤
 HasFiles (Check table path) = ⊤
 HasFiles (Witness table path) = ⊤

@@ -1,7 +1,9 @@
--- What is written of several files, each by its name.
-use Rattle.std.specs.Prelude.{◌≡◌, ℕ, false, List, [], ◌++◌, ◌∷◌, All, Bool, Option}
+-- What is written of files by their names: of several, or of one with `--with-names`.
+use Rattle.std.specs.Prelude.{◌≡◌, ◌≤◌, ℕ, false, List, [], ◌++◌, ◌∷◌, All, Bool, Option, Some, length}
 use Rattle.sig_bits.specs.Device.{Adds}
 use Rattle.sig_table.specs.Views.{TableView}
+use Rattle.sig_core.specs.declared.results.Hit.{Hit}
+use Rattle.sig_engines.specs.Lines.{file_lines}
 use Rattle.sig_engines.specs.ManyFiles.{AreLinesOf, Printed, PrintedFile, err_texts, is_whole, names_of, out_texts}
 use Rattle.sig_engines.specs.Stores.{Holding}
 
@@ -9,6 +11,10 @@ use Rattle.sig_engines.specs.Stores.{Holding}
 abbrev pub AreTexts : (List ℕ → List ℕ → Type 0) → List (List ℕ) → List ℕ → Type 0
 AreTexts IsOf [] text = text ≡ []
 AreTexts IsOf (name ∷ names) text = (first : List ℕ) × (rest : List ℕ) × (text ≡ first ++ rest) × IsOf name first × AreTexts IsOf names rest
+
+-- the text is one line after this name: of one hit, or a hyphen
+abbrev pub IsOneLineOf : TableView → List ℕ → List ℕ → Type 0
+IsOneLineOf table name text = (hits : List Hit) × (length hits ≤ 1) × (text ≡ file_lines (Some name) table hits)
 
 -- what is written grows by the lines of each file, in the order of their names
 pub record AddsLinesOfEach (all : Bool) (table : TableView) (held : Holding) (names : List (List ℕ)) (before after : Option (List ℕ)) : Type 0 where

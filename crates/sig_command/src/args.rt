@@ -1,11 +1,11 @@
 //! What the words of the command line ask for, as `clap` reads them.
 
-ghost use Rattle.std.specs.Prelude.{◌≡◌, ◌⊎◌, [], codes, false, IfErr, IfOk, IfSome};
+ghost use Rattle.std.specs.Prelude.{◌≡◌, ◌⊎◌, [], codes, false, IfErr, IfOk, IfSome, Some, true};
 ghost use Rattle.clap.specs.Values.{kind_of};
 ghost use Rattle.clap.specs.Matches.{found_of};
 ghost use Rattle.clap.specs.declared.Command.TheViews.{out-Command as fields_of};
-ghost use Rattle.clap.specs.Words.{app_of, fault_of, rows_of, rule_of, subcommand_of, subcommand_rows_of};
-ghost use Rattle.sig_command.specs.CommandLine.{AreTaken, Asks, HasFaultKind, IsHelpAsked, IsLine, NamesTable, asking, budget_rule, check_command, conflicts_command, find_command, given, match_command, named, of_table, program, show_command, texts_of, wanted, witness_command};
+ghost use Rattle.clap.specs.Words.{app_of, fault_of, one_of, rows_of, rule_of, subcommand_of, subcommand_rows_of};
+ghost use Rattle.sig_command.specs.CommandLine.{AreTaken, Asks, HasFaultKind, HasFlag, IsHelpAsked, IsLine, NamesTable, asking, budget_rule, check_command, conflicts_command, dead_command, find_command, given, match_command, named, of_table, out_rule, program, show_command, texts_of, wanted, witness_command};
 
 use clap::error::ErrorKind;
 use clap::{Arg, ArgAction, ArgMatches, Command, Error, value_parser};
@@ -13,91 +13,143 @@ use sig_engines::TablePaths;
 use std::alloc::Global;
 
 const SHOW_HELP: &str = "\
-The signatures come first, then an empty line, then the priorities. Each line of the two files is a
-record of comma-separated fields: first the header, then the rows in canonical form. What is printed
-loads as the same table.
+Prints the signatures, an empty line, and the priorities. Each of the two
+parts is a CSV file with a record in each line: first the header, then the
+rows in canonical form. The two files load as the same table.
 
 Statuses:
   0  the table was printed
-  2  the words are wrong, or the table is refused
+  2  usage error, or the table is refused
   3  a file can't be opened, a read or a write failed, or memory ran out";
 
 const MATCH_HELP: &str = "\
-Each line is a PUID, a space, and the number of the signature that hits, the first of its format in
-the table. No line means that no format of the table is hit. Several lines, without --all, mean that
-no priority decides between these formats: the file is ambiguous.
+Each line is the PUID of a format, a space, and the number of its first
+signature in the table that matches. No line means that no format of the table
+matches. Several lines, without --all, mean that no priority decides between
+these formats: the file is ambiguous.
 
-With more than one FILE each line begins with the file's name and a tab, and a file for which no
-format is left has one line, its name, a tab and a hyphen. A file with a fault has a line on standard
-error, and the others go on.
+With more than one FILE, or with --with-names, each line begins with the
+file's name and a tab. If no format matches a file, its line is the name, a
+tab and a hyphen. A file with a fault has a line on standard error instead,
+and the other files are still identified.
 
 Statuses:
-  0  each file was read to its end and the answer was printed, also where it has no line
-  2  the words are wrong, or the table is refused
-  3  a file can't be opened, a read or a write failed, or memory ran out. With more than one FILE
-     the lines that were written stand";
+  0  each file was read to its end and its answer was printed, even if that is
+     no line
+  2  usage error, or the table is refused
+  3  a file can't be opened, a read or a write failed, or memory ran out. With
+     more than one FILE the lines that were printed are valid";
 
 const FIND_HELP: &str = "\
-The first line is one of three answers:
-  decided      no file whatever leaves two formats of the table. OUT is a certificate of it, which
-               `check` accepts
-  witness A B  OUT is a file that leaves the formats A and B, as `witness` and `match` show. No
-               shorter file that the same two signatures hit leaves both
-  gave up S T  the signatures numbered S and T need more rows than the budget, or more than 64
-               signatures outrank them. OUT is not touched
+Run `conflicts` and `dead` first, and `find` last: they show all that is to be
+mended in a table, and `find` stops at the first file with two formats.
 
-The budget is the greatest number of different rows that one search may reach; each row stands for
-all files that the signatures do not tell apart. 100000 is a sensible one. Where the search gave up,
-try ten times as many; where that does not do, look at the signatures S and T: fewer gaps, an anchor
-at the beginning or the end, or a priority between their formats settles them.
+The first line is one of three answers:
+  decided      at most one format of the table is reported for any file. OUT
+               is a certificate of this, which `check` accepts
+  witness A B  the formats A and B are both reported for the file OUT, as
+               `witness` and `match` show. Two of their signatures match it,
+               and no shorter file that these two match gets both formats
+  gave up S T  the search gave up on the signatures numbered S and T. OUT is
+               not touched
+With --hex a second line has the bytes of OUT, unless the search gave up.
+
+`decided` does not mean that the formats are the right ones. A format may be
+reported for no file at all, since others are over it: `dead` lists these. And
+a priority decides between two formats also where it is the wrong way round.
+
+Where the search gave up, the reason is on standard error:
+  more than N rows
+    The search needs more rows, which are its states, than the budget. Try ten
+    times as many. If it still gives up, change the signatures S and T: fewer
+    gaps, an anchor at the beginning or the end of the file, or a priority
+    between their formats.
+  over 64 signatures outrank S or T: see conflicts
+    A certificate can name at most 64 of them. A priority between the formats
+    of S and T settles it; fewer priorities over the two may, too.
 
 Statuses:
   0  the table is decided, or a witness was found
   1  the search gave up
-  2  the words are wrong, or the table is refused
-  3  a file can't be opened or made, a read or a write failed, or memory ran out";
+  2  usage error, or the table is refused
+  3  a file can't be opened or made, a read or a write failed, or memory ran
+     out";
 
 const CONFLICTS_HELP: &str = "\
-A line for each pair of formats that is not known to be decided, as soon as it is known, in table
-order. Pairs of which one format outranks the other are left out.
-  ambiguous A B S T N  the signatures numbered S of A and T of B hit a file of N bytes that leaves
-                       both formats. No shorter file that the two hit leaves both. With --hex its
-                       bytes stand behind N
-  unknown A B S T      the search gave up on these two signatures, and no other two of A and B
-                       gave such a file
-Of a pair without a line no file whatever leaves both formats. The last line counts the pairs:
+Prints a line for each pair of formats that can both be reported for one file,
+or on which the search gave up. The pairs are in table order. Each line is
+printed as soon as its pair is searched. Pairs of which one format outranks
+the other are left out.
+  ambiguous A B S T N  the formats A and B are both reported for a file of N
+                       bytes, which the signatures numbered S of A and T of B
+                       match. No shorter file that these two match gets both
+                       formats
+  unknown A B S T      the search gave up on the signatures numbered S of A
+                       and T of B, and no other two gave a file
+With --hex the bytes of the file are the last word of an `ambiguous` line. If
+a pair has no line, no file gets both formats. The last line counts the pairs:
   pairs P decided D ambiguous M unknown U
 
-The budget is the greatest number of different rows that one search may reach; each row stands for
-all files that the signatures do not tell apart. 100000 is a sensible one. It holds for each two
-signatures.
+A priority decides a pair even if it leaves a format with no file. So run
+`dead`, too.
+
+Each two signatures get a search with the whole budget.
 
 Statuses:
-  0  no pair is ambiguous or unknown: no file leaves two formats of the table
+  0  no pair is ambiguous or unknown: at most one format of the table is
+     reported for any file
   1  some pair is ambiguous or unknown
-  2  the words are wrong, or the table is refused
-  3  a file can't be opened, a read or a write failed, or memory ran out. The lines that were
-     written stand, and the last line is missing";
+  2  usage error, or the table is refused
+  3  a file can't be opened, a read or a write failed, or memory ran out. The
+     lines that were printed are valid, and the last line is missing";
+
+const DEAD_HELP: &str = "\
+Prints a line for each format that is not reported for any file, or for which
+that is not known:
+  dead A       A is reported for no file: A matches no file, or formats over A
+               match each of them, too
+  unknown A    no signature of A is shown to be alive, and the search gave up
+               on at least one
+and of the signatures of each other format:
+  dead A S     A is not reported for any file that the signature numbered S
+               matches
+  unknown A S  the search gave up on S
+  alive A S N  (with --hex) S matches a file of N bytes for which A is
+               reported, and no shorter one; its bytes follow N
+The last line is `formats F alive .. dead .. unknown ..` and then the same of
+`signatures S`. It counts those of dead and unknown formats too.
+
+A certificate does not say this: a table with dead formats may well be
+decided.
+
+Statuses:
+  0  each format and each signature is reported for some file
+  1  some format or signature is dead or unknown
+  2  usage error, or the table is refused
+  3  a file can't be opened, a read or a write failed, or memory ran out. The
+     lines that were printed are valid, and the last line is missing";
 
 const CHECK_HELP: &str = "\
-The one line is `accepted`, or `refused` and the first fault of the certificate. An accepted
-certificate means that no file whatever leaves two formats of the table. Pairs, tables and rows of
-the certificate are counted from 0, and a byte is two hexadecimal digits.
+Prints one line: `accepted`, or `refused` and the first fault of the
+certificate. If a certificate is accepted, at most one format of the table is
+reported for any file. Pairs, tables and rows of the certificate are counted
+from 0, and a byte is two hexadecimal digits.
 
 Statuses:
   0  the certificate is accepted
   1  the certificate is refused
-  2  the words are wrong, or the table is refused
+  2  usage error, or the table is refused
   3  a file can't be opened, a read or a write failed, or memory ran out";
 
 const WITNESS_HELP: &str = "\
-The one line is `ambiguous` and the first two formats of the table that are left for the file, or
-`not ambiguous` where at most one is left. An ambiguous file shows that the table is not decided.
+Prints one line: `ambiguous` and the first two formats of the table that are
+reported for the file, or `not ambiguous` if at most one is. An ambiguous file
+shows that the table is not decided: no certificate of it is accepted.
 
 Statuses:
   0  the file is ambiguous
   1  the file is not ambiguous
-  2  the words are wrong, or the table is refused
+  2  usage error, or the table is refused
   3  a file can't be opened, a read or a write failed, or memory ran out";
 
 /// What the words ask for.
@@ -113,7 +165,7 @@ pub(crate) enum Request<'m, 'a> {
         table: TablePaths<'a>,
         file: &'a str,
     },
-    /// The same for each of several files.
+    /// The same for each of several files, or of one with `--with-names`, after the file's name.
     MatchMany {
         all: bool,
         table: TablePaths<'a>,
@@ -129,6 +181,13 @@ pub(crate) enum Request<'m, 'a> {
     },
     /// Which pairs of formats of a table are not decided.
     Conflicts {
+        table: TablePaths<'a>,
+        budget: u32,
+        hex: bool,
+        progress: bool,
+    },
+    /// Which formats and signatures of a table no file can leave.
+    Dead {
         table: TablePaths<'a>,
         budget: u32,
         hex: bool,
@@ -171,7 +230,7 @@ fn command_line<'a>(alloc: Global) -> Result<Command<'a>, Error>
     ensures memory { IfErr result (λ e. kind_of e ≡ ErrorKind.OutOfMemory) }
 {
     let command = Command::new(alloc, "pronom_sig")
-        .about("Match files against tables of signatures")
+        .about("Identify files by signatures, and check tables of signatures for ambiguity")
         .version("0.1.0")
         .bin_name("pronom_sig")?
         .no_binary_name(true)
@@ -180,6 +239,7 @@ fn command_line<'a>(alloc: Global) -> Result<Command<'a>, Error>
         .subcommand(match_line(alloc)?)?
         .subcommand(find_line(alloc)?)?
         .subcommand(conflicts_line(alloc)?)?
+        .subcommand(dead_line(alloc)?)?
         .subcommand(check_line(alloc)?)?
         .subcommand(witness_line(alloc)?)?;
     Ok(command)
@@ -191,54 +251,71 @@ fn show_line<'a>(alloc: Global) -> Result<Command<'a>, Error>
     ensures memory { IfErr result (λ e. kind_of e ≡ ErrorKind.OutOfMemory) }
 {
     let line = with_table_args(alloc, Command::new(alloc, "show"))?
-        .about("Print the canonical files of a table")
+        .about("Check a table and print it in canonical form")
         .after_help(SHOW_HELP);
     Ok(line)
 }
 
-// `match [--all] SIGS PRIOS FILE..`
+// `match [--all] [--with-names] SIGS PRIOS FILE..`
 fn match_line<'a>(alloc: Global) -> Result<Command<'a>, Error>
     ensures line { IfOk result (IsLine match_command) }
     ensures memory { IfErr result (λ e. kind_of e ≡ ErrorKind.OutOfMemory) }
 {
     let line = with_table_args(alloc, Command::new(alloc, "match"))?
-        .about("Print the formats left for each file")
+        .about("Print the formats that match each file, after priorities")
         .after_help(MATCH_HELP)
         .arg(
             required(alloc, "FILE")
                 .num_args(1..)
                 .help("The files to identify"),
         )?
-        .arg(flag(alloc, "all").help("Print all formats that a file hits, before priorities"))?;
+        .arg(flag(alloc, "all").help("Print all formats that match a file, before priorities"))?
+        .arg(flag(alloc, "with-names").help(
+            "Print the file's name also if there is only one FILE",
+        ))?;
     Ok(line)
 }
 
-// `find --budget N --out OUT [--hex] [--progress] SIGS PRIOS`
+// `find [--budget N] --out OUT [--hex] [--progress] SIGS PRIOS`
 fn find_line<'a>(alloc: Global) -> Result<Command<'a>, Error>
     ensures line { IfOk result (IsLine find_command) }
     ensures memory { IfErr result (λ e. kind_of e ≡ ErrorKind.OutOfMemory) }
 {
     let line = with_table_args(alloc, Command::new(alloc, "find"))?
-        .about("Find a certificate of a table, or a file that leaves two of its formats")
+        .about("Certify that no file gets two formats, or find a file that does")
         .after_help(FIND_HELP)
-        .arg(budget(alloc).help("The greatest number of rows for two signatures"))?
-        .arg(option(alloc, "out", "OUT").help("Where the certificate or the file goes"))?
-        .arg(flag(alloc, "hex").help("Print the bytes of OUT, too, on a second line"))?
-        .arg(flag(alloc, "progress").help("Tell on standard error how many products are done"))?;
+        .arg(budget(alloc).help("States that one search may visit"))?
+        .arg(out(alloc).help("Where the certificate or the file is written"))?
+        .arg(flag(alloc, "hex").help("Also print the bytes of OUT in hexadecimal"))?
+        .arg(flag(alloc, "progress").help("Report on standard error how many products are done"))?;
     Ok(line)
 }
 
-// `conflicts --budget N [--hex] [--progress] SIGS PRIOS`
+// `conflicts [--budget N] [--hex] [--progress] SIGS PRIOS`
 fn conflicts_line<'a>(alloc: Global) -> Result<Command<'a>, Error>
     ensures line { IfOk result (IsLine conflicts_command) }
     ensures memory { IfErr result (λ e. kind_of e ≡ ErrorKind.OutOfMemory) }
 {
     let line = with_table_args(alloc, Command::new(alloc, "conflicts"))?
-        .about("Find all pairs of formats that a file can leave")
+        .about("List all pairs of formats that can both be reported for one file")
         .after_help(CONFLICTS_HELP)
-        .arg(budget(alloc).help("The greatest number of rows for two signatures"))?
-        .arg(flag(alloc, "hex").help("Print the bytes of each file, too"))?
-        .arg(flag(alloc, "progress").help("Tell on standard error how many pairs are done"))?;
+        .arg(budget(alloc).help("States that one search may visit"))?
+        .arg(flag(alloc, "hex").help("Also print the bytes of each file in hexadecimal"))?
+        .arg(flag(alloc, "progress").help("Report on standard error how many pairs are done"))?;
+    Ok(line)
+}
+
+// `dead [--budget N] [--hex] [--progress] SIGS PRIOS`
+fn dead_line<'a>(alloc: Global) -> Result<Command<'a>, Error>
+    ensures line { IfOk result (IsLine dead_command) }
+    ensures memory { IfErr result (λ e. kind_of e ≡ ErrorKind.OutOfMemory) }
+{
+    let line = with_table_args(alloc, Command::new(alloc, "dead"))?
+        .about("List formats and signatures that are reported for no file")
+        .after_help(DEAD_HELP)
+        .arg(budget(alloc).help("States that one search may visit"))?
+        .arg(flag(alloc, "hex").help("Also print a shortest file for each live signature"))?
+        .arg(flag(alloc, "progress").help("Report on standard error how many formats are done"))?;
     Ok(line)
 }
 
@@ -248,7 +325,7 @@ fn check_line<'a>(alloc: Global) -> Result<Command<'a>, Error>
     ensures memory { IfErr result (λ e. kind_of e ≡ ErrorKind.OutOfMemory) }
 {
     let line = with_table_args(alloc, Command::new(alloc, "check"))?
-        .about("Judge a certificate of a table")
+        .about("Check a certificate")
         .after_help(CHECK_HELP)
         .arg(required(alloc, "CERT").help("The certificate"))?;
     Ok(line)
@@ -260,9 +337,9 @@ fn witness_line<'a>(alloc: Global) -> Result<Command<'a>, Error>
     ensures memory { IfErr result (λ e. kind_of e ≡ ErrorKind.OutOfMemory) }
 {
     let line = with_table_args(alloc, Command::new(alloc, "witness"))?
-        .about("Tell whether a file leaves two formats of a table")
+        .about("Tell whether two formats are reported for a file")
         .after_help(WITNESS_HELP)
-        .arg(required(alloc, "FILE").help("The file to judge"))?;
+        .arg(required(alloc, "FILE").help("The file to check"))?;
     Ok(line)
 }
 
@@ -292,20 +369,30 @@ fn flag<'a>(alloc: Global, name: &'a str) -> Arg<'a>
     Arg::new(alloc, name).long(name).action(ArgAction::SetTrue)
 }
 
-// An option that must be there, with the name of its value.
+// An option, with the name of its value.
 fn option<'a>(alloc: Global, name: &'a str, value: &'a str) -> Arg<'a>
     ensures rule { rule_of result ≡ named name.entry.now value.entry.now }
     ensures local { result.global ≡ false }
 {
-    Arg::new(alloc, value).long(name).required(true)
+    Arg::new(alloc, value).long(name)
 }
 
-// `--budget N`
+// `--out OUT`
+fn out<'a>(alloc: Global) -> Arg<'a>
+    ensures rule { rule_of result ≡ out_rule }
+    ensures local { result.global ≡ false }
+{
+    option(alloc, "out", "OUT").required(true)
+}
+
+// `[--budget N]`
 fn budget<'a>(alloc: Global) -> Arg<'a>
     ensures rule { rule_of result ≡ budget_rule }
     ensures local { result.global ≡ false }
 {
-    option(alloc, "budget", "N").value_parser(value_parser!(u32).range(1..))
+    option(alloc, "budget", "N")
+        .default_value("100000")
+        .value_parser(value_parser!(u32).range(1..))
 }
 
 /// What is asked for by what was found in the words.
@@ -324,6 +411,9 @@ pub(crate) fn request_of<'m, 'a>(matches: &'m ArgMatches<'a>) -> Option<Request<
     }
     if let Some(settling) = matches.subcommand_matches("conflicts") {
         return conflicts_request(settling);
+    }
+    if let Some(dying) = matches.subcommand_matches("dead") {
+        return dead_request(dying);
     }
     if let Some(judging) = matches.subcommand_matches("witness") {
         return witness_request(judging);
@@ -345,10 +435,11 @@ fn match_request<'m, 'a>(matches: &'m ArgMatches<'a>) -> Option<Request<'m, 'a>>
     ensures none { result ≡ None → (request : Request) → ¬ Asks (asking (codes "match") matches.now) request }
 {
     let all = matches.get_flag("all");
+    let with_names = matches.get_flag("with-names");
     let table = table_paths(matches)?;
     match matches.get_strs("FILE")? {
         [] => None,
-        [file] => Some(Request::Match {
+        [file] if !with_names => Some(Request::Match {
             all,
             table,
             file: *file,
@@ -375,6 +466,18 @@ fn conflicts_request<'m, 'a>(matches: &'m ArgMatches<'a>) -> Option<Request<'m, 
     ensures none { result ≡ None → (request : Request) → ¬ Asks (asking (codes "conflicts") matches.now) request }
 {
     Some(Request::Conflicts {
+        budget: matches.get_one::<u32>("N")?,
+        hex: matches.get_flag("hex"),
+        progress: matches.get_flag("progress"),
+        table: table_paths(matches)?,
+    })
+}
+
+fn dead_request<'m, 'a>(matches: &'m ArgMatches<'a>) -> Option<Request<'m, 'a>>
+    ensures asked { IfSome result (λ request. Asks (asking (codes "dead") matches.now) request) }
+    ensures none { result ≡ None → (request : Request) → ¬ Asks (asking (codes "dead") matches.now) request }
+{
+    Some(Request::Dead {
         budget: matches.get_one::<u32>("N")?,
         hex: matches.get_flag("hex"),
         progress: matches.get_flag("progress"),

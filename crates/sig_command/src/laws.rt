@@ -1,12 +1,13 @@
 //! Laws of the command line.
 
 ghost use Rattle.std.specs.Borrow.{Bor};
-ghost use Rattle.std.specs.Prelude.{◌≡◌, ◌≤◌, ℕ, Bool, List, Option, Some, false, true, [], ◌∷◌, codes, length};
+ghost use Rattle.std.specs.Prelude.{◌≡◌, ◌≤◌, ℕ, Bool, List, Option, Some, false, true, [], ◌∷◌, codes, length, map};
 ghost use Rattle.clap.specs.Words.{fault_of, takes};
 ghost use Rattle.sig_bits.specs.Device.{Adds};
 ghost use Rattle.sig_command.specs.CommandLine.{AreTableWords, all_named, first_named, one_named, program};
 ghost use Rattle.sig_command.specs.Requests.{Answers};
-ghost use Rattle.sig_command.specs.declared.args.Request.TheVariants.{Check, Match};
+ghost use Rattle.sig_command.specs.Several.{AreTexts, IsOneLineOf};
+ghost use Rattle.sig_command.specs.declared.args.Request.TheVariants.{Check, Match, MatchMany};
 ghost use Rattle.sig_engines.specs.Lines.{lines_of};
 ghost use Rattle.sig_engines.specs.declared.store.TablePaths.{TablePaths};
 ghost use Rattle.sig_core.specs.declared.results.Hit.{Hit};
@@ -14,14 +15,23 @@ ghost use Rattle.sig_table.specs.Views.{TableView};
 
 use clap::error::ErrorKind;
 
-/// Where a certificate of a table is accepted, `match` without `--all` never writes two lines: of whatever store
-/// that tells what its files hold, of whatever file there, and whoever made the certificate.
+/// If a certificate of a table is accepted, `match` of one file without `--all` never writes two lines: of whatever
+/// store that tells what its files hold, of whatever file there, and whoever made the certificate.
 pub fn accepted_tables_match_once()
     ensures { (files : List ℕ → Option (List ℕ)) (table : TablePaths) (certificate name : Bor (List ℕ)) (is_yes : Bool)
         (checked_before checked_after before after : Option (List ℕ))
         → Answers (Some files) (Check table certificate) true checked_before checked_after
         → Answers (Some files) (Match false table name) is_yes before after
         → (t : TableView) × (hits : List Hit) × (length hits ≤ 1) × Adds before (lines_of t hits) after }
+{}
+
+/// The same of each of several files, and of one with `--with-names`: each has one line, of a format or a hyphen.
+pub fn accepted_tables_match_each_once()
+    ensures { (files : List ℕ → Option (List ℕ)) (table : TablePaths) (certificate : Bor (List ℕ)) (names : Bor (List (Bor (List ℕ)))) (is_yes : Bool)
+        (checked_before checked_after before after : Option (List ℕ))
+        → Answers (Some files) (Check table certificate) true checked_before checked_after
+        → Answers (Some files) (MatchMany false table names) is_yes before after
+        → (t : TableView) × (text : List ℕ) × AreTexts (IsOneLineOf t) (map (λ n. n.now) names.now) text × Adds before text after }
 {}
 
 /// Words that name all files are taken, also where `match` has several, and they ask for no help.
@@ -34,12 +44,17 @@ pub fn words_are_taken()
     ensures many { takes program (codes "match" ∷ codes "a" ∷ codes "b" ∷ codes "c" ∷ codes "d" ∷ []) ≡ true }
     ensures many_no_help { fault_of program (codes "match" ∷ codes "a" ∷ codes "b" ∷ codes "c" ∷ codes "d" ∷ []) ≡ [] }
     ensures all { takes program (codes "match" ∷ codes "--all" ∷ codes "a" ∷ codes "b" ∷ codes "c" ∷ []) ≡ true }
+    ensures named { takes program (codes "match" ∷ codes "--with-names" ∷ codes "a" ∷ codes "b" ∷ codes "c" ∷ []) ≡ true }
     ensures found { takes program (codes "find" ∷ codes "--budget" ∷ codes "100000" ∷ codes "--out" ∷ codes "a" ∷ codes "b" ∷ codes "c" ∷ []) ≡ true }
     ensures found_shown { takes program (codes "find" ∷ codes "--progress" ∷ codes "--budget" ∷ codes "100000" ∷
         codes "--out" ∷ codes "a" ∷ codes "b" ∷ codes "c" ∷ []) ≡ true }
-    ensures budget_wanted { takes program (codes "find" ∷ codes "--budget" ∷ codes "0" ∷ codes "--out" ∷ codes "a" ∷ codes "b" ∷ codes "c" ∷ []) ≡ false }
+    ensures found_by_default { takes program (codes "find" ∷ codes "--out" ∷ codes "a" ∷ codes "b" ∷ codes "c" ∷ []) ≡ true }
+    ensures no_budget_of_zero { takes program
+        (codes "find" ∷ codes "--budget" ∷ codes "0" ∷ codes "--out" ∷ codes "a" ∷ codes "b" ∷ codes "c" ∷ []) ≡ false }
     ensures settled { takes program (codes "conflicts" ∷ codes "--budget" ∷ codes "100000" ∷ codes "a" ∷ codes "b" ∷ []) ≡ true }
     ensures settled_shown { takes program (codes "conflicts" ∷ codes "--progress" ∷ codes "--budget" ∷ codes "100000" ∷ codes "a" ∷ codes "b" ∷ []) ≡ true }
+    ensures settled_by_default { takes program (codes "conflicts" ∷ codes "a" ∷ codes "b" ∷ []) ≡ true }
+    ensures judged_by_default { takes program (codes "dead" ∷ codes "a" ∷ codes "b" ∷ []) ≡ true }
     ensures checked { takes program (codes "check" ∷ codes "a" ∷ codes "b" ∷ codes "c" ∷ []) ≡ true }
     ensures checked_no_help { fault_of program (codes "check" ∷ codes "a" ∷ codes "b" ∷ codes "c" ∷ []) ≡ [] }
     ensures witnessed { takes program (codes "witness" ∷ codes "a" ∷ codes "b" ∷ codes "c" ∷ []) ≡ true }
@@ -59,12 +74,20 @@ pub fn words_name_files()
     ensures matched_all { one_named (codes "all")
         (codes "match" ∷ codes "--all" ∷ codes "a" ∷ codes "b" ∷ codes "c" ∷ codes "d" ∷ []) ≡ Some (codes "true") }
     ensures matched_not_all { one_named (codes "all") (codes "match" ∷ codes "a" ∷ codes "b" ∷ codes "c" ∷ []) ≡ Some (codes "false") }
+    ensures matched_named { one_named (codes "with-names")
+        (codes "match" ∷ codes "--with-names" ∷ codes "a" ∷ codes "b" ∷ codes "c" ∷ []) ≡ Some (codes "true") }
+    ensures matched_named_file { all_named (codes "FILE")
+        (codes "match" ∷ codes "--with-names" ∷ codes "a" ∷ codes "b" ∷ codes "c" ∷ []) ≡ Some (codes "c" ∷ []) }
+    ensures matched_not_named { one_named (codes "with-names")
+        (codes "match" ∷ codes "--all" ∷ codes "a" ∷ codes "b" ∷ codes "c" ∷ []) ≡ Some (codes "false") }
     ensures found_table { AreTableWords (codes "b") (codes "c")
         (codes "find" ∷ codes "--budget" ∷ codes "100000" ∷ codes "--out" ∷ codes "a" ∷ codes "b" ∷ codes "c" ∷ []) }
     ensures found_out { first_named (codes "OUT")
         (codes "find" ∷ codes "--budget" ∷ codes "100000" ∷ codes "--out" ∷ codes "a" ∷ codes "b" ∷ codes "c" ∷ []) ≡ Some (codes "a") }
     ensures found_budget { one_named (codes "N")
         (codes "find" ∷ codes "--budget" ∷ codes "100000" ∷ codes "--out" ∷ codes "a" ∷ codes "b" ∷ codes "c" ∷ []) ≡ Some (codes "100000") }
+    ensures found_default { one_named (codes "N")
+        (codes "find" ∷ codes "--out" ∷ codes "a" ∷ codes "b" ∷ codes "c" ∷ []) ≡ Some (codes "100000") }
     ensures found_progress { one_named (codes "progress")
         (codes "find" ∷ codes "--progress" ∷ codes "--budget" ∷ codes "100000" ∷ codes "--out" ∷ codes "a" ∷ codes "b" ∷ codes "c" ∷ [])
         ≡ Some (codes "true") }
@@ -72,8 +95,11 @@ pub fn words_name_files()
         (codes "conflicts" ∷ codes "--budget" ∷ codes "100000" ∷ codes "--hex" ∷ codes "a" ∷ codes "b" ∷ []) }
     ensures settled_budget { one_named (codes "N")
         (codes "conflicts" ∷ codes "--budget" ∷ codes "100000" ∷ codes "--hex" ∷ codes "a" ∷ codes "b" ∷ []) ≡ Some (codes "100000") }
+    ensures settled_default { one_named (codes "N") (codes "conflicts" ∷ codes "a" ∷ codes "b" ∷ []) ≡ Some (codes "100000") }
     ensures settled_hex { one_named (codes "hex")
         (codes "conflicts" ∷ codes "--budget" ∷ codes "100000" ∷ codes "--hex" ∷ codes "a" ∷ codes "b" ∷ []) ≡ Some (codes "true") }
+    ensures dying_table { AreTableWords (codes "a") (codes "b") (codes "dead" ∷ codes "--hex" ∷ codes "a" ∷ codes "b" ∷ []) }
+    ensures dying_default { one_named (codes "N") (codes "dead" ∷ codes "--hex" ∷ codes "a" ∷ codes "b" ∷ []) ≡ Some (codes "100000") }
     ensures checked_table { AreTableWords (codes "a") (codes "b") (codes "check" ∷ codes "a" ∷ codes "b" ∷ codes "c" ∷ []) }
     ensures checked_certificate { first_named (codes "CERT") (codes "check" ∷ codes "a" ∷ codes "b" ∷ codes "c" ∷ []) ≡ Some (codes "c") }
     ensures judged_table { AreTableWords (codes "a") (codes "b") (codes "witness" ∷ codes "a" ∷ codes "b" ∷ codes "c" ∷ []) }

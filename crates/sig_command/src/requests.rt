@@ -16,8 +16,8 @@ use clap::Error;
 use clap::error::ErrorKind;
 use sig_bits::{FromRead, FromWrite, Input, Output};
 use sig_engines::{
-    CutShort, FileFault, RunError, Store, SystemFiles, TablePaths, run_check, run_find, run_match,
-    run_match_many, run_show, run_witness, settle,
+    CutShort, FileFault, RunError, Store, SystemFiles, TablePaths, find_dead, run_check, run_find,
+    run_match, run_match_many, run_show, run_witness, settle,
 };
 use sig_scan::BlockCore;
 use sig_table::Table;
@@ -80,7 +80,8 @@ pub fn command<R: Files + AllocGlobal, W: Output, E: Output>(
     ensures errors { KeepsErrors (ShowsWords ⟦<FromRead<R::File> as Input>⟧.failed None (texts_of words.now))
         result (E.failed err.new) err.old err.new (E.written err.old) (E.written err.new) }
     ensures answers { AnswersBy None (texts_of words.now) result (W.written out.old) (W.written out.new) }
-    ensures told { TellsBy (texts_of words.now) result (E.failed err.new) err.old err.new (E.written err.old) (E.written err.new) }
+    ensures told { TellsBy None (texts_of words.now) result (W.written out.old) (W.written out.new)
+        (E.failed err.new) err.old err.new (E.written err.old) (E.written err.new) }
     ensures faults { ReportsBy ⟦<FromRead<R::File> as Input>⟧.failed (SomeWriteFailed ⟦<FromWrite<R::File> as Output>⟧.failed (W.failed out.new))
         None (texts_of words.now) result W.written out.old out.new E.failed E.written err.old err.new }
     ensures words { EndsByFault (texts_of words.now) result }
@@ -92,8 +93,9 @@ pub fn command<R: Files + AllocGlobal, W: Output, E: Output>(
 /// status.
 ///
 /// The answer and the help go to `out`; a fault is one line on `err`, and a usage fault is the text
-/// of `clap`. With `--progress` a search tells `err` how much of it is done, and of several files each
-/// that has a fault is one line there. A failed write to `err` changes no status.
+/// of `clap`. With `--progress` a search tells `err` how much of it is done, and of files that are
+/// matched by their names each that has a fault is one line there. A failed write to `err` changes no
+/// status.
 pub fn command_over<S: Store, W: Output, E: Output>(
     store: &S,
     alloc: Global,
@@ -109,7 +111,8 @@ pub fn command_over<S: Store, W: Output, E: Output>(
     ensures answers { AnswersBy (S.held store.now) (texts_of words.now) result (W.written out.old) (W.written out.new) }
     ensures made { AreTaken (texts_of words.now) → result ≡ 0 → MakesWords S.name_of S.Writer.written S.Writer.failed (S.held store.now) (texts_of words.now)
         true (W.written out.old) (W.written out.new) }
-    ensures told { TellsBy (texts_of words.now) result (E.failed err.new) err.old err.new (E.written err.old) (E.written err.new) }
+    ensures told { TellsBy (S.held store.now) (texts_of words.now) result (W.written out.old) (W.written out.new)
+        (E.failed err.new) err.old err.new (E.written err.old) (E.written err.new) }
     ensures faults { ReportsBy S.Reader.failed (SomeWriteFailed S.Writer.failed (W.failed out.new)) (S.held store.now) (texts_of words.now)
         result W.written out.old out.new E.failed E.written err.old err.new }
     ensures words { EndsByFault (texts_of words.now) result }
@@ -142,7 +145,8 @@ fn answer<'m, 'a, S: Store, W: Output, E: Output>(
     ensures answers { IfOk result (λ is_yes. Answers (S.held store.now) request.entry is_yes (W.written out.old) (W.written out.new)) }
     ensures made { IfOk result (λ is_yes. MakesOut S.name_of S.Writer.written S.Writer.failed (S.held store.now)
         request.entry is_yes (W.written out.old) (W.written out.new)) }
-    ensures progress { OnOk result (ShowsAsked request.entry (E.failed err.new) err.old err.new (E.written err.old) (E.written err.new)) }
+    ensures progress { IfOk result (λ is_yes. ShowsAsked (S.held store.now) request.entry is_yes (W.written out.old) (W.written out.new)
+        (E.failed err.new) err.old err.new (E.written err.old) (E.written err.new)) }
     ensures faults { IfErr result (λ fault. IsFaultOf S.Reader.failed (S.held store.now) request.entry fault) }
     ensures write { IfErr result (λ fault. TellsWrite fault → SomeWriteFailed S.Writer.failed (W.failed out.new)) }
     ensures untouched { IfErr result (λ fault. fault ≢ Fault.Run RunError.Write → ((e : CutShort) → fault ≢ Fault.CutShort e)
@@ -168,6 +172,12 @@ fn answer<'m, 'a, S: Store, W: Output, E: Output>(
             hex,
             progress,
         } => settle_pairs(store, alloc, table, budget, hex, progress, out, err),
+        Request::Dead {
+            table,
+            budget,
+            hex,
+            progress,
+        } => judge_formats(store, alloc, table, budget, hex, progress, out, err),
         Request::Check { table, certificate } => {
             check_certificate(store, alloc, table, certificate, out)
         }
@@ -217,7 +227,7 @@ fn match_file<'a, S: Store, W: Output>(
     }
 }
 
-// Of several files: the lines of each, or of some and the faults of the others.
+// Of files by their names: the lines of each, or of some and the faults of the others.
 fn match_many<'m, 'a, S: Store, W: Output, E: Output>(
     store: &S,
     alloc: Global,
@@ -266,8 +276,8 @@ fn find_in_table<'a, S: Store, W: Output, E: Output>(
     ensures made { IfOk result (λ is_yes. MakesOut S.name_of S.Writer.written S.Writer.failed (S.held store.now)
         (Request.Find table.entry budget name.entry hex progress) is_yes (W.written out.old) (W.written out.new)) }
     ensures shown { OnOk result (W.failed out.new ≡ false) }
-    ensures progress { OnOk result (ShowsAsked (Request.Find table.entry budget name.entry hex progress)
-        (E.failed err.new) err.old err.new (E.written err.old) (E.written err.new)) }
+    ensures progress { IfOk result (λ is_yes. ShowsAsked (S.held store.now) (Request.Find table.entry budget name.entry hex progress) is_yes
+        (W.written out.old) (W.written out.new) (E.failed err.new) err.old err.new (E.written err.old) (E.written err.new)) }
     ensures faults { IfErr result (IsFaultOf S.Reader.failed (S.held store.now) (Request.Find table.entry budget name.entry hex progress)) }
     ensures write { IfErr result (λ fault. TellsWrite fault → SomeWriteFailed S.Writer.failed (W.failed out.new)) }
     ensures untouched { IfErr result (λ fault. fault ≢ Fault.Run RunError.Write → out.new ≡ out.old) }
@@ -294,8 +304,8 @@ fn settle_pairs<'a, S: Store, W: Output, E: Output>(
     ensures answers { IfOk result (λ is_yes. Answers (S.held store.now) (Request.Conflicts table.entry budget hex progress)
         is_yes (W.written out.old) (W.written out.new)) }
     ensures shown { OnOk result (W.failed out.new ≡ false) }
-    ensures progress { OnOk result (ShowsAsked (Request.Conflicts table.entry budget hex progress)
-        (E.failed err.new) err.old err.new (E.written err.old) (E.written err.new)) }
+    ensures progress { IfOk result (λ is_yes. ShowsAsked (S.held store.now) (Request.Conflicts table.entry budget hex progress) is_yes
+        (W.written out.old) (W.written out.new) (E.failed err.new) err.old err.new (E.written err.old) (E.written err.new)) }
     ensures faults { IfErr result (IsFaultOf S.Reader.failed (S.held store.now) (Request.Conflicts table.entry budget hex progress)) }
     ensures write { IfErr result (λ fault. TellsWrite fault → W.failed out.new ≡ true) }
     ensures untouched { IfErr result (λ fault. ((e : CutShort) → fault ≢ Fault.CutShort e) → out.new ≡ out.old) }
@@ -306,6 +316,35 @@ fn settle_pairs<'a, S: Store, W: Output, E: Output>(
     match settle(alloc, &table, budget, hex, progress, out, err) {
         Ok(is_yes) => Ok(is_yes),
         Err(error) => Err(Fault::CutShort(error)),
+    }
+}
+
+fn judge_formats<'a, S: Store, W: Output, E: Output>(
+    store: &S,
+    alloc: Global,
+    table: TablePaths<'a>,
+    budget: u32,
+    hex: bool,
+    progress: bool,
+    out: &mut W,
+    err: &mut E,
+) -> Result<bool, Fault<'a>>
+    ensures told { TellsOf S.Reader.failed (S.held store.now) (Request.Dead table.entry budget hex progress) (is_ok result) E.failed E.written err.old err.new }
+    ensures answers { IfOk result (λ is_yes. Answers (S.held store.now) (Request.Dead table.entry budget hex progress)
+        is_yes (W.written out.old) (W.written out.new)) }
+    ensures shown { OnOk result (W.failed out.new ≡ false) }
+    ensures progress { IfOk result (λ is_yes. ShowsAsked (S.held store.now) (Request.Dead table.entry budget hex progress) is_yes
+        (W.written out.old) (W.written out.new) (E.failed err.new) err.old err.new (E.written err.old) (E.written err.new)) }
+    ensures faults { IfErr result (IsFaultOf S.Reader.failed (S.held store.now) (Request.Dead table.entry budget hex progress)) }
+    ensures write { IfErr result (λ fault. TellsWrite fault → W.failed out.new ≡ true) }
+    ensures untouched { IfErr result (λ fault. ((e : CutShort) → fault ≢ Fault.CutShort e) → out.new ≡ out.old) }
+    ensures whole { IfErr result (λ fault. KeepsOrCuts S.Reader.failed (S.held store.now)
+        (Request.Dead table.entry budget hex progress) W.failed W.written out.old out.new) }
+{
+    let table = load(store, alloc, table)?;
+    match find_dead(alloc, &table, budget, hex, progress, out, err) {
+        Ok(is_yes) => Ok(is_yes),
+        Err(cut) => Err(Fault::CutShort(cut)),
     }
 }
 

@@ -1,5 +1,6 @@
 -- Lemmas of this crate.
 pub mod Exports
+mod FateLemmas
 mod FoundLemmas
 mod HitLemmas
 mod JudgedLemmas

@@ -1,5 +1,6 @@
 -- What a reader must trust: what is written of a file, of what is found, of a verdict and of pairs of formats, and what a store holds.
 pub mod Conflicts
+pub mod Fates
 pub mod Finding
 pub mod Judged
 pub mod Lines

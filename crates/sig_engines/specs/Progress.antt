@@ -3,12 +3,13 @@ use Rattle.std.specs.Prelude.{◌≡◌, ℕ, Bool, true, false, List, ◌++◌,
 use Rattle.std.specs.Fmt.{decimal}
 use Rattle.sig_bits.specs.Device.{Adds}
 use Rattle.sig_engines.specs.declared.progress.Things.{Things}
-use Rattle.sig_engines.specs.declared.progress.Things.TheVariants.{Pairs, Products}
+use Rattle.sig_engines.specs.declared.progress.Things.TheVariants.{Formats, Pairs, Products}
 
 -- what a search goes through
 abbrev pub things_text : Things → List ℕ
 things_text Products = codes " products"
 things_text Pairs = codes " pairs"
+things_text Formats = codes " formats"
 
 -- one report, written over the one before: so many of so many are done
 abbrev pub report_text : Things → ℕ × ℕ → List ℕ
@@ -23,6 +24,11 @@ pub record AddsReports (things : Things) (before after : Option (List ℕ)) : Ty
 pub record AddsProgress (things : Things) (before after : Option (List ℕ)) : Type 0 where
   pub told : List (ℕ × ℕ)
   pub adds : Adds before (flat_map (report_text things) told ++ codes "\n") after
+
+-- with the flag what is written grows by progress; without it it is as it was
+abbrev pub AddsIf : Bool → Things → Option (List ℕ) → Option (List ℕ) → Type 0
+AddsIf true things before after = AddsProgress things before after
+AddsIf false things before after = after ≡ before
 
 -- with the flag the error output grows by progress, unless a write failed; without it it is as it was
 abbrev pub ShowsIf : {E : Type 0} → Bool → Things → Bool → E → E → Option (List ℕ) → Option (List ℕ) → Type 0

@@ -124,8 +124,8 @@ fn write_pair<W: Output>(
     write_line(line.as_str(), out)
 }
 
-// Writes a line, if there is one.
-fn write_line<W: Output>(line: &str, out: &mut W) -> Result<(), CutShort>
+/// Writes a line, if there is one.
+pub(crate) fn write_line<W: Output>(line: &str, out: &mut W) -> Result<(), CutShort>
     ensures adds { OnOk result (Adds (W.written out.old) line.now (W.written out.new)) }
     ensures shown { OnOk result (0 < length line.now → W.failed out.new ≡ false) }
     ensures cut { IfErr result (λ e. (e ≡ CutShort.Write) × (W.failed out.new ≡ true) × AddsFront (W.written out.old) line.now (W.written out.new)) }

@@ -1,9 +1,13 @@
 //! `find`, over any output for what is found and any output for its lines.
 //!
-//! What is found is written before a byte of its lines is.
+//! What is found is written before a byte of its lines is. Where the search gave up, a line on the
+//! error output says why, once the answer is written. Two signatures can be too much in two ways: more
+//! signatures outrank one of them than a product can have, or a product has more rows than the budget.
+//! Where both hold the first is named, which a greater budget alone seldom mends.
 
-ghost use Rattle.std.specs.Prelude.{◌≡◌, ◌≢◌, ◌⊎◌, false, option_map, true, IfErr, IfOk, IfSome, OnOk};
-ghost use Rattle.sig_engines.specs.Finding.{AddsFound, IsFindFault, IsKnown, KeepsFound, found_bytes, found_text, is_answered};
+ghost use Rattle.std.specs.Prelude.{◌≡◌, ◌≢◌, ◌⊎◌, ◌++◌, false, option_map, string_bytes, true, IfErr, IfOk, IfSome, OnOk};
+ghost use Rattle.sig_engines.specs.Conflicts.{signature_text};
+ghost use Rattle.sig_engines.specs.Finding.{AddsFound, AreSignatures, IsFindFault, IsKnown, IsReason, IsReasonFor, KeepsFound, TellsWhy, budget_line, found_bytes, found_text, is_answered, outranked_line, reason_line};
 ghost use Rattle.sig_engines.specs.Progress.{AddsProgress, ShowsIf};
 ghost use Rattle.sig_engines.specs.Stores.{IsMade, SomeWriteFailed};
 ghost use Rattle.sig_bits.specs.Device.{Adds};
@@ -14,16 +18,22 @@ use crate::error::{FileFault, RunError};
 use crate::lines::lines_of_found;
 use crate::progress::{Meter, Things};
 use crate::store::Store;
+use crate::writing::put;
 use sig_bits::Output;
 use sig_find::{Found, find, find_observed};
-use sig_table::Table;
+use sig_product::all_blockers;
+use sig_table::{SigId, Table};
 use std::alloc::{AllocError, Global};
+use std::fmt::Write;
+
+// The greatest number of blockers of a product.
+const MOST_BLOCKERS: usize = 64;
 
 /// Writes what the finder finds of a table to a file of this name, and then its lines. Answers whether
 /// it is a certificate or a witness.
 ///
 /// The file is made only once something is found, and where the search gave up not at all. With
-/// `progress` the search tells `err` how many products are done.
+/// `progress` the search tells `err` how many products are done, and where it gave up `err` is told why.
 #[inline(never)]
 pub fn run_find<S: Store, W: Output, E: Output>(
     alloc: Global,
@@ -41,7 +51,11 @@ pub fn run_find<S: Store, W: Output, E: Output>(
     ensures made { IfOk result (λ is_yes. KeepsFound (IsMade S.name_of S.Writer.written S.Writer.failed (S.held store.now) name.now)
         is_yes with_hex table.now budget (W.written out.old) (W.written out.new)) }
     ensures writes { OnOk result (W.failed out.new ≡ false) }
-    ensures told { ShowsIf progress Things.Products (E.failed err.new) err.old err.new (E.written err.old) (E.written err.new) }
+
+    // The error output: the progress alone, or behind it why the search gave up.
+    ensures told { result ≢ Ok false → ShowsIf progress Things.Products (E.failed err.new) err.old err.new (E.written err.old) (E.written err.new) }
+    ensures why { IfOk result (λ is_yes. is_yes ≡ false → E.failed err.new ≡ false
+        → TellsWhy progress with_hex table.now budget (W.written out.old) (W.written out.new) (E.written err.old) (E.written err.new)) }
 
     // Each refusal; a failed read is none.
     ensures faults { IfErr result IsFindFault }
@@ -49,10 +63,113 @@ pub fn run_find<S: Store, W: Output, E: Output>(
     ensures untouched { IfErr result (λ fault. fault ≢ FileFault.Run RunError.Write → out.new ≡ out.old) }
     ensures whole { IfErr result (λ fault. W.failed out.new ≡ false → out.new ≡ out.old) }
 {
-    match search(alloc, table, budget, progress, err) {
-        Ok(found) => write_answer(alloc, store, table, &found, with_hex, name, out),
-        Err(error) => Err(FileFault::Run(error)),
+    let found = match search(alloc, table, budget, progress, err) {
+        Ok(found) => found,
+        Err(error) => return Err(FileFault::Run(error)),
+    };
+    let reason = match reason_of(alloc, table, &found, budget) {
+        Ok(reason) => reason,
+        Err(_) => return Err(FileFault::Run(RunError::OutOfMemory)),
+    };
+    match write_answer(alloc, store, table, &found, with_hex, name, out) {
+        Ok(true) => Ok(true),
+        Ok(false) => {
+            let _ = put(err, reason.as_str());
+            Ok(false)
+        }
+        Err(fault) => Err(fault),
     }
+}
+
+// Why the search gave up, as a line; nothing where it did not.
+fn reason_of(alloc: Global, table: &Table, found: &Found, budget: u32) -> Result<String, AllocError>
+    requires { IsKnown table.now found.now }
+    ensures { IfOk result (λ reason. IsReason table.now budget found.now (string_bytes reason)) }
+{
+    match found {
+        Found::Certificate(_) | Found::Witness { .. } => Ok(String::new(alloc)),
+        Found::GaveUp { s, t } => reason_for(alloc, table, *s, *t, budget),
+    }
+}
+
+// Why the search gave up on these two signatures.
+fn reason_for(
+    alloc: Global,
+    table: &Table,
+    s: SigId,
+    t: SigId,
+    budget: u32,
+) -> Result<String, AllocError>
+    requires { AreSignatures table.now s t }
+    ensures { IfOk result (λ reason. IsReasonFor table.now budget s t (string_bytes reason)) }
+{
+    let blockers = all_blockers(alloc, table, s, t)?;
+    line_of_reason(alloc, table, s, t, blockers.len(), budget)
+}
+
+fn line_of_reason(
+    alloc: Global,
+    table: &Table,
+    s: SigId,
+    t: SigId,
+    blockers: usize,
+    budget: u32,
+) -> Result<String, AllocError>
+    requires { AreSignatures table.now s t }
+    ensures { IfOk result (λ reason. string_bytes reason ≡ reason_line table.now budget s t blockers) }
+{
+    let mut line = String::new(alloc);
+    if blockers > MOST_BLOCKERS {
+        push_outranked(&mut line, table, s, t)?;
+        return Ok(line);
+    }
+    push_budget(&mut line, budget)?;
+    Ok(line)
+}
+
+// More signatures outrank one of the two than a product can have.
+fn push_outranked(line: &mut String, table: &Table, s: SigId, t: SigId) -> Result<(), AllocError>
+    requires { AreSignatures table.now s t }
+    ensures { OnOk result (string_bytes line.new ≡ string_bytes line.old ++ outranked_line table.now s t) }
+{
+    push_two(
+        line,
+        "over 64 signatures outrank ",
+        table,
+        s,
+        " or ",
+        t,
+        ": see conflicts\n",
+    )?;
+    Ok(())
+}
+
+// The numbers of two signatures, and a text before each and behind the last.
+fn push_two(
+    line: &mut String,
+    before: &str,
+    table: &Table,
+    s: SigId,
+    between: &str,
+    t: SigId,
+    behind: &str,
+) -> Result<(), AllocError>
+    requires { AreSignatures table.now s t }
+    ensures { OnOk result (string_bytes line.new ≡ string_bytes line.old ++ before.now
+        ++ signature_text table.now s.0 ++ between.now ++ signature_text table.now t.0 ++ behind.now) }
+{
+    let first = table.number_of(s);
+    let second = table.number_of(t);
+    write!(line, "{before}{first}{between}{second}{behind}")?;
+    Ok(())
+}
+
+// There are more rows than the budget.
+fn push_budget(line: &mut String, budget: u32) -> Result<(), AllocError>
+    ensures { OnOk result (string_bytes line.new ≡ string_bytes line.old ++ budget_line budget) }
+{
+    writeln!(line, "more than {budget} rows")?;
+    Ok(())
 }
 
 // Writes what was found to the file of this name, and then its lines. The file is made only now, and

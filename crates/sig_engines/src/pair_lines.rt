@@ -68,8 +68,8 @@ fn push_product(
     Ok(())
 }
 
-// A space and the bytes in lower case hexadecimal, where they are asked for and there are any.
-fn push_hex(
+/// A space and the bytes in lower case hexadecimal, where they are asked for and there are any.
+pub(crate) fn push_hex(
     alloc: Global,
     line: &mut String,
     with_hex: bool,

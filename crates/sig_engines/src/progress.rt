@@ -21,6 +21,8 @@ pub enum Things {
     Products,
     /// Pairs of formats.
     Pairs,
+    /// Formats.
+    Formats,
 }
 
 impl Things {
@@ -30,6 +32,7 @@ impl Things {
         match self {
             Things::Products => " products",
             Things::Pairs => " pairs",
+            Things::Formats => " formats",
         }
     }
 }

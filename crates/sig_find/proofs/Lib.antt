@@ -10,6 +10,7 @@ mod HitLemmas
 mod KeptLemmas
 mod KeyLemmas
 mod LeavingLemmas
+mod LifeLemmas
 mod OrderLemmas
 mod PairLaws
 mod PlaceLemmas

@@ -4,6 +4,8 @@ pub mod Searches
 pub mod Unblocked
 pub mod Answers
 pub mod FormatPairs
+pub mod Leaving
+pub mod Lives
 -- The vocabulary of proofs.
 pub mod Kept
 pub mod Frontiers

@@ -11,6 +11,7 @@ mod found;
 mod frontier;
 mod kept;
 mod laws;
+mod life;
 mod observer;
 mod pair;
 mod search;
@@ -21,9 +22,10 @@ pub use decision::{Decision, decide_product};
 pub use finder::{find, find_observed};
 pub use found::Found;
 pub use laws::{
-    bad_rows_are_unblocked, closed_products_leave_none, decided_pairs_decide,
-    formats_left_leave_pair, pair_left_leaves_formats, related_pairs_leave_none,
-    rows_over_some_are_over_all, unblocked_files_lead_to_bad_rows,
+    bad_rows_are_unblocked, closed_products_leave_none, dead_signatures_leave_none,
+    decided_pairs_decide, formats_left_leave_pair, pair_left_leaves_formats,
+    related_pairs_leave_none, rows_over_some_are_over_all, unblocked_files_lead_to_bad_rows,
 };
+pub use life::{Fate, Life, SignatureLife, decide_format, decide_signature};
 pub use observer::{Observer, Unobserved};
 pub use pair::{PairDecision, decide_pair};

@@ -182,8 +182,8 @@ fn settles_nothing_of_a_table_that_is_not_loaded(rt: HostRuntime) -> Result<(), 
 // Words that are refused, and how the text that says so begins.
 const WRONG: &[(&[&str], &str)] = &[
     (
-        &["conflicts", "a", "b"],
-        "error: the following required arguments were not provided:\n  --budget <N>\n",
+        &["conflicts", "a"],
+        "error: the following required arguments were not provided:\n  <PRIOS>\n",
     ),
     (
         &["conflicts", "--budget", "0", "a", "b"],
@@ -204,7 +204,7 @@ const WRONG: &[(&[&str], &str)] = &[
 ];
 
 #[test]
-fn wants_a_budget_and_takes_no_other_flag(rt: HostRuntime) -> Result<(), Fail> {
+fn wants_a_table_and_takes_no_other_flag(rt: HostRuntime) -> Result<(), Fail> {
     for (words, begin) in WRONG {
         assert!(rt; run_in(&rt, "", words)?.refuses(begin), "{words:?}");
     }

@@ -8,13 +8,13 @@ use std::fs;
 use std::test::Fail;
 
 // A table, a budget, the lines that are printed with the bytes of OUT, and the line that is then
-// printed of OUT: none where the search gives up, for then OUT is not there.
+// printed of OUT: where the search gives up OUT is not there, and the line is why.
 #[derive(Clone, Copy)]
 struct Sought(Rows, &'static str, &'static str, &'static str);
 
 const SOUGHT: &[Sought] = &[
     Sought(ONE, "1", "decided\n505341430200000000\n", "accepted\n"),
-    Sought(TWO, "1", "gave up 1 2\n", ""),
+    Sought(TWO, "1", "gave up 1 2\n", "more than 1 rows\n"),
     Sought(
         TWO,
         "2",
@@ -39,7 +39,7 @@ const SOUGHT: &[Sought] = &[
         "witness fmt/1 fmt/2\n41\n",
         "ambiguous fmt/1 fmt/2\n",
     ),
-    Sought(OVER_BOTH, "3", "gave up 1 2\n", ""),
+    Sought(OVER_BOTH, "3", "gave up 1 2\n", "more than 3 rows\n"),
     Sought(
         OVER_BOTH,
         "4",
@@ -74,26 +74,32 @@ fn find(rt: &HostRuntime, folder: &str, budget: &str, out: &str) -> Result<Shown
 // Whether `find` prints this of the table in the folder.
 fn is_found(rt: &HostRuntime, folder: &str, row: &Sought) -> Result<bool, Fail> {
     let Sought(_, budget, lines, line) = *row;
-    let status = if line.is_empty() { 1 } else { 0 };
-    Ok(find(rt, folder, budget, O)?.is(status, lines, ""))
+    let shown = find(rt, folder, budget, O)?;
+    if lines.starts_with("gave up") {
+        return Ok(shown.is(1, lines, line));
+    }
+    Ok(shown.is(0, lines, ""))
 }
 
 // Whether this is then printed of OUT.
-fn is_judged(rt: &HostRuntime, folder: &str, line: &str) -> Result<bool, Fail> {
+fn is_judged(rt: &HostRuntime, folder: &str, row: &Sought) -> Result<bool, Fail> {
+    let Sought(_, _, lines, line) = *row;
+    if lines.starts_with("gave up") {
+        return Ok(run_in(rt, folder, &["witness", S, P, O])?.says(3, ""));
+    }
     let word = if line == "accepted\n" {
         "check"
     } else {
         "witness"
     };
-    let status = if line.is_empty() { 3 } else { 0 };
-    Ok(run_in(rt, folder, &[word, S, P, O])?.says(status, line))
+    Ok(run_in(rt, folder, &[word, S, P, O])?.says(0, line))
 }
 
 // Whether both are so, in a folder of the row's own.
 fn is_sought(rt: &HostRuntime, row: &Sought) -> Result<bool, Fail> {
     let folder = "sought";
     make_with(rt, folder, row.0)?;
-    let is_so = is_found(rt, folder, row)? && is_judged(rt, folder, row.3)?;
+    let is_so = is_found(rt, folder, row)? && is_judged(rt, folder, row)?;
     remove(rt, folder)?;
     Ok(is_so)
 }
@@ -134,7 +140,8 @@ fn gives_up_on_a_sixty_fifth_blocker(rt: HostRuntime) -> Result<(), Fail> {
     make(&rt, folder)?;
     put_outranked(&rt, folder)?;
     let found = find(&rt, folder, "100", "none/none")?;
-    assert!(rt; found.says(1, "gave up 1 2\n"));
+    let reason = "over 64 signatures outrank 1 or 2: see conflicts\n";
+    assert!(rt; found.is(1, "gave up 1 2\n", reason));
     remove(&rt, folder)
 }
 

@@ -1,5 +1,5 @@
-//! `match` of several files through the program: each line behind its file's name, files with faults
-//! among others, a refused table and a failed write.
+//! `match` of several files through the program, and of one with its name: each line behind its file's
+//! name, files with faults among others, a refused table and a failed write.
 
 use crate::tests::{Fault, P, S, first_untold, make_with, path_of, put, remove, run_in, words_in};
 use fixtures::{Broken, Rows};
@@ -75,6 +75,69 @@ fn prints_the_lines_of_each_file_behind_its_name(rt: HostRuntime) -> Result<(), 
     make_with(&rt, folder, BELOW)?;
     put_many(&rt, folder)?;
     for row in MANY {
+        assert!(rt; is_answered(&rt, folder, row)?, "{:?}", row.0);
+    }
+    remove(&rt, folder)
+}
+
+// With the flag the name stands before the lines of the only file, too, and of several all is as without it.
+const WITH_NAMES: &[Answered] = &[
+    Answered(
+        &["match", "--with-names", S, P, "@/both.bin"],
+        0,
+        "@/both.bin\tfmt/2 2\n",
+        "",
+    ),
+    Answered(
+        &["match", S, P, "@/one.bin", "--with-names"],
+        0,
+        "@/one.bin\tfmt/1 1\n",
+        "",
+    ),
+    Answered(
+        &["match", "--with-names", S, P, "@/none.bin"],
+        0,
+        "@/none.bin\t-\n",
+        "",
+    ),
+    Answered(
+        &["match", "--with-names", "--all", S, P, "@/both.bin"],
+        0,
+        "@/both.bin\tfmt/1 1\n@/both.bin\tfmt/2 2\n",
+        "",
+    ),
+    Answered(
+        &["match", "--all", "--with-names", S, P, "@/none.bin"],
+        0,
+        "@/none.bin\t-\n",
+        "",
+    ),
+    Answered(
+        &["match", "--with-names", S, P, "@/both.bin", "@/none.bin"],
+        0,
+        "@/both.bin\tfmt/2 2\n@/none.bin\t-\n",
+        "",
+    ),
+    Answered(
+        &["match", "--with-names", S, P, "@/missing.bin"],
+        3,
+        "",
+        "cannot open @/missing.bin\n",
+    ),
+    Answered(
+        &["match", "--with-names", S, P, "@"],
+        3,
+        "",
+        "@: read failed\n",
+    ),
+];
+
+#[test]
+fn prints_the_name_of_one_file_where_it_is_asked_for(rt: HostRuntime) -> Result<(), Fail> {
+    let folder = "named";
+    make_with(&rt, folder, BELOW)?;
+    put_many(&rt, folder)?;
+    for row in WITH_NAMES {
         assert!(rt; is_answered(&rt, folder, row)?, "{:?}", row.0);
     }
     remove(&rt, folder)

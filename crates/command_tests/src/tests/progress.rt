@@ -52,7 +52,7 @@ const REFUSED: Rows = Rows("fmt/1,1,BOF,0,,4\n", "");
 const WATCHED: &[Watched] = &[
     Watched(ONE, FIND_ONE, 0, "\r0 of 0 products\n"),
     Watched(TWO, FIND_TWO, 0, "\r0 of 1 products\r1 of 1 products\n"),
-    Watched(TWO, FIND_ONE, 1, "\r0 of 1 products\n"),
+    Watched(TWO, FIND_ONE, 1, "\r0 of 1 products\nmore than 1 rows\n"),
     Watched(
         TWO,
         FIND_UNMADE,

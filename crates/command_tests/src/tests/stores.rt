@@ -53,6 +53,13 @@ const ANSWERED: &[Answered] = &[
     ),
     Answered(
         b"AB",
+        &["match", "--with-names", "s", "p", "f"],
+        0,
+        "f\tfmt/2 2\n",
+        "",
+    ),
+    Answered(
+        b"AB",
         &["match", "s", "p", "f", "p", "f"],
         0,
         "f\tfmt/2 2\np\t-\nf\tfmt/2 2\n",
@@ -203,6 +210,13 @@ fn a_fault_of_the_signatures_comes_before_a_failed_read_of_the_priorities(
 ) -> Result<(), Fail> {
     let line = "signatures row 2: L9 signature of two formats\n";
     assert!(rt; all_report(&rt, OF_TWO_FAILS, OF_A_TABLE, 2, line)?);
+    Ok(())
+}
+
+#[test]
+fn says_of_the_only_file_that_the_reads_fail_by_its_name(rt: HostRuntime) -> Result<(), Fail> {
+    let shown = run_over(&rt, FILE_FAILS, &["match", "--with-names", "s", "p", "f"])?;
+    assert!(rt; shown.is(3, "", "f: read failed\n"));
     Ok(())
 }
 

@@ -1,53 +1,150 @@
 //! Help, the version, and words that are refused.
 
-use crate::tests::run_in;
+use crate::tests::{O, P, S, make_with, remove, run_in};
+use fixtures::TWO;
 use std::test::Fail;
+
+// What the help of the program begins with.
+const PROGRAM: &str =
+    "Identify files by signatures, and check tables of signatures for ambiguity\n";
 
 // Words that ask for a text, and how it begins.
 const TEXTS: &[(&[&str], &str)] = &[
-    (&["--help"], "Match files against tables of signatures\n"),
-    (&["-h"], "Match files against tables of signatures\n"),
-    (&["help"], "Match files against tables of signatures\n"),
+    (&["--help"], PROGRAM),
+    (&["-h"], PROGRAM),
+    (&["help"], PROGRAM),
     (
         &["show", "--help"],
-        "Print the canonical files of a table\n",
+        "Check a table and print it in canonical form\n",
     ),
     (
         &["match", "--help"],
-        "Print the formats left for each file\n",
+        "Print the formats that match each file, after priorities\n",
     ),
     (
         &["find", "--help"],
-        "Find a certificate of a table, or a file that leaves two of its formats\n",
+        "Certify that no file gets two formats, or find a file that does\n",
     ),
     (
         &["conflicts", "--help"],
-        "Find all pairs of formats that a file can leave\n",
+        "List all pairs of formats that can both be reported for one file\n",
     ),
-    (&["check", "--help"], "Judge a certificate of a table\n"),
+    (&["check", "--help"], "Check a certificate\n"),
     (
         &["witness", "--help"],
-        "Tell whether a file leaves two formats of a table\n",
+        "Tell whether two formats are reported for a file\n",
     ),
     (&["--version"], "pronom_sig 0.1.0\n"),
 ];
 
 // What the help of `match` says.
 const OF_MATCH: &[&str] = &[
-    "No line means that no format of the table is hit.",
-    "the file is ambiguous.\n\nWith more than one FILE each line begins",
-    "and the others go on.\n\nStatuses:\n  0  ",
-    "<SIGS> <PRIOS> <FILE>...",
+    "No line means that no format of the table\nmatches.",
+    "the file is ambiguous.\n\nWith more than one FILE, or with --with-names, each line begins with",
+    "other files are still identified.\n\nStatuses:\n  0  ",
+    "  2  usage error, or the table is refused\n",
+    "Usage: pronom_sig match [OPTIONS] <SIGS> <PRIOS> <FILE>...\n",
+    "  --with-names  Print the file's name also if there is only one FILE\n",
 ];
+
+// What the help of `find` says.
+const OF_FIND: &[&str] = &[
+    "Run `conflicts` and `dead` first, and `find` last: they show all that is to be\nmended",
+    "which `check` accepts\n  witness A B  the formats A and B are both reported for the file OUT",
+    "unless the search gave up.\n\n`decided` does not mean that the formats are the right ones.",
+    "Where the search gave up, the reason is on standard error:\n  more than N rows\n",
+    "or a priority\n    between their formats.\n  over 64 signatures outrank S or T: see conflicts\n",
+    "A priority between the formats\n    of S and T settles it; fewer",
+    "may, too.\n\nStatuses:\n  0  ",
+    "  --budget <N>  States that one search may visit [default: 100000]\n",
+    "Also print the bytes of OUT in hexadecimal\n",
+];
+
+// What the help of `conflicts` says.
+const OF_CONFLICTS: &[&str] = &[
+    "Pairs of which one format outranks\nthe other are left out.\n  ambiguous A B S T N  the formats",
+    "match. No shorter file that these two match gets both\n",
+    "  unknown A B S T      the search gave up on the signatures numbered S of A\n",
+    "With --hex the bytes of the file are the last word of an `ambiguous` line.",
+    "the pairs:\n  pairs P decided D ambiguous M unknown U\n\nA priority decides a pair even",
+    "So run\n`dead`, too.\n\nEach two signatures get a search",
+    "  2  usage error, or the table is refused\n",
+    "  --budget <N>  States that one search may visit [default: 100000]\n",
+];
+
+// What the help of `dead` says.
+const OF_DEAD: &[&str] = &[
+    "  dead A       A is reported for no file: A matches no file, or formats over A\n",
+    "The last line is `formats F alive .. dead .. unknown ..` and then the same of\n`signatures S`.",
+    "  --budget <N>  States that one search may visit [default: 100000]\n",
+];
+
+// What the help of `check` says.
+const OF_CHECK: &[&str] = &[
+    "Prints one line: `accepted`, or `refused` and the first fault of the\n",
+];
+
+// What the help of `witness` says.
+const OF_WITNESS: &[&str] = &["or `not ambiguous` if at most one is. An ambiguous file\nshows"];
+
+// What the help of `show` says.
+const OF_SHOW: &[&str] = &["first the header, then the\nrows in canonical form."];
+
+// The subcommands, and what their help says.
+const HELPS: &[(&str, &[&str])] = &[
+    ("show", OF_SHOW),
+    ("match", OF_MATCH),
+    ("find", OF_FIND),
+    ("conflicts", OF_CONFLICTS),
+    ("dead", OF_DEAD),
+    ("check", OF_CHECK),
+    ("witness", OF_WITNESS),
+];
+
+// Whether a subcommand's help says all of this, and if not, what it does not say.
+fn first_unsaid(
+    rt: &HostRuntime,
+    name: &str,
+    texts: &[&'static str],
+) -> Result<Option<&'static str>, Fail> {
+    let shown = run_in(rt, "", &[name, "--help"])?;
+    for text in texts {
+        if !shown.answer().contains(*text) {
+            return Ok(Some(*text));
+        }
+    }
+    Ok(None)
+}
 
 #[test]
 fn shows_help_and_the_version(rt: HostRuntime) -> Result<(), Fail> {
     for (words, begin) in TEXTS {
         assert!(rt; run_in(&rt, "", words)?.begins(begin), "{words:?}");
     }
-    let shown = run_in(&rt, "", &["match", "--help"])?;
-    for text in OF_MATCH {
-        assert!(rt; shown.answer().contains(*text), "{text}");
+    Ok(())
+}
+
+#[test]
+fn the_help_of_a_subcommand_says_what_it_prints(rt: HostRuntime) -> Result<(), Fail> {
+    for (name, texts) in HELPS {
+        let unsaid = first_unsaid(&rt, name, texts)?;
+        assert!(rt; unsaid.is_none(), "{name}: {unsaid:?}");
+    }
+    Ok(())
+}
+
+// Whether no line of the text has more columns than these.
+fn is_within(text: &str, columns: usize) -> bool {
+    text.lines().all(|line| line.len() <= columns)
+}
+
+#[test]
+fn a_line_of_help_has_at_most_78_columns(rt: HostRuntime) -> Result<(), Fail> {
+    let shown = run_in(&rt, "", &["--help"])?;
+    assert!(rt; is_within(shown.answer(), 78));
+    for (name, _) in HELPS {
+        let shown = run_in(&rt, "", &[*name, "--help"])?;
+        assert!(rt; is_within(shown.answer(), 78), "{name}");
     }
     Ok(())
 }
@@ -94,15 +191,23 @@ fn refuses_wrong_words(rt: HostRuntime) -> Result<(), Fail> {
     Ok(())
 }
 
-// The same of words for `find`.
-const WITHOUT_BUDGET: &[(&[&str], &str)] = &[
+// The same of words for a search.
+const WITHOUT_NAME: &[(&[&str], &str)] = &[
     (
-        &["find", "--out", "o", "a", "b"],
-        "error: the following required arguments were not provided:\n  --budget <N>\n",
+        &["find", "a", "b"],
+        "error: the following required arguments were not provided:\n  --out <OUT>\n",
     ),
     (
         &["find", "--budget", "100", "a", "b"],
         "error: the following required arguments were not provided:\n  --out <OUT>\n",
+    ),
+    (
+        &["find", "--budget", "--out", "o", "a", "b"],
+        "error: a value is required for '--budget <N>' but none was supplied\n",
+    ),
+    (
+        &["dead", "--budget", "0", "a", "b"],
+        "error: invalid value '0' for '--budget <N>': 0 is not in 1..=4294967295\n",
     ),
     (
         &["find", "--budget", "0", "--out", "o", "a", "b"],
@@ -123,9 +228,32 @@ const WITHOUT_BUDGET: &[(&[&str], &str)] = &[
 ];
 
 #[test]
-fn wants_a_budget_and_a_name(rt: HostRuntime) -> Result<(), Fail> {
-    for (words, begin) in WITHOUT_BUDGET {
+fn wants_a_name_and_a_budget_that_is_a_number(rt: HostRuntime) -> Result<(), Fail> {
+    for (words, begin) in WITHOUT_NAME {
         assert!(rt; run_in(&rt, "", words)?.refuses(begin), "{words:?}");
     }
     Ok(())
+}
+
+// Words with no budget, and what is answered of two formats that no file has both of.
+const BY_DEFAULT: &[(&[&str], &str)] = &[
+    (&["find", "--out", O, S, P], "decided\n"),
+    (
+        &["conflicts", S, P],
+        "pairs 1 decided 1 ambiguous 0 unknown 0\n",
+    ),
+    (
+        &["dead", S, P],
+        "formats 2 alive 2 dead 0 unknown 0 signatures 2 alive 2 dead 0 unknown 0\n",
+    ),
+];
+
+#[test]
+fn a_budget_can_be_left_out(rt: HostRuntime) -> Result<(), Fail> {
+    let folder = "by_default";
+    make_with(&rt, folder, TWO)?;
+    for (words, out) in BY_DEFAULT {
+        assert!(rt; run_in(&rt, folder, words)?.is(0, out, ""), "{words:?}");
+    }
+    remove(&rt, folder)
 }

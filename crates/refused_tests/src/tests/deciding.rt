@@ -6,7 +6,7 @@ use fixtures::{BOTH_ENDS, OVER_BOTH, Rows, TWO};
 use sig_auto::Auto;
 use sig_cert::{CheckError, check, check_witness};
 use sig_core::CoreError;
-use sig_find::{Found, find};
+use sig_find::{Fate, Found, SignatureLife, decide_format, find};
 use sig_product::{Product, ProductError, all_blockers};
 use sig_table::{FormatId, Sequence, SigId, Table};
 use std::alloc::AllocError;
@@ -285,6 +285,51 @@ fn finds_or_lacks(rt: &HostRuntime, rows: Rows, budget: u32, finds: Finds) -> Re
 fn find_lacks_memory_or_is_right(rt: HostRuntime) -> Result<(), Fail> {
     for (rows, budget, finds) in FINDS {
         assert!(rt; finds_or_lacks(&rt, *rows, *budget, *finds)?);
+    }
+    Ok(())
+}
+
+// Tables, budgets, and what is found of the last format.
+const FATES: &[(Rows, u32, Fate)] = &[
+    (ONE_FORMAT, 100, Fate::Alive),
+    (ONE_FORMAT, 2, Fate::Unknown),
+    (UNDER_ITS_FRONT, 100, Fate::Dead),
+];
+
+// Each file that begins with 41 42 begins with 41.
+const UNDER_ITS_FRONT: Rows = Rows("fmt/1,1,BOF,0,,41\nfmt/2,2,BOF,0,,4142\n", "fmt/1,fmt/2\n");
+
+// What is found of the last format of a table that has one.
+fn last_fate(
+    rt: &HostRuntime,
+    table: &Table,
+    budget: u32,
+) -> Result<(Fate, Vec<SignatureLife>), AllocError> {
+    let last = table.format_count().saturating_sub(1) as u16;
+    decide_format(rt.alloc(), table, FormatId(last), budget)
+}
+
+// Whether it is this, or memory was wanted.
+fn is_fate_or_lacks(found: &Result<(Fate, Vec<SignatureLife>), AllocError>, fate: Fate) -> bool {
+    match found {
+        Ok((found, lives)) => *found == fate && lives.len() == 1,
+        Err(_) => true,
+    }
+}
+
+fn decides_or_lacks(rt: &HostRuntime, rows: Rows, budget: u32, fate: Fate) -> Result<bool, Fail> {
+    let table = table_of(rt, rows)?;
+    begin(rt);
+    let first = last_fate(rt, &table, budget);
+    end(rt);
+    let (again, _) = last_fate(rt, &table, budget)?;
+    Ok(is_fate_or_lacks(&first, fate) && again == fate)
+}
+
+#[test]
+fn decide_format_lacks_memory_or_is_right(rt: HostRuntime) -> Result<(), Fail> {
+    for (rows, budget, fate) in FATES {
+        assert!(rt; decides_or_lacks(&rt, *rows, *budget, *fate)?);
     }
     Ok(())
 }

@@ -1,7 +1,7 @@
 use Rattle.std.proofs.Common.{◌≡◌, true, ap, ap₂, codes, ◌∙◌}
 use Rattle.clap.specs.Simple.{app_of_fields, on_top}
 use Rattle.clap.specs.Words.{App, Shape, app_of, new_app, with_subcommand}
-use Rattle.sig_command.specs.CommandLine.{check_command, conflicts_command, find_command, match_command, show_command}
+use Rattle.sig_command.specs.CommandLine.{check_command, conflicts_command, dead_command, find_command, match_command, show_command}
 use Rattle.sig_command.proofs.args.command_line.Goals as goal
 
 abbrev top : App
@@ -21,5 +21,6 @@ returns-clause-app c =
     let second_is : app_of c.in_ok-subcommand-2.field-0 ≡ with_subcommand (with_subcommand top show_command.top) match_command.top = c.in_ok-subcommand-2.ensures.shape c.in_ok-match_line.ensures.line.has_no_globals ∙ ap₂ with_subcommand first_is (ap top_of c.in_ok-match_line.ensures.line.is_app) in
     let third_is : app_of c.in_ok-subcommand-3.field-0 ≡ with_subcommand (with_subcommand (with_subcommand top show_command.top) match_command.top) find_command.top = c.in_ok-subcommand-3.ensures.shape c.in_ok-find_line.ensures.line.has_no_globals ∙ ap₂ with_subcommand second_is (ap top_of c.in_ok-find_line.ensures.line.is_app) in
     let fourth_is : app_of c.in_ok-subcommand-4.field-0 ≡ with_subcommand (with_subcommand (with_subcommand (with_subcommand top show_command.top) match_command.top) find_command.top) conflicts_command.top = c.in_ok-subcommand-4.ensures.shape c.in_ok-conflicts_line.ensures.line.has_no_globals ∙ ap₂ with_subcommand third_is (ap top_of c.in_ok-conflicts_line.ensures.line.is_app) in
-    let fifth_is : app_of c.in_ok-subcommand-5.field-0 ≡ with_subcommand (with_subcommand (with_subcommand (with_subcommand (with_subcommand top show_command.top) match_command.top) find_command.top) conflicts_command.top) check_command.top = c.in_ok-subcommand-5.ensures.shape c.in_ok-check_line.ensures.line.has_no_globals ∙ ap₂ with_subcommand fourth_is (ap top_of c.in_ok-check_line.ensures.line.is_app) in
-    c.in_ok-command.ensures.shape c.in_ok-witness_line.ensures.line.has_no_globals ∙ ap₂ with_subcommand fifth_is (ap top_of c.in_ok-witness_line.ensures.line.is_app)
+    let fifth_is : app_of c.in_ok-subcommand-5.field-0 ≡ with_subcommand (with_subcommand (with_subcommand (with_subcommand (with_subcommand top show_command.top) match_command.top) find_command.top) conflicts_command.top) dead_command.top = c.in_ok-subcommand-5.ensures.shape c.in_ok-dead_line.ensures.line.has_no_globals ∙ ap₂ with_subcommand fourth_is (ap top_of c.in_ok-dead_line.ensures.line.is_app) in
+    let sixth_is : app_of c.in_ok-subcommand-6.field-0 ≡ with_subcommand (with_subcommand (with_subcommand (with_subcommand (with_subcommand (with_subcommand top show_command.top) match_command.top) find_command.top) conflicts_command.top) dead_command.top) check_command.top = c.in_ok-subcommand-6.ensures.shape c.in_ok-check_line.ensures.line.has_no_globals ∙ ap₂ with_subcommand fifth_is (ap top_of c.in_ok-check_line.ensures.line.is_app) in
+    c.in_ok-command.ensures.shape c.in_ok-witness_line.ensures.line.has_no_globals ∙ ap₂ with_subcommand sixth_is (ap top_of c.in_ok-witness_line.ensures.line.is_app)

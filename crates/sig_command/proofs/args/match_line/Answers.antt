@@ -18,8 +18,11 @@ returns-clause-line c =
     let file_local : c.help.result.global ≡ false = rw (c.help.ensures, c.num_args.ensures.0) c.required.ensures.local in
     let flag : rule_of c.help-2.result ≡ given (codes "all") = rw c.help-2.ensures c.flag.ensures.rule in
     let flag_local : c.help-2.result.global ≡ false = rw c.help-2.ensures c.flag.ensures.local in
-    let words : app_of c.in_ok-arg.field-0 ≡ with_rule (of_table (new_app (codes "match"))) (several (codes "FILE")) = c.in_ok-arg.ensures.shape file_local ∙ ap₂ with_rule table file in
+    let named : rule_of c.help-3.result ≡ given (codes "with-names") = rw c.help-3.ensures c.flag-2.ensures.rule in
+    let named_local : c.help-3.result.global ≡ false = rw c.help-3.ensures c.flag-2.ensures.local in
+    let first : app_of c.in_ok-arg.field-0 ≡ with_rule (of_table (new_app (codes "match"))) (several (codes "FILE")) = c.in_ok-arg.ensures.shape file_local ∙ ap₂ with_rule table file in
+    let second : app_of c.in_ok-arg-2.field-0 ≡ with_rule (with_rule (of_table (new_app (codes "match"))) (several (codes "FILE"))) (given (codes "all")) = c.in_ok-arg-2.ensures.shape flag_local ∙ ap₂ with_rule first flag in
     record {
-      is_app = c.in_ok-line.ensures.shape flag_local ∙ ap₂ with_rule words flag;
-      has_no_globals = c.in_ok-line.ensures.globals ∙ or_false _ _ flag_local ∙ c.in_ok-arg.ensures.globals ∙ or_false _ _ file_local ∙ table_local;
+      is_app = c.in_ok-line.ensures.shape named_local ∙ ap₂ with_rule second named;
+      has_no_globals = c.in_ok-line.ensures.globals ∙ or_false _ _ named_local ∙ c.in_ok-arg-2.ensures.globals ∙ or_false _ _ flag_local ∙ c.in_ok-arg.ensures.globals ∙ or_false _ _ file_local ∙ table_local;
     }

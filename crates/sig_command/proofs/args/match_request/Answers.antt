@@ -1,6 +1,7 @@
-use Rattle.std.proofs.Common.{◌≡◌, ◌∙◌, ◌∷◌, codes, refl, sym, None, Some}
+use Rattle.std.proofs.Common.{◌≡◌, ◌⊎◌, ◌<◌, ◌∙◌, ◌∷◌, arith, codes, length, refl, rules, subst, sym, true, None, Some}
 use Rattle.clap.specs.Matches.{found_of}
 use Rattle.clap.specs.Words.{rows_of}
+use Rattle.sig_command.specs.CommandLine.{HasFlag}
 use Rattle.sig_command.proofs.RequestLemmas.{no_match}
 use Rattle.sig_command.proofs.RowLemmas.{all_of-rows, flag_is_read, many_named, none_named, one_named}
 use Rattle.sig_command.proofs.args.match_request.Goals as goal
@@ -27,13 +28,18 @@ returns-in-len1-clause-asked c = (
   c.in_ok-table.ensures.named,
   one_named (found_of c.args.matches.now) c.in_ok-files.files.now _ c.in-len1.len_at_least c.in-len1.len_below c.in_ok-files.ensures,
   flag_is_read (found_of c.args.matches.now) (codes "all") _ c.get_flag-all.ensures.value c.get_flag-all.ensures.other c.get_flag-all.ensures.none,
+  subst (λ b. HasFlag (codes "with-names") b (rows_of (found_of c.args.matches.now))) c.if-not-with_names.true
+      (flag_is_read (found_of c.args.matches.now) (codes "with-names") _ c.get_flag-with_names.ensures.value c.get_flag-with_names.ensures.other c.get_flag-with_names.ensures.none),
 )
 
 pub returns-in_default-clause-asked : goal.returns-in_default-clause-asked
-returns-in_default-clause-asked c = (
-  rows_of (found_of c.args.matches.now),
-  refl,
-  c.in_ok-table.ensures.named,
-  many_named (found_of c.args.matches.now) c.in_ok-files.files.now c.in_default.len_at_least c.in_ok-files.ensures,
-  flag_is_read (found_of c.args.matches.now) (codes "all") _ c.get_flag-all.ensures.value c.get_flag-all.ensures.other c.get_flag-all.ensures.none,
-)
+returns-in_default-clause-asked c =
+    let some : 0 < length c.in_ok-files.files.now = grind arith in
+    let several : (1 < length c.in_ok-files.files.now) ⊎ (c.get_flag-with_names.result ≡ true) = search rules in (
+      rows_of (found_of c.args.matches.now),
+      refl,
+      c.in_ok-table.ensures.named,
+      many_named (found_of c.args.matches.now) c.in_ok-files.files.now _ some several
+          (flag_is_read (found_of c.args.matches.now) (codes "with-names") _ c.get_flag-with_names.ensures.value c.get_flag-with_names.ensures.other c.get_flag-with_names.ensures.none) c.in_ok-files.ensures,
+      flag_is_read (found_of c.args.matches.now) (codes "all") _ c.get_flag-all.ensures.value c.get_flag-all.ensures.other c.get_flag-all.ensures.none,
+    )

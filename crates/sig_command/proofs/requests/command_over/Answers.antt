@@ -14,7 +14,7 @@ returns-in-Err-clause-faults g c = λ taken high.
 
 pub returns-in-Err-clause-told : goal.returns-in-Err-clause-told
 returns-in-Err-clause-told g c =
-    memory_tells (texts_of c.args.words.now) _ _ _ _ _ _ (λ taken. c.show_usage.ensures.memory (c.in-Err.ensures.taken taken))
+    memory_tells (g.S.Store.held c.args.store.now) (texts_of c.args.words.now) _ _ _ _ _ _ _ _ (λ taken. c.show_usage.ensures.memory (c.in-Err.ensures.taken taken))
 
 pub returns-in-Err-clause-words : goal.returns-in-Err-clause-words
 returns-in-Err-clause-words g c =
