@@ -1,15 +1,27 @@
 -- The bytes with which words begin: of rows, of parts and items, and of a whole tree.
-use Rattle.sig_auto.proofs.Common.{◌≡◌, ◌↔◌, ◌⊎◌, ℕ, ◌+◌, ◌-◌, ◌<◌, ◌≤◌, ◌&&◌, Bool, true, false, nat_eq, cond, List, [], ◌∷◌, ◌++◌, length, drop, get_or, IsTrue, slice_index, Option, subst, sym, ◌∙◌, refl, inl, inr, arith, and_parts, eq-eqb, eqb-true, false≢true, lt-ltb, ltb-true, get_or-replicate, AlternativesSound, AtomSound, AtomsSound, ItemSound, IsBefore, Atom, Item, InOrder, IsSequence, SequenceView, Position, Class, Within, Outside, Begins, BeginsOutside, InClass, any, is_nullable, above, behind, below, between, lower_at, rest, upper_at, BeginsOn, Accepting, Follows, IsBefore-cases, Tree, Never, Empty, Slot, Gap, Then, Or, alternatives_tree, atom_tree, atoms_tree, back_tree, bracket_tree, front_tree, item_tree, items_tree, row_tree, rows_tree, whole_tree, Takes, slots_of, IsTrim}
+use Rattle.sig_auto.proofs.Common.{◌≡◌, ◌↔◌, ◌⊎◌, ℕ, ◌+◌, ◌-◌, ◌<◌, ◌≤◌, ◌&&◌, Bool, true, false, nat_eq, cond, List, [], ◌∷◌, ◌++◌, length, drop, get_or, IsTrue, slice_index, Option, subst, sym, ◌∙◌, refl, inl, inr, arith, and_parts, eq-eqb, eqb-true, false≢true, lt-ltb, ltb-true, get_or-append_right, get_or-replicate, get_or_append_left, AlternativesSound, AtomSound, AtomsSound, ItemSound, IsBefore, Atom, Item, InOrder, IsSequence, SequenceView, Position, Class, Within, Outside, Begins, BeginsOutside, InClass, any, is_nullable, above, behind, below, between, lower_at, rest, upper_at, BeginsOn, Accepting, Follows, IsBefore-cases, Tree, Never, Empty, Slot, Gap, Then, Or, alternatives_tree, atom_tree, atoms_tree, back_tree, bracket_tree, front_tree, item_tree, items_tree, row_tree, rows_tree, whole_tree, Takes, class_of, classes_of, is_first, slots_of, IsTrim}
 use Rattle.sig_expr.specs.declared.item.Atom.TheVariants as atom
 use Rattle.sig_expr.specs.declared.item.Item.TheVariants as item
 use Rattle.sig_table.specs.declared.position.Position.TheVariants as position
-use Rattle.sig_auto.proofs.LocalLemmas.{gap_begins, is_first-slot}
+use Rattle.sig_auto.proofs.LocalLemmas.{IsSlot, first_or, first_then, gap_begins, is_first-slot}
 use Rattle.sig_auto.proofs.RowLemmas.{between_same, between_split}
-use Rattle.sig_auto.proofs.SuccessorLemmas.{begins_or, begins_then}
+use Rattle.sig_auto.proofs.TakenLemmas.{length_classes}
 use Rattle.sig_auto.proofs.TrimLemmas.{accepting_exact, follows_exact}
 use Rattle.sig_auto.proofs.WholeLemmas.{Long, Long-append, long_above, long_below, long_between, some_between, whole_is_trim}
 
 -- ---- a whole tree
+
+-- what is so of a branch's slot, and its class, is so in the tree
+class_joined : (tree a b : Tree) (before byte q : ℕ) {P A B : Type 0} → classes_of tree ≡ classes_of a ++ classes_of b → (A → IsSlot a before q) → (B → IsSlot b (before + slots_of a) q) → (P ↔ (A ⊎ B)) → (P × InClass (class_of tree (q - before)) byte) ↔ ((A × InClass (class_of a (q - before)) byte) ⊎ (B × InClass (class_of b (q - (before + slots_of a))) byte))
+class_joined tree a b before byte q classes left right either = grind (arith, get_or_append_left, length_classes, get_or-append_right)
+
+-- one branch after the other
+begins_then : (a b : Tree) (before byte q : ℕ) → BeginsOn (Then a b) before byte q ↔ (BeginsOn a before byte q ⊎ ((((is_nullable a ≡ true) × (is_first b (before + slots_of a) q ≡ true))) × InClass (class_of b (q - (before + slots_of a))) byte))
+begins_then a b before byte q = class_joined (Then a b) a b before byte q refl (is_first-slot a before q) (λ h. is_first-slot b (before + slots_of a) q h.1) (first_then a b before q)
+
+-- one of two branches
+begins_or : (a b : Tree) (before byte q : ℕ) → BeginsOn (Or a b) before byte q ↔ (BeginsOn a before byte q ⊎ BeginsOn b (before + slots_of a) byte q)
+begins_or a b before byte q = class_joined (Or a b) a b before byte q refl (is_first-slot a before q) (is_first-slot b (before + slots_of a) q) (first_or a b before q)
 
 -- the bytes that begin a tree are those that some first slot takes
 begins_slot : (c : Class) (before b : ℕ) → Begins (Slot c) b ↔ ((q : ℕ) × BeginsOn (Slot c) before b q)
@@ -92,12 +104,12 @@ not_answer {H} p a x y c is first second small sound h = grind (arith, begins_pa
 
 -- ---- what can be skipped
 
-rows_not_nullable : (n : ℕ) (rs : List (List Class)) → 0 < n → Long n rs → is_nullable (rows_tree rs) ≡ false
+pub rows_not_nullable : (n : ℕ) (rs : List (List Class)) → 0 < n → Long n rs → is_nullable (rows_tree rs) ≡ false
 rows_not_nullable n [] some h = refl
 rows_not_nullable n ([] ∷ rs) some h = let none = h.0 in absurd (omega arith)
 rows_not_nullable n ((c ∷ cs) ∷ rs) some h = rows_not_nullable n rs some h.1
 
-atom_not_nullable : (p : Atom) → AtomSound p → is_nullable (atom_tree p) ≡ false
+pub atom_not_nullable : (p : Atom) → AtomSound p → is_nullable (atom_tree p) ≡ false
 atom_not_nullable (atom.Byte b) sound = refl
 atom_not_nullable (atom.Range a b) sound = grind (arith, rows_not_nullable, long_between)
 atom_not_nullable (atom.Not a) sound = grind (arith, rows_not_nullable, Long-append, long_below, long_above)
@@ -107,7 +119,7 @@ atom_not_nullable (atom.NotRange a b) sound = grind (arith, rows_not_nullable, L
 pub begins_atoms : (p : Atom) (ps : List Atom) (b : ℕ) → AtomSound p → Begins (atoms_tree (p ∷ ps)) b ↔ Begins (atom_tree p) b
 begins_atoms p ps b sound = grind (arith, false≢true, atom_not_nullable p sound)
 
-alternatives_not_nullable : (alternatives : List (List Atom)) → AlternativesSound alternatives → is_nullable (alternatives_tree alternatives) ≡ false
+pub alternatives_not_nullable : (alternatives : List (List Atom)) → AlternativesSound alternatives → is_nullable (alternatives_tree alternatives) ≡ false
 alternatives_not_nullable [] sound = refl
 alternatives_not_nullable ([] ∷ later) sound = let some = sound.2 in absurd (omega arith)
 alternatives_not_nullable ((p ∷ ps) ∷ later) sound = rw (atom_not_nullable p sound.0.0, alternatives_not_nullable later sound.1) refl

@@ -1,16 +1,19 @@
 -- What comes behind a state.
-use Rattle.sig_auto.proofs.Common.{◌||◌, ◌≡◌, ℕ, zero, suc, ◌+◌, ◌-◌, ◌<◌, ◌≤◌, ◌==◌, true, false, List, [], ◌∷◌, drop, get_or, length, Option, Some, None, Fits, w32, refl, sym, ap, is_some, ◌∙◌, subst, inl, inr, arith, IfSome, and_from, and_parts, cases_lt, cond-false, cond-true, eq-eqb, eqb-true, le-leb, leb-true, lt-ltb, ltb-true, ne_eqb, or_cases, any, Behind, Cell, Joint, Joints, IsBehind, IsCellOf, LiesBehind, is_own, slots_in, Lined, entered_first, is_joint, joint_past, seek, AreJoints, IsJoint, entered, exit, gone, has_slot, land, leave, own}
+use Rattle.sig_auto.proofs.Common.{◌||◌, ◌≡◌, ℕ, zero, suc, ◌+◌, ◌-◌, ◌<◌, ◌≤◌, ◌==◌, true, false, List, [], ◌∷◌, drop, get_or, length, Option, Some, None, Fits, w32, refl, sym, ap, is_some, ◌∙◌, subst, inl, inr, arith, IfSome, and_from, and_parts, cases_lt, cond-false, cond-true, eq-eqb, eqb-true, le-leb, leb-true, lt-ltb, ltb-true, ne_eqb, or_cases, any, Behind, Cell, Joint, Joints, IsBehind, IsCellOf, LiesBehind, is_own, slots_in, Lined, entered_first, joint_past, seek, AreJoints, IsJoint, entered, has_slot, leave, own}
 use Rattle.sig_auto.proofs.JoinLemmas.{drop_past, drop_some, here_of, onward_here, onward_other}
 use Rattle.sig_auto.proofs.LineLemmas.{exit_at, gone_at, lined_later}
 use Rattle.sig_auto.proofs.WayLemmas.{entered_past, land_past, passes_none}
 
 -- ---- the first cell behind a joint
 
+pub drop_twice : (cs : List Cell) (k m : ℕ) → drop m (drop k cs) ≡ drop (k + m) cs
+drop_twice cs zero m = ap (λ x. drop x cs) (let e : m ≡ 0 + m = omega arith in e)
+drop_twice [] (suc k) zero = sym (drop_past [] (suc k + 0) (omega arith))
+drop_twice [] (suc k) (suc m) = sym (drop_past [] (suc k + suc m) (omega arith))
+drop_twice (c ∷ cs) (suc k) m = drop_twice cs k m ∙ ap (λ x. drop x (c ∷ cs)) (let e : suc (k + m) ≡ suc k + m = omega arith in e)
+
 pub drop_more : (cells xs : List Cell) (i : ℕ) (c : Cell) → drop i cells ≡ c ∷ xs → drop (i + 1) cells ≡ xs
-drop_more [] xs zero c h = absurd (cc)
-drop_more [] xs (suc i) c h = absurd (cc)
-drop_more (d ∷ cells) xs zero c h = cc
-drop_more (d ∷ cells) xs (suc i) c h = (let e : suc i + 1 ≡ suc (i + 1) = omega arith in ap (λ x. drop x (d ∷ cells)) e) ∙ drop_more cells xs i c h
+drop_more cells xs i c h = sym (drop_twice cells i 1) ∙ ap (drop 1) h
 
 pub seek_enters : (cells xs : List Cell) (i j q : ℕ) → drop i cells ≡ xs → entered (Some j) xs q ≡ entered_first (drop (seek j xs i) cells) q
 seek_enters cells [] i j q h = sym (ap (λ x. entered_first x q) h)
@@ -89,16 +92,8 @@ behind_stays cells p k d b o lined some at leaves owns own_is enters ends =
     let slot : has_slot c p ≡ true = subst (λ x. has_slot x p ≡ true) head at.slot in
     let nothing : drop b.enters cells ≡ [] = drop_past cells b.enters (omega arith) in
     record {
-      goes = λ q.
-          cond-false (p == 0) (entered (Some 0) cells q) (gone cells p q) (ne_eqb p 0 (λ z. omega arith))
-          ∙ gone_at cells rest 0 k p q c lined here slot
-          ∙ ap (λ x. x || entered (leave c p) rest q) (owns q)
-          ∙ ap (λ x. is_own o q || entered x rest q) leaves
-          ∙ ap (λ x. is_own o q || x) (entered_past rest None q (passes_none rest))
-          ∙ ap (λ x. is_own o q || entered_first x q) (sym nothing)
-          ∙ ap (λ x. is_own x q || entered_first (drop b.enters cells) q) (sym own_is);
-      ends = ends ∙ ap (λ x. is_joint x (length cells))
-          (sym (cond-false (p == 0) (land (Some 0) cells) (exit cells p) (ne_eqb p 0 (λ z. omega arith)) ∙ exit_at cells rest 0 k p c lined here slot ∙ ap (λ x. land x rest) leaves ∙ land_past rest None (passes_none rest)));
+      goes = λ q. grind (arith, cond-false, ne_eqb, gone_at cells rest 0 k p q c lined here slot, entered_past rest None q (passes_none rest));
+      ends = grind (arith, cond-false, ne_eqb, exit_at cells rest 0 k p c lined here slot, land_past rest None (passes_none rest));
     }
 
 pub last_cell : (cells : List Cell) (d : Cell) → Lined 0 cells → 0 < length cells → (get_or cells (length cells - 1) d).before + (get_or cells (length cells - 1) d).count ≡ slots_in cells
@@ -130,9 +125,6 @@ passed_on cells joints k d e h less e_is =
 pub met_here : (cells : List Cell) (k q : ℕ) (d : Cell) → k < length cells → q ≡ (get_or cells k d).before + 1 → entered_first (drop k cells) q ≡ true
 met_here cells k q d less is = grind (arith, here_of cells k d less, first_here, eq-eqb)
 
-pub none_entered : (cells : List Cell) (k q : ℕ) → length cells ≤ k → entered_first (drop k cells) q ≡ false
-none_entered cells k q h = ap (λ x. entered_first x q) (drop_past cells k h)
-
 pub cell_within : (cells : List Cell) (k : ℕ) (d : Cell) → Lined 0 cells → k < length cells → (get_or cells k d).before + (get_or cells k d).count ≤ slots_in cells
 cell_within cells k d lined less = grind (arith, lined_later cells (drop (k + 1) cells) 0 k (get_or cells k d) lined (here_of cells k d less), here_of cells k d less)
 
@@ -160,12 +152,6 @@ pub lined_drop : (n m : ℕ) (cs : List Cell) → Lined n cs → LiesBehind n (d
 lined_drop n zero cs h = record { before = n; most = omega arith; lined = h }
 lined_drop n (suc m) [] h = record { before = n; most = omega arith; lined = tt }
 lined_drop n (suc m) (c ∷ cs) h = grind (arith, lined_drop (n + c.count) m cs h.2)
-
-pub drop_twice : (cs : List Cell) (k m : ℕ) → drop m (drop k cs) ≡ drop (k + m) cs
-drop_twice cs zero m = ap (λ x. drop x cs) (let e : m ≡ 0 + m = omega arith in e)
-drop_twice [] (suc k) zero = sym (drop_past [] (suc k + 0) (omega arith))
-drop_twice [] (suc k) (suc m) = sym (drop_past [] (suc k + suc m) (omega arith))
-drop_twice (c ∷ cs) (suc k) m = drop_twice cs k m ∙ ap (λ x. drop x (c ∷ cs)) (let e : suc (k + m) ≡ suc k + m = omega arith in e)
 
 pub behind_after : (cells : List Cell) (joints : Joints) (p k : ℕ) (d : Cell) (e : Joint) (enters : ℕ) (o : Option ℕ) → Lined 0 cells → AreJoints cells joints → IsCellOf cells p k → e ≡ get_or joints.each.items k e →
     IfSome o (λ q. q ≤ (get_or cells k d).before + (get_or cells k d).count) → enters ≡ e.enters → IfSome o (λ q. LiesBehind q (drop enters cells))

@@ -1,8 +1,8 @@
 -- Cells that are made one after the other.
-use Rattle.sig_auto.proofs.Common.{◌≡◌, ℕ, zero, suc, ◌+◌, ◌-◌, ◌<◌, ◌≤◌, ◌==◌, if◌then◌else◌, Bool, true, false, List, [], ◌∷◌, ◌++◌, drop, get_or, length, map, refl, sym, ap, ◌∙◌, subst, arith, append_assoc, length-append, drop-cons, cond-false, cond-true, eqb-false, eqb-true, false≢true, Class, any, Tree, Slot, Then, alternatives_tree, atom_tree, atoms_tree, row_tree, rows_tree, slots_of, Atom, AlternativesSound, AtomSound, AtomsSound, Cell, Puts, cells_in, cells_of, middle}
+use Rattle.sig_auto.proofs.Common.{◌≡◌, ℕ, zero, suc, ◌+◌, ◌-◌, ◌<◌, ◌≤◌, ◌==◌, if◌then◌else◌, Bool, true, false, List, [], ◌∷◌, ◌++◌, drop, get_or, length, map, refl, sym, ap, ◌∙◌, subst, arith, append_assoc, length-append, cond-false, cond-true, eqb-false, eqb-true, false≢true, Class, any, Tree, Slot, Then, alternatives_tree, atom_tree, atoms_tree, row_tree, rows_tree, slots_of, Atom, AlternativesSound, AtomSound, AtomsSound, Cell, Puts, cells_in, cells_of, middle}
 use Rattle.sig_auto.proofs.WholeLemmas.{atom_has_track}
-use Rattle.sig_auto.proofs.FlatLemmas.{atom_needs}
-use Rattle.sig_auto.proofs.JoinLemmas.{drop_past}
+use Rattle.sig_auto.proofs.BeginLemmas.{atom_not_nullable}
+use Rattle.sig_auto.proofs.JoinLemmas.{drop_past, here_of}
 use Rattle.sig_auto.proofs.LineLemmas.{length_of}
 use Rattle.sig_auto.proofs.ShapeLemmas.{mid_inner, mid_right, null_of_none}
 
@@ -20,9 +20,6 @@ pub comes_then : (t a b : Tree) (n front behind : ℕ) (old new next : List Cell
 comes_then t a b n front behind old new next slots from more mid h is put = grind (arith, puts_length a slots from mid new next more put, append_assoc)
 
 -- ---- rows
-
-pub drop_next : {A : Type 0} (xs : List A) (j : ℕ) (d : A) → j < length xs → drop j xs ≡ get_or xs j d ∷ drop (j + 1) xs
-drop_next xs j d h = drop-cons xs j d h ∙ ap (λ x. get_or xs j d ∷ drop x xs) (let e : suc j ≡ j + 1 = omega arith in e)
 
 row_cells : (cs : List Class) → cells_in (row_tree cs) ≡ length cs
 row_cells [] = refl
@@ -42,7 +39,7 @@ pub row_steps : (t : Tree) (row : List Class) (j n front behind : ℕ) (old new 
     Comes t (row_tree (drop j row)) n front behind old new slots from → j < length row → c ≡ get_or row j d → last ≡ (j + 1 == length row) → list ≡ new → mid ≡ (if last then behind else length list + 1) → Puts (Slot c) slots from mid new next more →
     Comes t (row_tree (drop (j + 1) row)) n front behind old next more mid
 row_steps t row j n front behind old new next slots from more mid list c d last h less is told same mid_is put =
-    grind (arith, drop_next row j d less, comes_then t (Slot (get_or row j d)) (row_tree (drop (j + 1) row)) n front behind old new next slots from more mid, row_cells, length_drop, joint_is, eqb-true, eqb-false)
+    grind (arith, here_of row j d less, comes_then t (Slot (get_or row j d)) (row_tree (drop (j + 1) row)) n front behind old new next slots from more mid, row_cells, length_drop, joint_is, eqb-true, eqb-false)
 
 -- there is room for the next part
 pub part_room : (t a b : Tree) (n front behind : ℕ) (old new : List Cell) (slots from : ℕ) → Comes t (Then a b) n front behind old new slots from → n + slots_of t ≤ 65535 → length old + cells_in t ≤ 65535 → (slots + slots_of a ≤ 65535) × (length new + cells_in a ≤ 65535)
@@ -50,31 +47,34 @@ part_room t a b n front behind old new slots from h few short = grind arith
 
 pub row_room : (t : Tree) (row : List Class) (j n front behind : ℕ) (old new list : List Cell) (slots from : ℕ) → Comes t (row_tree (drop j row)) n front behind old new slots from → j < length row → list ≡ new → n + slots_of t ≤ 65535 → length old + cells_in t ≤ 65535 → (slots < 65535) × (length list + 1 ≤ 65535)
 row_room t row j n front behind old new list slots from h less is few short =
-    grind (arith, drop_next row j any less, part_room t (Slot (get_or row j any)) (row_tree (drop (j + 1) row)) n front behind old new slots from)
+    grind (arith, here_of row j any less, part_room t (Slot (get_or row j any)) (row_tree (drop (j + 1) row)) n front behind old new slots from)
 
--- ---- the rows
+-- ---- the rows and the alternatives
 
-pub rows_step : {X : Type 0} (items : X → List Class) (t : Tree) (rows : List X) (j n front behind : ℕ) (old new next : List Cell) (slots more : ℕ) (d : X) →
-    Comes t (rows_tree (map items (drop j rows))) n front behind old new slots front → j < length rows → Puts (row_tree (items (get_or rows j d))) slots front behind new next more →
+pub rows_on : {X : Type 0} (items : X → List Class) (t : Tree) (rows : List X) (j n front behind : ℕ) (old new next : List Cell) (slots more : ℕ) (x : X) (row : List Class) →
+    Comes t (rows_tree (map items (drop j rows))) n front behind old new slots front → j < length rows → x ≡ get_or rows j x → row ≡ items x → Puts (row_tree row) slots front behind new next more →
     Comes t (rows_tree (map items (drop (j + 1) rows))) n front behind old next more front
-rows_step items t rows j n front behind old new next slots more d h less put = grind (arith, drop_next rows j d less, puts_length, append_assoc)
+rows_on items t rows j n front behind old new next slots more x row h less is value put =
+    grind (arith, here_of rows j x less, puts_length, append_assoc)
 
--- ---- the alternatives
-
-pub alternatives_step : {X : Type 0} (items : X → List Atom) (t : Tree) (rows : List X) (j n front behind : ℕ) (old new next : List Cell) (slots more : ℕ) (d : X) →
-    Comes t (alternatives_tree (map items (drop j rows))) n front behind old new slots front → j < length rows → Puts (atoms_tree (items (get_or rows j d))) slots front behind new next more →
+pub alternatives_on : {X : Type 0} (items : X → List Atom) (t : Tree) (rows : List X) (j n front behind : ℕ) (old new next : List Cell) (slots more : ℕ) (x : X) (row : List Atom) →
+    Comes t (alternatives_tree (map items (drop j rows))) n front behind old new slots front → j < length rows → x ≡ get_or rows j x → row ≡ items x → Puts (atoms_tree row) slots front behind new next more →
     Comes t (alternatives_tree (map items (drop (j + 1) rows))) n front behind old next more front
-alternatives_step items t rows j n front behind old new next slots more d h less put = grind (arith, drop_next rows j d less, puts_length, append_assoc)
+alternatives_on items t rows j n front behind old new next slots more x row h less is value put =
+    grind (arith, here_of rows j x less, puts_length, append_assoc)
 
-pub alternative_sound : {X : Type 0} (items : X → List Atom) (rows : List X) (j : ℕ) (d : X) → j < length rows → AlternativesSound (map items rows) → AtomsSound (items (get_or rows j d))
-alternative_sound items [] j d less h = absurd (omega arith)
-alternative_sound items (x ∷ rows) zero d less h = h.0
-alternative_sound items (x ∷ rows) (suc j) d less h = alternative_sound items rows j d (omega arith) h.1
+pub alternative_is_sound : {X : Type 0} (items : X → List Atom) (rows : List X) (j : ℕ) (x : X) (row : List Atom) → j < length rows → AlternativesSound (map items rows) → x ≡ get_or rows j x → row ≡ items x → AtomsSound row
+alternative_is_sound items [] j x row less sound is value = absurd (omega arith)
+alternative_is_sound items (y ∷ rows) zero x row less sound is value = subst AtomsSound (sym (value ∙ ap items is)) sound.0
+alternative_is_sound items (y ∷ rows) (suc j) x row less sound is value = alternative_is_sound items rows j x row (omega arith) sound.1 is value
+
+pub rows_more : {X : Type 0} (items : X → List Class) (rows : List X) (j count all more : ℕ) (x : X) → count + cells_in (rows_tree (map items (drop j rows))) ≡ all → j < length rows → x ≡ get_or rows j x → more ≡ length (items x) → count + more + cells_in (rows_tree (map items (drop (j + 1) rows))) ≡ all
+rows_more items rows j count all more x h less is told = grind (arith, here_of rows j x less, row_cells (items x))
 
 -- ---- the parts of an alternative
 
 atom_cells : (p : Atom) → AtomSound p → 0 < cells_in (atom_tree p)
-atom_cells p sound = grind (arith, false≢true, atom_needs p sound, null_of_none (atom_tree p) (atom_has_track p sound), atom_has_track p sound)
+atom_cells p sound = grind (arith, false≢true, atom_not_nullable p sound, null_of_none (atom_tree p) (atom_has_track p sound), atom_has_track p sound)
 
 pub atom_sound : (atoms : List Atom) (j : ℕ) (d : Atom) → j < length atoms → AtomsSound atoms → AtomSound (get_or atoms j d)
 atom_sound [] j d less h = absurd (omega arith)
@@ -86,49 +86,11 @@ later_cells [] j less h = absurd (omega arith)
 later_cells (x ∷ atoms) zero less h = let some = atom_cells x h.0 in omega arith
 later_cells (x ∷ atoms) (suc j) less h = later_cells atoms j (omega arith) h.1
 
-pub atoms_here : (atoms : List Atom) (j : ℕ) (d : Atom) → j < length atoms → atoms_tree (drop j atoms) ≡ Then (atom_tree (get_or atoms j d)) (atoms_tree (drop (j + 1) atoms))
-atoms_here atoms j d less = ap atoms_tree (drop_next atoms j d less)
-
-pub atoms_step : (t part : Tree) (atoms : List Atom) (j n front behind : ℕ) (old new next list : List Cell) (slots from more mid count : ℕ) (d : Atom) (last : Bool) →
-    Comes t (atoms_tree (drop j atoms)) n front behind old new slots from → j < length atoms → AtomsSound atoms → part ≡ atom_tree (get_or atoms j d) → count ≡ cells_in part → last ≡ (j + 1 == length atoms) → list ≡ new → mid ≡ (if last then behind else length list + count) →
-    Puts part slots from mid new next more → Comes t (atoms_tree (drop (j + 1) atoms)) n front behind old next more mid
-atoms_step t part atoms j n front behind old new next list slots from more mid count d last h less sound is counted told same mid_is put =
-    let x : Tree = atom_tree (get_or atoms j d) in
-    let u : Tree = atoms_tree (drop (j + 1) atoms) in
-    let some : 0 < cells_in x = atom_cells (get_or atoms j d) (atom_sound atoms j d less sound) in
-    comes_then t x u n front behind old new next slots from more mid
-    (subst (λ y. Comes t y n front behind old new slots from) (atoms_here atoms j d less) h)
-    (joint_is from behind (length new) (cells_in x) (cells_in u) mid last some
-    (λ e. (let at : j + 1 ≡ length atoms = eqb-true (j + 1) (length atoms) (sym told ∙ e) in ap (λ y. cells_in (atoms_tree y)) (drop_past atoms (j + 1) (omega arith))))
-    (λ f. (let ne : j + 1 ≡ length atoms → ⊥ = eqb-false (j + 1) (length atoms) (sym told ∙ f) in later_cells atoms (j + 1) (omega arith) sound))
-    (mid_is ∙ ap (λ y. if last then behind else length y + count) same ∙ ap (λ y. if last then behind else length new + y) (counted ∙ ap cells_in is)))
-    (subst (λ y. Puts y slots from mid new next more) is put)
-
--- ---- counts
-
-pub rows_counted : {X : Type 0} (items : X → List Class) (rows : List X) (j count all : ℕ) (d : X) → count + cells_in (rows_tree (map items (drop j rows))) ≡ all → j < length rows → count + length (items (get_or rows j d)) + cells_in (rows_tree (map items (drop (j + 1) rows))) ≡ all
-rows_counted items rows j count all d h less = grind (arith, drop_next rows j d less, row_cells (items (get_or rows j d)))
-
-pub rows_on : {X : Type 0} (items : X → List Class) (t : Tree) (rows : List X) (j n front behind : ℕ) (old new next : List Cell) (slots more : ℕ) (x : X) (row : List Class) →
-    Comes t (rows_tree (map items (drop j rows))) n front behind old new slots front → j < length rows → x ≡ get_or rows j x → row ≡ items x → Puts (row_tree row) slots front behind new next more →
-    Comes t (rows_tree (map items (drop (j + 1) rows))) n front behind old next more front
-rows_on items t rows j n front behind old new next slots more x row h less is value put =
-    rows_step items t rows j n front behind old new next slots more x h less (subst (λ y. Puts (row_tree y) slots front behind new next more) (value ∙ ap items is) put)
-
-pub alternatives_on : {X : Type 0} (items : X → List Atom) (t : Tree) (rows : List X) (j n front behind : ℕ) (old new next : List Cell) (slots more : ℕ) (x : X) (row : List Atom) →
-    Comes t (alternatives_tree (map items (drop j rows))) n front behind old new slots front → j < length rows → x ≡ get_or rows j x → row ≡ items x → Puts (atoms_tree row) slots front behind new next more →
-    Comes t (alternatives_tree (map items (drop (j + 1) rows))) n front behind old next more front
-alternatives_on items t rows j n front behind old new next slots more x row h less is value put =
-    alternatives_step items t rows j n front behind old new next slots more x h less (subst (λ y. Puts (atoms_tree y) slots front behind new next more) (value ∙ ap items is) put)
-
-pub alternative_is_sound : {X : Type 0} (items : X → List Atom) (rows : List X) (j : ℕ) (x : X) (row : List Atom) → j < length rows → AlternativesSound (map items rows) → x ≡ get_or rows j x → row ≡ items x → AtomsSound row
-alternative_is_sound items rows j x row less sound is value = subst AtomsSound (sym (value ∙ ap items is)) (alternative_sound items rows j x less sound)
-
 pub atoms_on : (t part : Tree) (atoms : List Atom) (j n front behind : ℕ) (old new next list : List Cell) (slots from more mid count : ℕ) (x : Atom) (last : Bool) →
     Comes t (atoms_tree (drop j atoms)) n front behind old new slots from → j < length atoms → AtomsSound atoms → x ≡ get_or atoms j x → part ≡ atom_tree x → count ≡ cells_in part → last ≡ (j + 1 == length atoms) → list ≡ new → mid ≡ (if last then behind else length list + count) →
     Puts part slots from mid new next more → Comes t (atoms_tree (drop (j + 1) atoms)) n front behind old next more mid
 atoms_on t part atoms j n front behind old new next list slots from more mid count x last h less sound here is counted told same mid_is put =
-    atoms_step t part atoms j n front behind old new next list slots from more mid count x last h less sound (is ∙ ap atom_tree here) counted told same mid_is put
-
-pub rows_more : {X : Type 0} (items : X → List Class) (rows : List X) (j count all more : ℕ) (x : X) → count + cells_in (rows_tree (map items (drop j rows))) ≡ all → j < length rows → x ≡ get_or rows j x → more ≡ length (items x) → count + more + cells_in (rows_tree (map items (drop (j + 1) rows))) ≡ all
-rows_more items rows j count all more x h less is told = grind (arith, rows_counted items rows j count all x h less)
+    let puts = comes_then t part (atoms_tree (drop (j + 1) atoms)) n front behind old new next slots from more mid in
+    let one = atom_cells x in
+    let later = later_cells atoms (j + 1) in
+    grind (arith, here_of atoms j x less, puts, one, later, atom_sound atoms j x less sound, joint_is, eqb-true, eqb-false, drop_past atoms (j + 1))

@@ -37,9 +37,6 @@ spelled_slots cells s h = ap slots_in h.same ∙ total_of (whole_tree s) 0 0 0 (
 pub spelled_cells : (cells : List Cell) (s : SequenceView) → Spells cells s → length cells ≤ 65535
 spelled_cells cells s h = grind (arith, spelled_length cells s h, spelled_slots cells s h, cells_few (whole_tree s), spelled_slots, whole_slots)
 
-pub spelled_bounded : (cells : List Cell) (s : SequenceView) → Spells cells s → Bounded (length cells) cells
-spelled_bounded cells s h = grind (arith, spelled_length cells s h, bounded (whole_tree s) 0 0 0 (cells_in (whole_tree s)) (cells_in (whole_tree s)))
-
 pub ready : (cells list : List Cell) (s : SequenceView) → Spells cells s → list ≡ cells → AreReady list
 ready cells list s h is = grind (arith, lined, spelled_lined cells s h, spelled_cells cells s h, spelled_slots, whole_slots)
 
@@ -77,17 +74,10 @@ slot_ends t p trim flat low high = grind (arith, ends, whole_fits, eq-eqb, stays
 pub behind_follows : (cells : List Cell) (s now : SequenceView) (p q : ℕ) (b : Behind) (own enters : Bool) → Spells cells s → s ≡ now → p ≤ slots_in cells → IsBehind cells p b →
     own ≡ is_own b.own q → enters ≡ entered_first (drop b.enters cells) q → ((own || enters) ≡ true) ↔ Follows (whole_tree now) p q
 behind_follows cells s now p q b own enters h same within is own_is enters_is =
-    let told : (own || enters) ≡ (is_own b.own q || entered_first (drop b.enters cells) q) = ap (λ x. x || enters) own_is ∙ ap (λ x. is_own b.own q || x) enters_is in
     let trim = whole_is_trim s h.sequence in
-    subst (λ x. ((own || enters) ≡ true) ↔ Follows (whole_tree x) p q) same
-    (elim (cases_eq p 0) [
-      | inl start ↦
-          follows_start (whole_tree s) trim p q (own || enters) start
-          (told ∙ sym (is.goes q) ∙ cond-true (p == 0) (entered (Some 0) cells q) (gone cells p q) (eq-eqb p 0 start) ∙ start_goes cells s q h)
-      | inr some ↦
-          follows_slot (whole_tree s) trim p q (own || enters) (ne_eqb p 0 some)
-          (told ∙ sym (is.goes q) ∙ cond-false (p == 0) (entered (Some 0) cells q) (gone cells p q) (ne_eqb p 0 some) ∙ slot_goes cells s p q h (omega arith) within)
-    ])
+    let starts = follows_start (whole_tree s) trim p q (own || enters) in
+    let goes_on = follows_slot (whole_tree s) trim p q (own || enters) in
+    grind (arith, cond-true, cond-false, eq-eqb, ne_eqb, starts, goes_on, start_goes cells s q h, slot_goes cells s p q h, is.goes q)
 
 accepts_where : (cells : List Cell) (s now : SequenceView) (p : ℕ) (r : Bool) → Spells cells s → s ≡ now → p ≤ slots_in cells
     → r ≡ is_joint (if p == 0 then land (Some 0) cells else exit cells p) (length cells) → (r ≡ true) ↔ Accepting (whole_tree now) p
@@ -98,22 +88,10 @@ accepts_where cells s now p r h same within is =
     let some_track = whole_has_track s h.sequence in
     let long = spelled_length cells s h in
     let all = spelled_slots cells s h in
-    subst (λ x. (r ≡ true) ↔ Accepting (whole_tree x) p) same
-    (elim (cases_eq p 0) [
-      | inl start ↦
-          subst (λ x. (r ≡ true) ↔ Accepting (whole_tree s) x) (sym start)
-          (accepts_nullable t r trim
-          (is ∙ ap (λ x. is_joint x (length cells)) (cond-true (p == 0) (land (Some 0) cells) (exit cells p) (eq-eqb p 0 start))
-          ∙ ap (λ x. is_joint (land (Some 0) cells) x) long
-          ∙ ap (λ x. is_joint (land (Some 0) x) (cells_in t)) h.same
-          ∙ start_ends t trim some_track flat))
-      | inr some ↦
-          accepting_slot t trim p r (ne_eqb p 0 some)
-          (is ∙ ap (λ x. is_joint x (length cells)) (cond-false (p == 0) (land (Some 0) cells) (exit cells p) (ne_eqb p 0 some))
-          ∙ ap (λ x. is_joint (exit cells p) x) long
-          ∙ ap (λ x. is_joint (exit x p) (cells_in t)) h.same
-          ∙ slot_ends t p trim flat (omega arith) (omega arith))
-    ])
+    elim (cases_eq p 0) [
+      | inl start ↦ grind (arith, h.same, cond-true, eq-eqb, accepts_nullable t r trim, start_ends t trim some_track flat)
+      | inr some ↦ grind (arith, h.same, cond-false, ne_eqb, accepting_slot t trim p r, slot_ends t p trim flat)
+    ]
 
 -- a number above all slots is no state
 pub none_follows : (cells : List Cell) (s now : SequenceView) (p q : ℕ) → Spells cells s → s ≡ now → slots_of (whole_tree now) < p → (false ≡ true) ↔ Follows (whole_tree now) p q
@@ -127,13 +105,10 @@ none_accepts cells s now p h same above =
 
 -- ---- the class of a slot
 
-pub class_found : (cells : List Cell) (s now : SequenceView) (q k : ℕ) (d : Cell) → Spells cells s → s ≡ now → IsCellOf cells q k → (get_or cells k d).class ≡ class_of (whole_tree now) q
-class_found cells s now q k d h same at =
-    grind (arith, is_in cells q k at, here_of cells k d, slot_parts at.cell q at.slot, class_at cells (drop (k + 1) cells) 0 k q, spelled_lined cells s h, spread_of (whole_tree s) 0 0 0 (cells_in (whole_tree s)))
-
--- the same where the cells are read as a slice
 pub class_told : (cells list : List Cell) (s now : SequenceView) (q k : ℕ) (c : Cell) → Spells cells s → s ≡ now → list ≡ cells → c ≡ get_or cells k c → IsCellOf list q k → c.class ≡ class_of (whole_tree now) q
-class_told cells list s now q k c h same is here at = grind (arith, class_found cells s now q k c h same)
+class_told cells list s now q k c h same is here at =
+    let found = class_at cells (drop (k + 1) cells) 0 k q in
+    grind (arith, is_in list q k at, here_of cells k c, slot_parts at.cell q at.slot, found, spelled_lined cells s h, spread_of (whole_tree s) 0 0 0 (cells_in (whole_tree s)))
 
 pub behind_told : (cells list other : List Cell) (s now : SequenceView) (p q : ℕ) (b : Behind) (own enters : Bool) → Spells cells s → s ≡ now → list ≡ cells → other ≡ cells → p ≤ slots_of (whole_tree now) → IsBehind list p b →
     own ≡ is_own b.own q → enters ≡ entered_first (drop b.enters other) q → ((own || enters) ≡ true) ↔ Follows (whole_tree now) p q
@@ -162,10 +137,7 @@ same_own (Some x) None r is h = absurd (false≢true (sym is ∙ h))
 same_own (Some x) (Some y) r is h = ap Some (eqb-true x y (sym is ∙ h))
 
 pub bounded_told : (cells list : List Cell) (s : SequenceView) → Spells cells s → list ≡ cells → Bounded (length list) list
-bounded_told cells list s h is = subst (λ x. Bounded (length x) x) (sym is) (spelled_bounded cells s h)
-
-pub short_told : (cells list : List Cell) (s : SequenceView) → Spells cells s → list ≡ cells → length list ≤ 65535
-short_told cells list s h is = subst (λ x. length x ≤ 65535) (sym is) (spelled_cells cells s h)
+bounded_told cells list s h is = grind (arith, spelled_length cells s h, bounded (whole_tree s) 0 0 0 (cells_in (whole_tree s)) (cells_in (whole_tree s)))
 
 -- ---- the set of the accepting states
 

@@ -1,7 +1,7 @@
 -- A step of a set of states, cell by cell.
 use Rattle.sig_auto.proofs.Common.{◌≡◌, ◌⊎◌, ◌↔◌, ℕ, ◌+◌, ◌-◌, ◌<◌, ◌≤◌, nat_le, nat_lt, Bool, true, false, List, [], ◌∷◌, drop, get_or, length, Option, Some, None, arith, refl, slice_get, IsTrue, and_from, and_parts, eq-eqb, eqb-true, false≢true, le-leb, leb-true, lt-ltb, ltb-true, or_cases, or_left, or_right, HasBit, IsShiftedBit, Cell, slots_in, GoesWithin, IsFirstOf, Lined, entered_first, entered, has_slot, onward, get_or_from_slice_get, slice_get-get_or, slice_get_within}
-use Rattle.sig_auto.proofs.BehindLemmas.{drop_twice, lined_drop, none_entered}
-use Rattle.sig_auto.proofs.JoinLemmas.{here_of}
+use Rattle.sig_auto.proofs.BehindLemmas.{drop_twice, lined_drop}
+use Rattle.sig_auto.proofs.JoinLemmas.{drop_past, here_of}
 use Rattle.sig_auto.proofs.LineLemmas.{lined_later}
 
 -- ---- within a cell
@@ -74,7 +74,7 @@ above_cell cells k i q c lined at more go =
 
 -- a place from which something is entered is one of a cell
 pub some_cell : (cells : List Cell) (i q : ℕ) → entered_first (drop i cells) q ≡ true → i < length cells
-some_cell cells i q go = grind (arith, false≢true, none_entered cells i q)
+some_cell cells i q go = grind (arith, false≢true, drop_past cells i)
 
 -- the first slot of the cell at that place
 pub first_there : (cells : List Cell) (i : ℕ) (d : Cell) → i < length cells → IsFirstOf cells i ((get_or cells i d).before + 1)

@@ -1,5 +1,5 @@
 -- A step in the words of the cells is a step of the automaton.
-use Rattle.sig_auto.proofs.Common.{◌||◌, ◌≡◌, ◌⊎◌, ◌↔◌, ◌∙◌, ℕ, zero, suc, ◌+◌, ◌<◌, ◌≤◌, nat_le, inl, inr, true, false, List, [], ◌∷◌, drop, get_or, length, Some, None, arith, refl, subst, sym, slice_get, cases_Bool, cases_eq, cases_lt, cond-false, cond-true, false≢true, le-leb, leb-true, ne_eqb, or_cases, or_left, or_right, get_or_from_slice_get, slice_get-get_or, slice_get_within, HasBit, Cell, Joint, Joints, slots_in, GoesIn, IsCellStep, IsEntered, Lined, Spells, entered_first, AreJoints, IsJoint, IsStepOf, Follows, whole_tree, entered, gone, has_slot, leave, own, SequenceView}
+use Rattle.sig_auto.proofs.Common.{◌||◌, ◌≡◌, ◌⊎◌, ◌↔◌, ◌∙◌, ℕ, zero, suc, ◌+◌, ◌<◌, ◌≤◌, nat_le, inl, inr, true, false, List, [], ◌∷◌, drop, get_or, length, Some, arith, refl, subst, sym, slice_get, cases_Bool, cases_eq, cases_lt, cond-false, cond-true, false≢true, le-leb, leb-true, ne_eqb, or_cases, or_left, or_right, get_or_from_slice_get, slice_get-get_or, slice_get_within, HasBit, Cell, Joint, Joints, slots_in, GoesIn, IsCellStep, IsEntered, Lined, Spells, entered_first, AreJoints, IsJoint, IsStepOf, Follows, whole_tree, entered, gone, has_slot, leave, own, SequenceView}
 use Rattle.sig_auto.proofs.BehindLemmas.{seek_enters}
 use Rattle.sig_auto.proofs.CellLemmas.{slot_goes, spelled_lined, spelled_slots, start_goes}
 use Rattle.sig_auto.proofs.CellStepLemmas.{cell_at, slot_from}
@@ -7,6 +7,7 @@ use Rattle.sig_auto.proofs.CellSuccessorLemmas.{class_is}
 use Rattle.sig_auto.proofs.EndOrNotLemmas.{followed_is_state}
 use Rattle.sig_auto.proofs.LineLemmas.{gone_at, lined_later, slot_parts}
 use Rattle.sig_auto.proofs.TrimLemmas.{follows_slot, follows_start}
+use Rattle.sig_auto.proofs.WayLemmas.{entered_past, passes_none}
 use Rattle.sig_auto.proofs.WholeLemmas.{whole_is_trim}
 
 a_joint : Joint
@@ -21,10 +22,6 @@ cell_of (c ∷ cs) n p lined low high =
       | inl behind ↦ (let (k, d, there, slot) = cell_of cs (n + c.count) p lined.2 behind (omega arith) in (suc k, d, there, slot))
       | inr here ↦ (zero, c, refl, slot_from c p (omega arith) (omega arith))
     ]
-
-entered_nowhere : (cs : List Cell) (q : ℕ) → entered None cs q ≡ false
-entered_nowhere [] q = refl
-entered_nowhere (c ∷ cs) q = entered_nowhere cs q
 
 -- what is entered behind a slot that leaves its cell
 left_enters : (cells : List Cell) (joints : Joints) (k p q : ℕ) (c : Cell) (e : Joint) → AreJoints cells joints → slice_get cells k ≡ Some c
@@ -109,7 +106,7 @@ goes_behind cells joints s from q h joined =
                       },
                       sym on ∙ left,
                     )))
-                | inr early ↦ grind (arith, false≢true, cond-false, entered_nowhere)
+                | inr early ↦ grind (arith, false≢true, cond-false, entered_past, passes_none)
               ]
             ])
       ],

@@ -1,10 +1,10 @@
 -- The successors of a state.
-use Rattle.sig_auto.proofs.Common.{◌≡◌, ◌↔◌, ℕ, zero, suc, ◌+◌, Bool, true, List, [], ◌∷◌, ◌++◌, drop, get_or, Option, Some, None, refl, sym, ap, ◌∙◌, subst, inl, inr, arith, Contains, IfSome, IsStrictlyIncreasing, cases_Bool, cond-false, cond-true, eq-eqb, eqb-true, false_from_ne_true, false≢true, or_cases, or_left, or_right, Contains-append_cases, Contains-append_left, Contains-append_right, InClass, in_class, FollowsOn, whole_tree, class_of, SequenceView, Behind, Cell, ComesBehind, IsCellOf, LiesBehind, followers, is_own, cells_in, cells_of_sequence, Lined, Spells, entered_first, class_in, own_list, own_taken, taken_first}
+use Rattle.sig_auto.proofs.Common.{◌≡◌, ◌↔◌, ℕ, ◌+◌, Bool, true, List, [], ◌∷◌, ◌++◌, drop, get_or, Option, Some, None, refl, sym, ap, ◌∙◌, subst, inl, inr, arith, Contains, IfSome, IsStrictlyIncreasing, cases_Bool, cond-false, cond-true, eq-eqb, eqb-true, false_from_ne_true, false≢true, or_cases, or_left, or_right, Contains-append_cases, Contains-append_left, Contains-append_right, InClass, in_class, FollowsOn, whole_tree, class_of, SequenceView, Behind, Cell, ComesBehind, IsCellOf, LiesBehind, followers, is_own, cells_in, cells_of_sequence, Lined, Spells, entered_first, class_in, own_list, own_taken, taken_first}
 use Rattle.sig_auto.proofs.CellLemmas.{comes_follows, of_sequence, spelled_lined}
 use Rattle.sig_auto.proofs.BehindLemmas.{is_in, lined_drop}
 use Rattle.sig_auto.proofs.JoinLemmas.{here_of}
 use Rattle.sig_auto.proofs.LineLemmas.{class_at, slot_parts, spread_of}
-use Rattle.sig_auto.proofs.CellTakenLemmas.{Above-lower, Classed, Classed-as, above_rises, classed, contains_here, first_above, in_class_exact, members_from, rises_from}
+use Rattle.sig_auto.proofs.CellTakenLemmas.{Above-lower, Classed, Classed-as, above_rises, classed, contains_cons, contains_here, first_above, in_class_exact, members_from, rises_from}
 
 -- the class of a slot by the cell that was found
 pub class_here : (cells : List Cell) (q k : ℕ) (d : Cell) → Lined 0 cells → IsCellOf cells q k → (get_or cells k d).class ≡ class_in cells q
@@ -24,22 +24,9 @@ class_is cells s now q h same = grind (arith, spread_of (whole_tree s) 0 0 0 (ce
 pub classes : (cells : List Cell) (s now : SequenceView) → Spells cells s → s ≡ now → Classed (class_of (whole_tree now)) cells
 classes cells s now h same = grind (arith, Classed-as (class_of (whole_tree now)), class_is cells s now, spelled_lined cells s h, classed 0 cells (spelled_lined cells s h))
 
-one_only : (x q : ℕ) → Contains (x ∷ []) q → x ≡ q
-one_only x q (zero, less, is) = is
-one_only x q (suc k, less, is) = absurd (omega arith)
-
-none_in : (q : ℕ) → Contains [] q → ⊥
-none_in q (k, less, is) = absurd (omega arith)
-
 own_member : (cells : List Cell) (own : Option ℕ) (byte q : ℕ) → Contains (own_taken cells own byte) q → (own ≡ Some q) × InClass (class_in cells q) byte
 own_member cells None byte q (k, less, is) = absurd (omega arith)
-own_member cells (Some y) byte q at =
-    elim (cases_Bool (in_class (class_in cells y) byte)) [
-      | inl met ↦ (
-          let same : y ≡ q = one_only y q (subst (λ l. Contains l q) (cond-true (in_class (class_in cells y) byte) (y ∷ []) [] met) at) in
-          (ap Some same, subst (λ x. InClass (class_in cells x) byte) same ((in_class_exact (class_in cells y) byte).0 met)))
-      | inr apart ↦ absurd (none_in q (subst (λ l. Contains l q) (cond-false (in_class (class_in cells y) byte) (y ∷ []) [] apart) at))
-    ]
+own_member cells (Some y) byte q at = grind (arith, cond-true, cond-false, in_class_exact (class_in cells y) byte, contains_cons y q [])
 
 own_found : (cells : List Cell) (own : Option ℕ) (byte q : ℕ) → is_own own q ≡ true → InClass (class_in cells q) byte → Contains (own_taken cells own byte) q
 own_found cells None byte q is takes = absurd (false≢true is)

@@ -33,26 +33,23 @@ pub use Rattle.sig_table.specs.Standing.{Cut, Stands, StandsAt}
 pub use Rattle.sig_table.specs.Tables.{InOrder, IsSequence}
 pub use Rattle.sig_table.specs.Views.{SequenceView}
 pub use Rattle.sig_table.specs.declared.position.Position.{Position}
-pub use Rattle.sig_auto.specs.Begins.{Begins, BeginsOutside}
+pub use Rattle.sig_auto.specs.Begins.{Begins, BeginsOn, BeginsOutside}
 pub use Rattle.sig_auto.specs.Behind.{AreReady, EndsAt, IsBehind, IsCellOf, LiesBehind, is_own, slots_in}
-pub use Rattle.sig_auto.specs.Building.{Puts}
+pub use Rattle.sig_auto.specs.Building.{Puts, part_tree}
 pub use Rattle.sig_auto.specs.CellSides.{EachSide, EnteredOn, OwnOn, SlotOn}
 pub use Rattle.sig_auto.specs.CellSteps.{GoesIn, GoesWithin, IsAhead, IsCellStep, IsEntered, IsFirstOf, IsLeft, IsPassed, IsSomePassed, LeavesFor}
 pub use Rattle.sig_auto.specs.Cells.{cells_in, cells_of, cells_of_sequence, gap_cell, middle, slot_cell}
 pub use Rattle.sig_auto.specs.Classes.{InClass, any, only}
-pub use Rattle.sig_auto.specs.Cuts.{AddsCuts, AddsLive}
+pub use Rattle.sig_auto.specs.Cuts.{AddsCuts, AddsLive, SameSide}
 pub use Rattle.sig_auto.specs.Flat.{IsFirm, IsFlat}
 pub use Rattle.sig_auto.specs.Joined.{Bounded, Lined, Spells, entered_first, is_joint, joint_past, seek}
 pub use Rattle.sig_auto.specs.Joints.{AreJoints, IsAuto, IsJoint}
 pub use Rattle.sig_auto.specs.Local.{follows, is_first, is_last, is_nullable}
-pub use Rattle.sig_auto.specs.Parts.{part_tree}
 pub use Rattle.sig_auto.specs.Rows.{above, behind, behind_these, below, between, inner_at, lower_at, only_these, rest, upper_at}
 pub use Rattle.sig_auto.specs.Runs.{Accepts, EndsIn, FollowsOn, IsStepOf, Run, Steps, TakesAlike}
-pub use Rattle.sig_auto.specs.Sides.{SameSide}
 pub use Rattle.sig_auto.specs.States.{ComesBehind}
 unfoldable pub use Rattle.sig_auto.specs.States.{followers}
-pub use Rattle.sig_auto.specs.Successions.{BeginsOn, in_class, succeeds}
-pub use Rattle.sig_auto.specs.Taken.{class_in, own_list, own_taken, spread, taken, taken_first}
+pub use Rattle.sig_auto.specs.Taken.{class_in, in_class, own_list, own_taken, spread, taken, taken_first}
 pub use Rattle.sig_auto.specs.Tracks.{Accepting, Follows, GapTrack, Track, slots_from}
 pub use Rattle.sig_auto.specs.TreeSlots.{Takes, class_of, classes_of, set_len, slots_of}
 pub use Rattle.sig_auto.specs.Trees.{Empty, Gap, Never, Or, Slot, Then, Tree, alternatives_tree, atom_tree, atoms_tree, back_tree, bracket_tree, front_tree, item_tree, items_tree, row_tree, rows_tree, whole_tree}

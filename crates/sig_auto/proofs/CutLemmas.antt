@@ -1,7 +1,5 @@
--- The bytes that lead on from a state, and the cuts between them: of a tree from its branches.
+-- The bytes that lead on, and the cuts between them: what walks add, one after the other.
 use Rattle.sig_auto.proofs.Common.{◌↔◌, ◌⊎◌, ℕ, ◌+◌, inl, inr, arith, ByteClass, AddsCuts, AddsLive}
-
--- ---- what walks add, one after the other
 
 pub live_none : (old : ByteClass) (R : ℕ → ℕ → Type 0) → ((b q : ℕ) → R b q → ⊥) → AddsLive old old R
 live_none old R none b small = (λ h. inl h, λ h. elim h [ inl had ↦ had | inr some ↦ absurd (none b some.0 some.1) ])

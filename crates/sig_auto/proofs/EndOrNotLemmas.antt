@@ -1,9 +1,9 @@
 -- A file has a run that ends in a state, or it has none: which of the two is told by a search over the states before.
-use Rattle.sig_auto.proofs.Common.{◌⊎◌, ℕ, zero, suc, ◌+◌, ◌/◌, ◌%◌, ◌<◌, ◌≤◌, List, [], ◌∷◌, ◌++◌, slice_index, append_assoc, subst, sym, inl, inr, arith, bit_at, cases_eq, false≢true, ne_eqb, append-nil, EndsIn, FollowsOn, IsStepOf, Accepting, Follows, Tree, Takes, slots_of, IsTrim, HasBit}
+use Rattle.sig_auto.proofs.Common.{◌⊎◌, ℕ, zero, suc, ◌+◌, ◌/◌, ◌%◌, ◌<◌, ◌≤◌, List, [], ◌∷◌, ◌++◌, slice_index, append_assoc, subst, sym, inl, inr, arith, bit_at, cases_eq, false≢true, ne_eqb, append-nil, EndsIn, FollowsOn, IsStepOf, Accepting, Follows, Tree, Takes, class_of, slots_of, IsTrim, HasBit}
 use Rattle.sig_auto.proofs.EndLemmas.{begin_only, ends_before, ends_further}
 use Rattle.sig_auto.proofs.LocalLemmas.{follows-slots}
 use Rattle.sig_auto.proofs.RunLemmas.{follows_shown}
-use Rattle.sig_auto.proofs.SuccessorLemmas.{follows_and_takes}
+use Rattle.sig_auto.proofs.CellTakenLemmas.{in_class_exact}
 use Rattle.sig_auto.proofs.TrimLemmas.{accepting_exact, follows_exact}
 
 -- ---- a search over numbers
@@ -28,7 +28,7 @@ abbrev Leads : Tree → (ℕ → Type 0) → ℕ → ℕ → ℕ → Type 0
 Leads tree P b q p = P p × Follows tree p q × Takes tree q b
 
 follows_or_not : (tree : Tree) (p b q : ℕ) → IsTrim tree → FollowsOn tree p b q ⊎ ¬ FollowsOn tree p b q
-follows_or_not tree p b q trim = grind (arith, follows_and_takes tree p b q (Follows tree p q) (follows_exact tree trim p q), follows_exact tree trim p q, false≢true)
+follows_or_not tree p b q trim = grind (arith, in_class_exact (class_of tree q) b, follows_exact tree trim p q, false≢true)
 
 -- some track ends with the state, or none does
 pub accepting_or_not : (tree : Tree) → IsTrim tree → (q : ℕ) → Accepting tree q ⊎ ¬ Accepting tree q

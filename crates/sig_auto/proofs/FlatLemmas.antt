@@ -1,66 +1,44 @@
 -- The tree of a sequence is flat.
-use Rattle.sig_auto.proofs.Common.{◌≡◌, ℕ, ◌<◌, false, List, [], ◌∷◌, length, refl, arith, and_left, or_from, Class, is_nullable, above, below, between, Tree, alternatives_tree, atom_tree, atoms_tree, back_tree, item_tree, items_tree, row_tree, rows_tree, whole_tree, Atom, Item, AlternativesSound, AtomSound, AtomsSound, ItemSound, ItemsSound, SequenceView, IsSequence, IsFirm, IsFlat}
+use Rattle.sig_auto.proofs.Common.{◌≡◌, ℕ, ◌<◌, false, List, [], ◌∷◌, length, refl, arith, and_left, Class, is_nullable, above, below, between, Tree, alternatives_tree, atom_tree, atoms_tree, back_tree, item_tree, items_tree, row_tree, rows_tree, whole_tree, Atom, Item, AlternativesSound, AtomSound, AtomsSound, ItemSound, ItemsSound, SequenceView, IsSequence, IsFirm, IsFlat}
 use Rattle.sig_auto.proofs.WholeLemmas.{Long, Long-append, long_above, long_below, long_between}
-use Rattle.sig_auto.proofs.BeginLemmas.{item_not_nullable}
+use Rattle.sig_auto.proofs.BeginLemmas.{alternatives_not_nullable, atom_not_nullable, rows_not_nullable}
 use Rattle.sig_expr.specs.declared.item.Atom.TheVariants as atom
 use Rattle.sig_expr.specs.declared.item.Item.TheVariants as item
-
-row_firm : (cs : List Class) → IsFirm (row_tree cs)
-row_firm [] = tt
-row_firm (c ∷ cs) = (tt, row_firm cs)
-
-row_flat : (cs : List Class) → IsFlat (row_tree cs)
-row_flat [] = tt
-row_flat (c ∷ cs) = (tt, row_flat cs)
-
-rows_firm : (rs : List (List Class)) → IsFirm (rows_tree rs)
-rows_firm [] = tt
-rows_firm (r ∷ rs) = (row_firm r, rows_firm rs)
-
-row_needs : (n : ℕ) (r : List Class) → 0 < n → length r ≡ n → is_nullable (row_tree r) ≡ false
-row_needs n [] some h = absurd (omega arith)
-row_needs n (c ∷ cs) some h = refl
-
-rows_need : (n : ℕ) (rs : List (List Class)) → 0 < n → Long n rs → is_nullable (rows_tree rs) ≡ false
-rows_need n [] some h = refl
-rows_need n (r ∷ rs) some h = or_from (is_nullable (row_tree r)) (is_nullable (rows_tree rs)) (row_needs n r some h.0) (rows_need n rs some h.1)
-
-rows_flat : (n : ℕ) (rs : List (List Class)) → 0 < n → Long n rs → IsFlat (rows_tree rs)
-rows_flat n [] some h = tt
-rows_flat n (r ∷ rs) some h = (row_flat r, rows_flat n rs some h.1, row_firm r, rows_firm rs, row_needs n r some h.0, rows_need n rs some h.1)
 
 -- a tree without gaps, whose choices need a byte
 record IsPlain (t : Tree) : Type 0 where
   flat : IsFlat t
   firm : IsFirm t
 
+row_plain : (cs : List Class) → IsPlain (row_tree cs)
+row_plain [] = record { flat = tt; firm = tt }
+row_plain (c ∷ cs) = grind (arith, row_plain cs)
+
+row_needs : (n : ℕ) (r : List Class) → 0 < n → length r ≡ n → is_nullable (row_tree r) ≡ false
+row_needs n [] some h = absurd (omega arith)
+row_needs n (c ∷ cs) some h = refl
+
+rows_plain : (n : ℕ) (rs : List (List Class)) → 0 < n → Long n rs → IsPlain (rows_tree rs)
+rows_plain n [] some h = record { flat = tt; firm = tt }
+rows_plain n (r ∷ rs) some h = grind (arith, row_plain r, row_needs n r, rows_not_nullable n rs, rows_plain n rs some h.1)
+
 atom_plain : (p : Atom) → AtomSound p → IsPlain (atom_tree p)
 atom_plain (atom.Byte b) sound = record { flat = tt; firm = tt }
-atom_plain (atom.Range a b) sound = grind (arith, between a b, long_between a b sound.same_length, rows_flat, rows_firm)
-atom_plain (atom.Not a) sound = grind (arith, below a, above a, Long-append, below, above, long_below, long_above, rows_flat, rows_firm)
-atom_plain (atom.NotRange a b) sound = grind (arith, below a, above b, Long-append, below, above, long_below, long_above, rows_flat, rows_firm)
+atom_plain (atom.Range a b) sound = grind (arith, between a b, long_between a b sound.same_length, rows_plain)
+atom_plain (atom.Not a) sound = grind (arith, below a, above a, Long-append, below, above, long_below, long_above, rows_plain)
+atom_plain (atom.NotRange a b) sound = grind (arith, below a, above b, Long-append, below, above, long_below, long_above, rows_plain)
 
 atoms_plain : (ps : List Atom) → AtomsSound ps → IsPlain (atoms_tree ps)
 atoms_plain [] sound = record { flat = tt; firm = tt }
 atoms_plain (p ∷ ps) sound = grind (arith, atom_plain p sound.0, atoms_plain ps sound.1)
 
-pub atom_needs : (p : Atom) → AtomSound p → is_nullable (atom_tree p) ≡ false
-atom_needs (atom.Byte b) sound = refl
-atom_needs (atom.Range a b) sound = item_not_nullable (item.Range a b) sound (λ min max e. cc)
-atom_needs (atom.Not a) sound = item_not_nullable (item.Not a) sound (λ min max e. cc)
-atom_needs (atom.NotRange a b) sound = item_not_nullable (item.NotRange a b) sound (λ min max e. cc)
-
 atoms_need : (ps : List Atom) → AtomsSound ps → 0 < length ps → is_nullable (atoms_tree ps) ≡ false
 atoms_need [] sound some = absurd (omega arith)
-atoms_need (p ∷ ps) sound some = and_left (is_nullable (atom_tree p)) (is_nullable (atoms_tree ps)) (atom_needs p sound.0)
-
-alternatives_need : (alternatives : List (List Atom)) → AlternativesSound alternatives → is_nullable (alternatives_tree alternatives) ≡ false
-alternatives_need [] sound = refl
-alternatives_need (a ∷ rest) sound = or_from (is_nullable (atoms_tree a)) (is_nullable (alternatives_tree rest)) (atoms_need a sound.0 sound.2) (alternatives_need rest sound.1)
+atoms_need (p ∷ ps) sound some = and_left (is_nullable (atom_tree p)) (is_nullable (atoms_tree ps)) (atom_not_nullable p sound.0)
 
 alternatives_plain : (alternatives : List (List Atom)) → AlternativesSound alternatives → IsPlain (alternatives_tree alternatives)
 alternatives_plain [] sound = record { flat = tt; firm = tt }
-alternatives_plain (a ∷ rest) sound = grind (arith, atoms_plain, atoms_need, alternatives_need, alternatives_plain rest sound.1)
+alternatives_plain (a ∷ rest) sound = grind (arith, atoms_plain, atoms_need, alternatives_not_nullable, alternatives_plain rest sound.1)
 
 item_flat : (i : Item) → ItemSound i → IsFlat (item_tree i)
 item_flat (item.Byte b) sound = tt

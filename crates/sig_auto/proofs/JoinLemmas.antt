@@ -69,8 +69,8 @@ joining_steps cells rest k c first new_first lands new_lands joints new_joints j
           ]);
     }
 
-pub here_of : (cells : List Cell) (m : ℕ) (d : Cell) → m < length cells → drop m cells ≡ get_or cells m d ∷ drop (m + 1) cells
-here_of cells m d h = drop-cons cells m d h ∙ ap (λ x. get_or cells m d ∷ drop x cells) (let e : suc m ≡ m + 1 = omega arith in e)
+pub here_of : {A : Type 0} (xs : List A) (m : ℕ) (d : A) → m < length xs → drop m xs ≡ get_or xs m d ∷ drop (m + 1) xs
+here_of xs m d h = drop-cons xs m d h ∙ ap (λ n. get_or xs m d ∷ drop n xs) (let e : suc m ≡ m + 1 = omega arith in e)
 
 pub joining_at : (cells : List Cell) (n m : ℕ) (first new_first : List ℕ) (lands new_lands : List Bool) (joints new_joints : List Joint) (joint : Joint) (d : Cell) →
     Bounded (length cells) cells → Joining cells n first lands joints → n ≡ m + 1 →

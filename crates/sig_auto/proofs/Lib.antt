@@ -11,7 +11,6 @@ mod RowLemmas
 mod RowPushLemmas
 mod RunLaws
 mod RunLemmas
-mod SuccessorLemmas
 mod TakenLemmas
 mod TrimLemmas
 mod WholeLemmas

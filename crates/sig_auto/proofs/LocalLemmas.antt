@@ -250,12 +250,6 @@ local_track (Or a b) before (q ∷ t) h =
     grind (arith, first_or a b before q, Chain-or_left_from a b before q t, is_first-slot a before q, is_first-slot b (before + slots_of a) q, Chain-or_right_from a b before q t, local_track a before (q ∷ t), local_track b (before + slots_of a) (q ∷ t))
 
 -- what a track shows
-pub track_skips : (tree : Tree) (before : ℕ) → Track tree before [] → is_nullable tree ≡ true
-track_skips tree before h = track_local tree before [] h
-
-pub track_begins : (tree : Tree) (before q : ℕ) (v : List ℕ) → Track tree before (q ∷ v) → is_first tree before q ≡ true
-track_begins tree before q v h = (track_local tree before (q ∷ v) h).0
-
 Chain-is_last : (tree : Tree) (before x p : ℕ) (u : List ℕ) → Chain tree before x (u ++ p ∷ []) → is_last tree before p ≡ true
 Chain-is_last tree before x p [] h = h.1
 Chain-is_last tree before x p (y ∷ u) h = Chain-is_last tree before y p u h.1

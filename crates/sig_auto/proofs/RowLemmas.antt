@@ -1,5 +1,5 @@
 -- The words of the rows of a bracket: those before an end, after an end, and from one end to another.
-use Rattle.sig_auto.proofs.Common.{◌≡◌, ◌⊎◌, ◌↔◌, ℕ, ◌+◌, ◌-◌, ◌<◌, ◌≤◌, Bool, true, false, nat_lt, nat_eq, cond, List, [], ◌∷◌, ◌++◌, length, refl, inl, inr, arith, eq-eqb, ne_eqb, tests, rules, Class, Within, InClass, any, only, above, behind, below, between, inner_at, lower_at, only_these, rest, upper_at, row_tree, rows_tree, TreeWord, IsBytes, IsBefore-cases, IsBefore-lower, IsBefore-same, IsUpTo-before, IsUpTo-behind, IsUpTo-cases, IsUpTo-first, IsUpTo-itself, IsUpTo-rest, IsBefore, IsBytesOf, IsUpTo}
+use Rattle.sig_auto.proofs.Common.{◌≡◌, ◌⊎◌, ◌↔◌, ℕ, ◌+◌, ◌-◌, ◌<◌, ◌≤◌, Bool, true, false, nat_lt, nat_eq, cond, List, [], ◌∷◌, ◌++◌, length, refl, inl, inr, arith, eq-eqb, lt-ltb, ne_eqb, Class, Within, InClass, any, only, above, behind, below, between, inner_at, lower_at, only_these, rest, upper_at, row_tree, rows_tree, TreeWord, IsBytes, IsBefore-cases, IsBefore-lower, IsBefore-same, IsUpTo-before, IsUpTo-behind, IsUpTo-cases, IsUpTo-first, IsUpTo-itself, IsUpTo-rest, IsBefore, IsBytesOf, IsUpTo}
 use Rattle.sig_auto.proofs.ByteLemmas.{IsBytes-nil, IsBytes-cons, IsBytes-head, IsBytes-tail}
 
 -- a word of a row: a byte of its first class, and a word of the others
@@ -60,12 +60,8 @@ first_word : (t : Bool) (low high b : ℕ) (xs v : List ℕ) → t ≡ true → 
 first_word true low high b xs v e h k bytes = inl (row_word (Within low high) (rest xs) b v (h, k) (rest_word xs v bytes))
 first_word false low high b xs v e h k bytes = absurd (cc)
 
--- the converse
-pub less_is : (a b : ℕ) → a < b → nat_lt a b ≡ true
-less_is a b h = search (rules, tests)
-
 inner_word : (x y b : ℕ) (xs v : List ℕ) → x < b → b < y → IsBytesOf (length xs) v → TreeWord (rows_tree (inner_at x y xs)) (b ∷ v)
-inner_word x y b xs v h k bytes = first_word (nat_lt (x + 1) y) (x + 1) (y - 1) b xs v (less_is (x + 1) y (omega arith)) (omega arith) (omega arith) bytes
+inner_word x y b xs v h k bytes = first_word (nat_lt (x + 1) y) (x + 1) (y - 1) b xs v (lt-ltb (x + 1) y (omega arith)) (omega arith) (omega arith) bytes
 
 of_inner : (x y : ℕ) (xs w : List ℕ) → TreeWord (rows_tree (inner_at x y xs)) w → (b : ℕ) × (v : List ℕ) × (w ≡ b ∷ v) × (x < b) × (b < y) × IsBytesOf (length xs) v
 of_inner x y xs w h = grind (arith, rest, of_rest)
@@ -87,7 +83,7 @@ below_word [] [] bytes h = absurd (cc)
 below_word [] (b ∷ w) bytes h = absurd (cc)
 below_word (x ∷ xs) [] bytes h = let len = bytes.0 in absurd (omega arith)
 below_word (x ∷ xs) (b ∷ w) bytes h =
-    grind (arith, IsBefore-cases b x w xs h, rows_left (lower_at x xs) (behind x (below xs)) (b ∷ w), shorter b x w xs bytes, rows_right (lower_at x xs) (behind x (below xs)) (b ∷ w), behind_word x (below xs) w, below_word xs w (shorter b x w xs bytes), first_word, less_is)
+    grind (arith, IsBefore-cases b x w xs h, rows_left (lower_at x xs) (behind x (below xs)) (b ∷ w), shorter b x w xs bytes, rows_right (lower_at x xs) (behind x (below xs)) (b ∷ w), behind_word x (below xs) w, below_word xs w (shorter b x w xs bytes), first_word, lt-ltb)
 
 of_above : (xs w : List ℕ) → IsBytes xs → TreeWord (rows_tree (above xs)) w → IsBytesOf (length xs) w × IsBefore xs w
 of_above [] w bytes h = absurd h
@@ -99,7 +95,7 @@ above_word [] [] bytes h = absurd (cc)
 above_word [] (b ∷ w) bytes h = let len = bytes.0 in absurd (omega arith)
 above_word (x ∷ xs) [] bytes h = absurd (cc)
 above_word (x ∷ xs) (b ∷ w) bytes h =
-    grind (arith, IsBefore-cases x b xs w h, rows_right (behind x (above xs)) (upper_at x xs) (b ∷ w), IsBytes-head b w bytes.1, shorter b x w xs bytes, rows_left (behind x (above xs)) (upper_at x xs) (b ∷ w), behind_word x (above xs) w, above_word xs w (shorter b x w xs bytes), first_word, less_is)
+    grind (arith, IsBefore-cases x b xs w h, rows_right (behind x (above xs)) (upper_at x xs) (b ∷ w), IsBytes-head b w bytes.1, shorter b x w xs bytes, rows_left (behind x (above xs)) (upper_at x xs) (b ∷ w), behind_word x (above xs) w, above_word xs w (shorter b x w xs bytes), first_word, lt-ltb)
 
 -- the words before these bytes
 pub below_is : (xs w : List ℕ) → IsBytes xs → TreeWord (rows_tree (below xs)) w ↔ (IsBytesOf (length xs) w × IsBefore w xs)

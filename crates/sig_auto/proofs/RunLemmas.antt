@@ -1,10 +1,10 @@
 -- The runs that accept a file are the tracks whose slots take its bytes.
 use Rattle.sig_auto.proofs.Common.{◌≡◌, ◌↔◌, ℕ, ◌<◌, ◌==◌, if◌then◌else◌, true, List, [], ◌∷◌, ◌++◌, append_assoc, subst, sym, ap, refl, arith, eq-eqb, ne_eqb, is_first, is_last, follows, is_nullable, Accepts, Run, Steps, Accepting, Follows, Track, Tree, TakesAll}
-use Rattle.sig_auto.proofs.LocalLemmas.{Chain, IsLocal, follows-slots, is_first-slot, local_track, track_begins, track_ends, track_goes, track_skips, track_slot}
+use Rattle.sig_auto.proofs.LocalLemmas.{Chain, IsLocal, follows-slots, is_first-slot, local_track, track_ends, track_goes, track_local, track_slot}
 
 -- behind the start a slot begins, behind another it goes
 follows_start : (tree : Tree) (t front back : List ℕ) (q : ℕ) → Track tree 0 t → 0 ∷ t ≡ front ++ 0 ∷ q ∷ back → is_first tree 0 q ≡ true
-follows_start tree t [] back q is e = grind (arith, track_begins tree 0 q back)
+follows_start tree t [] back q is e = grind (arith, track_local tree 0 (q ∷ back))
 follows_start tree t (x ∷ front) back q is e = grind (arith, track_slot tree 0 0 front (q ∷ back))
 
 follows_slot : (tree : Tree) (t front back : List ℕ) (p q : ℕ) → 0 < p → Track tree 0 t → 0 ∷ t ≡ front ++ p ∷ q ∷ back → follows tree 0 p q ≡ true
@@ -12,7 +12,7 @@ follows_slot tree t [] back p q some is e = grind arith
 follows_slot tree t (x ∷ front) back p q some is e = grind (arith, track_goes tree 0 p q front back)
 
 accepting_start : (tree : Tree) (t front : List ℕ) → Track tree 0 t → 0 ∷ t ≡ front ++ 0 ∷ [] → is_nullable tree ≡ true
-accepting_start tree t [] is e = grind (arith, track_skips tree 0)
+accepting_start tree t [] is e = grind (arith, track_local tree 0 [])
 accepting_start tree t (x ∷ front) is e = grind (arith, track_slot tree 0 0 front [])
 
 accepting_slot : (tree : Tree) (t front : List ℕ) (p : ℕ) → 0 < p → Track tree 0 t → 0 ∷ t ≡ front ++ p ∷ [] → is_last tree 0 p ≡ true

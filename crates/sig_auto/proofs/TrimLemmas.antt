@@ -77,9 +77,6 @@ goes_on (Then a b) before p trim slot =
 goes_on (Or a b) before p trim slot = grind (arith, Chain-or_right, Chain-or_left, goes_on b (before + slots_of a) p trim.1, goes_on a before p trim.0)
 
 -- the tests find tracks
-pub skips_track : (tree : Tree) (before : ℕ) → is_nullable tree ≡ true → Track tree before []
-skips_track tree before h = local_track tree before [] h
-
 pub begins_track : (tree : Tree) (before q : ℕ) → IsTrim tree → is_first tree before q ≡ true → (v : List ℕ) × Track tree before (q ∷ v)
 begins_track tree before q trim h = grind (arith, goes_on tree before q trim (is_first-slot tree before q h), is_first-slot tree before q h, local_track tree before)
 
@@ -109,7 +106,7 @@ accepting_exact tree trim p = (
   λ h. elim (cases_eq p 0) [
     | inl start ↦
         let is : is_nullable tree ≡ true = rw (eq-eqb p 0 start) at h in
-        subst (λ x. Accepting tree x) (sym start) (record { track = []; is_track = skips_track tree 0 is; front = []; last = refl })
+        subst (λ x. Accepting tree x) (sym start) (record { track = []; is_track = local_track tree 0 [] is; front = []; last = refl })
     | inr other ↦
         let found = ends_track tree 0 p trim (rw (ne_eqb p 0 other) at h) in
         record { track = found.0 ++ p ∷ []; is_track = found.1; front = 0 ∷ found.0; last = refl }

@@ -1,7 +1,7 @@
 -- The tree of a sequence has no slot in vain, and as many slots as are counted.
-use Rattle.sig_auto.proofs.Common.{◌≡◌, ℕ, ◌+◌, ◌-◌, ◌*◌, ◌<◌, Bool, true, false, nat_lt, ◌&&◌, cond, List, [], ◌∷◌, ◌++◌, length, refl, sym, ap, ◌∙◌, inl, arith, length-append, mul-suc, mul-zero, eq-eqb, ne_eqb, sum_by, ⊤, sum_by-cons, Class, Within, above, behind, below, between, lower_at, only_these, rest, upper_at, Tree, alternatives_tree, atom_tree, atoms_tree, back_tree, bracket_tree, item_tree, items_tree, row_tree, rows_tree, whole_tree, slots_of, HasTrack, IsTrim, IsBytes, IsBefore-cases, leaves_no_all, Atom, Item, are_all, AlternativesSound, AtomSound, AtomsSound, ItemSound, ItemsSound, IsBefore, SequenceView, above_rows, atom_slots, below_rows, between_rows, bracket_slots, item_slots, slot_count, IsSequence}
+use Rattle.sig_auto.proofs.Common.{◌≡◌, ℕ, ◌+◌, ◌-◌, ◌*◌, ◌<◌, Bool, true, false, nat_lt, ◌&&◌, cond, List, [], ◌∷◌, ◌++◌, length, refl, sym, ap, ◌∙◌, inl, arith, length-append, mul-suc, mul-zero, eq-eqb, lt-ltb, ne_eqb, sum_by, ⊤, sum_by-cons, Class, Within, above, behind, below, between, lower_at, only_these, rest, upper_at, Tree, alternatives_tree, atom_tree, atoms_tree, back_tree, bracket_tree, item_tree, items_tree, row_tree, rows_tree, whole_tree, slots_of, HasTrack, IsTrim, IsBytes, IsBefore-cases, leaves_no_all, Atom, Item, are_all, AlternativesSound, AtomSound, AtomsSound, ItemSound, ItemsSound, IsBefore, SequenceView, above_rows, atom_slots, below_rows, between_rows, bracket_slots, item_slots, slot_count, IsSequence}
 use Rattle.sig_auto.proofs.ByteLemmas.{IsBytes-head, IsBytes-tail}
-use Rattle.sig_auto.proofs.RowLemmas.{less_is, split_rows}
+use Rattle.sig_auto.proofs.RowLemmas.{split_rows}
 use Rattle.sig_expr.specs.declared.item.Atom.TheVariants as atom
 use Rattle.sig_expr.specs.declared.item.Item.TheVariants as item
 
@@ -119,7 +119,7 @@ some_above (x ∷ xs) bytes h =
 
 some_other : (xs : List ℕ) → 0 < length xs → 0 < length (below xs ++ above xs)
 some_other [] h = absurd (omega arith)
-some_other (x ∷ xs) h = grind (arith, length-append, length_if, less_is)
+some_other (x ∷ xs) h = grind (arith, length-append, length_if, lt-ltb)
 
 some_outside : (a b : List ℕ) → IsBytes b → (x y : Bool) → are_all 0 a ≡ x → are_all 255 b ≡ y → (x && y) ≡ false → 0 < length (below a ++ above b)
 some_outside a b bytes false y low high h = grind (arith, length-append, some_below a low)

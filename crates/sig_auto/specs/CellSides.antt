@@ -4,7 +4,7 @@ use Rattle.std.specs.List.{slice_get}
 use Rattle.sig_auto.specs.declared.class.Class.{Class}
 use Rattle.sig_auto.specs.declared.cell.Cell.{Cell}
 use Rattle.sig_auto.specs.Classes.{InClass}
-use Rattle.sig_auto.specs.Sides.{SameSide}
+use Rattle.sig_auto.specs.Cuts.{SameSide}
 use Rattle.sig_auto.specs.Taken.{class_in, taken_first}
 
 -- each cell takes both bytes or neither

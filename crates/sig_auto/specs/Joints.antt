@@ -3,6 +3,7 @@ use Rattle.std.specs.Prelude.{◌≡◌, ◌↔◌, ℕ, ◌+◌, List, ◌∷�
 use Rattle.sig_auto.specs.declared.cell.Cell.{Cell}
 use Rattle.sig_auto.specs.declared.joint.Joint.{Joint}
 use Rattle.sig_auto.specs.declared.joint.Joints.{Joints}
+use Rattle.sig_auto.specs.Behind.{AreReady}
 use Rattle.sig_auto.specs.Joined.{Spells, is_joint, joint_past, seek}
 use Rattle.sig_auto.specs.Ways.{land}
 use Rattle.sig_auto.specs.Tracks.{Accepting}
@@ -23,9 +24,10 @@ pub record AreJoints (cells : List Cell) (joints : Joints) : Type 0 where
   pub nullable : joints.nullable ≡ is_joint (land (Some 0) cells) (length cells)
   pub each : (k : ℕ) (c : Cell) (rest : List Cell) (d : Joint) → drop k cells ≡ c ∷ rest → IsJoint (length cells) c rest k (slice_index_or joints.each.items k d)
 
--- the cells are those of the sequence, the joints theirs, and the set is that of the accepting states
+-- the cells are those of the sequence, in order, the joints theirs, and the set is that of the accepting states
 pub record IsAuto (cells : List Cell) (joints : Joints) (accepting : List ℕ) (s : SequenceView) : Type 0 where
   pub spells : Spells cells s
+  pub ready : AreReady cells
   pub joints_are : AreJoints cells joints
   pub accepting_len : length accepting ≡ set_len (whole_tree s)
   pub accepting_is : (p : ℕ) → HasBit accepting p ↔ Accepting (whole_tree s) p

@@ -12,9 +12,6 @@ pub mod States
 pub mod Begins
 pub mod Cuts
 pub mod Local
-pub mod Sides
-pub mod Stepping
-pub mod Successions
 pub mod Trim
 pub mod Unfolded
 -- These are of the form by cells.
@@ -24,7 +21,6 @@ pub mod Cells
 pub mod Flat
 pub mod Joined
 pub mod Joints
-pub mod Parts
 pub mod Props
 pub mod CellSides
 pub mod CellSteps

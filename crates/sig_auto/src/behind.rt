@@ -7,11 +7,8 @@ ghost use Rattle.std.specs.Prelude.{◌≡◌, ◌⊎◌, ◌+◌, ◌<◌, ◌�
 ghost use Rattle.sig_auto.specs.Behind.{AreReady, IsBehind, IsCellOf, LiesBehind, is_own, slots_in};
 ghost use Rattle.sig_auto.specs.Joined.{entered_first};
 ghost use Rattle.sig_auto.specs.Joints.{AreJoints};
-ghost use Rattle.sig_auto.specs.States.{ComesBehind};
-ghost use Rattle.sig_auto.specs.Tracks.{Follows};
-ghost use Rattle.sig_auto.specs.Trees.{whole_tree};
+ghost use Rattle.sig_auto.specs.States.{HaveSameSuccessors};
 ghost use Rattle.sig_auto.specs.Ways.{leave, own};
-ghost use Rattle.sig_table.specs.Views.{SequenceView};
 
 use crate::cell::Cell;
 use crate::joint::Joints;
@@ -95,7 +92,7 @@ impl Behind {
     /// Whether the same states are found to follow. Where it is not found, they may be the same. It is
     /// found of the last slots of the alternatives of a list.
     pub fn leads_like(&self, other: &Behind) -> bool
-        ensures { IsTrue result → (s : SequenceView) (p q : ℕ) → ComesBehind s p self.now → ComesBehind s q other.now → (next : ℕ) → Follows (whole_tree s) p next ↔ Follows (whole_tree s) q next }
+        ensures { IsTrue result → HaveSameSuccessors self.now other.now }
     {
         self.own == other.own && self.enters == other.enters
     }

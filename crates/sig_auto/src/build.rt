@@ -7,10 +7,9 @@
 ghost use Rattle.std.specs.Prelude.{◌≡◌, ◌+◌, ◌<◌, ◌≤◌, IfOk, OnOk, if◌then◌else◌, length, map};
 ghost use Rattle.sig_auto.specs.Trees.{Gap, Slot, alternatives_tree, atom_tree, atoms_tree, back_tree, front_tree, item_tree, outside_tree, row_tree, rows_tree};
 ghost use Rattle.sig_auto.specs.TreeSlots.{slots_of};
-ghost use Rattle.sig_auto.specs.Building.{Puts};
+ghost use Rattle.sig_auto.specs.Building.{Puts, PutsBehind, part_tree};
 ghost use Rattle.sig_auto.specs.Cells.{cells_in};
 ghost use Rattle.sig_auto.specs.Joined.{Spells};
-ghost use Rattle.sig_auto.specs.Parts.{part_tree};
 ghost use Rattle.sig_expr.specs.Profile.{AlternativesSound, AtomSound, AtomsSound, ItemSound};
 
 use crate::cell::Cell;
@@ -47,7 +46,7 @@ fn push_slot(
 fn push_gap(cells: &mut Vec<Cell>, n: u32, min: u32, max: Option<u32>) -> Result<u32, AllocError>
     requires few { n + slots_of (Gap min max) ≤ 65535 }
     requires short { length cells.old.items + cells_in (Gap min max) ≤ 65535 }
-    ensures { IfOk result (Puts (Gap min max) n (length cells.old.items) (length cells.old.items + cells_in (Gap min max)) cells.old.items cells.new.items) }
+    ensures { IfOk result (PutsBehind (Gap min max) n cells.old.items cells.new.items) }
 {
     let count = match max {
         Some(max) => max,
@@ -285,7 +284,7 @@ fn push_item(alloc: Global, cells: &mut Vec<Cell>, n: u32, item: &Item) -> Resul
     requires sound { ItemSound item.now }
     requires few { n + slots_of (item_tree item.now) ≤ 65535 }
     requires short { length cells.old.items + cells_in (item_tree item.now) ≤ 65535 }
-    ensures { IfOk result (Puts (item_tree item.now) n (length cells.old.items) (length cells.old.items + cells_in (item_tree item.now)) cells.old.items cells.new.items) }
+    ensures { IfOk result (PutsBehind (item_tree item.now) n cells.old.items cells.new.items) }
 {
     let front = cells.len() as u32;
     match item {
@@ -313,7 +312,7 @@ fn push_item(alloc: Global, cells: &mut Vec<Cell>, n: u32, item: &Item) -> Resul
 fn push_atom(alloc: Global, cells: &mut Vec<Cell>, n: u32, atom: &Atom) -> Result<u32, AllocError>
     requires few { n + slots_of (atom_tree atom.now) ≤ 65535 }
     requires short { length cells.old.items + cells_in (atom_tree atom.now) ≤ 65535 }
-    ensures { IfOk result (Puts (atom_tree atom.now) n (length cells.old.items) (length cells.old.items + cells_in (atom_tree atom.now)) cells.old.items cells.new.items) }
+    ensures { IfOk result (PutsBehind (atom_tree atom.now) n cells.old.items cells.new.items) }
 {
     let front = cells.len() as u32;
     let part = part_of(alloc, atom)?;

@@ -6,7 +6,7 @@
 
 ghost use Rattle.std.specs.Prelude.{◌≡◌, ◌↔◌, ℕ, ◌+◌, ◌<◌, IfSome, IsTrue};
 ghost use Rattle.sig_auto.specs.Classes.{InClass, IsSpelled};
-ghost use Rattle.sig_auto.specs.Sides.{SameSide};
+ghost use Rattle.sig_auto.specs.Cuts.{SameSide};
 ghost use Rattle.sig_bits.specs.ByteClasses.{Holds};
 
 use sig_bits::ByteClass;

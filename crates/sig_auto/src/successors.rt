@@ -3,11 +3,11 @@
 //! First the state's own next slot, if it takes the byte; then the first slots of the cells that are
 //! entered behind it, from one to the one beside it.
 
-ghost use Rattle.std.specs.Prelude.{◌≡◌, ◌≤◌, [], ◌∷◌, drop, MatchOption};
+ghost use Rattle.std.specs.Prelude.{◌≡◌, ◌≤◌, drop};
 ghost use Rattle.sig_auto.specs.Behind.{AreReady};
 ghost use Rattle.sig_auto.specs.Joints.{AreJoints};
 ghost use Rattle.sig_auto.specs.Props.{AreReady-prop, AreJoints-prop};
-ghost use Rattle.sig_auto.specs.Taken.{taken_first};
+ghost use Rattle.sig_auto.specs.Taken.{GivesFirst, taken_first};
 
 use crate::cell::Cell;
 use crate::joint::Joints;
@@ -49,7 +49,7 @@ impl Iterator for Successors<'_> {
 fn next_taken(cells: &[Cell], joints: &Joints, from: usize, byte: u8) -> (Option<u32>, usize)
     requires ready { AreReady cells.now }
     requires joints { AreJoints cells.now joints.now }
-    ensures { MatchOption result.0 ((taken_first byte (drop from cells.now) ≡ []) × (taken_first byte (drop result.1 cells.now) ≡ [])) (λ q. taken_first byte (drop from cells.now) ≡ q ∷ taken_first byte (drop result.1 cells.now)) }
+    ensures { GivesFirst result.0 (taken_first byte (drop from cells.now)) (taken_first byte (drop result.1 cells.now)) }
 {
     let mut at = from;
     while at < cells.len() {

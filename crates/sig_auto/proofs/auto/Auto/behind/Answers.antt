@@ -1,8 +1,5 @@
-use Rattle.sig_auto.proofs.CellLemmas.{comes_behind, ready, within}
+use Rattle.sig_auto.proofs.CellLemmas.{comes_behind, within}
 use Rattle.sig_auto.proofs.auto.Auto.behind.Goals as goal
-
-pub of-requires-clause-ready : goal.of-requires-clause-ready
-of-requires-clause-ready c = ready c.self.inside.cells.items _ _ c.self.invariant.spells c.as_slice.ensures.value
 
 pub of-requires-clause-within : goal.of-requires-clause-within
 of-requires-clause-within c = within c.self.inside.cells.items _ _ c.args.self.now c.args.p c.self.invariant.spells c.self.view_is c.as_slice.ensures.value c.requires

@@ -1,9 +1,6 @@
 use Rattle.sig_auto.proofs.Common.{◌↔◌, subst, InClass, Holds}
-use Rattle.sig_auto.proofs.CellLemmas.{class_told, ready, within}
+use Rattle.sig_auto.proofs.CellLemmas.{class_told, within}
 use Rattle.sig_auto.proofs.auto.Auto.class.Goals as goal
-
-pub find-k-requires-clause-ready : goal.find-k-requires-clause-ready
-find-k-requires-clause-ready c = ready c.self.inside.cells.items _ _ c.self.invariant.spells c.as_slice.ensures.value
 
 pub find-k-requires-clause-within : goal.find-k-requires-clause-within
 find-k-requires-clause-within c = within c.self.inside.cells.items _ _ c.args.self.now c.args.q c.self.invariant.spells c.self.view_is c.as_slice.ensures.value c.requires.within

@@ -1,18 +1,9 @@
 use Rattle.sig_auto.proofs.Common.{arith}
-use Rattle.sig_auto.proofs.CellLemmas.{follows_else, follows_then, in_slots, none_follows, out_of_slots, ready}
+use Rattle.sig_auto.proofs.CellLemmas.{follows_else, follows_then, in_slots, none_follows, out_of_slots}
 use Rattle.sig_auto.proofs.auto.Auto.follows.Goals as goal
-
-pub slots-requires : goal.slots-requires
-slots-requires c = ready c.self.inside.cells.items _ _ c.self.invariant.spells c.as_slice-cells.ensures.value
 
 pub returns-then-p-slots : goal.returns-then-p-slots
 returns-then-p-slots c = none_follows c.self.inside.cells.items _ c.args.self.now c.args.p c.args.q c.self.invariant.spells c.self.view_is (out_of_slots c.self.inside.cells.items _ _ c.args.self.now c.args.p c.slots.result c.self.invariant.spells c.self.view_is c.as_slice-cells.ensures.value c.slots.ensures (omega arith))
-
-pub of-behind-requires-clause-ready : goal.of-behind-requires-clause-ready
-of-behind-requires-clause-ready c = ready c.self.inside.cells.items _ _ c.self.invariant.spells c.as_slice-cells.ensures.value
-
-pub is_entered-requires-clause-ready : goal.is_entered-requires-clause-ready
-is_entered-requires-clause-ready c = ready c.self.inside.cells.items _ _ c.self.invariant.spells c.as_slice-cells.ensures.value
 
 pub returns-then-has : goal.returns-then-has
 returns-then-has c = follows_then c.self.inside.cells.items _ _ c.args.self.now c.args.p c.args.q c.of-behind.result c.has.result c.self.invariant.spells c.self.view_is c.as_slice-cells.ensures.value (in_slots c.self.inside.cells.items _ _ c.args.self.now c.args.p c.slots.result c.self.invariant.spells c.self.view_is c.as_slice-cells.ensures.value c.slots.ensures (omega arith)) c.of-behind.ensures.is c.has.ensures c.if-has.true

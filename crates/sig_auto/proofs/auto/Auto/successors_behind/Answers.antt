@@ -1,19 +1,9 @@
-use Rattle.sig_auto.proofs.Common.{subst, sym, AreJoints}
-use Rattle.sig_auto.proofs.CellLemmas.{cell_there, ready, spelled_are}
+use Rattle.sig_auto.proofs.CellLemmas.{cell_there, spelled_are}
 use Rattle.sig_auto.proofs.CellSuccessorLemmas.{followers_told}
 use Rattle.sig_auto.proofs.auto.Auto.successors_behind.Goals as goal
 
-pub own_on-requires-clause-ready : goal.own_on-requires-clause-ready
-own_on-requires-clause-ready c = ready c.self.inside.cells.items _ _ c.self.invariant.spells c.as_slice-cells.ensures.value
-
 pub own_on-requires-clause-cell : goal.own_on-requires-clause-cell
 own_on-requires-clause-cell c = cell_there c.as_slice-cells.result.now c.args.self.now c.requires.0 c.args.behind (spelled_are c.self.inside.cells.items _ _ _ c.self.invariant.spells c.self.view_is c.as_slice-cells.ensures.value) c.requires.1
-
-pub invariant_of-result : goal.invariant_of-result
-invariant_of-result c = record {
-  ready = ready c.self.inside.cells.items _ _ c.self.invariant.spells c.as_slice-cells.ensures.value;
-  joined = subst (λ x. AreJoints x c.self.inside.joints) (sym c.as_slice-cells.ensures.value) c.self.invariant.joints_are;
-}
 
 pub returns : goal.returns
 returns c = record {
