@@ -27,6 +27,7 @@ sys.path.insert(0, os.path.dirname(os.path.abspath(__file__)))
 
 import page_check
 import plain_check
+import plain_classes
 import plain_find
 import plain_load
 from compare import changes, guessed, random_rows
@@ -40,21 +41,26 @@ PUID = r"(x-)?fmt/[1-9]\d{0,8}"
 COUNTS = r"pairs \d+ decided \d+ ambiguous"
 ALIVE = rf"alive {PUID} [1-9]\d* \d+( [0-9a-f]+)?\n"
 FATES = r"\d+ alive \d+ dead"
+CLASS = "|".join(plain_classes.CLASSES)
+OF_CLASSES = "".join(rf" {it} \d+" for it in plain_classes.CLASSES)
+PAIR = rf"{PUID} {PUID} [1-9]\d* [1-9]\d*"
+PAIR_LINE = rf"(ambiguous {PAIR} \d+( ({CLASS}))?( ([0-9a-f][0-9a-f])+)?|unknown {PAIR})\n"
 # What each subcommand may print, by its status.
 SAID = {
     "match": {0: rf"({PUID} [1-9]\d*\n)*"},
     "show": {0: rf"{HEADER}(.*\n)*\n{PAIRS}({PUID},{PUID}\n)*"},
     "witness": {0: rf"ambiguous {PUID} {PUID}\n", 1: r"not ambiguous\n"},
     "check": {0: r"accepted\n", 1: r"refused C([1-9]|1[0-2]) [^\n]+\n"},
-    "conflicts": {0: rf"{COUNTS} 0 unknown 0\n", 1: rf"((ambiguous|unknown) {PUID} {PUID} [1-9]\d* [1-9]\d*( [0-9a-f]+)*\n)+{COUNTS} \d+ unknown \d+\n"},
+    "conflicts": {0: rf"{COUNTS} 0 unknown 0({OF_CLASSES})?\n", 1: rf"({PAIR_LINE})+{COUNTS} \d+ unknown \d+({OF_CLASSES})?\n"},
     "dead": {0: rf"({ALIVE})*formats {FATES} 0 unknown 0 signatures {FATES} 0 unknown 0\n",
              1: rf"((dead|unknown) {PUID}( [1-9]\d*)?\n|{ALIVE})+formats {FATES} \d+ unknown \d+ signatures {FATES} \d+ unknown \d+\n"},
     "find": {0: rf"(decided|witness {PUID} {PUID})\n([0-9a-f]*\n)?", 1: r"gave up [1-9]\d* [1-9]\d*\n"},
 }
 # What stands on standard error beside an answer.
 TOLD = {("find", 1): r"(over 64 signatures outrank [1-9]\d* or [1-9]\d*: see conflicts|more than [1-9]\d* rows)\n"}
+UNNAMED = "only: not in the table\n"
 FAULTS = {
-    2: r"signatures: L2 header\n|priorities: L2 header\n|(signatures|priorities) row [1-9]\d*: L([3-9]|1[0-57]) [^\n]+\n",
+    2: rf"{UNNAMED}|" r"signatures: L2 header\n|priorities: L2 header\n|(signatures|priorities) row [1-9]\d*: L([3-9]|1[0-57]) [^\n]+\n",
     3: r"cannot open [^\n]*\n|read failed\n",
 }
 
@@ -283,7 +289,7 @@ class Runs:
         broken = broken_rule(words, *answer)
         if broken:
             raise Failed(f"{words}: {broken}: {answer}")
-        told = "" if (words[0], answer[0]) in TOLD else answer[2]
+        told = "" if (words[0], answer[0]) in TOLD or ("--only" in words and answer[2] == UNNAMED) else answer[2]
         if TABLE_FILES[0] in words and told != (self.refusal + "\n" if self.refusal else ""):
             raise Failed(f"{words}: {answer}, and the plain judge of tables says {self.refusal}")
         return answer
@@ -389,27 +395,49 @@ def searched(runs, kind, signatures, budget):
         raise Failed(f"find says {answer[1]!r}, and match leaves {lines}")
 
 
-def settled(runs, kind, budget):
-    """`conflicts`; the file of a line leaves its two formats, and no line stands exactly where `find` says decided."""
-    answer = runs.run("conflicts", "--hex", "--budget", str(budget), *TABLE_FILES)
+def settled(runs, chance, kind, budget):
+    """`conflicts`; the file of a line leaves its two formats, no line stands exactly where `find` says decided, and with other flags it prints what its lines say."""
+    words = ["conflicts", "--budget", str(budget)]
+    answer = runs.run(*words, "--class", "--hex", *TABLE_FILES)
     runs.count(kind, named(answer))
     if answer[0] > 1:
+        # the fault of the table comes before that of the format
+        if runs.run(*words, "--only", "fmt/999", *TABLE_FILES) != answer:
+            raise Failed(f"conflicts --only has another fault than {answer}")
         return
-    *lines, last = answer[1].splitlines()
-    _, pairs, _, decided, _, ambiguous, _, unknown = last.split()
-    told = [sum(line.startswith(word) for line in lines) for word in ("ambiguous", "unknown")]
-    if told != [int(ambiguous), int(unknown)] or int(pairs) != int(decided) + sum(told):
-        raise Failed(f"the last line counts other pairs: {answer}")
-    for words in [line.split() for line in lines if line.startswith("ambiguous")][:5]:
-        file = bytes.fromhex("".join(words[6:]))
+    *texts, last = answer[1].splitlines()
+    found = [plain_classes.read(text) for text in texts]
+    if None in found:
+        raise Failed(f"conflicts --class has a line of another form: {answer}")
+    table, lines = plain_check.read_table(*(os.path.join(runs.folder, name) for name in TABLE_FILES)), [line for line, _ in found]
+    formats = range(len(table.puids))
+    unrelated = [(table.puids[i], table.puids[j]) for i in formats for j in formats if i < j and not table.related(i, j)]
+    if last != plain_classes.last_line(len(unrelated), lines) or not {line.formats for line in lines} <= set(unrelated):
+        raise Failed(f"the lines are of other pairs than those of the table, or counted otherwise: {answer}")
+    for line, file in [it for it in found if it[0].kind == "ambiguous"][:5]:
         runs.put("file", file)
-        left = {line.split()[0] for line in runs.run("match", *TABLE_FILES, "file")[1].splitlines()}
-        if len(file) != int(words[5]) or not set(words[1:3]) <= left:
-            raise Failed(f"conflicts says {words}, and match leaves {left}")
+        left = {it.split()[0] for it in runs.run("match", *TABLE_FILES, "file")[1].splitlines()}
+        if len(file) != line.length or not set(line.formats) <= left:
+            raise Failed(f"conflicts says {line} {file}, and match leaves {left}")
+    viewed(runs, chance, words, unrelated, lines, table.puids)
     runs.clear("out")
     found = runs.run("find", "--budget", str(budget), "--out", "out", *TABLE_FILES)
     if (answer[0] == 0) != (found[1] == "decided\n"):
         raise Failed(f"find and conflicts differ: {found} {answer}")
+
+
+def viewed(runs, chance, words, unrelated, lines, puids):
+    """`conflicts` with other flags prints what these lines say, and refuses a format that is not in the table."""
+    only = chance.choice([*puids, "fmt/999", "fmt/01", "x", ""])
+    if only not in puids:
+        said, wanted = runs.run(*words, "--only", only, *TABLE_FILES), (2, "", UNNAMED)
+        runs.count("conflicts --only with no format of the table", "")
+    else:
+        flags, printed, status = chance.choice(list(plain_classes.views(unrelated, lines, only)))
+        said, wanted = runs.run(*words, *flags, *TABLE_FILES), (status, "".join(line + "\n" for line in printed), "")
+        runs.count("conflicts by its own lines", " ".join(it for it in flags if it.startswith("--")) or "no flag")
+    if said != wanted:
+        raise Failed(f"conflicts says {said}, and by its own lines {wanted}")
 
 
 def lived(runs, kind, signatures, budget):
@@ -469,7 +497,7 @@ def shown(runs, kind):
 def words_case(runs, chance):
     """A command line that is mixed up. A usage fault has some lines, and each other answer its form."""
     words = [chance.choice(["match", "show", "check", "witness", "find", "conflicts", "dead", "--all", "--with-names", "--out", "--budget",
-                            "--hex", "--progress", "0", "1", "4294967296", "-1", "--", "-", "", "none", "signatures.csv", "priorities.csv", "certificate",
+                            "--hex", "--progress", "--class", "--only", "fmt/1", "0", "1", "4294967296", "-1", "--", "-", "", "none", "signatures.csv", "priorities.csv", "certificate",
                             "--al", "match=1", "/", "n\u00e4me", "a\x1bb"]) for _ in range(chance.randrange(7))]
     words = [word.encode() if chance.random() < 0.9 else word.encode() + b"\xff" for word in words]
     runs.clear("out")
@@ -540,7 +568,7 @@ class Cases:
         elif kind == 3:
             searched(self.runs, "tables, find", signatures, chance.choice([1, 2, 10, 300]))
         elif kind == 4:
-            settled(self.runs, "tables, conflicts", chance.choice([1, 2, 10, 300]))
+            settled(self.runs, chance, "tables, conflicts", chance.choice([1, 2, 10, 300]))
         else:
             lived(self.runs, "tables, dead", signatures, chance.choice([1, 2, 10, 300]))
 
@@ -553,7 +581,7 @@ class Cases:
         seed = random_seed(self.chance)
         self.runs.put_table(seed.signatures, seed.priorities)
         searched(self.runs, "searches", seed.signatures, self.chance.choice([1, 3, 10, 50, 300, 2000]))
-        settled(self.runs, "searches of all pairs", self.chance.choice([1, 3, 10, 50, 300, 2000]))
+        settled(self.runs, self.chance, "searches of all pairs", self.chance.choice([1, 3, 10, 50, 300, 2000]))
         lived(self.runs, "searches of all formats", seed.signatures, self.chance.choice([1, 3, 10, 50, 300, 2000]))
 
     def words(self):

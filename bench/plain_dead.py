@@ -186,8 +186,14 @@ def lines_of(found, signatures):
     return [*lines, " ".join(counts)]
 
 
-def fault_of(signatures, pairs, done, counts):
+def fault_of(signatures, pairs, run, counts):
     """The first thing that is wrong in an answer of `dead --hex`, or None."""
+    done = run("dead", "--hex")
+    fault = fault_in(signatures, pairs, done, counts)
+    return fault and f"{fault}\n{done.stdout}{done.stderr}"
+
+
+def fault_in(signatures, pairs, done, counts):
     lines = done.stdout.splitlines()
     found = said([line.split() for line in lines[:-1]], signatures)
     if found.keys() != signatures.keys():
@@ -203,7 +209,7 @@ def fault_of(signatures, pairs, done, counts):
             is_right = is_as_long and number in hits and is_left(puid, hits, signatures, pairs)
         if not is_right:
             return f"of signature {number} the program says {file}, and brute force {length}"
-        counts["dead" if file is None else "alive" if length is not None else "alive by a longer file"] += 1
+        counts["dead signatures" if file is None else "alive signatures" if length is not None else "signatures alive by a longer file"] += 1
     if lines != lines_of(found, signatures):
         return "other lines, or other counts"
     dead = [puid for puid, numbers in formats_of(signatures).items() if all(found[it] is None for it in numbers)]
@@ -212,30 +218,33 @@ def fault_of(signatures, pairs, done, counts):
     return None if (done.returncode, done.stderr) == (status, "") else f"status {done.returncode}, error output {done.stderr!r}"
 
 
-def main():
+def run_over_tables(page, name, tables, fault_of):
+    """Judges so many random tables, by the words of the command line. Prints what was found, and answers the status.
+
+    `fault_of` takes the signatures and the pairs of a table, a call that runs words of the program on it, and
+    the counts to print; it answers the first thing that is wrong, or None."""
     if len(sys.argv) < 2:
-        sys.exit(__doc__)
+        sys.exit(page)
     program = os.path.abspath(sys.argv[1])
-    tables = int(sys.argv[2]) if len(sys.argv) > 2 else 1000
+    tables = int(sys.argv[2]) if len(sys.argv) > 2 else tables
     seed = int(sys.argv[3]) if len(sys.argv) > 3 else 1
     chance, counts = random.Random(seed), collections.Counter()
     with tempfile.TemporaryDirectory() as room:
+        def run(*words):
+            return subprocess.run([program, *words, "signatures.csv", "priorities.csv"], cwd=room, capture_output=True, text=True)
+
         for _ in range(tables):
             rows, priorities, signatures, pairs = random_table(chance)
-            for name, text in (("signatures.csv", rows), ("priorities.csv", priorities)):
-                with open(os.path.join(room, name), "w", encoding="ascii") as file:
+            for file_name, text in (("signatures.csv", rows), ("priorities.csv", priorities)):
+                with open(os.path.join(room, file_name), "w", encoding="ascii") as file:
                     file.write(text)
-            words = [program, "dead", "--hex", "signatures.csv", "priorities.csv"]
-            done = subprocess.run(words, cwd=room, capture_output=True, text=True)
-            fault = fault_of(signatures, pairs, done, counts)
+            fault = fault_of(signatures, pairs, run, counts)
             if fault:
-                print(f"plain_dead: {fault}\n{rows}{priorities}{done.stdout}{done.stderr}")
+                print(f"{name}: {fault}\n{rows}{priorities}")
                 return 1
-    dead = counts.pop("dead formats", 0)
-    kinds = ", ".join(f"{count} {kind}" for kind, count in sorted(counts.items()))
-    print(f"plain_dead: {tables} tables of seed {seed} agree: {dead} dead formats; signatures {kinds}")
+    print(f"{name}: {tables} tables of seed {seed} agree: " + ", ".join(f"{count} {kind}" for kind, count in sorted(counts.items())))
     return 0
 
 
 if __name__ == "__main__":
-    sys.exit(main())
+    sys.exit(run_over_tables(__doc__, "plain_dead", 1000, fault_of))

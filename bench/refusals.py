@@ -150,6 +150,7 @@ TWO_IN_VERSION_2 = OF_TWO.replace(" 01 00000001", " 02 00000001")
 OF_BOTH_ENDS = ONE_PAIR + "01 0000 00000005 00000000 00010001 00010002 00020001 00020002"
 FIND = ["find", "--budget", "100", "--out", "out"]
 SETTLE = ["conflicts", "--budget", "100", "--hex"]
+CLASSES = [*SETTLE, "--class"]
 DEAD = ["dead", "--budget", "100", "--hex"]
 DECIDED = "pairs 1 decided 1 ambiguous 0 unknown 0\n"
 # Nine words that may stand anywhere, so many that one look at a file is for all of them.
@@ -163,6 +164,13 @@ OVER = (BLOCKED[0], PAIRS + "fmt/3,fmt/1\nfmt/2,fmt/3\n")
 THREE_ALIKE = (HEADER + "fmt/1,1,BOF,0,,41\nfmt/2,2,BOF,0,,41\nfmt/3,3,BOF,0,,41\n", PAIRS)
 THREE_PAIRS = ("ambiguous fmt/1 fmt/2 1 2 1 41\nambiguous fmt/1 fmt/3 1 3 1 41\nambiguous fmt/2 fmt/3 2 3 1 41\n"
                "pairs 3 decided 0 ambiguous 3 unknown 0\n")
+# Each file that the first hits, the second does too; the third has the bytes of the first; any file can end as the fourth asks.
+EACH_CLASS = (HEADER + "fmt/1,1,BOF,0,,4142\nfmt/2,2,BOF,0,,41\nfmt/3,3,BOF,0,,4142\nfmt/4,4,EOF,0,,43\n", PAIRS)
+PAIRS_OF_EACH_CLASS = ("ambiguous fmt/1 fmt/2 1 2 2 over 4142\nambiguous fmt/1 fmt/3 1 3 2 same 4142\nambiguous fmt/1 fmt/4 1 4 3 apart 414243\n"
+                       "ambiguous fmt/2 fmt/3 2 3 2 under 4142\nambiguous fmt/2 fmt/4 2 4 2 apart 4143\nambiguous fmt/3 fmt/4 3 4 3 apart 414243\n"
+                       "pairs 6 decided 0 ambiguous 6 unknown 0 over 1 under 1 same 1 apart 3 open 0\n")
+PAIRS_OF_THE_THIRD = ("ambiguous fmt/1 fmt/3 1 3 2 4142\nambiguous fmt/2 fmt/3 2 3 2 4142\nambiguous fmt/3 fmt/4 3 4 3 414243\n"
+                      "pairs 3 decided 0 ambiguous 3 unknown 0\n")
 
 # A name, a table, a file, the words before the table, and what is answered: status, output, error output.
 CASES = [
@@ -193,6 +201,9 @@ CASES = [
     ("both ends", BOTH_ENDS, None, ["find", "--budget", "1", "--out", "out"], (1, "gave up 1 2\n", "more than 1 rows\n")),
     ("both ends", BOTH_ENDS, None, SETTLE, (1, "ambiguous fmt/1 fmt/2 1 2 1 41\npairs 1 decided 0 ambiguous 1 unknown 0\n", "")),
     ("three alike", THREE_ALIKE, None, SETTLE, (1, THREE_PAIRS, "")),
+    ("each class", EACH_CLASS, None, CLASSES, (1, PAIRS_OF_EACH_CLASS, "")),
+    ("each class", EACH_CLASS, None, [*SETTLE, "--only", "fmt/3"], (1, PAIRS_OF_THE_THIRD, "")),
+    ("each class", EACH_CLASS, None, [*CLASSES, "--only", "fmt/5"], (2, "", "only: not in the table\n")),
     ("one over another", OVER, None, DEAD,
      (1, "alive fmt/1 1 2 4100\nalive fmt/2 2 2 0042\ndead fmt/3\n"
          "formats 3 alive 2 dead 1 unknown 0 signatures 3 alive 2 dead 1 unknown 0\n", "")),
@@ -213,6 +224,8 @@ CASES = [
     ("two blockers", TWO_BLOCKERS, 1, ["check"], (0, "accepted\n", "")),
     ("two blockers", TWO_BLOCKERS, 2, ["check"], (0, "accepted\n", "")),
     ("two blockers", TWO_BLOCKERS, None, FIND, (0, "decided\n", "")),
+    ("two blockers", TWO_BLOCKERS, None, [*CLASSES, "--progress"],
+     (0, "pairs 2 decided 2 ambiguous 0 unknown 0 over 0 under 0 same 0 apart 0 open 0\n", "\r0 of 2 pairs\r1 of 2 pairs\r2 of 2 pairs\n")),
     ("two blockers", TWO_BLOCKERS, None, [*FIND, "--progress"],
      (0, "decided\n", "\r0 of 2 products\r1 of 2 products\r2 of 2 products\n")),
     ("a refused text", REFUSED, None, ["show"], (2, "", "signatures row 1: L8 expression E2 at 2\n")),
@@ -315,7 +328,7 @@ class Case:
 
     def without_memory(self, _, answer, written):
         is_ample = (answer, written) == (self.ample, self.written)
-        lines = self.ample[1].splitlines(True) if self.words[0] in ("conflicts", "dead") else [""]
+        lines = self.ample[1].splitlines(True) if self.words[0] in ("conflicts", "dead") and self.ample[1] else [""]
         fronts = ["".join(lines[:count]) for count in range(len(lines))]
         status, out, err = answer
         told = ["out of memory\n"] + [front + "out of memory\n" for front in self.fronts_of_reports()]

@@ -1,6 +1,8 @@
 mod automata;
 mod certificates;
+mod classes;
 mod finding;
+mod inclusions;
 mod lives;
 mod pairs;
 mod products;

@@ -1,3 +1,4 @@
+mod conflicting;
 mod failing;
 mod finding;
 mod judging;

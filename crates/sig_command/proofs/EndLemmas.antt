@@ -22,7 +22,7 @@ use Rattle.sig_command.specs.Statuses.{kind_status, status_of, table_status}
 use Rattle.sig_command.specs.declared.args.Request.{Request}
 use Rattle.sig_command.specs.declared.args.Request.TheVariants.{Check, Conflicts, Dead, Find, Match, MatchMany, Show, Witness}
 use Rattle.sig_command.specs.declared.fault.Fault.{Fault}
-use Rattle.sig_command.specs.declared.fault.Fault.TheVariants.{CannotOpen, CutShort, NotText, Run, SomeFiles, Table}
+use Rattle.sig_command.specs.declared.fault.Fault.TheVariants.{CannotOpen, CutShort, NotInTable, NotText, Run, SomeFiles, Table}
 
 -- memory can run out for whatever is asked
 pub memory_of : {R : Type 0} (failed : R → Bool) (held : Holding) (request : Request) → IsFaultOf failed held request (Run run.OutOfMemory)
@@ -37,7 +37,7 @@ memory_first failed held request before after err = (inl refl, go request)
     go (Match all table file) = tt
     go (MatchMany all table files) = refl
     go (Find table budget out hex progress) = tt
-    go (Conflicts table budget hex progress) = tt
+    go (Conflicts table options progress) = tt
     go (Dead table budget hex progress) = tt
     go (Check table certificate) = tt
     go (Witness table file) = tt
@@ -48,7 +48,7 @@ has_files found (Show table) asks = tt
 has_files found (Match all table file) asks = tt
 has_files found (MatchMany all table files) asks = asks.3.some
 has_files found (Find table budget out hex progress) asks = tt
-has_files found (Conflicts table budget hex progress) asks = tt
+has_files found (Conflicts table options progress) asks = tt
 has_files found (Dead table budget hex progress) asks = tt
 has_files found (Check table certificate) asks = tt
 has_files found (Witness table file) asks = tt
@@ -114,7 +114,7 @@ files_are_reported failed held (Find table budget out hex progress) status befor
     never : (SomeFiles ≡ CannotOpen out) ⊎ (SomeFiles ≡ Run run.Write) → ⊥
     never (inl same) = let bad : SomeFiles ≡ CannotOpen out = same in cc
     never (inr same) = let bad : SomeFiles ≡ Run run.Write = same in cc
-files_are_reported failed held (Conflicts table budget hex progress) status before after is_failed err_before mid err_after is joins sound reports = absurd (no_files failed held (Conflicts table budget hex progress) (λ never. never) is)
+files_are_reported failed held (Conflicts table options progress) status before after is_failed err_before mid err_after is joins sound reports = absurd (no_files failed held (Conflicts table options progress) (λ never. never) is)
 files_are_reported failed held (Dead table budget hex progress) status before after is_failed err_before mid err_after is joins sound reports = absurd (no_files failed held (Dead table budget hex progress) (λ never. never) is)
 files_are_reported failed held (Check table certificate) status before after is_failed err_before mid err_after is joins sound reports = absurd (no_files failed held (Check table certificate) (λ never. never) is)
 files_are_reported failed held (Witness table file) status before after is_failed err_before mid err_after is joins sound reports = absurd (no_files failed held (Witness table file) (λ never. never) is)
@@ -137,6 +137,7 @@ some_line failed held words request reason status is_failed written err mid befo
     go NotText is joins reports = one NotText (λ same. let bad : NotText ≡ SomeFiles = same in cc) joins reports
     go (CannotOpen name) is joins reports = one (CannotOpen name) (λ same. let bad : CannotOpen name ≡ SomeFiles = same in cc) joins reports
     go (Table error) is joins reports = one (Table error) (λ same. let bad : Table error ≡ SomeFiles = same in cc) joins reports
+    go NotInTable is joins reports = one NotInTable (λ same. let bad : NotInTable ≡ SomeFiles = same in cc) joins reports
     go (Run error) is joins reports = one (Run error) (λ same. let bad : Run error ≡ SomeFiles = same in cc) joins reports
     go (CutShort error) is joins reports = one (CutShort error) (λ same. let bad : CutShort error ≡ SomeFiles = same in cc) joins reports
 
@@ -150,6 +151,7 @@ high_status : (reason : Fault) → 2 ≤ status_of reason
 high_status NotText = omega arith
 high_status (CannotOpen name) = omega arith
 high_status (Table error) = high_table error
+high_status NotInTable = omega arith
 high_status (Run error) = omega arith
 high_status (CutShort error) = omega arith
 high_status SomeFiles = omega arith

@@ -7,7 +7,8 @@ use Rattle.std.proofs.lemmas.Option.{same_Some}
 use Rattle.clap.specs.Words.{HasKind, IsAmong, Kinds, Row, Text, all_of, first_of, kind_of}
 use Rattle.clap.specs.declared.error.Error.{Error}
 use Rattle.clap.specs.declared.error.kind.ErrorKind.TheVariants.{DisplayHelp, DisplayVersion, OutOfMemory}
-use Rattle.sig_command.specs.CommandLine.{Asks, NamesBudget, NamesMany, NamesTable}
+use Rattle.sig_command.specs.CommandLine.{Asks, NamesBudget, NamesMany, NamesOptions, NamesTable}
+use Rattle.sig_command.specs.declared.args.ConflictsOptions.{ConflictsOptions}
 use Rattle.sig_command.specs.declared.args.Request.{Request}
 use Rattle.sig_command.specs.declared.args.Request.TheVariants.{Check, Conflicts, Dead, Find, Match, MatchMany, Show, Witness}
 use Rattle.sig_engines.specs.declared.store.TablePaths.{TablePaths}
@@ -45,7 +46,7 @@ no_show rows missing (Show table) asks = missing table (subst (NamesTable table)
 no_show rows missing (Match all table file) asks = other_name (codes "show") (codes "match") rows asks.0 (omega arith) asks.1
 no_show rows missing (MatchMany all table files) asks = other_name (codes "show") (codes "match") rows asks.0 (omega arith) asks.1
 no_show rows missing (Find table budget out hex progress) asks = other_name (codes "show") (codes "find") rows asks.0 (omega arith) asks.1
-no_show rows missing (Conflicts table budget hex progress) asks = other_name (codes "show") (codes "conflicts") rows asks.0 (omega arith) asks.1
+no_show rows missing (Conflicts table options progress) asks = other_name (codes "show") (codes "conflicts") rows asks.0 (omega arith) asks.1
 no_show rows missing (Dead table budget hex progress) asks = other_name (codes "show") (codes "dead") rows asks.0 (omega arith) asks.1
 no_show rows missing (Check table certificate) asks = other_name (codes "show") (codes "check") rows asks.0 (omega arith) asks.1
 no_show rows missing (Witness table file) asks = other_name (codes "show") (codes "witness") rows asks.0 (omega arith) asks.1
@@ -64,7 +65,7 @@ no_match rows missing (MatchMany all table files) asks =
     let same : asks.0 ≡ rows = rows_of_found (codes "match") rows asks.0 asks.1 in
     many_named files.now rows (subst (NamesMany files.now) same asks.3) (λ text texts is. missing table text texts (subst (NamesTable table) same asks.2) is)
 no_match rows missing (Find table budget out hex progress) asks = other_name (codes "match") (codes "find") rows asks.0 (omega arith) asks.1
-no_match rows missing (Conflicts table budget hex progress) asks = other_name (codes "match") (codes "conflicts") rows asks.0 (omega arith) asks.1
+no_match rows missing (Conflicts table options progress) asks = other_name (codes "match") (codes "conflicts") rows asks.0 (omega arith) asks.1
 no_match rows missing (Dead table budget hex progress) asks = other_name (codes "match") (codes "dead") rows asks.0 (omega arith) asks.1
 no_match rows missing (Check table certificate) asks = other_name (codes "match") (codes "check") rows asks.0 (omega arith) asks.1
 no_match rows missing (Witness table file) asks = other_name (codes "match") (codes "witness") rows asks.0 (omega arith) asks.1
@@ -74,7 +75,7 @@ no_check rows missing (Show table) asks = other_name (codes "check") (codes "sho
 no_check rows missing (Match all table file) asks = other_name (codes "check") (codes "match") rows asks.0 (omega arith) asks.1
 no_check rows missing (MatchMany all table files) asks = other_name (codes "check") (codes "match") rows asks.0 (omega arith) asks.1
 no_check rows missing (Find table budget out hex progress) asks = other_name (codes "check") (codes "find") rows asks.0 (omega arith) asks.1
-no_check rows missing (Conflicts table budget hex progress) asks = other_later (codes "check") (codes "conflicts") rows asks.0 (omega arith) asks.1
+no_check rows missing (Conflicts table options progress) asks = other_later (codes "check") (codes "conflicts") rows asks.0 (omega arith) asks.1
 no_check rows missing (Dead table budget hex progress) asks = other_name (codes "check") (codes "dead") rows asks.0 (omega arith) asks.1
 no_check rows missing (Check table certificate) asks =
     let same : asks.0 ≡ rows = rows_of_found (codes "check") rows asks.0 asks.1 in
@@ -86,7 +87,7 @@ no_witness rows missing (Show table) asks = other_name (codes "witness") (codes 
 no_witness rows missing (Match all table file) asks = other_name (codes "witness") (codes "match") rows asks.0 (omega arith) asks.1
 no_witness rows missing (MatchMany all table files) asks = other_name (codes "witness") (codes "match") rows asks.0 (omega arith) asks.1
 no_witness rows missing (Find table budget out hex progress) asks = other_name (codes "witness") (codes "find") rows asks.0 (omega arith) asks.1
-no_witness rows missing (Conflicts table budget hex progress) asks = other_name (codes "witness") (codes "conflicts") rows asks.0 (omega arith) asks.1
+no_witness rows missing (Conflicts table options progress) asks = other_name (codes "witness") (codes "conflicts") rows asks.0 (omega arith) asks.1
 no_witness rows missing (Dead table budget hex progress) asks = other_name (codes "witness") (codes "dead") rows asks.0 (omega arith) asks.1
 no_witness rows missing (Check table certificate) asks = other_name (codes "witness") (codes "check") rows asks.0 (omega arith) asks.1
 no_witness rows missing (Witness table file) asks =
@@ -100,19 +101,19 @@ no_find rows missing (MatchMany all table files) asks = other_name (codes "find"
 no_find rows missing (Find table budget out hex progress) asks =
     let same : asks.0 ≡ rows = rows_of_found (codes "find") rows asks.0 asks.1 in
     missing table budget out.now (subst (NamesTable table) same asks.2) (subst (NamesBudget budget) same asks.3) (subst (λ (r : List Row). first_of (codes "OUT") r ≡ Some out.now) same asks.4)
-no_find rows missing (Conflicts table budget hex progress) asks = other_name (codes "find") (codes "conflicts") rows asks.0 (omega arith) asks.1
+no_find rows missing (Conflicts table options progress) asks = other_name (codes "find") (codes "conflicts") rows asks.0 (omega arith) asks.1
 no_find rows missing (Dead table budget hex progress) asks = other_name (codes "find") (codes "dead") rows asks.0 (omega arith) asks.1
 no_find rows missing (Check table certificate) asks = other_name (codes "find") (codes "check") rows asks.0 (omega arith) asks.1
 no_find rows missing (Witness table file) asks = other_name (codes "find") (codes "witness") rows asks.0 (omega arith) asks.1
 
-pub no_conflicts : (rows : List Row) → ((table : TablePaths) (budget : ℕ) → NamesTable table rows → NamesBudget budget rows → ⊥) → (asked : Request) → Asks (Some (codes "conflicts", rows)) asked → ⊥
+pub no_conflicts : (rows : List Row) → ((table : TablePaths) (options : ConflictsOptions) → NamesTable table rows → NamesOptions options rows → ⊥) → (asked : Request) → Asks (Some (codes "conflicts", rows)) asked → ⊥
 no_conflicts rows missing (Show table) asks = other_name (codes "conflicts") (codes "show") rows asks.0 (omega arith) asks.1
 no_conflicts rows missing (Match all table file) asks = other_name (codes "conflicts") (codes "match") rows asks.0 (omega arith) asks.1
 no_conflicts rows missing (MatchMany all table files) asks = other_name (codes "conflicts") (codes "match") rows asks.0 (omega arith) asks.1
 no_conflicts rows missing (Find table budget out hex progress) asks = other_name (codes "conflicts") (codes "find") rows asks.0 (omega arith) asks.1
-no_conflicts rows missing (Conflicts table budget hex progress) asks =
+no_conflicts rows missing (Conflicts table options progress) asks =
     let same : asks.0 ≡ rows = rows_of_found (codes "conflicts") rows asks.0 asks.1 in
-    missing table budget (subst (NamesTable table) same asks.2) (subst (NamesBudget budget) same asks.3)
+    missing table options (subst (NamesTable table) same asks.2) (subst (NamesOptions options) same asks.3)
 no_conflicts rows missing (Dead table budget hex progress) asks = other_name (codes "conflicts") (codes "dead") rows asks.0 (omega arith) asks.1
 no_conflicts rows missing (Check table certificate) asks = other_later (codes "conflicts") (codes "check") rows asks.0 (omega arith) asks.1
 no_conflicts rows missing (Witness table file) asks = other_name (codes "conflicts") (codes "witness") rows asks.0 (omega arith) asks.1
@@ -122,7 +123,7 @@ no_dead rows missing (Show table) asks = other_name (codes "dead") (codes "show"
 no_dead rows missing (Match all table file) asks = other_name (codes "dead") (codes "match") rows asks.0 (omega arith) asks.1
 no_dead rows missing (MatchMany all table files) asks = other_name (codes "dead") (codes "match") rows asks.0 (omega arith) asks.1
 no_dead rows missing (Find table budget out hex progress) asks = other_name (codes "dead") (codes "find") rows asks.0 (omega arith) asks.1
-no_dead rows missing (Conflicts table budget hex progress) asks = other_name (codes "dead") (codes "conflicts") rows asks.0 (omega arith) asks.1
+no_dead rows missing (Conflicts table options progress) asks = other_name (codes "dead") (codes "conflicts") rows asks.0 (omega arith) asks.1
 no_dead rows missing (Dead table budget hex progress) asks =
     let same : asks.0 ≡ rows = rows_of_found (codes "dead") rows asks.0 asks.1 in
     missing table budget (subst (NamesTable table) same asks.2) (subst (NamesBudget budget) same asks.3)

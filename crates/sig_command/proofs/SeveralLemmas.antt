@@ -13,7 +13,7 @@ use Rattle.sig_command.specs.Requests.{Answers, IsCutRequest, IsLoadFault, Joins
 use Rattle.sig_command.specs.Several.{AreTexts}
 use Rattle.sig_command.specs.declared.args.Request.TheVariants.{MatchMany}
 use Rattle.sig_command.specs.declared.fault.Fault.{Fault}
-use Rattle.sig_command.specs.declared.fault.Fault.TheVariants.{CannotOpen, CutShort, NotText, Run, SomeFiles, Table}
+use Rattle.sig_command.specs.declared.fault.Fault.TheVariants.{CannotOpen, CutShort, NotInTable, NotText, Run, SomeFiles, Table}
 
 -- ---- files of which none has a fault
 
@@ -92,6 +92,7 @@ pub load_joined : {R : Type 0} (failed : R → Bool) (held : Holding) (all : Boo
 load_joined failed held all paths files NotText before after err_failed err is = absurd is
 load_joined failed held all paths files (CannotOpen name) before after err_failed err is = refl
 load_joined failed held all paths files (Table error) before after err_failed err is = refl
+load_joined failed held all paths files NotInTable before after err_failed err is = absurd is
 load_joined failed held all paths files (Run error) before after err_failed err is = absurd is
 load_joined failed held all paths files (CutShort error) before after err_failed err is = absurd is
 load_joined failed held all paths files SomeFiles before after err_failed err is = absurd is

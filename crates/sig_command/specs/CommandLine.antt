@@ -1,5 +1,5 @@
 -- The command line in clap's words, and what its words ask for.
-use Rattle.std.specs.Prelude.{◌≡◌, ◌≢◌, ◌⊎◌, ◌<◌, ◌^◌, ℕ, pos, Bool, true, false, List, [], ◌∷◌, Option, None, Some, String, codes, length, map, option_and_then, string_bytes}
+use Rattle.std.specs.Prelude.{◌≡◌, ◌≢◌, ◌⊎◌, ◌<◌, ◌^◌, ℕ, pos, Bool, true, false, List, [], ◌∷◌, Option, None, Some, String, codes, length, map, option_and_then, option_map, string_bytes}
 use Rattle.std.specs.Borrow.{Bor}
 use Rattle.std.specs.Str.Parse.{IsNumeral, digits_value, without_leading_plus}
 use Rattle.clap.specs.Lexer.{usize_max}
@@ -12,6 +12,7 @@ use Rattle.clap.specs.declared.builder.action.ArgAction.TheVariants.{SetTrue}
 use Rattle.clap.specs.declared.builder.value_parser.ValueParser.TheVariants.{Signed}
 use Rattle.clap.specs.declared.error.Error.{Error}
 use Rattle.clap.specs.declared.error.kind.ErrorKind.TheVariants.{DisplayHelp, DisplayVersion}
+use Rattle.sig_command.specs.declared.args.ConflictsOptions.{ConflictsOptions}
 use Rattle.sig_command.specs.declared.args.Request.{Request}
 use Rattle.sig_command.specs.declared.args.Request.TheVariants.{Check, Conflicts, Dead, Find, Match, MatchMany, Show, Witness}
 use Rattle.sig_engines.specs.declared.store.TablePaths.{TablePaths}
@@ -65,9 +66,9 @@ out_rule = record (named (codes "out") (codes "OUT")) { required = true }
 abbrev pub find_command : App
 find_command = with_rule (with_rule (with_rule (with_rule (of_table (new_app (codes "find"))) budget_rule) out_rule) (given (codes "hex"))) (given (codes "progress"))
 
--- `conflicts [--budget N] [--hex] [--progress] SIGS PRIOS`
+-- `conflicts [--budget N] [--only PUID] [--class] [--hex] [--progress] SIGS PRIOS`
 abbrev pub conflicts_command : App
-conflicts_command = with_rule (with_rule (with_rule (of_table (new_app (codes "conflicts"))) budget_rule) (given (codes "hex"))) (given (codes "progress"))
+conflicts_command = with_rule (with_rule (with_rule (with_rule (with_rule (of_table (new_app (codes "conflicts"))) budget_rule) (named (codes "only") (codes "PUID"))) (given (codes "class"))) (given (codes "hex"))) (given (codes "progress"))
 
 -- `dead [--budget N] [--hex] [--progress] SIGS PRIOS`
 abbrev pub dead_command : App
@@ -110,6 +111,13 @@ pub record HasFlag (name : Text) (is_given : Bool) (rows : List Row) : Type 0 wh
   pub left_out : one_of name rows ≡ Some (codes "false") → is_given ≡ false
   pub absent : one_of name rows ≡ None → is_given ≡ false
 
+-- the options of `conflicts`
+pub record NamesOptions (options : ConflictsOptions) (rows : List Row) : Type 0 where
+  pub budget : NamesBudget options.budget rows
+  pub only : first_of (codes "PUID") rows ≡ option_map (λ w. w.now) options.only
+  pub class : HasFlag (codes "class") options.class rows
+  pub hex : HasFlag (codes "hex") options.hex rows
+
 -- the files are the values of their argument, in their order: two at least, or one with `--with-names`
 pub record NamesMany (files : List (Bor Text)) (rows : List Row) : Type 0 where
   pub are : all_of (codes "FILE") rows ≡ Some (map (λ f. f.now) files)
@@ -122,7 +130,7 @@ Asks found (Show table) = (rows : List Row) × (found ≡ Some (codes "show", ro
 Asks found (Match all table file) = (rows : List Row) × (found ≡ Some (codes "match", rows)) × NamesTable table rows × (all_of (codes "FILE") rows ≡ Some (file.now ∷ [])) × HasFlag (codes "all") all rows × HasFlag (codes "with-names") false rows
 Asks found (MatchMany all table files) = (rows : List Row) × (found ≡ Some (codes "match", rows)) × NamesTable table rows × NamesMany files.now rows × HasFlag (codes "all") all rows
 Asks found (Find table budget out hex progress) = (rows : List Row) × (found ≡ Some (codes "find", rows)) × NamesTable table rows × NamesBudget budget rows × (first_of (codes "OUT") rows ≡ Some out.now) × HasFlag (codes "hex") hex rows × HasFlag (codes "progress") progress rows
-Asks found (Conflicts table budget hex progress) = (rows : List Row) × (found ≡ Some (codes "conflicts", rows)) × NamesTable table rows × NamesBudget budget rows × HasFlag (codes "hex") hex rows × HasFlag (codes "progress") progress rows
+Asks found (Conflicts table options progress) = (rows : List Row) × (found ≡ Some (codes "conflicts", rows)) × NamesTable table rows × NamesOptions options rows × HasFlag (codes "progress") progress rows
 Asks found (Dead table budget hex progress) = (rows : List Row) × (found ≡ Some (codes "dead", rows)) × NamesTable table rows × NamesBudget budget rows × HasFlag (codes "hex") hex rows × HasFlag (codes "progress") progress rows
 Asks found (Check table certificate) = (rows : List Row) × (found ≡ Some (codes "check", rows)) × NamesTable table rows × (first_of (codes "CERT") rows ≡ Some certificate.now)
 Asks found (Witness table file) = (rows : List Row) × (found ≡ Some (codes "witness", rows)) × NamesTable table rows × (first_of (codes "FILE") rows ≡ Some file.now)

@@ -86,6 +86,7 @@ abbrev pub fault_text : Fault → List ℕ
 fault_text fault.NotText = codes "error: invalid UTF-8 was detected in one or more arguments"
 fault_text (fault.CannotOpen name) = codes "cannot open " ++ name.now
 fault_text (fault.Table error) = site_text (site_of error) ++ code_text error
+fault_text fault.NotInTable = codes "only: not in the table"
 fault_text (fault.Run error) = run_text error
 fault_text (fault.CutShort error) = cut_text error
 fault_text fault.SomeFiles = []
@@ -95,6 +96,7 @@ abbrev pub line_end : Fault → List ℕ
 line_end fault.NotText = 10 ∷ []
 line_end (fault.CannotOpen name) = 10 ∷ []
 line_end (fault.Table error) = 10 ∷ []
+line_end fault.NotInTable = 10 ∷ []
 line_end (fault.Run error) = 10 ∷ []
 line_end (fault.CutShort error) = 10 ∷ []
 line_end fault.SomeFiles = []

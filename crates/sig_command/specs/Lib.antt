@@ -5,6 +5,8 @@ pub mod Faults
 pub mod Requests
 pub mod Several
 pub mod Statuses
+pub use Rattle.sig_engines.specs.Asks
+pub use Rattle.sig_engines.specs.ClassTexts
 pub use Rattle.sig_engines.specs.Conflicts
 pub use Rattle.sig_engines.specs.Fates
 pub use Rattle.sig_engines.specs.Finding
@@ -17,5 +19,6 @@ pub use Rattle.sig_engines.specs.Stores
 pub use Rattle.sig_engines.specs.Witnessed
 pub use Rattle.sig_engines.specs.Writing
 pub use Rattle.sig_bits.specs.Device
+pub use Rattle.sig_table.specs.Puids
 pub use Rattle.sig_table.specs.Tables
 pub use Rattle.sig_table.specs.Views

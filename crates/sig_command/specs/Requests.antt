@@ -1,11 +1,15 @@
 -- What comes of what the words ask for: its answers, and its faults.
 use Rattle.std.specs.Borrow.{Bor}
-use Rattle.std.specs.Prelude.{◌≡◌, ℕ, ◌⊎◌, Bool, false, true, List, Option, None, ⊤, ◌<◌, length, map}
+use Rattle.std.specs.Prelude.{◌≡◌, ℕ, ◌⊎◌, Bool, false, true, List, Option, None, Some, ⊤, ◌<◌, length, map}
 use Rattle.clap.specs.Words.{Text, subcommand_of}
 use Rattle.sig_bits.specs.Bytes.{IsBytes}
 use Rattle.sig_bits.specs.Device.{Adds}
+use Rattle.sig_table.specs.Puids.{puid_of}
 use Rattle.sig_table.specs.Views.{TableView}
+use Rattle.sig_table.specs.declared.ids.FormatId.{FormatId}
+use Rattle.sig_table.specs.declared.puid.Puid.{Puid}
 use Rattle.sig_command.specs.CommandLine.{Asks, program}
+use Rattle.sig_engines.specs.Asks.{IsFormatNamed}
 use Rattle.sig_engines.specs.Conflicts.{AddsConflicts, AddsFirstPairs}
 use Rattle.sig_command.specs.Faults.{Reports, TellsWrite}
 use Rattle.sig_command.specs.Statuses.{status_of}
@@ -19,11 +23,13 @@ use Rattle.sig_engines.specs.Progress.{AddsProgress, ShowsIf}
 use Rattle.sig_engines.specs.Shown.{show_text}
 use Rattle.sig_engines.specs.Stores.{Has, Holding, Holds, IsMade, IsTableFault, IsTableOf, Lacks, SomeFailed}
 use Rattle.sig_engines.specs.Witnessed.{AddsWitness}
+use Rattle.sig_engines.specs.declared.ask.ConflictsAsk.{ConflictsAsk}
 use Rattle.sig_engines.specs.declared.error.FileFault.{FileFault}
 use Rattle.sig_engines.specs.declared.error.FileFault.TheVariants as file
 use Rattle.sig_engines.specs.declared.error.RunError.TheVariants.{OutOfMemory, Read, Write}
 use Rattle.sig_command.specs.declared.fault.Fault.{Fault}
-use Rattle.sig_command.specs.declared.fault.Fault.TheVariants.{CannotOpen, CutShort, NotText, Run, SomeFiles, Table}
+use Rattle.sig_command.specs.declared.fault.Fault.TheVariants.{CannotOpen, CutShort, NotInTable, NotText, Run, SomeFiles, Table}
+use Rattle.sig_command.specs.declared.args.ConflictsOptions.{ConflictsOptions}
 use Rattle.sig_command.specs.declared.args.Request.{Request}
 use Rattle.sig_command.specs.declared.args.Request.TheVariants.{Check, Conflicts, Dead, Find, Match, MatchMany, Show, Witness}
 use Rattle.sig_engines.specs.declared.store.TablePaths.{TablePaths}
@@ -38,6 +44,7 @@ abbrev pub IsLoadFault : {R : Type 0} → (R → Bool) → Holding → TablePath
 IsLoadFault failed held paths NotText = ⊥
 IsLoadFault failed held paths (CannotOpen name) = IsUnopened held paths name
 IsLoadFault failed held paths (Table error) = IsTableFault failed held paths error
+IsLoadFault failed held paths NotInTable = ⊥
 IsLoadFault failed held paths (Run error) = ⊥
 IsLoadFault failed held paths (CutShort error) = ⊥
 IsLoadFault failed held paths SomeFiles = ⊥
@@ -47,6 +54,7 @@ abbrev pub IsFileFault : {R : Type 0} → (R → Bool) → Holding → Bor (List
 IsFileFault failed held name NotText = ⊥
 IsFileFault failed held name (CannotOpen other) = (other ≡ name) × Lacks held name.now
 IsFileFault failed held name (Table error) = ⊥
+IsFileFault failed held name NotInTable = ⊥
 IsFileFault failed held name (Run Read) = Has held name.now × SomeFailed failed
 IsFileFault failed held name (Run Write) = Has held name.now
 IsFileFault failed held name (Run OutOfMemory) = ⊤
@@ -63,9 +71,39 @@ abbrev pub IsCutFault : Fault → Type 0
 IsCutFault NotText = ⊥
 IsCutFault (CannotOpen name) = ⊥
 IsCutFault (Table error) = ⊥
+IsCutFault NotInTable = ⊥
 IsCutFault (Run error) = ⊥
 IsCutFault (CutShort error) = ⊤
 IsCutFault SomeFiles = ⊥
+
+-- the word of `--only` is the PUID of this format; and where it is left out there is none
+abbrev pub IsOnly : TableView → Option (Bor Text) → Option FormatId → Type 0
+IsOnly table None None = ⊤
+IsOnly table None (Some format) = ⊥
+IsOnly table (Some word) None = ⊥
+IsOnly table (Some word) (Some format) = (puid : Puid) × (puid_of word.now ≡ Some puid) × IsFormatNamed table puid (Some format)
+
+-- the word of `--only` is no PUID, or that of no format of the table
+abbrev pub NamesNone : TableView → Option (Bor Text) → Type 0
+NamesNone table None = ⊥
+NamesNone table (Some word) = (puid : Puid) → puid_of word.now ≡ Some puid → IsFormatNamed table puid None
+
+-- these options ask this of the pairs of the table
+pub record AsksPairs (options : ConflictsOptions) (table : TableView) (ask : ConflictsAsk) : Type 0 where
+  pub budget : ask.budget ≡ options.budget
+  pub hex : ask.hex ≡ options.hex
+  pub class : ask.class ≡ options.class
+  pub only : IsOnly table options.only ask.only
+
+-- the pairs of formats that are asked for are those of no format of the table; or they are some, and the engine stopped before its last line
+abbrev pub IsConflictsFault : Holding → TablePaths → ConflictsOptions → Fault → Type 0
+IsConflictsFault held paths options NotText = ⊥
+IsConflictsFault held paths options (CannotOpen name) = ⊥
+IsConflictsFault held paths options (Table error) = ⊥
+IsConflictsFault held paths options NotInTable = (t : TableView) × IsTableOf held paths t × NamesNone t options.only
+IsConflictsFault held paths options (Run error) = ⊥
+IsConflictsFault held paths options (CutShort error) = (t : TableView) × IsTableOf held paths t × (ask : ConflictsAsk) × AsksPairs options t ask
+IsConflictsFault held paths options SomeFiles = ⊥
 
 -- the two files of the table that is asked of
 abbrev pub paths_of : Request → TablePaths
@@ -73,7 +111,7 @@ paths_of (Show table) = table
 paths_of (Match all table file) = table
 paths_of (MatchMany all table files) = table
 paths_of (Find table budget out hex progress) = table
-paths_of (Conflicts table budget hex progress) = table
+paths_of (Conflicts table options progress) = table
 paths_of (Dead table budget hex progress) = table
 paths_of (Check table certificate) = table
 paths_of (Witness table file) = table
@@ -82,13 +120,13 @@ paths_of (Witness table file) = table
 abbrev pub HasTable : Holding → TablePaths → Type 0
 HasTable held paths = (t : TableView) × IsTableOf held paths t
 
--- the faults that come behind the load of the table: of the file that is matched or judged, of some of several files, of the file that is made, and of the engine
+-- the faults that come behind the load of the table: of the file that is matched or judged, of some of several files, of the file that is made, of the format that is named, and of the engine
 abbrev pub IsLaterFault : {R : Type 0} → (R → Bool) → Holding → Request → Fault → Type 0
 IsLaterFault failed held (Show table) fault = fault ≡ Run Write
 IsLaterFault failed held (Match all table file) fault = IsFileFault failed held file fault
 IsLaterFault failed held (MatchMany all table files) fault = (fault ≡ SomeFiles) ⊎ (fault ≡ Run Write)
 IsLaterFault failed held (Find table budget out hex progress) fault = (fault ≡ CannotOpen out) ⊎ (fault ≡ Run Write)
-IsLaterFault failed held (Conflicts table budget hex progress) fault = IsCutFault fault
+IsLaterFault failed held (Conflicts table options progress) fault = IsConflictsFault held table options fault
 IsLaterFault failed held (Dead table budget hex progress) fault = IsCutFault fault
 IsLaterFault failed held (Check table certificate) fault = IsFileFault failed held certificate fault
 IsLaterFault failed held (Witness table file) fault = IsFileFault failed held file fault
@@ -103,7 +141,7 @@ Answers held (Show table) is_yes before after = (is_yes ≡ true) × (t : TableV
 Answers held (Match all table name) is_yes before after = (is_yes ≡ true) × (t : TableView) × IsTableOf held table t × (file : List ℕ) × IsBytes file × Holds held name.now file × AddsLines all t file before after
 Answers held (MatchMany all table files) is_yes before after = (is_yes ≡ true) × (t : TableView) × IsTableOf held table t × AddsLinesOfEach all t held (map (λ n. n.now) files.now) before after
 Answers held (Find table budget out hex progress) is_yes before after = (t : TableView) × IsTableOf held table t × AddsFound is_yes hex t budget before after
-Answers held (Conflicts table budget hex progress) is_yes before after = (t : TableView) × IsTableOf held table t × AddsConflicts is_yes hex t budget before after
+Answers held (Conflicts table options progress) is_yes before after = (t : TableView) × IsTableOf held table t × (ask : ConflictsAsk) × AsksPairs options t ask × AddsConflicts is_yes ask t before after
 Answers held (Dead table budget hex progress) is_yes before after = (t : TableView) × IsTableOf held table t × AddsFates is_yes hex t budget before after
 Answers held (Check table name) is_yes before after = (t : TableView) × IsTableOf held table t × (certificate : List ℕ) × IsBytes certificate × Holds held name.now certificate × AddsVerdict is_yes t certificate before after
 Answers held (Witness table name) is_yes before after = (t : TableView) × IsTableOf held table t × (file : List ℕ) × IsBytes file × Holds held name.now file × AddsWitness is_yes t file before after
@@ -118,7 +156,7 @@ MakesOut name_of written failed held (Show table) is_yes before after = ⊤
 MakesOut name_of written failed held (Match all table path) is_yes before after = ⊤
 MakesOut name_of written failed held (MatchMany all table files) is_yes before after = ⊤
 MakesOut name_of written failed held (Find table budget out hex progress) is_yes before after = (t : TableView) × IsTableOf held table t × KeepsFound (IsMade name_of written failed held out.now) is_yes hex t budget before after
-MakesOut name_of written failed held (Conflicts table budget hex progress) is_yes before after = ⊤
+MakesOut name_of written failed held (Conflicts table options progress) is_yes before after = ⊤
 MakesOut name_of written failed held (Dead table budget hex progress) is_yes before after = ⊤
 MakesOut name_of written failed held (Check table path) is_yes before after = ⊤
 MakesOut name_of written failed held (Witness table path) is_yes before after = ⊤
@@ -133,7 +171,7 @@ IsCutRequest failed held (Show table) before after = ⊥
 IsCutRequest failed held (Match all table path) before after = ⊥
 IsCutRequest failed held (MatchMany all table files) before after = (t : TableView) × IsTableOf held table t × AddsLinesOfSome (IsPrinted failed all t held) (map (λ n. n.now) files.now) before after
 IsCutRequest failed held (Find table budget out hex progress) before after = ⊥
-IsCutRequest failed held (Conflicts table budget hex progress) before after = (t : TableView) × IsTableOf held table t × AddsFirstPairs hex t budget before after
+IsCutRequest failed held (Conflicts table options progress) before after = (t : TableView) × IsTableOf held table t × (ask : ConflictsAsk) × AsksPairs options t ask × AddsFirstPairs ask t before after
 IsCutRequest failed held (Dead table budget hex progress) before after = (t : TableView) × IsTableOf held table t × AddsFirstFates hex t budget before after
 IsCutRequest failed held (Check table path) before after = ⊥
 IsCutRequest failed held (Witness table path) before after = ⊥
@@ -162,7 +200,7 @@ Shows failed held (Show table) is_answered is_failed before after = ⊥
 Shows failed held (Match all table path) is_answered is_failed before after = ⊥
 Shows failed held (MatchMany all table files) is_answered is_failed before after = (is_answered ≡ false) × (t : TableView) × IsTableOf held table t × (is_failed ≡ false → AddsFaults (IsPrinted failed all t held) (map (λ n. n.now) files.now) before after)
 Shows failed held (Find table budget out hex progress) is_answered is_failed before after = ((progress ≡ true) × (is_failed ≡ false → AddsProgress Products before after)) ⊎ ((is_answered ≡ true) × (is_failed ≡ false → ShowsReason held table progress hex budget before after))
-Shows failed held (Conflicts table budget hex progress) is_answered is_failed before after = (progress ≡ true) × (is_failed ≡ false → AddsProgress Pairs before after)
+Shows failed held (Conflicts table options progress) is_answered is_failed before after = (progress ≡ true) × (is_failed ≡ false → AddsProgress Pairs before after)
 Shows failed held (Dead table budget hex progress) is_answered is_failed before after = (progress ≡ true) × (is_failed ≡ false → AddsProgress Formats before after)
 Shows failed held (Check table path) is_answered is_failed before after = ⊥
 Shows failed held (Witness table path) is_answered is_failed before after = ⊥
@@ -189,6 +227,7 @@ TellsMany failed all held table names (Run OutOfMemory) before after err_failed 
 TellsMany failed all held table names NotText before after err_failed err_before err_after = err_after ≡ err_before
 TellsMany failed all held table names (CannotOpen name) before after err_failed err_before err_after = err_after ≡ err_before
 TellsMany failed all held table names (Table error) before after err_failed err_before err_after = err_after ≡ err_before
+TellsMany failed all held table names NotInTable before after err_failed err_before err_after = err_after ≡ err_before
 TellsMany failed all held table names (CutShort error) before after err_failed err_before err_after = err_after ≡ err_before
 
 -- what both outputs are of before the line of a fault: where there are several files, of the same ones
@@ -197,7 +236,7 @@ Joins failed held (Show table) fault before after err_failed err_before err_afte
 Joins failed held (Match all table path) fault before after err_failed err_before err_after = ⊤
 Joins failed held (MatchMany all table files) fault before after err_failed err_before err_after = TellsMany failed all held table (map (λ n. n.now) files.now) fault before after err_failed err_before err_after
 Joins failed held (Find table budget out hex progress) fault before after err_failed err_before err_after = ⊤
-Joins failed held (Conflicts table budget hex progress) fault before after err_failed err_before err_after = ⊤
+Joins failed held (Conflicts table options progress) fault before after err_failed err_before err_after = ⊤
 Joins failed held (Dead table budget hex progress) fault before after err_failed err_before err_after = ⊤
 Joins failed held (Check table path) fault before after err_failed err_before err_after = ⊤
 Joins failed held (Witness table path) fault before after err_failed err_before err_after = ⊤
@@ -241,7 +280,7 @@ ShowsAsked held (MatchMany all table files) is_yes out_before out_after is_faile
 ShowsAsked held (Find table budget out hex progress) true out_before out_after is_failed before after written written_after = ShowsIf progress Products is_failed before after written written_after
 ShowsAsked held (Find table budget out hex progress) false out_before out_after is_failed before after written written_after =
     is_failed ≡ false → (t : TableView) × IsTableOf held table t × TellsWhy progress hex t budget out_before out_after written written_after
-ShowsAsked held (Conflicts table budget hex progress) is_yes out_before out_after is_failed before after written written_after = ShowsIf progress Pairs is_failed before after written written_after
+ShowsAsked held (Conflicts table options progress) is_yes out_before out_after is_failed before after written written_after = ShowsIf progress Pairs is_failed before after written written_after
 ShowsAsked held (Dead table budget hex progress) is_yes out_before out_after is_failed before after written written_after = ShowsIf progress Formats is_failed before after written written_after
 ShowsAsked held (Check table path) is_yes out_before out_after is_failed before after written written_after = after ≡ before
 ShowsAsked held (Witness table path) is_yes out_before out_after is_failed before after written written_after = after ≡ before
@@ -257,7 +296,7 @@ HasFiles (Show table) = ⊤
 HasFiles (Match all table path) = ⊤
 HasFiles (MatchMany all table files) = 0 < length files.now
 HasFiles (Find table budget out hex progress) = ⊤
-HasFiles (Conflicts table budget hex progress) = ⊤
+HasFiles (Conflicts table options progress) = ⊤
 HasFiles (Dead table budget hex progress) = ⊤
 HasFiles (Check table path) = ⊤
 HasFiles (Witness table path) = ⊤

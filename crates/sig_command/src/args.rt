@@ -5,7 +5,7 @@ ghost use Rattle.clap.specs.Values.{kind_of};
 ghost use Rattle.clap.specs.Matches.{found_of};
 ghost use Rattle.clap.specs.declared.Command.TheViews.{out-Command as fields_of};
 ghost use Rattle.clap.specs.Words.{app_of, fault_of, one_of, rows_of, rule_of, subcommand_of, subcommand_rows_of};
-ghost use Rattle.sig_command.specs.CommandLine.{AreTaken, Asks, HasFaultKind, HasFlag, IsHelpAsked, IsLine, NamesTable, asking, budget_rule, check_command, conflicts_command, dead_command, find_command, given, match_command, named, of_table, out_rule, program, show_command, texts_of, wanted, witness_command};
+ghost use Rattle.sig_command.specs.CommandLine.{AreTaken, Asks, HasFaultKind, HasFlag, IsHelpAsked, IsLine, NamesOptions, NamesTable, asking, budget_rule, check_command, conflicts_command, dead_command, find_command, given, match_command, named, of_table, out_rule, program, show_command, texts_of, wanted, witness_command};
 
 use clap::error::ErrorKind;
 use clap::{Arg, ArgAction, ArgMatches, Command, Error, value_parser};
@@ -90,16 +90,26 @@ With --hex the bytes of the file are the last word of an `ambiguous` line. If
 a pair has no line, no file gets both formats. The last line counts the pairs:
   pairs P decided D ambiguous M unknown U
 
-A priority decides a pair even if it leaves a format with no file. So run
-`dead`, too.
+With --class a word behind N tells what a priority between the two formats
+would do:
+  over   A must be over B. Each file that is reported as A also matches B, so
+         B over A would leave no file for A
+  under  B must be over A. Each file that is reported as B also matches A
+  same   both hold. Whichever is over the other leaves it with no file
+  apart  neither holds. Some files are only A's, and others are only B's
+  open   one of the two is not known: try a larger --budget
+The last line then also counts the classes.
 
-Each two signatures get a search with the whole budget.
+With --only just the pairs of the format PUID are searched.
+
+A priority decides a pair even if it leaves a format with no file. So run
+`dead`, too. Each two signatures get a search with the whole budget.
 
 Statuses:
-  0  no pair is ambiguous or unknown: at most one format of the table is
-     reported for any file
+  0  no pair that was searched is ambiguous or unknown. Without --only, at
+     most one format of the table is reported for any file
   1  some pair is ambiguous or unknown
-  2  usage error, or the table is refused
+  2  usage error, the table is refused, or it lacks the format of --only
   3  a file can't be opened, a read or a write failed, or memory ran out. The
      lines that were printed are valid, and the last line is missing";
 
@@ -152,6 +162,15 @@ Statuses:
   2  usage error, or the table is refused
   3  a file can't be opened, a read or a write failed, or memory ran out";
 
+/// What the words ask of `conflicts`. Whether the table has the format of `only` is not looked at yet.
+#[derive(Clone, Copy, Debug, PartialEq, Eq)]
+pub(crate) struct ConflictsOptions<'a> {
+    pub(crate) budget: u32,
+    pub(crate) only: Option<&'a str>,
+    pub(crate) class: bool,
+    pub(crate) hex: bool,
+}
+
 /// What the words ask for.
 #[derive(Clone, Copy, Debug, PartialEq, Eq)]
 pub(crate) enum Request<'m, 'a> {
@@ -182,8 +201,7 @@ pub(crate) enum Request<'m, 'a> {
     /// Which pairs of formats of a table are not decided.
     Conflicts {
         table: TablePaths<'a>,
-        budget: u32,
-        hex: bool,
+        options: ConflictsOptions<'a>,
         progress: bool,
     },
     /// Which formats and signatures of a table no file can leave.
@@ -291,7 +309,7 @@ fn find_line<'a>(alloc: Global) -> Result<Command<'a>, Error>
     Ok(line)
 }
 
-// `conflicts [--budget N] [--hex] [--progress] SIGS PRIOS`
+// `conflicts [--budget N] [--only PUID] [--class] [--hex] [--progress] SIGS PRIOS`
 fn conflicts_line<'a>(alloc: Global) -> Result<Command<'a>, Error>
     ensures line { IfOk result (IsLine conflicts_command) }
     ensures memory { IfErr result (λ e. kind_of e ≡ ErrorKind.OutOfMemory) }
@@ -300,6 +318,8 @@ fn conflicts_line<'a>(alloc: Global) -> Result<Command<'a>, Error>
         .about("List all pairs of formats that can both be reported for one file")
         .after_help(CONFLICTS_HELP)
         .arg(budget(alloc).help("States that one search may visit"))?
+        .arg(option(alloc, "only", "PUID").help("Print the pairs of this format alone"))?
+        .arg(flag(alloc, "class").help("Print the class of each pair, and count the classes"))?
         .arg(flag(alloc, "hex").help("Also print the bytes of each file in hexadecimal"))?
         .arg(flag(alloc, "progress").help("Report on standard error how many pairs are done"))?;
     Ok(line)
@@ -466,10 +486,21 @@ fn conflicts_request<'m, 'a>(matches: &'m ArgMatches<'a>) -> Option<Request<'m, 
     ensures none { result ≡ None → (request : Request) → ¬ Asks (asking (codes "conflicts") matches.now) request }
 {
     Some(Request::Conflicts {
-        budget: matches.get_one::<u32>("N")?,
-        hex: matches.get_flag("hex"),
+        options: conflicts_options(matches)?,
         progress: matches.get_flag("progress"),
         table: table_paths(matches)?,
+    })
+}
+
+fn conflicts_options<'a>(matches: &ArgMatches<'a>) -> Option<ConflictsOptions<'a>>
+    ensures named { IfSome result (λ options. NamesOptions options (rows_of (found_of matches.now))) }
+    ensures none { result ≡ None → (options : ConflictsOptions) → ¬ NamesOptions options (rows_of (found_of matches.now)) }
+{
+    Some(ConflictsOptions {
+        budget: matches.get_one::<u32>("N")?,
+        only: matches.get_str("PUID"),
+        class: matches.get_flag("class"),
+        hex: matches.get_flag("hex"),
     })
 }
 

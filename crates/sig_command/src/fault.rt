@@ -22,6 +22,8 @@ pub(crate) enum Fault<'a> {
     CannotOpen(&'a str),
     /// The table is refused, or was not read.
     Table(TableError),
+    /// The word of `--only` is the PUID of no format of the table.
+    NotInTable,
     /// An engine gave no answer.
     Run(RunError),
     /// An engine stopped before its last line.
@@ -36,7 +38,7 @@ impl Fault<'_> {
         ensures { result ≡ status_of self.entry }
     {
         match self {
-            Fault::NotText => 2,
+            Fault::NotText | Fault::NotInTable => 2,
             Fault::Table(TableError::Read { .. } | TableError::OutOfMemory) => 3,
             Fault::Table(_) => 2,
             Fault::CannotOpen(_) | Fault::Run(_) | Fault::CutShort(_) | Fault::SomeFiles => 3,
@@ -70,6 +72,7 @@ fn line_end(fault: Fault<'_>) -> &'static str
         Fault::NotText
         | Fault::CannotOpen(_)
         | Fault::Table(_)
+        | Fault::NotInTable
         | Fault::Run(_)
         | Fault::CutShort(_) => "\n",
     }
@@ -92,6 +95,7 @@ fn write_text<E: Output>(fault: Fault<'_>, err: &mut E) -> Result<(), DeviceFaul
             write_site(site_of(error), err)?;
             write_code(error, err)
         }
+        Fault::NotInTable => put(err, "only: not in the table"),
         Fault::Run(error) => put(err, error.text()),
         Fault::CutShort(error) => put(err, error.text()),
         Fault::SomeFiles => Ok(()),

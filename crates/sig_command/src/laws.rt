@@ -1,7 +1,7 @@
 //! Laws of the command line.
 
 ghost use Rattle.std.specs.Borrow.{Bor};
-ghost use Rattle.std.specs.Prelude.{◌≡◌, ◌≤◌, ℕ, Bool, List, Option, Some, false, true, [], ◌∷◌, codes, length, map};
+ghost use Rattle.std.specs.Prelude.{◌≡◌, ◌≤◌, ℕ, Bool, List, None, Option, Some, false, true, [], ◌∷◌, codes, length, map};
 ghost use Rattle.clap.specs.Words.{fault_of, takes};
 ghost use Rattle.sig_bits.specs.Device.{Adds};
 ghost use Rattle.sig_command.specs.CommandLine.{AreTableWords, all_named, first_named, one_named, program};
@@ -54,6 +54,7 @@ pub fn words_are_taken()
     ensures settled { takes program (codes "conflicts" ∷ codes "--budget" ∷ codes "100000" ∷ codes "a" ∷ codes "b" ∷ []) ≡ true }
     ensures settled_shown { takes program (codes "conflicts" ∷ codes "--progress" ∷ codes "--budget" ∷ codes "100000" ∷ codes "a" ∷ codes "b" ∷ []) ≡ true }
     ensures settled_by_default { takes program (codes "conflicts" ∷ codes "a" ∷ codes "b" ∷ []) ≡ true }
+    ensures settled_of_one { takes program (codes "conflicts" ∷ codes "--only" ∷ codes "fmt/1" ∷ codes "--class" ∷ codes "a" ∷ codes "b" ∷ []) ≡ true }
     ensures judged_by_default { takes program (codes "dead" ∷ codes "a" ∷ codes "b" ∷ []) ≡ true }
     ensures checked { takes program (codes "check" ∷ codes "a" ∷ codes "b" ∷ codes "c" ∷ []) ≡ true }
     ensures checked_no_help { fault_of program (codes "check" ∷ codes "a" ∷ codes "b" ∷ codes "c" ∷ []) ≡ [] }
@@ -98,6 +99,12 @@ pub fn words_name_files()
     ensures settled_default { one_named (codes "N") (codes "conflicts" ∷ codes "a" ∷ codes "b" ∷ []) ≡ Some (codes "100000") }
     ensures settled_hex { one_named (codes "hex")
         (codes "conflicts" ∷ codes "--budget" ∷ codes "100000" ∷ codes "--hex" ∷ codes "a" ∷ codes "b" ∷ []) ≡ Some (codes "true") }
+    ensures settled_named { first_named (codes "PUID")
+        (codes "conflicts" ∷ codes "--only" ∷ codes "fmt/1" ∷ codes "--class" ∷ codes "a" ∷ codes "b" ∷ []) ≡ Some (codes "fmt/1") }
+    ensures settled_not_named { first_named (codes "PUID") (codes "conflicts" ∷ codes "--hex" ∷ codes "a" ∷ codes "b" ∷ []) ≡ None }
+    ensures settled_class { one_named (codes "class")
+        (codes "conflicts" ∷ codes "--only" ∷ codes "fmt/1" ∷ codes "--class" ∷ codes "a" ∷ codes "b" ∷ []) ≡ Some (codes "true") }
+    ensures settled_no_class { one_named (codes "class") (codes "conflicts" ∷ codes "--hex" ∷ codes "a" ∷ codes "b" ∷ []) ≡ Some (codes "false") }
     ensures dying_table { AreTableWords (codes "a") (codes "b") (codes "dead" ∷ codes "--hex" ∷ codes "a" ∷ codes "b" ∷ []) }
     ensures dying_default { one_named (codes "N") (codes "dead" ∷ codes "--hex" ∷ codes "a" ∷ codes "b" ∷ []) ≡ Some (codes "100000") }
     ensures checked_table { AreTableWords (codes "a") (codes "b") (codes "check" ∷ codes "a" ∷ codes "b" ∷ codes "c" ∷ []) }

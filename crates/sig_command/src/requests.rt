@@ -3,24 +3,24 @@
 ghost use Rattle.std.specs.Prelude.{None, Some, ◌≡◌, ◌≢◌, ◌<◌, ◌⊎◌, false, is_ok, length, List, true, IfErr, IfOk, OnOk};
 ghost use Rattle.clap.specs.Values.{kind_of};
 ghost use Rattle.clap.specs.Words.{Text};
-ghost use Rattle.sig_command.specs.Requests.{Answers, AnswersWords, CutsSomeWords, CutsWords, HasFiles, IsFaultOf, IsLoadFault, JoinsBoth, KeepsOrCuts, MakesOut, MakesWords, ShowsAsked, ShowsSomeWords, ShowsWords, TellsOf, file_fault};
+ghost use Rattle.sig_command.specs.Requests.{Answers, AnswersWords, AsksPairs, CutsSomeWords, CutsWords, HasFiles, IsFaultOf, IsLoadFault, IsOnly, JoinsBoth, KeepsOrCuts, MakesOut, MakesWords, NamesNone, ShowsAsked, ShowsSomeWords, ShowsWords, TellsOf, file_fault};
 ghost use Rattle.sig_command.specs.Faults.{TellsWrite};
 ghost use Rattle.sig_engines.specs.Stores.{IsTableOf, Opens, SomeWriteFailed};
 ghost use Rattle.sig_command.specs.CommandLine.{AreTaken, texts_of};
 ghost use Rattle.sig_command.specs.Endings.{AnswersBy, EndsByFault, KeepsErrors, KeepsOutput, ReportsBy, ReportsMemory, TellsBy};
 ghost use Rattle.sig_table.specs.Tables.{IsTable};
 
-use crate::args::{Request, read_args, request_of};
+use crate::args::{ConflictsOptions, Request, read_args, request_of};
 use crate::fault::Fault;
 use clap::Error;
 use clap::error::ErrorKind;
 use sig_bits::{FromRead, FromWrite, Input, Output};
 use sig_engines::{
-    CutShort, FileFault, RunError, Store, SystemFiles, TablePaths, find_dead, run_check, run_find,
-    run_match, run_match_many, run_show, run_witness, settle,
+    ConflictsAsk, CutShort, FileFault, RunError, Store, SystemFiles, TablePaths, find_dead,
+    format_named, run_check, run_find, run_match, run_match_many, run_show, run_witness, settle,
 };
 use sig_scan::BlockCore;
-use sig_table::Table;
+use sig_table::{FormatId, Puid, Table};
 use std::alloc::Global;
 use std::rt::{Env, Files};
 use std::{env, io};
@@ -168,10 +168,9 @@ fn answer<'m, 'a, S: Store, W: Output, E: Output>(
         } => find_in_table(store, alloc, table, budget, name, hex, progress, out, err),
         Request::Conflicts {
             table,
-            budget,
-            hex,
+            options,
             progress,
-        } => settle_pairs(store, alloc, table, budget, hex, progress, out, err),
+        } => settle_pairs(store, alloc, table, options, progress, out, err),
         Request::Dead {
             table,
             budget,
@@ -294,28 +293,58 @@ fn settle_pairs<'a, S: Store, W: Output, E: Output>(
     store: &S,
     alloc: Global,
     table: TablePaths<'a>,
-    budget: u32,
-    hex: bool,
+    options: ConflictsOptions<'a>,
     progress: bool,
     out: &mut W,
     err: &mut E,
 ) -> Result<bool, Fault<'a>>
-    ensures told { TellsOf S.Reader.failed (S.held store.now) (Request.Conflicts table.entry budget hex progress) (is_ok result) E.failed E.written err.old err.new }
-    ensures answers { IfOk result (λ is_yes. Answers (S.held store.now) (Request.Conflicts table.entry budget hex progress)
+    ensures told { TellsOf S.Reader.failed (S.held store.now) (Request.Conflicts table.entry options.entry progress) (is_ok result) E.failed E.written err.old err.new }
+    ensures answers { IfOk result (λ is_yes. Answers (S.held store.now) (Request.Conflicts table.entry options.entry progress)
         is_yes (W.written out.old) (W.written out.new)) }
     ensures shown { OnOk result (W.failed out.new ≡ false) }
-    ensures progress { IfOk result (λ is_yes. ShowsAsked (S.held store.now) (Request.Conflicts table.entry budget hex progress) is_yes
+    ensures progress { IfOk result (λ is_yes. ShowsAsked (S.held store.now) (Request.Conflicts table.entry options.entry progress) is_yes
         (W.written out.old) (W.written out.new) (E.failed err.new) err.old err.new (E.written err.old) (E.written err.new)) }
-    ensures faults { IfErr result (IsFaultOf S.Reader.failed (S.held store.now) (Request.Conflicts table.entry budget hex progress)) }
+    ensures faults { IfErr result (IsFaultOf S.Reader.failed (S.held store.now) (Request.Conflicts table.entry options.entry progress)) }
     ensures write { IfErr result (λ fault. TellsWrite fault → W.failed out.new ≡ true) }
     ensures untouched { IfErr result (λ fault. ((e : CutShort) → fault ≢ Fault.CutShort e) → out.new ≡ out.old) }
     ensures whole { IfErr result (λ fault. KeepsOrCuts S.Reader.failed (S.held store.now)
-        (Request.Conflicts table.entry budget hex progress) W.failed W.written out.old out.new) }
+        (Request.Conflicts table.entry options.entry progress) W.failed W.written out.old out.new) }
 {
     let table = load(store, alloc, table)?;
-    match settle(alloc, &table, budget, hex, progress, out, err) {
+    let ask = ask_of(&table, options)?;
+    match settle(alloc, &table, ask, progress, out, err) {
         Ok(is_yes) => Ok(is_yes),
         Err(error) => Err(Fault::CutShort(error)),
+    }
+}
+
+// What is asked of the pairs of this table.
+fn ask_of<'a>(table: &Table, options: ConflictsOptions<'a>) -> Result<ConflictsAsk, Fault<'a>>
+    ensures asks { IfOk result (AsksPairs options.entry table.now) }
+    ensures unnamed { IfErr result (λ fault. (fault ≡ Fault.NotInTable) × NamesNone table.now options.entry.only) }
+{
+    Ok(ConflictsAsk {
+        budget: options.budget,
+        hex: options.hex,
+        class: options.class,
+        only: only_of(table, options.only)?,
+    })
+}
+
+// The format that the word of `--only` names.
+fn only_of<'a>(table: &Table, only: Option<&'a str>) -> Result<Option<FormatId>, Fault<'a>>
+    ensures named { IfOk result (IsOnly table.now only.entry) }
+    ensures unnamed { IfErr result (λ fault. (fault ≡ Fault.NotInTable) × NamesNone table.now only.entry) }
+{
+    let Some(word) = only else {
+        return Ok(None);
+    };
+    let Some(puid) = Puid::parse(word.as_bytes()) else {
+        return Err(Fault::NotInTable);
+    };
+    match format_named(table, &puid) {
+        Some(format) => Ok(Some(format)),
+        None => Err(Fault::NotInTable),
     }
 }
 

@@ -1,6 +1,6 @@
 -- What all pairs tell together: the last line, and where it counts no pair that is not decided, the table.
-use Rattle.std.proofs.Common.{◌≡◌, ℕ, zero, suc, ◌+◌, ◌<◌, List, [], ◌∷◌, ◌++◌, All, Bool, Contains, Option, None, Some, arith, false, true, inl, inr, length, refl, subst, sym, ◌∙◌}
-use Rattle.std.specs.Prelude.{cond}
+use Rattle.std.proofs.Common.{◌≡◌, ℕ, zero, suc, ◌+◌, ◌<◌, List, [], ◌∷◌, ◌++◌, All, Bool, Contains, Option, None, Some, ap, arith, false, true, inl, inr, length, refl, subst, sym, ◌∙◌}
+use Rattle.std.specs.Prelude.{cond, filter}
 use Rattle.std.proofs.lemmas.Bool.{false≢true}
 use Rattle.std.proofs.lemmas.List.{append-nil}
 use Rattle.std.proofs.lemmas.List.Elements.{All-head, All-tail}
@@ -12,11 +12,15 @@ use Rattle.sig_cert.proofs.Exports.{first_or_later, is_format_pair, none_is_ther
 use Rattle.sig_find.specs.FormatPairs.{AreNeverLeft}
 use Rattle.sig_find.specs.declared.pair.PairDecision.{PairDecision}
 use Rattle.sig_find.specs.declared.pair.PairDecision.TheVariants.{Ambiguous, Decided, Unknown}
+use Rattle.sig_table.specs.declared.ids.FormatId.{FormatId}
 use Rattle.sig_find.proofs.Exports.{decided_pairs_decide}
 use Rattle.sig_table.specs.Tables.{IsTable}
 use Rattle.sig_table.specs.Views.{TableView}
-use Rattle.sig_engines.specs.Conflicts.{AddsConflicts, AddsFrontOfPairs, IsCutShort, IsSettled, KnownPair, count_of, counts_line, is_ambiguous, is_unknown, is_unrelated, last_line, pair_lines, pairs_of}
+use Rattle.sig_engines.specs.Conflicts.{AddsConflicts, AddsFrontOfPairs, AreCounts, IsCutShort, IsSettled, KnownPair, class_count, count_of, counted_class, counts_line, is_ambiguous, is_decided, is_unknown, is_unrelated, four_counts, last_line, pair_lines, pairs_in, pairs_of}
+use Rattle.sig_engines.specs.Asks.{asked_pairs, is_asked}
+use Rattle.sig_engines.specs.ClassTexts.{classes_if_asked}
 use Rattle.sig_engines.specs.Pairs.{AreTold}
+use Rattle.sig_engines.specs.declared.ask.ConflictsAsk.{ConflictsAsk}
 use Rattle.sig_engines.specs.Tellings.{Tells}
 use Rattle.sig_engines.specs.declared.counts.Counts.{Counts}
 use Rattle.sig_engines.specs.declared.error.CutShort.{CutShort}
@@ -26,31 +30,39 @@ use Rattle.sig_engines.proofs.TellingLemmas.{front_then, sum_of_counts}
 
 -- ---- the last line
 
--- the line of the counts is the last line
-line_of_all : (hex : Bool) (table : TableView) (budget : ℕ) (counts : Counts) (before after : Option (List ℕ)) (are : AreTold hex table budget [] counts before after) → counts_line counts ≡ last_line are.known
-line_of_all hex table budget counts before after are =
-    let sum = sum_of_counts are.known in
-    let pairs : counts.decided + counts.ambiguous + counts.unknown ≡ count_of is_unrelated are.known = omega (arith, sum, are.are_counts.decided, are.are_counts.ambiguous, are.are_counts.unknown) in
-    rw (pairs, are.are_counts.decided, are.are_counts.ambiguous, are.are_counts.unknown) refl
+-- the counts of the classes are those of the pairs
+same_classes : (asked : Bool) (known : List KnownPair) (counts : Counts) → AreCounts known counts → classes_if_asked asked (counted_class counts) ≡ classes_if_asked asked (class_count known)
+same_classes true known counts are = rw (are.over, are.under, are.same, are.apart, are.opens) refl
+same_classes false known counts are = refl
 
-pub all_answered : (hex : Bool) (table : TableView) (budget : ℕ) (counts : Counts) (before mid after : Option (List ℕ)) (is_yes : Bool) → AreTold hex table budget [] counts before mid → Adds mid (counts_line counts) after → (is_yes ≡ true → (counts.ambiguous ≡ 0) × (counts.unknown ≡ 0)) → (is_yes ≡ false → 0 < counts.ambiguous + counts.unknown) → AddsConflicts is_yes hex table budget before after
-all_answered hex table budget counts before mid after is_yes are adds when_yes when_no = record {
+-- the line of the counts is the last line
+line_of_all : (ask : ConflictsAsk) (table : TableView) (counts : Counts) (before after : Option (List ℕ)) (are : AreTold ask table [] counts before after) → counts_line ask.class counts ≡ last_line ask are.known
+line_of_all ask table counts before after are =
+    let sum = sum_of_counts are.known in
+    let pairs : pairs_in counts ≡ count_of is_unrelated are.known = omega (arith, sum, are.are_counts.decided, are.are_counts.ambiguous, are.are_counts.unknown) in
+    let four : four_counts (pairs_in counts) counts.decided counts.ambiguous counts.unknown ≡ four_counts (count_of is_unrelated are.known) (count_of is_decided are.known) (count_of is_ambiguous are.known) (count_of is_unknown are.known) =
+    rw (pairs, are.are_counts.decided, are.are_counts.ambiguous, are.are_counts.unknown) refl in
+    ap (λ l. l ++ classes_if_asked ask.class (counted_class counts) ++ 10 ∷ []) four
+    ∙ ap (λ l. four_counts (count_of is_unrelated are.known) (count_of is_decided are.known) (count_of is_ambiguous are.known) (count_of is_unknown are.known) ++ l ++ 10 ∷ []) (same_classes ask.class are.known counts are.are_counts)
+
+pub all_answered : (ask : ConflictsAsk) (table : TableView) (counts : Counts) (before mid after : Option (List ℕ)) (is_yes : Bool) → AreTold ask table [] counts before mid → Adds mid (counts_line ask.class counts) after → (is_yes ≡ true → (counts.ambiguous ≡ 0) × (counts.unknown ≡ 0)) → (is_yes ≡ false → 0 < counts.ambiguous + counts.unknown) → AddsConflicts is_yes ask table before after
+all_answered ask table counts before mid after is_yes are adds when_yes when_no = record {
   known = are.known;
   are_all = are.are_first;
   yes = λ h. (sym are.are_counts.ambiguous ∙ (when_yes h).0, sym are.are_counts.unknown ∙ (when_yes h).1);
   no = λ h. (let some = when_no h in omega (arith, some, are.are_counts.ambiguous, are.are_counts.unknown));
-  adds = adds_then before mid after (pair_lines hex table are.known) (last_line are.known) are.adds (subst (λ l. Adds mid l after) (line_of_all hex table budget counts before mid are) adds);
+  adds = adds_then before mid after (pair_lines ask table are.known) (last_line ask are.known) are.adds (subst (λ l. Adds mid l after) (line_of_all ask table counts before mid are) adds);
 }
 
 -- the last line is not written whole
-pub last_cut : (hex : Bool) (table : TableView) (budget : ℕ) (counts : Counts) (before mid after : Option (List ℕ)) → AreTold hex table budget [] counts before mid → AddsFront mid (counts_line counts) after → AddsFrontOfPairs hex table budget before after
-last_cut hex table budget counts before mid after are front = record {
+pub last_cut : (ask : ConflictsAsk) (table : TableView) (counts : Counts) (before mid after : Option (List ℕ)) → AreTold ask table [] counts before mid → AddsFront mid (counts_line ask.class counts) after → AddsFrontOfPairs ask table before after
+last_cut ask table counts before mid after are front = record {
   known = are.known;
   others = [];
   are_first = are.are_first;
-  text = pair_lines hex table are.known ++ last_line are.known;
+  text = pair_lines ask table are.known ++ last_line ask are.known;
   is_text = inr (refl, refl);
-  adds = front_then before mid after (pair_lines hex table are.known) (last_line are.known) are.adds (subst (λ l. AddsFront mid l after) (line_of_all hex table budget counts before mid are) front);
+  adds = front_then before mid after (pair_lines ask table are.known) (last_line ask are.known) are.adds (subst (λ l. AddsFront mid l after) (line_of_all ask table counts before mid are) front);
 }
 
 -- a no counts a pair that is not decided
@@ -59,9 +71,9 @@ some_left zero zero is_yes none is = absurd (false≢true (sym is ∙ none (refl
 some_left zero (suc u) is_yes none is = omega arith
 some_left (suc m) u is_yes none is = omega arith
 
-pub last_is_cut : (e : CutShort) (hex : Bool) (table : TableView) (budget : ℕ) (counts : Counts) (line : List ℕ) (is_failed : Bool) (before mid after : Option (List ℕ)) → AreTold hex table budget [] counts before mid → line ≡ counts_line counts → (e ≡ Write) × (is_failed ≡ true) × AddsFront mid line after → IsCutShort e hex table budget is_failed before after
-last_is_cut e hex table budget counts line is_failed before mid after are is cut =
-    subst (λ e. IsCutShort e hex table budget is_failed before after) (sym cut.0) (cut.1, last_cut hex table budget counts before mid after are (subst (λ l. AddsFront mid l after) is cut.2))
+pub last_is_cut : (e : CutShort) (ask : ConflictsAsk) (table : TableView) (counts : Counts) (line : List ℕ) (is_failed : Bool) (before mid after : Option (List ℕ)) → AreTold ask table [] counts before mid → line ≡ counts_line ask.class counts → (e ≡ Write) × (is_failed ≡ true) × AddsFront mid line after → IsCutShort e ask table is_failed before after
+last_is_cut e ask table counts line is_failed before mid after are is cut =
+    subst (λ e. IsCutShort e ask table is_failed before after) (sym cut.0) (cut.1, last_cut ask table counts before mid after are (subst (λ l. AddsFront mid l after) is cut.2))
 
 -- ---- the table
 
@@ -72,19 +84,25 @@ never_left table formats (Some Decided) ambiguous unknown tells = tells
 never_left table formats (Some (Ambiguous s t file)) ambiguous unknown tells = absurd (omega (arith, ambiguous))
 never_left table formats (Some (Unknown s t)) ambiguous unknown tells = absurd (omega (arith, unknown))
 
-none_left : (table : TableView) (budget : ℕ) (known : List KnownPair) → All (IsSettled table budget) known → count_of is_ambiguous known ≡ 0 → count_of is_unknown known ≡ 0 → (formats : ℕ × ℕ) → Contains (pairs_of known) formats → AreNeverLeft table formats
-none_left table budget [] settled ambiguous unknown formats there = absurd (none_is_there formats there)
-none_left table budget (k ∷ known) settled ambiguous unknown formats there =
+none_left : (ask : ConflictsAsk) (table : TableView) (known : List KnownPair) → All (IsSettled ask table) known → count_of is_ambiguous known ≡ 0 → count_of is_unknown known ≡ 0 → (formats : ℕ × ℕ) → Contains (pairs_of known) formats → AreNeverLeft table formats
+none_left ask table [] settled ambiguous unknown formats there = absurd (none_is_there formats there)
+none_left ask table (k ∷ known) settled ambiguous unknown formats there =
     let m = sum_by-cons (λ (k : KnownPair). cond (is_ambiguous k.decision) 1 0) k known in
     let u = sum_by-cons (λ (k : KnownPair). cond (is_unknown k.decision) 1 0) k known in
     elim (first_or_later k.formats (pairs_of known) formats there) [
-      | inl same ↦ subst (AreNeverLeft table) same (never_left table k.formats k.decision (omega (arith, m, ambiguous)) (omega (arith, u, unknown)) (All-head (IsSettled table budget) k known settled).tells)
-      | inr later ↦ none_left table budget known (All-tail (IsSettled table budget) k known settled) (omega (arith, m, ambiguous)) (omega (arith, u, unknown)) formats later
+      | inl same ↦ subst (AreNeverLeft table) same (never_left table k.formats k.decision (omega (arith, m, ambiguous)) (omega (arith, u, unknown)) (All-head (IsSettled ask table) k known settled).tells)
+      | inr later ↦ none_left ask table known (All-tail (IsSettled ask table) k known settled) (omega (arith, m, ambiguous)) (omega (arith, u, unknown)) formats later
     ]
 
-pub conflicts_decide : (is_yes hex : Bool) (table : TableView) (budget : ℕ) (before after : Option (List ℕ)) → IsTable table → AddsConflicts is_yes hex table budget before after → is_yes ≡ true → TableDecided table
-conflicts_decide is_yes hex table budget before after is adds all_known =
+-- with no format named each pair is asked for
+all_are_asked : (pairs : List (ℕ × ℕ)) → filter (is_asked None) pairs ≡ pairs
+all_are_asked [] = refl
+all_are_asked (pair ∷ pairs) = ap (λ l. pair ∷ l) (all_are_asked pairs)
+
+pub conflicts_decide : (is_yes : Bool) (ask : ConflictsAsk) (table : TableView) (before after : Option (List ℕ)) → IsTable table → AddsConflicts is_yes ask table before after → is_yes ≡ true → ask.only ≡ None → TableDecided table
+conflicts_decide is_yes ask table before after is adds all_known each =
     let none = adds.yes all_known in
-    let all : format_pairs (length table.formats) ≡ pairs_of adds.known = adds.are_all.at ∙ append-nil (pairs_of adds.known) in
+    let asked : asked_pairs None (length table.formats) ≡ pairs_of adds.known = subst (λ (only : Option FormatId). asked_pairs only (length table.formats) ≡ pairs_of adds.known) each (adds.are_all.at ∙ append-nil (pairs_of adds.known)) in
+    let all : format_pairs (length table.formats) ≡ pairs_of adds.known = sym (all_are_asked (format_pairs (length table.formats))) ∙ asked in
     decided_pairs_decide table is (λ a b order known unrelated.
-    none_left table budget adds.known adds.are_all.settled none.0 none.1 (a, b) (subst (λ l. Contains l (a, b)) all (is_format_pair (length table.formats) a b order known)))
+    none_left ask table adds.known adds.are_all.settled none.0 none.1 (a, b) (subst (λ l. Contains l (a, b)) all (is_format_pair (length table.formats) a b order known)))

@@ -1,19 +1,27 @@
 -- The pairs of formats are settled one after another, and their lines are written.
-use Rattle.std.proofs.Common.{◌≡◌, ℕ, ◌+◌, ◌<◌, ◌≤◌, List, [], ◌∷◌, ◌++◌, Bool, Option, None, Some, Result, Ok, Err, true, ◌*◌, ◌-◌, ◌/◌, append_assoc, arith, ap, inl, length, length-append, refl, subst, sym, take, ◌∙◌}
-use Rattle.std.specs.Prelude.{IfErr, OnOk, cond}
+use Rattle.std.proofs.Common.{◌≡◌, ℕ, ◌+◌, ◌<◌, ◌≤◌, List, [], ◌∷◌, ◌++◌, Bool, Option, None, Some, Result, Ok, Err, false, not, true, ◌*◌, ◌-◌, ◌/◌, append_assoc, arith, ap, inl, length, length-append, refl, subst, sym, take, ◌∙◌}
+use Rattle.std.specs.Prelude.{IfErr, OnOk, ◌&&◌, cond, filter}
 use Rattle.std.proofs.Math.Nat.{mul-le-mul}
 use Rattle.std.proofs.Math.Seq.{take-append-add}
 use Rattle.std.proofs.lemmas.Grind.{flat_map-append}
 use Rattle.std.proofs.lemmas.List.{append-nil, length-map, map-append, take_all}
 use Rattle.std.proofs.lemmas.List.Elements.{All-nil, All-push}
+use Rattle.std.proofs.lemmas.List.Filters.{length-filter_both}
 use Rattle.std.proofs.lemmas.List.Sums.{sum_by-append, sum_by-cons}
 use Rattle.sig_bits.specs.Device.{Adds, AddsFront}
 use Rattle.sig_cert.specs.Pairs.{format_pairs}
+use Rattle.sig_cert.proofs.Exports.{length-format_pairs}
 use Rattle.sig_find.specs.declared.pair.PairDecision.{PairDecision}
 use Rattle.sig_find.specs.declared.pair.PairDecision.TheVariants.{Ambiguous, Decided, Unknown}
+use Rattle.sig_find.specs.declared.class.PairClass.{PairClass}
+use Rattle.sig_find.specs.declared.class.PairClass.TheVariants.{Apart, Open, Over, Same, Under}
+use Rattle.sig_table.specs.declared.ids.FormatId.{FormatId}
 use Rattle.sig_table.specs.Views.{TableView}
-use Rattle.sig_engines.specs.Conflicts.{AreCounts, AreFirst, IsCutShort, IsSettled, KnownPair, count_of, counted, decision_line, is_ambiguous, is_decided, is_unknown, is_unrelated, pair_line, pair_lines, pairs_of}
-use Rattle.sig_engines.specs.Pairs.{AreTold, IsPairCut, IsTold, counted_pair}
+use Rattle.sig_engines.specs.Asks.{asked_pairs, is_asked}
+use Rattle.sig_engines.specs.ClassTexts.{is_class}
+use Rattle.sig_engines.specs.Conflicts.{AreCounts, AreFirst, IsClassOf, IsCounted, IsCutShort, IsSettled, KnownPair, class_count, classes_in, count_of, decision_line, is_ambiguous, is_decided, is_unknown, is_unrelated, pair_line, pair_lines, pairs_in, pairs_of}
+use Rattle.sig_engines.specs.Pairs.{AreTold, IsPairCut, IsTold}
+use Rattle.sig_engines.specs.declared.ask.ConflictsAsk.{ConflictsAsk}
 use Rattle.sig_engines.specs.declared.counts.Counts.{Counts}
 use Rattle.sig_engines.specs.declared.error.CutShort.{CutShort}
 use Rattle.sig_engines.specs.declared.error.CutShort.TheVariants.{OutOfMemory, Write}
@@ -42,30 +50,44 @@ count_more test known k =
     let one = sum_by-cons f k [] in
     sum_by-append f known (k ∷ []) ∙ ap (λ n. count_of test known + n) (one ∙ omega arith)
 
-decided_more : (old : Counts) (d : Option PairDecision) → (counted_pair old d).decided ≡ old.decided + cond (is_decided d) 1 0
-decided_more old None = omega arith
-decided_more old (Some Decided) = refl
-decided_more old (Some (Ambiguous s t file)) = omega arith
-decided_more old (Some (Unknown s t)) = omega arith
+class_more : (class : PairClass) (known : List KnownPair) (k : KnownPair) → class_count (known ++ k ∷ []) class ≡ class_count known class + cond (is_class class k.class) 1 0
+class_more class known k =
+    let f : KnownPair → ℕ = λ k. cond (is_class class k.class) 1 0 in
+    let one = sum_by-cons f k [] in
+    sum_by-append f known (k ∷ []) ∙ ap (λ n. class_count known class + n) (one ∙ omega arith)
 
-ambiguous_more : (old : Counts) (d : Option PairDecision) → (counted_pair old d).ambiguous ≡ old.ambiguous + cond (is_ambiguous d) 1 0
-ambiguous_more old None = omega arith
-ambiguous_more old (Some Decided) = omega arith
-ambiguous_more old (Some (Ambiguous s t file)) = refl
-ambiguous_more old (Some (Unknown s t)) = omega arith
-
-unknown_more : (old : Counts) (d : Option PairDecision) → (counted_pair old d).unknown ≡ old.unknown + cond (is_unknown d) 1 0
-unknown_more old None = omega arith
-unknown_more old (Some Decided) = omega arith
-unknown_more old (Some (Ambiguous s t file)) = omega arith
-unknown_more old (Some (Unknown s t)) = refl
-
-pub counts_more : (known : List KnownPair) (k : KnownPair) (old : Counts) → AreCounts known old → AreCounts (known ++ k ∷ []) (counted_pair old k.decision)
-counts_more known k old are = record {
-  decided = decided_more old k.decision ∙ ap (λ n. n + cond (is_decided k.decision) 1 0) are.decided ∙ sym (count_more is_decided known k);
-  ambiguous = ambiguous_more old k.decision ∙ ap (λ n. n + cond (is_ambiguous k.decision) 1 0) are.ambiguous ∙ sym (count_more is_ambiguous known k);
-  unknown = unknown_more old k.decision ∙ ap (λ n. n + cond (is_unknown k.decision) 1 0) are.unknown ∙ sym (count_more is_unknown known k);
+pub counts_more : (known : List KnownPair) (k : KnownPair) (old new : Counts) → AreCounts known old → IsCounted old new k.decision k.class → AreCounts (known ++ k ∷ []) new
+counts_more known k old new are one = record {
+  decided = one.decided ∙ ap (λ n. n + cond (is_decided k.decision) 1 0) are.decided ∙ sym (count_more is_decided known k);
+  ambiguous = one.ambiguous ∙ ap (λ n. n + cond (is_ambiguous k.decision) 1 0) are.ambiguous ∙ sym (count_more is_ambiguous known k);
+  unknown = one.unknown ∙ ap (λ n. n + cond (is_unknown k.decision) 1 0) are.unknown ∙ sym (count_more is_unknown known k);
+  over = one.over ∙ ap (λ n. n + cond (is_class Over k.class) 1 0) are.over ∙ sym (class_more Over known k);
+  under = one.under ∙ ap (λ n. n + cond (is_class Under k.class) 1 0) are.under ∙ sym (class_more Under known k);
+  same = one.same ∙ ap (λ n. n + cond (is_class Same k.class) 1 0) are.same ∙ sym (class_more Same known k);
+  apart = one.apart ∙ ap (λ n. n + cond (is_class Apart k.class) 1 0) are.apart ∙ sym (class_more Apart known k);
+  opens = one.opens ∙ ap (λ n. n + cond (is_class Open k.class) 1 0) are.opens ∙ sym (class_more Open known k);
 }
+
+-- a pair that is passed over changes no count
+pub none_counted : (counts : Counts) → IsCounted counts counts None None
+none_counted counts = record {
+  decided = omega arith;
+  ambiguous = omega arith;
+  unknown = omega arith;
+  over = omega arith;
+  under = omega arith;
+  same = omega arith;
+  apart = omega arith;
+  opens = omega arith;
+}
+
+-- and has no class
+and_false : (b : Bool) → false ≡ (b && false)
+and_false true = refl
+and_false false = refl
+
+pub none_is_classed : (ask : ConflictsAsk) (table : TableView) (formats : ℕ × ℕ) → IsClassOf ask table formats None None
+none_is_classed ask table formats = record { there = and_false ask.class; is = tt }
 
 -- the three of one pair are all of it
 three_of : (d : Option PairDecision) → cond (is_unrelated d) 1 0 ≡ cond (is_decided d) 1 0 + cond (is_ambiguous d) 1 0 + cond (is_unknown d) 1 0
@@ -77,6 +99,15 @@ three_of (Some (Unknown s t)) = refl
 most_one : (d : Option PairDecision) → cond (is_unrelated d) 1 0 ≤ 1
 most_one None = omega arith
 most_one (Some decision) = omega arith
+
+-- it has one class at most
+most_one_class : (c : Option PairClass) → cond (is_class Over c) 1 0 + cond (is_class Under c) 1 0 + cond (is_class Same c) 1 0 + cond (is_class Apart c) 1 0 + cond (is_class Open c) 1 0 ≤ 1
+most_one_class None = omega arith
+most_one_class (Some Over) = omega arith
+most_one_class (Some Under) = omega arith
+most_one_class (Some Same) = omega arith
+most_one_class (Some Apart) = omega arith
+most_one_class (Some Open) = omega arith
 
 -- an unrelated pair is decided, ambiguous or unknown
 pub sum_of_counts : (known : List KnownPair) → count_of is_unrelated known ≡ count_of is_decided known + count_of is_ambiguous known + count_of is_unknown known
@@ -90,6 +121,18 @@ sum_of_counts (k ∷ known) =
     let u = sum_by-cons (λ (k : KnownPair). cond (is_unknown k.decision) 1 0) k known in
     omega (arith, one, more, p, d, m, u)
 
+few_have_a_class : (known : List KnownPair) → class_count known Over + class_count known Under + class_count known Same + class_count known Apart + class_count known Open ≤ length known
+few_have_a_class [] = omega arith
+few_have_a_class (k ∷ known) =
+    let one = most_one_class k.class in
+    let more = few_have_a_class known in
+    let o = sum_by-cons (λ (k : KnownPair). cond (is_class Over k.class) 1 0) k known in
+    let u = sum_by-cons (λ (k : KnownPair). cond (is_class Under k.class) 1 0) k known in
+    let s = sum_by-cons (λ (k : KnownPair). cond (is_class Same k.class) 1 0) k known in
+    let a = sum_by-cons (λ (k : KnownPair). cond (is_class Apart k.class) 1 0) k known in
+    let p = sum_by-cons (λ (k : KnownPair). cond (is_class Open k.class) 1 0) k known in
+    omega (arith, one, more, o, u, s, a, p)
+
 few_are_unrelated : (known : List KnownPair) → count_of is_unrelated known ≤ length known
 few_are_unrelated [] = omega arith
 few_are_unrelated (k ∷ known) =
@@ -98,95 +141,150 @@ few_are_unrelated (k ∷ known) =
 
 -- ---- the first pairs
 
-pub begins_told : (hex : Bool) (table : TableView) (budget : ℕ) (counts : Counts) (before : Option (List ℕ)) → AreCounts [] counts → AreTold hex table budget (format_pairs (length table.formats)) counts before before
-begins_told hex table budget counts before are = record {
+pub begins_told : (ask : ConflictsAsk) (table : TableView) (counts : Counts) (before : Option (List ℕ)) → AreCounts [] counts → AreTold ask table (asked_pairs ask.only (length table.formats)) counts before before
+begins_told ask table counts before are = record {
   known = [];
-  are_first = record { at = refl; settled = All-nil (IsSettled table budget) };
+  are_first = record { at = refl; settled = All-nil (IsSettled ask table) };
   are_counts = are;
   adds = adds_nothing before;
 }
 
-first_more : (table : TableView) (budget : ℕ) (known : List KnownPair) (others later : List (ℕ × ℕ)) (k : KnownPair) → others ≡ k.formats ∷ later → AreFirst table budget known others → IsSettled table budget k → AreFirst table budget (known ++ k ∷ []) later
-first_more table budget known others later k is are settled = record {
+-- a pair that is asked for is the next of those that are
+pub next_asked : (only : Option FormatId) (formats : ℕ × ℕ) (all rest : List (ℕ × ℕ)) → all ≡ formats ∷ rest → is_asked only formats ≡ true → filter (is_asked only) all ≡ formats ∷ filter (is_asked only) rest
+next_asked only formats all rest is asked = ap (filter (is_asked only)) is ∙ ap (λ b. cond b (formats ∷ filter (is_asked only) rest) (filter (is_asked only) rest)) asked
+
+-- one that is not is none of them
+pub next_not_asked : (only : Option FormatId) (formats : ℕ × ℕ) (all rest : List (ℕ × ℕ)) → all ≡ formats ∷ rest → is_asked only formats ≡ false → filter (is_asked only) all ≡ filter (is_asked only) rest
+next_not_asked only formats all rest is not_asked = ap (filter (is_asked only)) is ∙ ap (λ b. cond b (formats ∷ filter (is_asked only) rest) (filter (is_asked only) rest)) not_asked
+
+first_more : (ask : ConflictsAsk) (table : TableView) (known : List KnownPair) (others later : List (ℕ × ℕ)) (k : KnownPair) → others ≡ k.formats ∷ later → AreFirst ask table known others → IsSettled ask table k → AreFirst ask table (known ++ k ∷ []) later
+first_more ask table known others later k is are settled = record {
   at = are.at ∙ ap (λ l. pairs_of known ++ l) is ∙ sym (append_assoc (pairs_of known) (k.formats ∷ []) later) ∙ ap (λ l. l ++ later) (sym (map-append (λ (k : KnownPair). k.formats) known (k ∷ [])));
-  settled = All-push (IsSettled table budget) known k are.settled settled;
+  settled = All-push (IsSettled ask table) known k are.settled settled;
 }
 
-lines_more : (hex : Bool) (table : TableView) (known : List KnownPair) (k : KnownPair) → pair_lines hex table (known ++ k ∷ []) ≡ pair_lines hex table known ++ pair_line hex table k.formats k.decision
-lines_more hex table known k =
-    flat_map-append (λ (k : KnownPair). pair_line hex table k.formats k.decision) known (k ∷ []) ∙ ap (λ l. pair_lines hex table known ++ l) (append-nil (pair_line hex table k.formats k.decision))
+lines_more : (ask : ConflictsAsk) (table : TableView) (known : List KnownPair) (k : KnownPair) → pair_lines ask table (known ++ k ∷ []) ≡ pair_lines ask table known ++ pair_line ask.hex table k.formats k.decision k.class
+lines_more ask table known k =
+    flat_map-append (λ (k : KnownPair). pair_line ask.hex table k.formats k.decision k.class) known (k ∷ []) ∙ ap (λ l. pair_lines ask table known ++ l) (append-nil (pair_line ask.hex table k.formats k.decision k.class))
 
 -- one pair more
-pub goes_told : (hex : Bool) (table : TableView) (budget : ℕ) (formats : ℕ × ℕ) (others later : List (ℕ × ℕ)) (old new : Counts) (before mid after : Option (List ℕ)) → others ≡ formats ∷ later → AreTold hex table budget others old before mid → IsTold hex table budget formats old new mid after → AreTold hex table budget later new before after
-goes_told hex table budget formats others later old new before mid after is are one =
-    let k : KnownPair = record { formats = formats; decision = one.decision } in
+pub goes_told : (ask : ConflictsAsk) (table : TableView) (formats : ℕ × ℕ) (others later : List (ℕ × ℕ)) (old new : Counts) (before mid after : Option (List ℕ)) → others ≡ formats ∷ later → AreTold ask table others old before mid → IsTold ask table formats old new mid after → AreTold ask table later new before after
+goes_told ask table formats others later old new before mid after is are one =
+    let k : KnownPair = record { formats = formats; decision = one.decision; class = one.class } in
     record {
       known = are.known ++ k ∷ [];
-      are_first = first_more table budget are.known others later k is are.are_first one.settled;
-      are_counts = subst (AreCounts (are.known ++ k ∷ [])) (sym one.counts) (counts_more are.known k old are.are_counts);
-      adds = subst (λ l. Adds before l after) (sym (lines_more hex table are.known k)) (adds_then before mid after (pair_lines hex table are.known) (pair_line hex table formats one.decision) are.adds one.adds);
+      are_first = first_more ask table are.known others later k is are.are_first one.settled;
+      are_counts = counts_more are.known k old new are.are_counts one.counts;
+      adds = subst (λ l. Adds before l after) (sym (lines_more ask table are.known k)) (adds_then before mid after (pair_lines ask table are.known) (pair_line ask.hex table formats one.decision one.class) are.adds one.adds);
     }
 
 -- a pair is not written whole
-pub ends_cut : (e : CutShort) (hex : Bool) (table : TableView) (budget : ℕ) (formats : ℕ × ℕ) (others later : List (ℕ × ℕ)) (counts : Counts) (is_failed : Bool) (before mid after : Option (List ℕ)) → others ≡ formats ∷ later → AreTold hex table budget others counts before mid → IsPairCut e hex table budget formats is_failed mid after → IsCutShort e hex table budget is_failed before after
-ends_cut Write hex table budget formats others later counts is_failed before mid after is are cut =
+pub ends_cut : (e : CutShort) (ask : ConflictsAsk) (table : TableView) (formats : ℕ × ℕ) (others later : List (ℕ × ℕ)) (counts : Counts) (is_failed : Bool) (before mid after : Option (List ℕ)) → others ≡ formats ∷ later → AreTold ask table others counts before mid → IsPairCut e ask table formats is_failed mid after → IsCutShort e ask table is_failed before after
+ends_cut Write ask table formats others later counts is_failed before mid after is are cut =
     let one = cut.1 in
-    let k : KnownPair = record { formats = formats; decision = one.decision } in (
+    let k : KnownPair = record { formats = formats; decision = one.decision; class = one.class } in (
       cut.0,
       record {
         known = are.known ++ k ∷ [];
         others = later;
-        are_first = first_more table budget are.known others later k is are.are_first one.settled;
-        text = pair_lines hex table (are.known ++ k ∷ []);
+        are_first = first_more ask table are.known others later k is are.are_first one.settled;
+        text = pair_lines ask table (are.known ++ k ∷ []);
         is_text = inl refl;
-        adds = subst (λ l. AddsFront before l after) (sym (lines_more hex table are.known k)) (front_then before mid after (pair_lines hex table are.known) (pair_line hex table formats one.decision) are.adds one.adds);
+        adds = subst (λ l. AddsFront before l after) (sym (lines_more ask table are.known k)) (front_then before mid after (pair_lines ask table are.known) (pair_line ask.hex table formats one.decision one.class) are.adds one.adds);
       },
     )
-ends_cut OutOfMemory hex table budget formats others later counts is_failed before mid after is are cut = record {
+ends_cut OutOfMemory ask table formats others later counts is_failed before mid after is are cut = record {
   known = are.known;
   others = others;
   are_first = are.are_first;
-  adds = subst (Adds before (pair_lines hex table are.known)) (sym cut) are.adds;
+  adds = subst (Adds before (pair_lines ask table are.known)) (sym cut) are.adds;
+}
+
+-- memory ran out between two pairs
+pub stops : (ask : ConflictsAsk) (table : TableView) (others : List (ℕ × ℕ)) (counts : Counts) (is_failed : Bool) (before after : Option (List ℕ)) → AreTold ask table others counts before after → IsCutShort OutOfMemory ask table is_failed before after
+stops ask table others counts is_failed before after are = record {
+  known = are.known;
+  others = others;
+  are_first = are.are_first;
+  adds = are.adds;
+}
+
+-- before the first pair
+pub none_yet : (ask : ConflictsAsk) (table : TableView) (is_failed : Bool) (before : Option (List ℕ)) → IsCutShort OutOfMemory ask table is_failed before before
+none_yet ask table is_failed before = record {
+  known = [];
+  others = asked_pairs ask.only (length table.formats);
+  are_first = record { at = refl; settled = All-nil (IsSettled ask table) };
+  adds = adds_nothing before;
 }
 
 -- ---- the last line
 
+few_are_asked : (test : ℕ × ℕ → Bool) (pairs : List (ℕ × ℕ)) → length (filter test pairs) ≤ length pairs
+few_are_asked test pairs =
+    let both = length-filter_both test (λ p. not (test p)) (λ p. refl) pairs in
+    omega (arith, both)
+
 -- the counts are few
-pub few_told : (hex : Bool) (table : TableView) (budget : ℕ) (others : List (ℕ × ℕ)) (counts : Counts) (before after : Option (List ℕ)) → AreTold hex table budget others counts before after → counts.decided + counts.ambiguous + counts.unknown + length others ≤ length (format_pairs (length table.formats))
-few_told hex table budget others counts before after are =
+few_told : (ask : ConflictsAsk) (table : TableView) (others : List (ℕ × ℕ)) (counts : Counts) (before after : Option (List ℕ)) → AreTold ask table others counts before after → pairs_in counts + length others ≤ length (format_pairs (length table.formats))
+few_told ask table others counts before after are =
+    let asked = few_are_asked (is_asked ask.only) (format_pairs (length table.formats)) in
     let all = ap length are.are_first.at in
     let long = length-append (pairs_of are.known) others in
     let same = length-map are.known (λ (k : KnownPair). k.formats) in
     let sum = sum_of_counts are.known in
     let few = few_are_unrelated are.known in
-    omega (arith, all, long, same, sum, few, are.are_counts.decided, are.are_counts.ambiguous, are.are_counts.unknown)
+    omega (arith, asked, all, long, same, sum, few, are.are_counts.decided, are.are_counts.ambiguous, are.are_counts.unknown)
+
+few_classes_told : (ask : ConflictsAsk) (table : TableView) (others : List (ℕ × ℕ)) (counts : Counts) (before after : Option (List ℕ)) → AreTold ask table others counts before after → classes_in counts + length others ≤ length (format_pairs (length table.formats))
+few_classes_told ask table others counts before after are =
+    let asked = few_are_asked (is_asked ask.only) (format_pairs (length table.formats)) in
+    let all = ap length are.are_first.at in
+    let long = length-append (pairs_of are.known) others in
+    let same = length-map are.known (λ (k : KnownPair). k.formats) in
+    let few = few_have_a_class are.known in
+    omega (arith, asked, all, long, same, few, are.are_counts.over, are.are_counts.under, are.are_counts.same, are.are_counts.apart, are.are_counts.opens)
 
 -- so there is room for one more
-pub room_for_one : (n sum left long : ℕ) → n ≤ 1000 → n * (n - 1) / 2 ≡ long → sum + left ≤ long → sum < 4294967295
+room_for_one : (n sum left long : ℕ) → n ≤ 1000 → n * (n - 1) / 2 ≡ long → sum + left ≤ long → sum < 4294967295
 room_for_one n sum left long few is within =
     let less : n - 1 ≤ 1000 = omega arith in
     let product = mul-le-mul few less in
     omega (arith, product, is, within)
 
+pub room_told : (ask : ConflictsAsk) (table : TableView) (others : List (ℕ × ℕ)) (counts : Counts) (before after : Option (List ℕ)) (n : ℕ) → n ≤ 1000 → n ≡ length table.formats → AreTold ask table others counts before after → pairs_in counts < 4294967295
+room_told ask table others counts before after n few count are =
+    room_for_one n (pairs_in counts) (length others) (length (format_pairs n)) few (length-format_pairs n)
+    (subst (λ k. pairs_in counts + length others ≤ length (format_pairs k)) (sym count) (few_told ask table others counts before after are))
+
+pub room_classed : (ask : ConflictsAsk) (table : TableView) (others : List (ℕ × ℕ)) (counts : Counts) (before after : Option (List ℕ)) (n : ℕ) → n ≤ 1000 → n ≡ length table.formats → AreTold ask table others counts before after → classes_in counts < 4294967295
+room_classed ask table others counts before after n few count are =
+    room_for_one n (classes_in counts) (length others) (length (format_pairs n)) few (length-format_pairs n)
+    (subst (λ k. classes_in counts + length others ≤ length (format_pairs k)) (sym count) (few_classes_told ask table others counts before after are))
+
 -- ---- one pair
 
 -- its line is written, or a front of it
-pub pair_is_told : {E : Type 0} (result : Result Unit E) (hex : Bool) (table : TableView) (budget : ℕ) (formats : ℕ × ℕ) (decision : PairDecision) (old new : Counts) (line : List ℕ) (before after : Option (List ℕ)) → IsSettled table budget (record { formats = formats; decision = Some decision }) → new ≡ counted old decision → line ≡ decision_line hex table formats decision → OnOk result (Adds before line after) → OnOk result (IsTold hex table budget formats old new before after)
-pair_is_told (Ok t) hex table budget formats decision old new line before after settled counts is adds = record {
+pub pair_is_told : {E : Type 0} (result : Result Unit E) (ask : ConflictsAsk) (table : TableView) (formats : ℕ × ℕ) (decision : PairDecision) (class : Option PairClass) (old new : Counts) (line : List ℕ) (before after : Option (List ℕ)) → IsSettled ask table (record { formats = formats; decision = Some decision; class = class })
+    → IsCounted old new (Some decision) class → line ≡ decision_line ask.hex table formats decision class → OnOk result (Adds before line after) → OnOk result (IsTold ask table formats old new before after)
+pair_is_told (Ok t) ask table formats decision class old new line before after settled counts is adds = record {
   decision = Some decision;
+  class = class;
   settled = settled;
   counts = counts;
   adds = subst (λ l. Adds before l after) is adds;
 }
-pair_is_told (Err e) hex table budget formats decision old new line before after settled counts is adds = tt
+pair_is_told (Err e) ask table formats decision class old new line before after settled counts is adds = tt
 
-pub pair_is_cut : (result : Result Unit CutShort) (hex : Bool) (table : TableView) (budget : ℕ) (formats : ℕ × ℕ) (decision : PairDecision) (line : List ℕ) (is_failed : Bool) (before after : Option (List ℕ)) → IsSettled table budget (record { formats = formats; decision = Some decision }) → line ≡ decision_line hex table formats decision → IfErr result (λ e. (e ≡ Write) × (is_failed ≡ true) × AddsFront before line after) → IfErr result (λ e. IsPairCut e hex table budget formats is_failed before after)
-pair_is_cut (Ok t) hex table budget formats decision line is_failed before after settled is cut = tt
-pair_is_cut (Err e) hex table budget formats decision line is_failed before after settled is cut =
-    subst (λ e. IsPairCut e hex table budget formats is_failed before after) (sym cut.0) (
+pub pair_is_cut : (result : Result Unit CutShort) (ask : ConflictsAsk) (table : TableView) (formats : ℕ × ℕ) (decision : PairDecision) (class : Option PairClass) (line : List ℕ) (is_failed : Bool) (before after : Option (List ℕ)) → IsSettled ask table (record { formats = formats; decision = Some decision; class = class })
+    → line ≡ decision_line ask.hex table formats decision class → IfErr result (λ e. (e ≡ Write) × (is_failed ≡ true) × AddsFront before line after) → IfErr result (λ e. IsPairCut e ask table formats is_failed before after)
+pair_is_cut (Ok t) ask table formats decision class line is_failed before after settled is cut = tt
+pair_is_cut (Err e) ask table formats decision class line is_failed before after settled is cut =
+    subst (λ e. IsPairCut e ask table formats is_failed before after) (sym cut.0) (
       cut.1,
       record {
         decision = Some decision;
+        class = class;
         settled = settled;
         adds = subst (λ l. AddsFront before l after) is cut.2;
       },

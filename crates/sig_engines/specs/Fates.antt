@@ -11,7 +11,7 @@ use Rattle.sig_find.specs.declared.life.Life.{Life}
 use Rattle.sig_find.specs.declared.life.Life.TheVariants as life
 use Rattle.sig_find.specs.declared.life.SignatureLife.{SignatureLife}
 use Rattle.sig_table.specs.Views.{TableView}
-use Rattle.sig_engines.specs.Conflicts.{format_text, hex_text, signature_text}
+use Rattle.sig_engines.specs.Texts.{format_text, hex_text, signature_text}
 use Rattle.sig_engines.specs.declared.error.CutShort.{CutShort}
 use Rattle.sig_engines.specs.declared.error.CutShort.TheVariants.{OutOfMemory, Write}
 

@@ -6,7 +6,7 @@ use Rattle.sig_cert.specs.Deciding.{AreFormats}
 use Rattle.sig_product.specs.Products.{AreAllBlockers}
 use Rattle.sig_table.specs.Views.{SignatureView, TableView}
 use Rattle.sig_table.specs.declared.ids.SigId.{SigId}
-use Rattle.sig_engines.specs.Conflicts.{signature_text}
+use Rattle.sig_engines.specs.Texts.{signature_text}
 use Rattle.sig_engines.specs.Progress.{AddsIf}
 use Rattle.sig_engines.specs.Witnessed.{pair_text}
 use Rattle.sig_engines.specs.declared.error.FileFault.{FileFault}

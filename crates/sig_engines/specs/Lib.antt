@@ -1,4 +1,6 @@
 -- What a reader must trust: what is written of a file, of what is found, of a verdict and of pairs of formats, and what a store holds.
+pub mod Asks
+pub mod ClassTexts
 pub mod Conflicts
 pub mod Fates
 pub mod Finding
@@ -9,6 +11,7 @@ pub mod Progress
 pub mod Shown
 pub mod Stores
 pub mod Tellings
+pub mod Texts
 pub mod Witnessed
 pub mod Writing
 pub use Rattle.sig_bits.specs.Device

@@ -1,16 +1,21 @@
-//! How many pairs of formats are decided, ambiguous and unknown.
+//! How many pairs of formats are decided, ambiguous and unknown, and of which class.
 
-ghost use Rattle.std.specs.Prelude.{◌≡◌, ◌↔◌, ◌+◌, ◌-◌, ◌^◌, ◌<◌, [], IsTrue};
-ghost use Rattle.sig_engines.specs.Conflicts.{AreCounts, counted};
+ghost use Rattle.std.specs.Prelude.{◌≡◌, ◌↔◌, ◌+◌, ◌-◌, ◌^◌, ◌<◌, [], IsTrue, Some};
+ghost use Rattle.sig_engines.specs.Conflicts.{AreCounts, IsCounted, classes_in, pairs_in};
 
-use sig_find::PairDecision;
+use sig_find::{PairClass, PairDecision};
 
-/// The unrelated pairs of formats so far, by what is known of them.
+/// The unrelated pairs of formats so far, by what is known of them, and by their classes.
 #[derive(Clone, Copy, Debug, PartialEq, Eq)]
 pub(crate) struct Counts {
     pub(crate) decided: u32,
     pub(crate) ambiguous: u32,
     pub(crate) unknown: u32,
+    pub(crate) over: u32,
+    pub(crate) under: u32,
+    pub(crate) same: u32,
+    pub(crate) apart: u32,
+    pub(crate) open: u32,
 }
 
 impl Counts {
@@ -22,25 +27,39 @@ impl Counts {
             decided: 0,
             ambiguous: 0,
             unknown: 0,
+            over: 0,
+            under: 0,
+            same: 0,
+            apart: 0,
+            open: 0,
         }
     }
 
-    /// One pair more.
-    pub(crate) fn add(&mut self, decision: &PairDecision)
-        requires { self.old.decided + self.old.ambiguous + self.old.unknown < 2 ^ 32 - 1 }
-        ensures { self.new ≡ counted self.old decision.now }
+    /// One pair more, with its class if it has one.
+    pub(crate) fn add(&mut self, decision: &PairDecision, class: Option<PairClass>)
+        requires few { pairs_in self.old < 2 ^ 32 - 1 }
+        requires few_classes { classes_in self.old < 2 ^ 32 - 1 }
+        ensures { IsCounted self.old self.new (Some decision.now) class }
     {
         match decision {
             PairDecision::Decided => self.decided += 1,
             PairDecision::Ambiguous { .. } => self.ambiguous += 1,
             PairDecision::Unknown { .. } => self.unknown += 1,
         }
+        match class {
+            None => {}
+            Some(PairClass::Over) => self.over += 1,
+            Some(PairClass::Under) => self.under += 1,
+            Some(PairClass::Same) => self.same += 1,
+            Some(PairClass::Apart) => self.apart += 1,
+            Some(PairClass::Open) => self.open += 1,
+        }
     }
 
     /// All pairs.
     pub(crate) fn pairs(self) -> u32
-        requires { self.decided + self.ambiguous + self.unknown < 2 ^ 32 }
-        ensures { result ≡ self.decided + self.ambiguous + self.unknown }
+        requires { pairs_in self < 2 ^ 32 }
+        ensures { result ≡ pairs_in self }
     {
         self.decided + self.ambiguous + self.unknown
     }

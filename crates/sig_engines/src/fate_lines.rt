@@ -1,7 +1,7 @@
 //! The lines of `dead`.
 
 ghost use Rattle.std.specs.Prelude.{◌≡◌, ◌<◌, ◌++◌, ◌∷◌, [], All, IfOk, OnOk, count_by, flat_map, length, string_bytes};
-ghost use Rattle.sig_engines.specs.Conflicts.{format_text, signature_text};
+ghost use Rattle.sig_engines.specs.Texts.{format_text, signature_text};
 ghost use Rattle.sig_engines.specs.Fates.{fate_lines, fates_line, fates_text, format_line, is_dead, life_line};
 ghost use Rattle.sig_find.specs.Lives.{is_alive, is_unknown};
 

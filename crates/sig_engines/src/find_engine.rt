@@ -6,7 +6,7 @@
 //! Where both hold the first is named, which a greater budget alone seldom mends.
 
 ghost use Rattle.std.specs.Prelude.{◌≡◌, ◌≢◌, ◌⊎◌, ◌++◌, false, option_map, string_bytes, true, IfErr, IfOk, IfSome, OnOk};
-ghost use Rattle.sig_engines.specs.Conflicts.{signature_text};
+ghost use Rattle.sig_engines.specs.Texts.{signature_text};
 ghost use Rattle.sig_engines.specs.Finding.{AddsFound, AreSignatures, IsFindFault, IsKnown, IsReason, IsReasonFor, KeepsFound, TellsWhy, budget_line, found_bytes, found_text, is_answered, outranked_line, reason_line};
 ghost use Rattle.sig_engines.specs.Progress.{AddsProgress, ShowsIf};
 ghost use Rattle.sig_engines.specs.Stores.{IsMade, SomeWriteFailed};

@@ -8,10 +8,12 @@
 //! says that a read or a write failed only where one did.
 //!
 //! What each adds to an output stands in `specs/`: `Lines`, `ManyFiles`, `Shown`, `Finding`, `Judged`,
-//! `Witnessed`, `Conflicts`, `Fates` and `Progress`. `Stores` says what a store of files holds and
-//! makes.
+//! `Witnessed`, `Conflicts`, `Fates` and `Progress`. `Asks` says which pairs `conflicts` is asked for,
+//! and `ClassTexts` how their classes are written and counted. `Stores` says what a store of files
+//! holds and makes.
 #![tactic(auto)]
 
+mod ask;
 mod check_engine;
 mod conflicts_engine;
 mod counts;
@@ -30,6 +32,7 @@ mod store;
 mod witness_engine;
 mod writing;
 
+pub use ask::{ConflictsAsk, format_named};
 pub use check_engine::run_check;
 pub use conflicts_engine::{run_conflicts, settle};
 pub use dead_engine::{find_dead, run_dead};

@@ -2,11 +2,13 @@
 mod AllBlockerLemmas
 mod AloneLemmas
 mod ByteLemmas
+mod ClassLemmas
 mod ExpandLemmas
 pub mod Exports
 mod FoundLemmas
 mod FrontierLemmas
 mod HitLemmas
+mod InclusionLemmas
 mod KeptLemmas
 mod KeyLemmas
 mod LeavingLemmas

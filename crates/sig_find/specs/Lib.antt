@@ -6,6 +6,8 @@ pub mod Answers
 pub mod FormatPairs
 pub mod Leaving
 pub mod Lives
+pub mod Inclusions
+pub mod Classes
 -- The vocabulary of proofs.
 pub mod Kept
 pub mod Frontiers

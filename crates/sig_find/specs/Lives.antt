@@ -1,5 +1,5 @@
 -- What is found of the signatures of a format: which of them are hit by a file that leaves it, and which by none.
-use Rattle.std.specs.Prelude.{◌≡◌, ℕ, ◌≤◌, ◌<◌, Bool, true, false, List, All, if◌then◌else◌, length, map}
+use Rattle.std.specs.Prelude.{◌≡◌, ℕ, ◌≤◌, ◌<◌, Bool, true, false, List, All, Some, if◌then◌else◌, length, map, slice_get}
 use Rattle.std.specs.List.{list_any}
 use Rattle.sig_bits.specs.Bytes.{IsBytes}
 use Rattle.sig_cert.specs.Pairs.{signatures_of}
@@ -36,6 +36,15 @@ IsLifeOf table budget format s life.Unknown = IsTooMuch table s s budget
 pub record AreLives (table : TableView) (budget format : ℕ) (lives : List SignatureLife) : Type 0 where
   pub all : map (λ l. l.signature) lives ≡ places_of format 0 table.signatures
   pub each : All (λ l. IsLifeOf table budget format l.signature.0 l.life) lives
+
+-- the same of each format before this one
+pub record AreLivesBelow (table : TableView) (budget count : ℕ) (lives : List (List SignatureLife)) : Type 0 where
+  pub every : length lives ≡ count
+  pub each : (format : ℕ) (own : List SignatureLife) → slice_get lives format ≡ Some own → AreLives table budget format own
+
+-- what is found of the signatures of each format, of the formats in their order
+abbrev pub AreLivesOfTable : TableView → ℕ → List (List SignatureLife) → Type 0
+AreLivesOfTable table budget lives = AreLivesBelow table budget (length table.formats) lives
 
 -- each signature of the format is dead
 abbrev pub AreAllDead : TableView → ℕ → Type 0

@@ -1,7 +1,9 @@
 //! `conflicts` through the program: tables worked out by hand, and what stands where it stops.
 
 use crate::tests::finding::put_outranked;
-use crate::tests::{P, S, is_fault, make, make_with, put_table, remove, run_in, words_in};
+use crate::tests::{
+    Fault, P, S, first_untold, is_fault, make, make_with, put_table, remove, run_in, words_in,
+};
 use fixtures::{
     BOTH_ENDS, COVERED, EVERY_FILE, NONE, ONE, OVER_BOTH, OVER_FIRST, Room, Rows, THREE_RELATED,
     TWO,
@@ -151,6 +153,122 @@ fn prints_no_bytes_unless_asked(rt: HostRuntime) -> Result<(), Fail> {
     remove(&rt, folder)
 }
 
+// A table, flags of `conflicts`, the status and the lines.
+#[derive(Clone, Copy)]
+struct Flagged(Rows, &'static [&'static str], u8, &'static str);
+
+// Each file that begins with 41 42 begins with 41.
+const CONTAINED: Rows = Rows("fmt/1,1,BOF,0,,4142\nfmt/2,2,BOF,0,,41\n", "");
+
+const FLAGGED: &[Flagged] = &[
+    Flagged(
+        EVERY_FILE,
+        &["--class"],
+        1,
+        "ambiguous fmt/1 fmt/2 1 2 0 same\n\
+         pairs 1 decided 0 ambiguous 1 unknown 0 over 0 under 0 same 1 apart 0 open 0\n",
+    ),
+    Flagged(
+        CONTAINED,
+        &["--class"],
+        1,
+        "ambiguous fmt/1 fmt/2 1 2 2 over\n\
+         pairs 1 decided 0 ambiguous 1 unknown 0 over 1 under 0 same 0 apart 0 open 0\n",
+    ),
+    Flagged(
+        BOTH_ENDS,
+        &["--class", "--hex"],
+        1,
+        "ambiguous fmt/1 fmt/2 1 2 1 apart 41\n\
+         pairs 1 decided 0 ambiguous 1 unknown 0 over 0 under 0 same 0 apart 1 open 0\n",
+    ),
+    Flagged(
+        THREE_RELATED,
+        &["--class"],
+        1,
+        "ambiguous fmt/1 fmt/3 10 30 1 apart\nambiguous fmt/1 fmt/4 10 40 5 under\n\
+         pairs 3 decided 1 ambiguous 2 unknown 0 over 0 under 1 same 0 apart 1 open 0\n",
+    ),
+    Flagged(
+        THREE_RELATED,
+        &["--only", "fmt/3"],
+        1,
+        "ambiguous fmt/1 fmt/3 10 30 1\npairs 1 decided 0 ambiguous 1 unknown 0\n",
+    ),
+    Flagged(
+        THREE_RELATED,
+        &["--only", "fmt/2"],
+        0,
+        "pairs 1 decided 1 ambiguous 0 unknown 0\n",
+    ),
+    Flagged(
+        THREE_RELATED,
+        &["--only", "fmt/4", "--class", "--hex"],
+        1,
+        "ambiguous fmt/1 fmt/4 10 40 5 under 4142434445\n\
+         pairs 1 decided 0 ambiguous 1 unknown 0 over 0 under 1 same 0 apart 0 open 0\n",
+    ),
+];
+
+// Whether `conflicts` with the flags of the row prints so of its table.
+fn is_flagged(rt: &HostRuntime, folder: &str, row: &Flagged) -> Result<bool, Fail> {
+    let Flagged(Rows(rows, pairs), flags, status, lines) = *row;
+    put_table(rt, folder, rows, pairs)?;
+    let mut words = Vec::new(rt.alloc());
+    words.push("conflicts")?;
+    words.extend_from_slice(flags)?;
+    words.extend_from_slice(&[S, P])?;
+    Ok(run_in(rt, folder, &words)?.is(status, lines, ""))
+}
+
+#[test]
+fn prints_what_the_flags_ask_for(rt: HostRuntime) -> Result<(), Fail> {
+    let folder = "flagged";
+    make(&rt, folder)?;
+    for row in FLAGGED {
+        assert!(rt; is_flagged(&rt, folder, row)?, "{:?} {:?}", row.0, row.1);
+    }
+    remove(&rt, folder)
+}
+
+// Words of `--only` that name no format of the table, also where there is no PUID in them.
+const UNNAMED: &[Fault] = &[
+    Fault(
+        &["conflicts", "--only", "fmt/5", S, P],
+        2,
+        "only: not in the table\n",
+    ),
+    Fault(
+        &["conflicts", "--only", "fmt/01", "--progress", S, P],
+        2,
+        "only: not in the table\n",
+    ),
+    Fault(
+        &["conflicts", "--only", "", "--class", S, P],
+        2,
+        "only: not in the table\n",
+    ),
+    Fault(
+        &["conflicts", "--only", "fmt/5", P, P],
+        2,
+        "signatures: L2 header\n",
+    ),
+    Fault(
+        &["conflicts", "--only", "fmt/5", S, "none"],
+        3,
+        "cannot open none\n",
+    ),
+];
+
+#[test]
+fn wants_a_format_of_the_table(rt: HostRuntime) -> Result<(), Fail> {
+    let folder = "unnamed";
+    make_with(&rt, folder, THREE_RELATED)?;
+    let untold = first_untold(&rt, folder, UNNAMED)?;
+    assert!(rt; untold.is_none(), "{untold:?}");
+    remove(&rt, folder)
+}
+
 // Whether a witness of the table in the folder is told.
 fn is_ambiguous(rt: &HostRuntime, folder: &str) -> Result<bool, Fail> {
     let lines = "ambiguous fmt/1 fmt/2 1 2 1 41\npairs 1 decided 0 ambiguous 1 unknown 0\n";
@@ -192,6 +310,14 @@ const WRONG: &[(&[&str], &str)] = &[
     (
         &["conflicts", "--budget", "100", "a"],
         "error: the following required arguments were not provided:\n  <PRIOS>\n",
+    ),
+    (
+        &["conflicts", "--only", "--class", "a", "b"],
+        "error: a value is required for '--only <PUID>' but none was supplied\n",
+    ),
+    (
+        &["conflicts", "--only", "fmt/1", "--only", "fmt/2", "a", "b"],
+        "error: the argument '--only <PUID>' cannot be used multiple times\n",
     ),
     (
         &["conflicts", "--budget", "100", "--out", "o", "a", "b"],

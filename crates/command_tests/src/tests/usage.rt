@@ -66,10 +66,16 @@ const OF_CONFLICTS: &[&str] = &[
     "match. No shorter file that these two match gets both\n",
     "  unknown A B S T      the search gave up on the signatures numbered S of A\n",
     "With --hex the bytes of the file are the last word of an `ambiguous` line.",
-    "the pairs:\n  pairs P decided D ambiguous M unknown U\n\nA priority decides a pair even",
-    "So run\n`dead`, too.\n\nEach two signatures get a search",
-    "  2  usage error, or the table is refused\n",
-    "  --budget <N>  States that one search may visit [default: 100000]\n",
+    "the pairs:\n  pairs P decided D ambiguous M unknown U\n\nWith --class a word behind N tells",
+    "  over   A must be over B. Each file that is reported as A also matches B, so\n",
+    "  under  B must be over A. Each file that is reported as B also matches A\n  same   both hold.",
+    "  apart  neither holds. Some files are only A's, and others are only B's\n  open   one of",
+    "With --only just the pairs of the format PUID are searched.\n",
+    "A priority decides a pair even if it leaves a format with no file. So run\n`dead`, too.",
+    "  2  usage error, the table is refused, or it lacks the format of --only\n",
+    "  --budget <N>   States that one search may visit [default: 100000]\n",
+    "  --only <PUID>  Print the pairs of this format alone\n",
+    "  --class        Print the class of each pair, and count the classes\n",
 ];
 
 // What the help of `dead` says.

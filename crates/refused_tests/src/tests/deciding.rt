@@ -6,7 +6,9 @@ use fixtures::{BOTH_ENDS, OVER_BOTH, Rows, TWO};
 use sig_auto::Auto;
 use sig_cert::{CheckError, check, check_witness};
 use sig_core::CoreError;
-use sig_find::{Fate, Found, SignatureLife, decide_format, find};
+use sig_find::{
+    Fate, Found, PairClass, SignatureLife, class_of_pair, decide_format, find, lives_of_table,
+};
 use sig_product::{Product, ProductError, all_blockers};
 use sig_table::{FormatId, Sequence, SigId, Table};
 use std::alloc::AllocError;
@@ -330,6 +332,57 @@ fn decides_or_lacks(rt: &HostRuntime, rows: Rows, budget: u32, fate: Fate) -> Re
 fn decide_format_lacks_memory_or_is_right(rt: HostRuntime) -> Result<(), Fail> {
     for (rows, budget, fate) in FATES {
         assert!(rt; decides_or_lacks(&rt, *rows, *budget, *fate)?);
+    }
+    Ok(())
+}
+
+// Tables, budgets, and the class of the first two formats.
+const CLASSES: &[(Rows, u32, PairClass)] = &[
+    (TWO, 100, PairClass::Apart),
+    (TWO, 1, PairClass::Open),
+    (LONGER_AND_SHORTER, 100, PairClass::Over),
+    // No file leaves the second: each hits one of the two above it.
+    (TWO_BLOCKERS, 100, PairClass::Under),
+];
+
+const LONGER_AND_SHORTER: Rows = Rows("fmt/1,1,BOF,0,,4142\nfmt/2,2,BOF,0,,41\n", "");
+
+// The class of the first two formats, if the table has two.
+fn class_of(rt: &HostRuntime, table: &Table, budget: u32) -> Result<Option<PairClass>, AllocError> {
+    if table.format_count() < 2 {
+        return Ok(None);
+    }
+    let lives = lives_of_table(rt.alloc(), table, budget)?;
+    let class = class_of_pair(rt.alloc(), table, &lives, FormatId(0), FormatId(1), budget)?;
+    Ok(Some(class))
+}
+
+// Whether it is this class, or memory was wanted.
+fn is_class_or_lacks(found: &Result<Option<PairClass>, AllocError>, class: PairClass) -> bool {
+    match found {
+        Ok(found) => *found == Some(class),
+        Err(_) => true,
+    }
+}
+
+fn tells_class_or_lacks(
+    rt: &HostRuntime,
+    rows: Rows,
+    budget: u32,
+    class: PairClass,
+) -> Result<bool, Fail> {
+    let table = table_of(rt, rows)?;
+    begin(rt);
+    let first = class_of(rt, &table, budget);
+    end(rt);
+    let again = class_of(rt, &table, budget)?;
+    Ok(is_class_or_lacks(&first, class) && again == Some(class))
+}
+
+#[test]
+fn class_of_pair_lacks_memory_or_is_right(rt: HostRuntime) -> Result<(), Fail> {
+    for (rows, budget, class) in CLASSES {
+        assert!(rt; tells_class_or_lacks(&rt, *rows, *budget, *class)?);
     }
     Ok(())
 }

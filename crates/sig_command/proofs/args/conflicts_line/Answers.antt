@@ -1,10 +1,23 @@
 use Rattle.std.proofs.Common.{◌≡◌, false, ap, ap₂, codes, ◌∙◌}
 use Rattle.clap.specs.Simple.{app_of_fields}
-use Rattle.clap.specs.Words.{app_of, new_app, rule_of, with_rule}
+use Rattle.clap.specs.Words.{App, app_of, new_app, rule_of, with_rule}
 use Rattle.clap.specs.declared.Command.TheViews.{out-Command as fields_of}
-use Rattle.sig_command.specs.CommandLine.{budget_rule, given, of_table}
+use Rattle.sig_command.specs.CommandLine.{budget_rule, given, named, of_table}
 use Rattle.sig_command.proofs.RowLemmas.{or_false}
 use Rattle.sig_command.proofs.args.conflicts_line.Goals as goal
+
+-- the command with its first arguments
+abbrev with_budget : App
+with_budget = with_rule (of_table (new_app (codes "conflicts"))) budget_rule
+
+abbrev with_only : App
+with_only = with_rule with_budget (named (codes "only") (codes "PUID"))
+
+abbrev with_class : App
+with_class = with_rule with_only (given (codes "class"))
+
+abbrev with_hex : App
+with_hex = with_rule with_class (given (codes "hex"))
 
 pub returns-clause-line : goal.returns-clause-line
 returns-clause-line c =
@@ -12,13 +25,19 @@ returns-clause-line c =
     let table_local : (fields_of c.after_help.result).has_globals ≡ false = rw (c.after_help.ensures, c.about.ensures) (c.in_ok-with_table_args.ensures.local ∙ c.new.ensures.local) in
     let budget : rule_of c.help.result ≡ budget_rule = rw c.help.ensures c.budget.ensures.rule in
     let budget_local : c.help.result.global ≡ false = rw c.help.ensures c.budget.ensures.local in
-    let flag : rule_of c.help-2.result ≡ given (codes "hex") = rw c.help-2.ensures c.flag.ensures.rule in
-    let flag_local : c.help-2.result.global ≡ false = rw c.help-2.ensures c.flag.ensures.local in
-    let shown : rule_of c.help-3.result ≡ given (codes "progress") = rw c.help-3.ensures c.flag-2.ensures.rule in
-    let shown_local : c.help-3.result.global ≡ false = rw c.help-3.ensures c.flag-2.ensures.local in
-    let first : app_of c.in_ok-arg.field-0 ≡ with_rule (of_table (new_app (codes "conflicts"))) budget_rule = c.in_ok-arg.ensures.shape budget_local ∙ ap₂ with_rule table budget in
-    let second : app_of c.in_ok-arg-2.field-0 ≡ with_rule (with_rule (of_table (new_app (codes "conflicts"))) budget_rule) (given (codes "hex")) = c.in_ok-arg-2.ensures.shape flag_local ∙ ap₂ with_rule first flag in
+    let only : rule_of c.help-2.result ≡ named (codes "only") (codes "PUID") = rw c.help-2.ensures c.option.ensures.rule in
+    let only_local : c.help-2.result.global ≡ false = rw c.help-2.ensures c.option.ensures.local in
+    let class : rule_of c.help-3.result ≡ given (codes "class") = rw c.help-3.ensures c.flag.ensures.rule in
+    let class_local : c.help-3.result.global ≡ false = rw c.help-3.ensures c.flag.ensures.local in
+    let hex : rule_of c.help-4.result ≡ given (codes "hex") = rw c.help-4.ensures c.flag-2.ensures.rule in
+    let hex_local : c.help-4.result.global ≡ false = rw c.help-4.ensures c.flag-2.ensures.local in
+    let shown : rule_of c.help-5.result ≡ given (codes "progress") = rw c.help-5.ensures c.flag-3.ensures.rule in
+    let shown_local : c.help-5.result.global ≡ false = rw c.help-5.ensures c.flag-3.ensures.local in
+    let first : app_of c.in_ok-arg.field-0 ≡ with_budget = c.in_ok-arg.ensures.shape budget_local ∙ ap₂ with_rule table budget in
+    let second : app_of c.in_ok-arg-2.field-0 ≡ with_only = c.in_ok-arg-2.ensures.shape only_local ∙ ap₂ with_rule first only in
+    let third : app_of c.in_ok-arg-3.field-0 ≡ with_class = c.in_ok-arg-3.ensures.shape class_local ∙ ap₂ with_rule second class in
+    let fourth : app_of c.in_ok-arg-4.field-0 ≡ with_hex = c.in_ok-arg-4.ensures.shape hex_local ∙ ap₂ with_rule third hex in
     record {
-      is_app = c.in_ok-line.ensures.shape shown_local ∙ ap₂ with_rule second shown;
-      has_no_globals = c.in_ok-line.ensures.globals ∙ or_false _ _ shown_local ∙ c.in_ok-arg-2.ensures.globals ∙ or_false _ _ flag_local ∙ c.in_ok-arg.ensures.globals ∙ or_false _ _ budget_local ∙ table_local;
+      is_app = c.in_ok-line.ensures.shape shown_local ∙ ap₂ with_rule fourth shown;
+      has_no_globals = c.in_ok-line.ensures.globals ∙ or_false _ _ shown_local ∙ c.in_ok-arg-4.ensures.globals ∙ or_false _ _ hex_local ∙ c.in_ok-arg-3.ensures.globals ∙ or_false _ _ class_local ∙ c.in_ok-arg-2.ensures.globals ∙ or_false _ _ only_local ∙ c.in_ok-arg.ensures.globals ∙ or_false _ _ budget_local ∙ table_local;
     }

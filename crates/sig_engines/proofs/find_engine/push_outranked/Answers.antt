@@ -1,6 +1,6 @@
 use Rattle.std.proofs.Common.{[], ◌∷◌, string_bytes, ◌∙◌}
 use Rattle.std.specs.Prelude.{codes}
-use Rattle.sig_engines.specs.Conflicts.{signature_text}
+use Rattle.sig_engines.specs.Texts.{signature_text}
 use Rattle.sig_engines.proofs.FoundLemmas.{pieces}
 use Rattle.sig_engines.proofs.find_engine.push_outranked.Goals as goal
 

@@ -1,0 +1,155 @@
+//! `conflicts` with classes, and of one format alone: tables and their lines, worked out by hand.
+
+use crate::tests::table_of;
+use fixtures::{EVERY_FILE, OVER_FIRST, Rows, THREE_RELATED, TWO};
+use sig_bits::FromWrite;
+use sig_engines::{ConflictsAsk, format_named, settle};
+use sig_table::{FormatId, Puid};
+use std::test::Fail;
+
+// The two never meet, and only a search tells it.
+const APART: Rows = Rows("fmt/1,1,BOF,0,,41(42|43)\nfmt/2,2,BOF,0,,4144\n", "");
+
+// A table, a budget, and the lines with classes and bytes.
+#[derive(Clone, Copy)]
+struct Classed(Rows, u32, &'static str);
+
+const CLASSED: &[Classed] = &[
+    // Each file of fmt/1 begins with 41, so fmt/2 hits it; 41 alone leaves fmt/2.
+    Classed(
+        Rows("fmt/1,1,BOF,0,,4142\nfmt/2,2,BOF,0,,41\n", ""),
+        100,
+        "ambiguous fmt/1 fmt/2 1 2 2 over 4142\n\
+         pairs 1 decided 0 ambiguous 1 unknown 0 over 1 under 0 same 0 apart 0 open 0\n",
+    ),
+    // The same, the other way round.
+    Classed(
+        Rows("fmt/1,1,BOF,0,,41\nfmt/2,2,BOF,0,,4142\n", ""),
+        100,
+        "ambiguous fmt/1 fmt/2 1 2 2 under 4142\n\
+         pairs 1 decided 0 ambiguous 1 unknown 0 over 0 under 1 same 0 apart 0 open 0\n",
+    ),
+    // Both hit each file.
+    Classed(
+        EVERY_FILE,
+        100,
+        "ambiguous fmt/1 fmt/2 1 2 0 same\n\
+         pairs 1 decided 0 ambiguous 1 unknown 0 over 0 under 0 same 1 apart 0 open 0\n",
+    ),
+    // 41 leaves fmt/1 alone, and 42 fmt/2 alone.
+    Classed(
+        Rows("fmt/1,1,BOF,0,,41\nfmt/2,2,EOF,0,,42\n", ""),
+        100,
+        "ambiguous fmt/1 fmt/2 1 2 2 apart 4142\n\
+         pairs 1 decided 0 ambiguous 1 unknown 0 over 0 under 0 same 0 apart 1 open 0\n",
+    ),
+    // Each file of fmt/1 has 41 and 42 five bytes apart, so fmt/2 hits it. But the bytes between may
+    // be 41 too or not, each for itself, and the search has a row for each case: more than 40.
+    Classed(
+        Rows("fmt/1,1,BOF,0,,41{5}42\nfmt/2,2,Variable,,,41{5}42\n", ""),
+        40,
+        "ambiguous fmt/1 fmt/2 1 2 7 open 41000000000042\n\
+         pairs 1 decided 0 ambiguous 1 unknown 0 over 0 under 0 same 0 apart 0 open 1\n",
+    ),
+    // A pair that is decided has no class, nor has one that is unknown.
+    Classed(
+        TWO,
+        2,
+        "pairs 1 decided 1 ambiguous 0 unknown 0 over 0 under 0 same 0 apart 0 open 0\n",
+    ),
+    Classed(
+        APART,
+        1,
+        "unknown fmt/1 fmt/2 1 2\n\
+         pairs 1 decided 0 ambiguous 0 unknown 1 over 0 under 0 same 0 apart 0 open 0\n",
+    ),
+];
+
+// What is asked for with this budget: the bytes, and no more.
+fn asked(budget: u32) -> ConflictsAsk {
+    ConflictsAsk {
+        budget,
+        hex: true,
+        class: false,
+        only: None,
+    }
+}
+
+// Whether `conflicts` writes these lines of the table, and nothing on the error output.
+fn writes(rt: &HostRuntime, rows: Rows, ask: ConflictsAsk, lines: &str) -> Result<bool, Fail> {
+    let table = table_of(rt, rows.0, rows.1)?;
+    let mut out = FromWrite::new(Vec::new(rt.alloc()));
+    let mut err = FromWrite::new(Vec::new(rt.alloc()));
+    let is_yes = settle(rt.alloc(), &table, ask, false, &mut out, &mut err)?;
+    let wants_yes = lines.contains("ambiguous 0 unknown 0");
+    let written = out.into_inner();
+    Ok(is_yes == wants_yes && written.as_slice() == lines.as_bytes() && err.into_inner().is_empty())
+}
+
+// Whether it does with classes.
+fn is_classed(rt: &HostRuntime, row: &Classed) -> Result<bool, Fail> {
+    let Classed(rows, budget, lines) = *row;
+    let mut ask = asked(budget);
+    ask.class = true;
+    writes(rt, rows, ask, lines)
+}
+
+#[test]
+fn a_line_has_the_class_of_its_pair(rt: HostRuntime) -> Result<(), Fail> {
+    for row in CLASSED {
+        assert!(rt; is_classed(&rt, row)?, "{} {}", row.0.0, row.1);
+    }
+    Ok(())
+}
+
+// A table, a format of it, and the lines of its pairs alone.
+#[derive(Clone, Copy)]
+struct Alone(Rows, u16, &'static str);
+
+const ALONE: &[Alone] = &[
+    Alone(OVER_FIRST, 0, "pairs 1 decided 1 ambiguous 0 unknown 0\n"),
+    Alone(
+        OVER_FIRST,
+        1,
+        "ambiguous fmt/2 fmt/3 2 3 2 4142\npairs 2 decided 1 ambiguous 1 unknown 0\n",
+    ),
+    Alone(
+        THREE_RELATED,
+        3,
+        "ambiguous fmt/1 fmt/4 10 40 5 4142434445\npairs 1 decided 0 ambiguous 1 unknown 0\n",
+    ),
+];
+
+// Whether `conflicts` writes these lines of the pairs of the format.
+fn writes_alone(rt: &HostRuntime, row: &Alone) -> Result<bool, Fail> {
+    let Alone(rows, format, lines) = *row;
+    let mut ask = asked(100);
+    ask.only = Some(FormatId(format));
+    writes(rt, rows, ask, lines)
+}
+
+#[test]
+fn the_pairs_of_one_format_are_settled_alone(rt: HostRuntime) -> Result<(), Fail> {
+    for row in ALONE {
+        assert!(rt; writes_alone(&rt, row)?, "{} {}", row.0.0, row.1);
+    }
+    Ok(())
+}
+
+// The format of this name in a table of `fmt/1` and `fmt/2`.
+fn named(rt: &HostRuntime, name: &[u8]) -> Result<Option<FormatId>, Fail> {
+    let table = table_of(rt, TWO.0, TWO.1)?;
+    match Puid::parse(name) {
+        Some(puid) => Ok(format_named(&table, &puid)),
+        None => Ok(None),
+    }
+}
+
+#[test]
+fn a_format_is_found_by_its_name(rt: HostRuntime) -> Result<(), Fail> {
+    assert!(rt; named(&rt, b"fmt/1")? == Some(FormatId(0)));
+    assert!(rt; named(&rt, b"fmt/2")? == Some(FormatId(1)));
+    assert!(rt; named(&rt, b"fmt/3")?.is_none());
+    assert!(rt; named(&rt, b"x-fmt/1")?.is_none());
+    Ok(())
+}
