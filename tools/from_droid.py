@@ -73,7 +73,7 @@ def fragment(alternatives):
     found = []
     for it in alternatives:
         least = number(it, "MinOffset", 0)
-        found.append((gap(least, number(it, "MaxOffset", least)), parsed(it.text)))
+        found.append((gap(least, number(it, "MaxOffset", least)), text_of(it)))
     if any(not nodes for _, nodes in found):
         raise NoForm("a fragment of no byte")
     return found
@@ -93,8 +93,8 @@ def subsequence(element):
     texts = element.all("Sequence")
     if len(texts) != 1:
         raise NoForm("a subsequence without its one Sequence")
-    judge_names(element, {"Sequence", "LeftFragment", "RightFragment"})
-    middle = parsed(texts[0].text)
+    judge_content(element, ("Sequence", "LeftFragment", "RightFragment"))
+    middle = text_of(texts[0])
     if not middle:
         raise NoForm("a subsequence of no byte")
     left = [beside(it, True) for it in reversed(by_position(element.all("LeftFragment")))]
@@ -102,10 +102,19 @@ def subsequence(element):
     return [node for nodes in (*left, middle, *right) for node in nodes]
 
 
-def judge_names(element, known):
+def judge_content(element, known):
+    """Refuses what may mean something that is not known here: other elements inside, and text beside elements."""
     for it in element.children:
         if it.name not in known:
             raise NoForm(f"an element that is not known: {plain(it.name, 40)}")
+    if known and element.text.strip():
+        raise NoForm(f"a text that is not known: {plain(element.text.strip(), 40)}")
+
+
+def text_of(element):
+    """The nodes of the text of an element that has nothing else."""
+    judge_content(element, ())
+    return parsed(element.text)
 
 
 def compiled(position, elements):
@@ -149,7 +158,7 @@ def sequence(element):
     order = element.get("Endianness", "").strip().lower()
     if order.startswith("little"):
         raise NoForm("little-endian: whether its bytes stand in the order of the file is not known")
-    judge_names(element, {"SubSequence"})
+    judge_content(element, ("SubSequence",))
     position, text = POSITIONS[reference], element.get("Sequence")
     if (text is None) == (not element.children):
         raise NoForm("a byte sequence with neither a Sequence attribute nor subsequences, or with both")
@@ -166,7 +175,7 @@ def sequence(element):
 
 def signature(element):
     """The rows of a signature, without its format and number."""
-    judge_names(element, {"ByteSequence"})
+    judge_content(element, ("ByteSequence",))
     if not element.children:
         raise NoForm("no byte sequence")
     if len(element.children) > MOST_SEQUENCES:
@@ -252,7 +261,7 @@ class Conversion:
 
     def convert(self, key):
         """The reason why a signature has no form, or None, and its rows."""
-        if key not in self.elements:
+        if not key or key not in self.elements:
             return "no signature of the file has this ID", []
         if self.elements[key] is None:
             return "two signatures of the file have this ID", []
@@ -268,12 +277,12 @@ class Conversion:
         order, pairs = Order(self.names), set()
         for higher in asked:
             for key in higher.lower:
-                lower = by_id.get(key)
+                lower = by_id.get(key) if key else None
                 if only is not None and lower and lower.puid not in only:
                     continue
                 try:
                     if not lower:
-                        raise NoForm(f"{'two formats have' if key in by_id else 'no format has'} this ID")
+                        raise NoForm(f"{'two formats have' if key and key in by_id else 'no format has'} this ID")
                     for it in (higher, lower):
                         if self.taken.get(it.puid) is not it:
                             raise NoForm(f"{plain(it.puid, 80) or 'a format without a PUID'} is not taken")

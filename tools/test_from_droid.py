@@ -166,6 +166,12 @@ def judge_words(room, cases):
 
 
 ODD, EVEN = ("(" + "|".join(f"{byte:02X}" for byte in range(first, 256, 2)) + ")" for first in (1, 0))
+
+
+def several(count):
+    return "(" + "|".join(f"{byte:02X}" for byte in range(count)) + ")"
+
+
 EXPRESSIONS = [  # DROID's text; ours or the reason; words that it takes; words that it does not
     ("4a4B", "4A4B", [b"JK"], [b"jK"]),
     ("\n 4A\t4B \r\n", "4A4B", [b"JK"], []),
@@ -239,6 +245,9 @@ EXPRESSIONS = [  # DROID's text; ours or the reason; words that it takes; words 
     ("(41{300}42|43)", "(41" + "[00:FF]" * 300 + "42|43)", [b"C"], [b"AB"]),
     ("(41{1-300}|42)", "multiplied out", [], []),
     ("(" + "(41|42)" * 9 + "|43)", "multiplied out", [], []),
+    ("(" + several(15) + several(17) + "|43)", "(" + "|".join(f"{a:02X}{b:02X}" for a in range(15) for b in range(17)) + "|43)",
+     [b"\x00\x10", b"C"], [b"\x0f\x00"]),
+    ("(" + several(16) + several(16) + "|43)", "multiplied out", [], []),
     ("(41|)", "an alternative of no byte", [], []),
     ("(41|{0-1})", "an alternative of no byte", [], []),
     ("(41|42", "ends too early", [], []),
@@ -253,7 +262,7 @@ EXPRESSIONS = [  # DROID's text; ours or the reason; words that it takes; words 
     ("", "a sequence of no byte", [], []),
     ("{0}", "a sequence of no byte", [], []),
     ("\u0664\u0661", "place 0", [], []),
-    ("41" * 4097, "over 8192 bytes", [], []),
+    ("41" * 4096 + "*", "over 8192 bytes", [], []),
     (" 41" * 4096, "41" * 4096, [b"A" * 4096], [b"A" * 4095]),
     (" " * 40000 + "41", "over 32768 characters", [], []),
 ]
@@ -301,6 +310,11 @@ PLACES = [  # byte sequences; rows or the reason; files that they take; files th
     ([compiled("<SubSequence Position='1'/>")], "without its one Sequence", [], []),
     ([compiled("<Foo/>")], "an element that is not known: Foo", [], []),
     ([compiled(sub(1, 0, 0, "41", "<Foo/>"))], "an element that is not known: Foo", [], []),
+    ([compiled(sub(1, 0, 0, "41<Foo/>42"))], "an element that is not known: Foo", [], []),
+    ([compiled(sub(1, 0, 0, "41", right(1, 0, 0, "42<Foo/>43")))], "an element that is not known: Foo", [], []),
+    ([compiled("4142", sub(1, 0, 0, "41"))], "a text that is not known: 4142", [], []),
+    ([compiled(sub(1, 0, 0, "41", "4142"))], "a text that is not known: 4142", [], []),
+    ([whole("41"), "4142"], "a text that is not known: 4142", [], []),
     # Compiled, from the beginning.
     ([compiled(sub(1, 2, 5, "4142"))], ["BOF,2,5,4142"], [b"..AB", b".....AB"], [b".AB", b"......AB"]),
     ([compiled(sub(1, 2, None, "4142"))], ["BOF,2,,4142"], [b"..AB"], [b"...AB"]),
@@ -410,6 +424,10 @@ def judge_random_priorities(room, chance):
 
 
 def judge_numbers(room):
+    none = room.converted(document([signature("", whole("41"))], [
+        it.replace(' ID=""', "") for it in (format_of("", "fmt/1", [""], [""]), format_of(1, "fmt/2", [""], [""]))]))
+    check([row[2] for row in none["not-taken.csv"]] == ["no signature of the file has this ID", "none of its signatures is taken"] * 2 + [
+        "priority over the format with the ID : no format has this ID"] * 2, f"no ID is none: {none['not-taken.csv']}")
     full = room.converted(document([signature(999_999_998, whole("41")), signature("07", whole("42"))],
                                    [format_of(n, f"fmt/{n}", [999_999_998, "07"]) for n in range(1, 3)]))
     check([row[1] for row in full["signatures.csv"]] == ["999999999"], f"the last number: {full['signatures.csv']}")
@@ -531,12 +549,15 @@ def judge_walks(room, chance):
 
 # ---- hostile and damaged input
 
+def limit_memory():
+    resource.setrlimit(resource.RLIMIT_AS, (MEMORY, MEMORY))
+
+
 def refused(room, data, line, options=(), before=None, source=None):
     """Whether the tool ends with status 2 and one plain line that ends so, and writes no file."""
     source = source if source is not None else room.put("in.xml", data)
     out = room.path("none")
-    done = subprocess.run([sys.executable, TOOL, *options, source, out], capture_output=True, stdin=before,
-                          preexec_fn=lambda: resource.setrlimit(resource.RLIMIT_AS, (MEMORY, MEMORY)))
+    done = subprocess.run([sys.executable, TOOL, *options, source, out], capture_output=True, stdin=before, preexec_fn=limit_memory)
     told = done.stderr.decode("utf-8", "replace")
     check(done.returncode == 2 and told.count("\n") == 1 and told.endswith(line + "\n") and not done.stdout and not os.path.exists(out),
           f"{line!r}: status {done.returncode}, {told[-300:]!r}")
@@ -622,6 +643,9 @@ def judge_runs(room):
     check(sorted(os.listdir(out)) == FILES, f"four files: {os.listdir(out)}")
     with open(os.path.join(out, "signatures.csv"), "rb") as file:
         check(file.read() == b"puid,signature,position,offset,max_offset,expression\nfmt/2,2,BOF,0,,42\n", "the bytes of the table")
+    wide = room.put("in.xml", one_each([[whole("(41{0-65535}|42)")]]))
+    done = subprocess.run([sys.executable, TOOL, wide, out], capture_output=True, text=True, preexec_fn=limit_memory)
+    check(done.returncode == 0 and done.stdout.startswith("0 formats"), f"a wide gap in a list takes little memory: {done}")
     done = subprocess.run([sys.executable, TOOL, source, source], capture_output=True, text=True)
     check(done.returncode == 2 and done.stderr.count("\n") == 1 and "can't be written" in done.stderr, f"{done}")
     check(subprocess.run([sys.executable, TOOL, source], capture_output=True).returncode == 2, "a missing word")
