@@ -22,6 +22,7 @@ import stat
 import subprocess
 import sys
 import tempfile
+from itertools import islice
 
 sys.dont_write_bytecode = True
 sys.path.insert(0, os.path.dirname(os.path.abspath(__file__)))
@@ -111,22 +112,21 @@ def spread(paths, most):
     return paths if len(paths) <= most else [paths[it * len(paths) // most] for it in range(most)]
 
 
-def in_batches(paths):
+def in_batches(files):
+    """Paths and bytes of files, as lists of both, for BATCH of them at a time."""
+    files = iter(files)
+    while some := list(islice(files, BATCH)):
+        yield [path for path, _ in some], [data for _, data in some]
+
+
+def readable(paths):
     """The files with their bytes; those that can't be read are passed over."""
-    batch, data = [], []
     for path in paths:
         try:
             with open(path, "rb") as file:
-                bytes_of = file.read()
+                yield path, file.read()
         except OSError:
             continue
-        batch.append(path)
-        data.append(bytes_of)
-        if len(batch) == BATCH:
-            yield batch, data
-            batch, data = [], []
-    if batch:
-        yield batch, data
 
 
 def paths_down(match, above=()):
@@ -159,18 +159,13 @@ def made_files(database, chance):
                 yield bytes(changed)
 
 
-def made_batches(database, folder):
-    batch, data = [], []
-    for bytes_of in made_files(database, random.Random(1)):
-        batch.append(os.path.join(folder, f"{len(batch)}.bin"))
-        data.append(bytes_of)
-        with open(batch[-1], "wb") as file:
-            file.write(bytes_of)
-        if len(batch) == BATCH:
-            yield batch, data
-            batch, data = [], []
-    if batch:
-        yield batch, data
+def written(made, folder):
+    """Made files with their paths. A path serves again in the next batch."""
+    for place, data in enumerate(made):
+        path = os.path.join(folder, f"{place % BATCH}.bin")
+        with open(path, "wb") as file:
+            file.write(data)
+        yield path, data
 
 
 def report(table, what, batches):
@@ -192,8 +187,8 @@ def main():
     folder = tempfile.mkdtemp()
     try:
         table = Table(words.program, words.source, folder)
-        report(table, "files made of the rules", made_batches(table.database, folder))
-        report(table, f"files of {' '.join(words.folders)}", in_batches(spread(list(regular_files(words.folders)), words.files)))
+        report(table, "files made of the rules", in_batches(written(made_files(table.database, random.Random(1)), folder)))
+        report(table, f"files of {' '.join(words.folders)}", in_batches(readable(spread(list(regular_files(words.folders)), words.files))))
     finally:
         shutil.rmtree(folder)
 

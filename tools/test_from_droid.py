@@ -289,6 +289,8 @@ PLACES = [  # byte sequences; rows or the reason; files that they take; files th
     ([whole("4142", MaxOffset="1" * 10)], "MaxOffset is no number", [], []),
     ([whole("41", MaxOffset=65533)], ["BOF,0,65533,41"], [b"A"], [b"B"]),
     ([whole("41", MaxOffset=65534)], "over 65535 slots", [], []),
+    ([whole("[4142:4241]", MaxOffset=65526)], ["BOF,0,65526,[4142:4241]"], [b"AB", b"BA"], [b"AA", b"BB"]),
+    ([whole("[4142:4241]", MaxOffset=65527)], "over 65535 slots", [], []),
     ([whole("41", Offset=65533)], ["BOF,65533,,41"], [], [b"A"]),
     ([whole("41", Offset=65000, MaxOffset=534)], "over 65535 slots", [], []),
     ([whole("41{65532}", "Variable")], ["Variable,,,41{65532}"], [], [b"A"]),
