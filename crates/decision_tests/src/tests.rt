@@ -1,3 +1,4 @@
+mod additions;
 mod automata;
 mod certificates;
 mod classes;

@@ -1,5 +1,8 @@
-//! The numbers of a set from one bound up to another: whole bytes at once, and bit by bit at the two
-//! ends. With them an automaton takes a step inside a long gap, whose slots follow one another.
+//! Ranges within a set: moves the numbers from one bound up to another by one, or asks whether
+//! there is one. An automaton steps a long gap so, whose slots follow one another.
+//!
+//! Whole bytes go at once, and single bits at the two ends. The loop over bytes has no branch, so
+//! the compiler makes vector code of it. Words of 64 bits would need lemmas on sums of bytes.
 
 ghost use Rattle.std.specs.Prelude.{◌≡◌, ℕ, ◌+◌, ◌-◌, ◌*◌, ◌<◌, ◌≤◌, ◌⊎◌, ◌↔◌, IsTrue, length, slice_index};
 ghost use Rattle.sig_bits.specs.BitSets.{HasBit, HasBitBetween, IsShiftedBit};

@@ -1,7 +1,10 @@
-//! Sets of small numbers as slices of bytes: number i is in the set where bit i is set, which has
-//! the value `1 << (i % 8)` in byte `i / 8`.
+//! Sets of small numbers as slices of bytes: number i is in the set if bit i is set, which has the
+//! value `1 << (i % 8)` in byte `i / 8`. The set of 0 and 9 over two bytes is `01 02`.
 //!
-//! The set of 0 and 9 over two bytes is `01 02`.
+//! A set has no length of its own: two that are compared have slices of one length. `and_any` and
+//! `subset` go by lanes of 32 bytes and end at the first that decides; the bytes after the last
+//! lane are joined without a branch. `or_into` is a plain loop, which the compiler makes vectors
+//! of.
 
 ghost use Rattle.std.specs.Prelude.{◌≡◌, ℕ, ◌+◌, ◌*◌, ◌<◌, ◌≤◌, ◌⊎◌, ◌↔◌, IsTrue, length, replicate};
 ghost use Rattle.sig_bits.specs.BitSets.{HasBit};

@@ -1,4 +1,8 @@
-//! Sets of bytes, one bit for each of the 256.
+//! Sets of bytes, one bit for each of the 256: the label of a slot of an automaton (its class), or
+//! the bytes on which a row is tried. `range(0x41, 0x43)` holds 41, 42 and 43.
+//!
+//! A set is 32 bytes on the stack and is copied. `sig_auto` keeps its classes in three bytes, as
+//! spans; these sets are what it gives to callers.
 
 ghost use Rattle.std.specs.Prelude.{◌≡◌, ◌⊎◌, ℕ, ◌<◌, ◌≤◌, ◌↔◌, IsTrue};
 ghost use Rattle.sig_bits.specs.ByteClasses.{Holds, IsLowestFrom};

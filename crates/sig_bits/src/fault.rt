@@ -1,3 +1,6 @@
+//! The errors of this crate. They name no cause: no contract of a device says why it failed, and a
+//! caller can do no more than report the failure.
+
 use thiserror::Error;
 
 /// A read or a write failed. What failed underneath is not kept.

@@ -1,4 +1,10 @@
-//! Where bytes come from.
+//! Where bytes come from: the trait `Input`, and `FromRead`, which makes an input of any reader.
+//!
+//! What an input means is in three ghost members: whether a read has failed, how many bytes may
+//! still come, and which ones, if its type exposes them. A failed read is final, an interrupted one
+//! too, since an interrupted reader has not reached its end. That a failed reader is left alone is
+//! a clause of `FromRead` (`idle`) and not of the trait, so any device that meets the trait will
+//! do.
 
 ghost use Rattle.std.specs.Prelude.{◌≡◌, ℕ, ◌+◌, ◌-◌, ◌^◌, ◌<◌, ◌≤◌, ◌↔◌, Bool, true, false, List, length, take, Option, IfOk, OnErr, IsErr, IsTrue, is_err};
 ghost use Rattle.sig_bits.specs.Device.{Gives, IsAtEnd};
@@ -34,8 +40,8 @@ pub trait Input {
 /// The input of any reader.
 ///
 /// It gives at most 18,446,744,073,709,551,615 bytes, and any read after them fails, so an endless
-/// source ends in a fault. A source of exactly so many bytes does too. After a failed read the reader
-/// is not touched again.
+/// source ends in a fault. A source of exactly so many bytes does too. After a failed read the
+/// reader is not touched again.
 #[derive(Drop)]
 pub struct FromRead<R> {
     reader: R,

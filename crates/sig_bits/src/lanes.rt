@@ -1,4 +1,7 @@
-//! Lanes: the next 32 bytes of a slice as one vector.
+//! Lanes: the next 32 bytes of a slice as one vector, by the portable vectors of `std::simd`.
+//!
+//! A set of 65,535 slots has 8 KiB, so it is compared in 256 steps. What is left after the last
+//! whole lane is the caller's to go through.
 
 ghost use Rattle.std.specs.Prelude.{◌≡◌, ◌≢◌, ◌↔◌, ◌+◌, ◌^◌, ◌<◌, ◌≤◌, ℕ, length, slice_index};
 ghost use Rattle.std.specs.Int.{bit_at};

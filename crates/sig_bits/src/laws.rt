@@ -1,4 +1,6 @@
-//! Laws of sets as bits.
+//! Laws of sets as bits: the bits of a list determine its bytes, and a list of zeros has none.
+//!
+//! A law is a function that does nothing; its clause is the statement.
 
 ghost use Rattle.std.specs.Prelude.{◌≡◌, ℕ, ◌*◌, ◌<◌, ◌↔◌, List, length, replicate};
 ghost use Rattle.sig_bits.specs.BitSets.{HasBit};

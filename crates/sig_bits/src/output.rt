@@ -1,4 +1,9 @@
-//! Where bytes go.
+//! Where bytes go: the trait `Output`, and `FromWrite`, which makes an output of any writer.
+//!
+//! A write ends at the sink: `write_all` flushes, and a failed flush is a failed write, so a line
+//! that only reached a buffer does not count as written. A failed write is final, an interrupted
+//! one too; std's `write_all` tries again, so `FromWrite` calls `write`. After a failed write a
+//! prefix of its bytes may have been written, and nothing says how long it is.
 
 ghost use Rattle.std.specs.Prelude.{◌≡◌, ℕ, ◌+◌, ◌-◌, ◌^◌, ◌<◌, ◌≤◌, Bool, true, false, List, length, Option, OnOk, OnErr, IsErr, IsTrue, is_err};
 ghost use Rattle.sig_bits.specs.Device.{Adds, AddsFront};
@@ -34,8 +39,8 @@ pub trait Output {
 
 /// The output to any writer.
 ///
-/// It takes at most 18,446,744,073,709,551,615 bytes, and a write of more fails. After a failed write
-/// the writer is not touched again.
+/// It takes at most 18,446,744,073,709,551,615 bytes, and a write of more fails. After a failed
+/// write the writer is not touched again.
 #[derive(Drop)]
 pub struct FromWrite<W> {
     writer: W,

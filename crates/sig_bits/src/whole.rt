@@ -1,4 +1,9 @@
-//! An input read to its end, into one buffer that grows.
+//! An input read to its end, into one buffer that grows: the only call of this crate that
+//! allocates. The loader, `WholeCore` and the engines that judge a file share it.
+//!
+//! A read has room for 4 KiB at least. The room that is added grows from 16 to 64 KiB, so a small
+//! file costs a few pages and not a cleared buffer of 64 KiB. The vector doubles its capacity, and
+//! bytes are read to their place, so none is copied here.
 
 ghost use Rattle.std.specs.Prelude.{◌≡◌, ◌+◌, ◌≤◌, true, false, OnOk, IfOk, IfErr, IfSome, IsErr, IsErrOf, IsTrue, take, vec_len};
 ghost use Rattle.sig_bits.specs.Device.{IsAtEnd};

@@ -1,6 +1,7 @@
 //! The checker: one pass over the bytes of a certificate.
 //!
-//! Each function judges what one step of `specs/Verdicts.antt` judges, and moves the view behind it.
+//! Each function judges what one step of `specs/Verdicts.antt` judges, and moves the view past it.
+//! The first fault ends the pass. Nothing of a table is kept when the next one is judged.
 
 ghost use Rattle.std.specs.Prelude.{◌≡◌, ◌⊎◌, ◌↔◌, ◌<◌, ◌≤◌, if◌then◌else◌, IsErrOf, IsTrue, MatchOption, MatchResult, OnOk, length, []};
 ghost use Rattle.sig_cert.specs.Deciding.{Decided};

@@ -1,12 +1,14 @@
-//! Why a certificate is refused.
+//! Why a certificate is refused: a variant for each condition, in the order of C1 to C13.
+//!
+//! Their texts are for a caller of this crate; the program prints the codes.
 
 ghost use Rattle.std.specs.Prelude.{◌≡◌};
 
 use std::alloc::AllocError;
 use thiserror::Error;
 
-/// Why a certificate is refused: the first condition that fails. Pairs, tables of a pair and rows of
-/// a table are counted from 0. `docs/FORMATS.md` has the order of judging.
+/// Why a certificate is refused: the first condition that fails. Pairs, tables of a pair and rows
+/// of a table are counted from 0. `docs/FORMATS.md` has the order of judging.
 #[derive(Clone, Copy, Debug, PartialEq, Eq, Error)]
 pub enum CheckError {
     /// The first four bytes are not `PSAC`.
@@ -57,8 +59,8 @@ pub enum CheckError {
         table: u32,
         row: u32,
     },
-    /// A successor of the row on the byte is missing: it is not there, or in version 2 no row covers
-    /// it.
+    /// A successor of the row on the byte is missing: it is not there, or in version 2 no row
+    /// covers it.
     #[error("row {row} in table {table} of pair {pair} has no successor on {byte}")]
     NotClosed {
         pair: u32,

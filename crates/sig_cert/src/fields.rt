@@ -1,4 +1,6 @@
 //! The fields of a certificate: numbers of two and of four bytes, the highest first.
+//!
+//! `00 00 01 02` is 258. A field that goes past the end of the bytes is `Truncated`.
 
 ghost use Rattle.std.specs.Prelude.{◌≡◌, ◌<◌, length, MatchResult};
 ghost use Rattle.sig_cert.specs.Fields.{Took, TookNumber};

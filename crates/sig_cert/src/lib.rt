@@ -1,5 +1,5 @@
-//! Certificates that a table of signatures never leaves two formats for one file, and their checker;
-//! and files that leave two.
+//! Certificates that a table of signatures never leaves two formats for one file, and their
+//! checker; and files that leave two.
 //!
 //! A certificate has, for each two signatures of unrelated formats, a closed set of rows of their
 //! product. What an accepted certificate means is `specs/Deciding.antt`; when a certificate is

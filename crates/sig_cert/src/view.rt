@@ -1,4 +1,7 @@
-//! The bytes of a certificate, field by field.
+//! The bytes of a certificate that are still to be judged, taken field by field.
+//!
+//! A view borrows and copies nothing. A field that goes past the end is not taken, and the view
+//! stays as it was. What the fields mean is `fields`.
 
 ghost use Rattle.std.specs.Prelude.{◌≡◌, ◌++◌, ◌<◌, ◌↔◌, [], IsTrue, length, MatchOption};
 

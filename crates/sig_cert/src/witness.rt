@@ -1,4 +1,7 @@
-//! Files that leave two formats.
+//! Ambiguous files, for which two formats or more are reported, and the first two of them.
+//!
+//! The question goes to the matcher and not to a product, so the answer is about what `match`
+//! prints. The bytes are in memory, so nothing is read here, and only an allocation can be refused.
 
 ghost use Rattle.std.specs.Prelude.{◌≡◌, ◌↔◌, IfErr, IfOk, IfSome, IsSome};
 ghost use Rattle.sig_cert.specs.Deciding.{Ambiguous, AreFirstLeft, AreFormats};

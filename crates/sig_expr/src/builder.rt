@@ -1,4 +1,8 @@
-//! The items of a text from its pieces.
+//! From pieces to items: the last pass of the parser, which builds the value.
+//!
+//! Of `41(42|4344)` it makes two items, a byte and a list. Outside a list a piece is an item. In a
+//! list it is a part of the present alternative, which a bar or the list's end completes. Nothing
+//! is judged here: the passes before it have refused every text with a fault.
 
 ghost use Rattle.std.specs.Prelude.{◌≡◌, IfOk, OnOk, List, []};
 ghost use Rattle.sig_expr.specs.declared.lexer.Piece.TheVariants as piece;

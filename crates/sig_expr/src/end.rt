@@ -1,4 +1,7 @@
-//! An end of a bracket while it is read.
+//! An end of a bracket while its digits are read, as `4142` of `[4142:4241]`.
+//!
+//! It keeps eight bytes and counts on. A longer end is refused for its length, whatever its other
+//! bytes are, so no bracket takes memory while it is read.
 
 ghost use Rattle.std.specs.Prelude.{◌≡◌, ◌≤◌, ◌<◌, length};
 ghost use Rattle.sig_expr.specs.Ends.{push_of, word_of, empty_end};

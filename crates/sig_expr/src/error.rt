@@ -1,3 +1,8 @@
+//! Why a text is no expression: a variant for each refusal, in the order of E1 to E10.
+//!
+//! Their texts are for a caller of this crate; the program prints the codes. What each refusal
+//! means of a text is `specs/Refusals.antt`.
+
 use thiserror::Error;
 
 /// Why a text was refused as an expression: the refusals by their numbers, E1 to E10. A place is
@@ -7,8 +12,8 @@ pub enum ExprError {
     /// The text has over 8,192 bytes.
     #[error("the text is too long")]
     TooLong,
-    /// Not in the grammar. The place is the length of the longest front of the text that begins some
-    /// text of the grammar.
+    /// Not in the grammar. The place is the length of the longest front of the text that begins
+    /// some text of the grammar.
     #[error("no expression goes on so at {place}")]
     Syntax { place: usize },
     /// A gap number over 65,535.

@@ -1,4 +1,8 @@
-//! An expression as the list of its items.
+//! An expression: a list of items that is not empty and has no fault.
+//!
+//! That is its invariant (`IsExpression`), by the structure of the items and the length of their
+//! canonical text. So whoever holds an `Expr` need not ask again, and proofs about automata do not
+//! speak of texts. Two laws say that just these are read (`laws`).
 
 ghost use Rattle.std.specs.Prelude.{◌≡◌};
 ghost use Rattle.sig_expr.specs.Profile.{IsExpression};

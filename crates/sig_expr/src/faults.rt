@@ -1,4 +1,7 @@
-//! What a gap or a bracket is refused for.
+//! Whether a gap or a bracket that is spelled right is also in the profile.
+//!
+//! `{5-3}`, `{0-0}`, `[42:41]` and `[!00:FF]` are not, each by a refusal of its own. The tests of a
+//! piece stand in the order in which its refusals are judged, and the first one counts.
 
 ghost use Rattle.std.specs.Prelude.{◌≡◌};
 ghost use Rattle.sig_expr.specs.Faults.{are_all, order_fault, range_fault, not_fault, gap_fault, fault_of};

@@ -1,4 +1,8 @@
-//! The items of an expression.
+//! The items of an expression: a byte, `??`, a gap, a list of alternatives, or a bracket.
+//!
+//! `41(42|4344)*` has three. A part of an alternative is an `Atom`, a byte or a bracket; gaps and
+//! lists do not occur in lists. `Alternatives` is a type of its own, so that contracts see lists of
+//! lists and not vectors with their capacities.
 
 ghost use Rattle.std.specs.Prelude.{◌≡◌, map};
 

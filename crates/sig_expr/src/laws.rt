@@ -1,4 +1,8 @@
-//! Laws of texts and expressions.
+//! Laws of texts and expressions: how the grammar (`Spells`), the function that the parser computes
+//! (`expr_of`), the canonical text (`canon`) and the refusals fit together.
+//!
+//! What is spelled within the profile is read as just that, each refusal means what it says, and no
+//! spelling is shorter than the canonical one.
 
 ghost use Rattle.std.specs.Prelude.{◌≡◌, ◌≤◌, ℕ, List, length, Ok, Err};
 ghost use Rattle.sig_expr.specs.declared.error.ExprError.{ExprError};

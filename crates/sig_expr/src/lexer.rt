@@ -3,6 +3,9 @@
 //! A piece is a byte, `??`, a gap, a bracket, or a sign of a list. `feed` takes one byte: it is
 //! refused, is inside a piece, or ends one. Each state of a reading can be completed to a text, so
 //! the first refused byte is the place of a `Syntax` refusal.
+//!
+//! A hex digit is read by the library `hex`, by itself and with a 0 before it, so that a refusal
+//! has the place of that digit.
 
 ghost use Rattle.std.specs.Prelude.{◌≡◌, ◌≤◌, ◌+◌, ◌*◌, ◌%◌, IfSome, length};
 ghost use Rattle.hex.specs.Hex.{hex_digit_value};
@@ -126,8 +129,8 @@ fn pair(high: u8, low: u8) -> u8
 
 /// The byte of the two digits in front, where both are there.
 ///
-/// Most of a usual text is such pairs. Between two pieces, one that is read whole costs a fraction of
-/// two bytes that are fed.
+/// Most of a usual text is such pairs. Between two pieces, one that is read whole costs a fraction
+/// of two bytes that are fed.
 pub(crate) fn pair_in_front(rest: &[u8]) -> Option<u8>
     ensures byte { result ≡ pair_in_front rest.now }
     ensures within { IfSome result (λ _. 2 ≤ length rest.now) }

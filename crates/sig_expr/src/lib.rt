@@ -2,7 +2,8 @@
 //!
 //! `parse` reads a text, and `print` writes the canonical one. The words stand in
 //! `specs/Words.antt`, the grammar in `specs/Spelling.antt`, and what each refusal means in
-//! `specs/Refusals.antt`.
+//! `specs/Refusals.antt`. A word is a list of bytes by definition, also one of `??`, of a gap or of
+//! a bracket, so each definition can be read alone.
 #![tactic(auto)]
 
 mod builder;

@@ -1,7 +1,8 @@
 //! From a text to its items.
 //!
-//! Two passes find every refusal and grow nothing: `syntax_place` where no expression goes on, and
-//! `first_fault` the first gap or bracket out of the profile. `build_items` then builds the value.
+//! Two passes find every refusal and allocate nothing: `syntax_place` where no expression goes on,
+//! and `first_fault` the first gap or bracket out of the profile. `build_items` then builds the
+//! value. In one pass memory could run out before a text is refused.
 
 ghost use Rattle.std.specs.Prelude.{◌≡◌, ◌<◌, IfOk, IfErr, length, OnOk};
 ghost use Rattle.sig_expr.specs.Built.{built};

@@ -1,4 +1,8 @@
 //! The canonical text of an expression, written piece by piece from fixed arrays.
+//!
+//! `{3-3}` becomes `{3}`, `{0-*}` becomes `*`, and digits are capitals. Numbers are written by
+//! `itoa` into room on the stack; its text is std's `decimal`, in which the grammar is stated too.
+//! So printing takes no memory. After a failed write a prefix of the text may have been written.
 
 ghost use Rattle.std.specs.Prelude.{◌≡◌, ◌+◌, ◌<◌, [], ◌∷◌, ◌++◌, length, map, slice_index, codes, decimal, IsErr, IsTrue, OnOk, is_err};
 ghost use Rattle.hex.specs.Hex.{encode_upper, upper_digits};

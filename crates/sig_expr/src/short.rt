@@ -1,4 +1,7 @@
-//! One to eight bytes.
+//! Words of one to eight bytes on the stack: an end of a bracket, as `4142` of `[4142:4241]`.
+//!
+//! The bytes after the word are zeros, so its fields are determined by the word, and derived
+//! equality is that of words.
 
 ghost use Rattle.std.specs.Prelude.{◌≡◌, ◌+◌, ◌-◌, ◌≤◌, ◌<◌, length, take};
 

@@ -1,4 +1,5 @@
 -- The lemmas of this crate.
+mod AdditionLemmas
 mod AllBlockerLemmas
 mod AloneLemmas
 mod ByteLemmas

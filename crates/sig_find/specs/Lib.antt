@@ -8,6 +8,7 @@ pub mod Leaving
 pub mod Lives
 pub mod Inclusions
 pub mod Classes
+pub mod Additions
 -- The vocabulary of proofs.
 pub mod Kept
 pub mod Frontiers

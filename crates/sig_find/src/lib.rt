@@ -5,6 +5,7 @@
 //! `specs/FormatPairs.antt`; what a search over the rows of one product finds, `specs/Searches.antt`.
 #![tactic(auto)]
 
+mod addition;
 mod class;
 mod decision;
 mod finder;
@@ -21,15 +22,17 @@ mod search;
 mod tally;
 mod writer;
 
+pub use addition::{Addition, try_addition};
 pub use class::{PairClass, class_of_pair};
 pub use decision::{Decision, decide_product};
 pub use finder::{find, find_observed};
 pub use found::Found;
 pub use inclusion::{Inclusion, decide_inclusion};
 pub use laws::{
-    bad_rows_are_unblocked, closed_products_leave_none, dead_signatures_leave_none,
-    decided_pairs_decide, formats_left_leave_pair, pair_left_leaves_formats,
-    related_pairs_leave_none, rows_over_some_are_over_all, unblocked_files_lead_to_bad_rows,
+    additions_keep_formats_alive, bad_rows_are_unblocked, closed_products_leave_none,
+    dead_signatures_leave_none, decided_pairs_decide, formats_left_leave_pair,
+    pair_left_leaves_formats, related_pairs_leave_none, rows_over_some_are_over_all,
+    unblocked_files_lead_to_bad_rows,
 };
 pub use life::{Fate, Life, SignatureLife, decide_format, decide_signature};
 pub use lives::{TableLives, lives_of_table};

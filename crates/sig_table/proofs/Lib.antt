@@ -1,4 +1,5 @@
 -- Lemmas of this crate.
+mod AddedLemmas
 mod BelowLemmas
 mod DraftLemmas
 pub mod Exports

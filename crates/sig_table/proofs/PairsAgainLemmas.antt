@@ -1,28 +1,20 @@
 -- The pairs of the records of a table's pairs are those pairs.
-use Rattle.std.proofs.Common.{◌≡◌, ℕ, zero, suc, ◌+◌, ◌<◌, false, nat_eq, List, [], ◌∷◌, ◌++◌, length, map, Contains, sym, ap, subst, append_assoc, append-nil, ◌∙◌, refl, arith, inl, inr, Some, None, Ok}
+use Rattle.std.proofs.Common.{◌≡◌, ℕ, ◌+◌, ◌<◌, false, nat_eq, List, [], ◌∷◌, ◌++◌, length, map, Contains, sym, ap, subst, append_assoc, append-nil, ◌∙◌, refl, arith, inl, inr, Some, Ok}
 use Rattle.std.specs.Prelude.{slice_get, All}
 use Rattle.std.specs.List.{position_or_len}
 use Rattle.std.proofs.lemmas.Bool.{cases_Bool, eqb-true, lt-ltb}
 use Rattle.std.proofs.lemmas.List.{take_all}
-use Rattle.std.proofs.lemmas.List.Elements.{All-contains, Contains-append_left, Contains-append_right}
+use Rattle.std.proofs.lemmas.List.Elements.{All-contains, Contains-append_right}
 use Rattle.csv.specs.Records.{field_at}
-use Rattle.sig_table.proofs.BelowLemmas.{listed-Decides}
+use Rattle.sig_table.proofs.AddedLemmas.{no_fault_behind}
 use Rattle.sig_table.proofs.FormatsAgainLemmas.{Contains-slice_get, position-first, slice_get-within}
 use Rattle.sig_table.proofs.PuidLemmas.{puid_of-puid_text}
-use Rattle.sig_table.proofs.RankingLemmas.{is_above-Decides, wider}
 use Rattle.sig_table.specs.Canonical.{pair_record, priority_header}
 use Rattle.sig_table.specs.declared.puid.Puid.{Puid}
 use Rattle.sig_table.specs.Judging.{judged}
-use Rattle.sig_table.specs.Loading.{is_listed, pair_fault, pair_of, pairs_from, pairs_of, index_in, with_pair}
+use Rattle.sig_table.specs.Loading.{pair_of, pairs_from, pairs_of, index_in, with_pair}
 use Rattle.sig_table.specs.Puids.{puid_eq}
-use Rattle.sig_table.specs.Ranking.{is_above}
 use Rattle.sig_table.specs.Tables.{AllDifferent, ArePriorities, IsNumber}
-
--- where all differ, none of the later ones is among those before
-pub not_before : {A : Type 0} (done later : List A) (x : A) → AllDifferent (done ++ x ∷ later) → Contains done x → ⊥
-not_before [] later x d c = absurd (let none = c.1 in omega arith)
-not_before (y ∷ done) later x d (zero, lt, same) = d.0 (subst (Contains (done ++ x ∷ later)) (sym same) (Contains-append_right done (x ∷ later) x (0, omega arith, refl)))
-not_before (y ∷ done) later x d (suc k, lt, same) = not_before done later x d.1 (k, omega arith, same)
 
 -- a format is found by its PUID
 pub index-found : (formats : List Puid) (f : ℕ) (p : Puid) → AllDifferent formats → f < length formats → slice_get formats f ≡ Some p → index_in formats p ≡ Some f
@@ -50,23 +42,6 @@ module _ (formats : List Puid) (puids : All (λ p. IsNumber p.number) formats) (
       ) refl
 
   module _ (all : List (ℕ × ℕ)) (are : ArePriorities (length formats) all) where
-    -- a pair behind others of them has no fault
-    fine : (n : ℕ) (done later : List (ℕ × ℕ)) (pair : ℕ × ℕ) → done ++ pair ∷ later ≡ all → pair_fault done n pair ≡ None
-    unfolding pair_fault
-    fine n done later pair whole =
-        let new : is_listed done pair ≡ false = elim (cases_Bool (is_listed done pair)) [
-          | inl t ↦ absurd (not_before done later pair (subst AllDifferent (sym whole) are.different) ((listed-Decides done pair).0 t))
-          | inr f ↦ f
-        ] in
-        let none : is_above done pair.1 pair.0 ≡ false = elim (cases_Bool (is_above done pair.1 pair.0)) [
-          | inl t ↦
-              let way = (is_above-Decides done pair.1 pair.0).0 t in
-              let listed : Contains all pair = subst (λ l. Contains l pair) whole (Contains-append_right done (pair ∷ later) pair (0, omega arith, refl)) in
-              absurd (are.no_cycle pair.0 (pair.1 ∷ way.0, (listed, wider done all (λ p c. subst (λ l. Contains l p) whole (Contains-append_left done (pair ∷ later) p c)) pair.1 way.0 pair.0 way.1)))
-          | inr f ↦ f
-        ] in
-        rw (new, none) refl
-
     two : (pair : ℕ × ℕ) → Contains all pair → nat_eq pair.0 pair.1 ≡ false
     two pair listed = elim (cases_Bool (nat_eq pair.0 pair.1)) [
       | inl t ↦ absurd (are.no_cycle pair.0 ([], subst (λ x. Contains all (pair.0, x)) (sym (eqb-true pair.0 pair.1 t)) listed))
@@ -80,7 +55,7 @@ module _ (formats : List Puid) (puids : All (λ p. IsNumber p.number) formats) (
     later_pairs (pair ∷ later) done n whole =
         let listed : Contains all pair = subst (λ l. Contains l pair) whole (Contains-append_right done (pair ∷ later) pair (0, omega arith, refl)) in
         let within = All-contains (λ p. (p.0 < length formats) × (p.1 < length formats)) all pair are.known listed in
-        rw (pair_again n pair within.0 within.1 (two pair listed), fine n done later pair whole) (later_pairs later (done ++ pair ∷ []) (n + 1) (append_assoc done (pair ∷ []) later ∙ whole))
+        rw (pair_again n pair within.0 within.1 (two pair listed), no_fault_behind (length formats) all are n done later pair whole) (later_pairs later (done ++ pair ∷ []) (n + 1) (append_assoc done (pair ∷ []) later ∙ whole))
 
     pub pairs_again : pairs_of formats (priority_header ∷ map (pair_record formats) all) ≡ Ok all
     unfolding pairs_of field_at

@@ -12,7 +12,7 @@ use Rattle.sig_expr.specs.declared.item.Atom.{Atom}
 use Rattle.sig_expr.specs.declared.item.Atom.TheVariants as atom
 use Rattle.sig_expr.specs.declared.item.Item.{Item}
 use Rattle.sig_expr.specs.declared.item.Item.TheVariants as item
-use Rattle.sig_table.specs.Canonical.{joined, line_text, name_of, named, pair_record, priority_csv, priority_records, records_of_signature, sequence_record, signature_csv, signature_records}
+use Rattle.sig_table.specs.Canonical.{joined, line_text, name_of, named, pair_record, pair_records, pairs_csv, records_of_signature, sequence_record, signature_csv, signature_records}
 use Rattle.sig_table.specs.Views.{SequenceView, SignatureView, TableView}
 use Rattle.sig_table.specs.Puids.{puid_text, registry_text}
 use Rattle.sig_table.specs.declared.position.Position.{Position}
@@ -233,9 +233,9 @@ signature_csv-rows t = stand_text (signature_records t) (header, stand-flat_map 
     header : line_text (codes "puid" ∷ codes "signature" ∷ codes "position" ∷ codes "offset" ∷ codes "max_offset" ∷ codes "expression" ∷ []) ≡ row_text default_writer (codes "puid" ∷ codes "signature" ∷ codes "position" ∷ codes "offset" ∷ codes "max_offset" ∷ codes "expression" ∷ [])
     header = sym (plain_row (codes "puid") (codes "signature") (codes "position" ∷ codes "offset" ∷ codes "max_offset" ∷ codes "expression" ∷ []) (refl, (refl, (refl, (refl, (refl, (refl, tt)))))))
 
-pub priority_csv-rows : (t : TableView) → priority_csv t ≡ flat_map (row_text default_writer) (priority_records t)
-unfolding priority_csv
-priority_csv-rows t = stand_text (priority_records t) (header, stand-map (pair_record t.formats) t.priorities (pair_stands t.formats))
+pub pairs_csv-rows : (formats : List Puid) (pairs : List (ℕ × ℕ)) → pairs_csv formats pairs ≡ flat_map (row_text default_writer) (pair_records formats pairs)
+unfolding pairs_csv
+pairs_csv-rows formats pairs = stand_text (pair_records formats pairs) (header, stand-map (pair_record formats) pairs (pair_stands formats))
   where
     header : line_text (codes "higher" ∷ codes "lower" ∷ []) ≡ row_text default_writer (codes "higher" ∷ codes "lower" ∷ [])
     header = sym (plain_row (codes "higher") (codes "lower") [] (refl, (refl, tt)))

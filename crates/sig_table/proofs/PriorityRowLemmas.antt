@@ -7,7 +7,7 @@ use Rattle.std.proofs.lemmas.List.Quantifiers.{position-Some}
 use Rattle.sig_table.proofs.BelowLemmas.{listed-Decides, no_fault}
 use Rattle.sig_table.proofs.JudgingLemmas.{FirstOf-one, Turns, answered, continued, continues, stopped, stops, there_or_not}
 use Rattle.sig_table.proofs.PairLemmas.{with_pair-faulty, with_pair-more, with_pair-unread}
-use Rattle.sig_table.proofs.PairsAgainLemmas.{not_before}
+use Rattle.sig_table.proofs.AddedLemmas.{not_before}
 use Rattle.sig_table.proofs.PriorityLemmas.{no_priorities, one_priority_more}
 use Rattle.sig_table.proofs.RankingLemmas.{is_above-Decides, wider}
 use Rattle.sig_table.specs.declared.error.TableError.{TableError}

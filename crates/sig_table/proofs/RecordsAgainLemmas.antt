@@ -6,7 +6,7 @@ use Rattle.csv.proofs.RoundTrip.{read-write}
 use Rattle.csv.specs.Reading.{AreRecords, Reached, default_config, strip_bom}
 use Rattle.csv.specs.Writing.{default_writer, fields_text, is_blank, read_back, row_text}
 use Rattle.csv.specs.declared.parser.State.TheVariants as st
-use Rattle.sig_table.proofs.PlainLemmas.{priority_csv-rows, signature_csv-rows}
+use Rattle.sig_table.proofs.PlainLemmas.{pairs_csv-rows, signature_csv-rows}
 use Rattle.sig_table.proofs.RecordLemmas.{none_left, records_of-from}
 use Rattle.sig_table.specs.Canonical.{pair_record, priority_csv, priority_header, priority_records, records_of_signature, sequence_record, signature_csv, signature_header, signature_records}
 use Rattle.sig_table.specs.Views.{SequenceView, SignatureView, TableView}
@@ -65,4 +65,4 @@ records_of-signature_csv t =
 
 pub records_of-priority_csv : (t : TableView) → records_of (priority_csv t) ≡ priority_records t
 records_of-priority_csv t =
-    ap records_of (priority_csv-rows t) ∙ records_of-written (priority_records t) (refl, some_of_pairs t.formats t.priorities) (plain-priorities (map (pair_record t.formats) t.priorities))
+    ap records_of (pairs_csv-rows t.formats t.priorities) ∙ records_of-written (priority_records t) (refl, some_of_pairs t.formats t.priorities) (plain-priorities (map (pair_record t.formats) t.priorities))

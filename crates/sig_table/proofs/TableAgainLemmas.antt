@@ -1,5 +1,5 @@
 -- The table of the records of a table is that table.
-use Rattle.std.proofs.Common.{◌≡◌, ℕ, ◌+◌, ◌<◌, ◌≤◌, Bool, true, false, nat_eq, nat_le, nat_lt, List, [], ◌∷◌, ◌++◌, length, map, take, sym, ap, subst, append_assoc, eq-eqb, ◌∙◌, refl, arith, rules, tests, length-append, inl, inr, Some, None, Ok}
+use Rattle.std.proofs.Common.{◌≡◌, ℕ, ◌+◌, ◌<◌, ◌≤◌, Bool, true, false, nat_eq, nat_le, nat_lt, List, [], ◌∷◌, ◌++◌, length, map, take, sym, ap, subst, append_assoc, eq-eqb, ◌∙◌, refl, arith, rules, tests, length-append, inl, inr, Some, None, Ok, Result, Err}
 use Rattle.std.specs.Prelude.{find, All, Contains}
 use Rattle.std.specs.List.{flat_map, list_any}
 use Rattle.std.proofs.lemmas.Bool.{cases_Bool, eqb-true}
@@ -11,12 +11,14 @@ use Rattle.sig_table.proofs.PairsAgainLemmas.{pairs_again}
 use Rattle.sig_table.proofs.RecordsAgainLemmas.{records_of-priority_csv, records_of-signature_csv}
 use Rattle.sig_table.proofs.RowAgainLemmas.{row_for, row_of-sequence_record}
 use Rattle.sig_table.specs.Canonical.{name_of, named, priority_csv, records_of_signature, sequence_record, signature_csv, signature_header}
+use Rattle.sig_table.specs.declared.error.TableError.{TableError}
 use Rattle.sig_table.specs.declared.puid.Puid.{Puid}
 use Rattle.sig_table.specs.declared.row.Row.{Row}
 use Rattle.sig_table.specs.Views.{SequenceView, SignatureView, TableView}
-use Rattle.sig_table.specs.Judging.{judged}
-use Rattle.sig_table.specs.Loading.{fault_in, grown, is_signature_header, records_of, signatures_of, table_from, table_of, with_row, with_record}
+use Rattle.sig_table.specs.Judging.{◌>>=◌, Records, judged}
+use Rattle.sig_table.specs.Loading.{fault_in, grown, is_signature_header, pairs_of, records_of, signatures_of, table_from, table_of, with_row, with_record}
 use Rattle.sig_table.specs.Puids.{puid_text}
+use Rattle.sig_table.specs.Ranked.{ranked}
 use Rattle.sig_table.specs.Rows.{row_of}
 use Rattle.sig_table.specs.Slots.{slot_count}
 use Rattle.sig_table.specs.Tables.{AllDifferent, HasAllSignatures, IsNumber, IsSequence, IsSignature, IsTable}
@@ -178,3 +180,22 @@ signatures_again t is has_all =
 pub table_again : (t : TableView) → IsTable t → HasAllSignatures t → table_of (records_of (signature_csv t)) (records_of (priority_csv t)) ≡ Ok t
 unfolding table_of
 table_again t is has_all = rw (signatures_again t is has_all, records_of-priority_csv t, pairs_again t.formats is.puids is.different_puids t.priorities is.priorities) refl
+
+-- what is read of both files has the formats and the signatures of the first
+same_pairs : (s t : TableView) (read : Result (List (ℕ × ℕ)) TableError) → (read >>= (λ pairs. Ok (record s { priorities = pairs }))) ≡ Ok t → (s.formats ≡ t.formats) × (s.signatures ≡ t.signatures)
+same_pairs s t (Ok pairs) is = let e : Ok (record s { priorities = pairs }) ≡ Ok t = is in (cc, cc)
+same_pairs s t (Err error) is = absurd (let e : Err error ≡ Ok t = is in cc)
+
+same_signatures : (priorities : Records) (t : TableView) (read : Result TableView TableError) → (read >>= (λ table. pairs_of table.formats priorities >>= (λ pairs. Ok (record table { priorities = pairs })))) ≡ Ok t
+    → (s : TableView) × (read ≡ Ok s) × (s.formats ≡ t.formats) × (s.signatures ≡ t.signatures)
+same_signatures priorities t (Ok s) is = let same = same_pairs s t (pairs_of s.formats priorities) is in (s, refl, same.0, same.1)
+same_signatures priorities t (Err error) is = absurd (let e : Err error ≡ Ok t = is in cc)
+
+-- other priorities, as they are written, are read beside the signature file of the table
+pub ranked_again : (signatures priorities : Records) (t : TableView) (pairs : List (ℕ × ℕ)) → IsTable (ranked t pairs) → table_of signatures priorities ≡ Ok t
+    → table_of signatures (records_of (priority_csv (ranked t pairs))) ≡ Ok (ranked t pairs)
+unfolding table_of
+ranked_again signatures priorities t pairs is read =
+    let own = same_signatures priorities t (signatures_of signatures) read in
+    rw (own.1, records_of-priority_csv (ranked t pairs), own.2, pairs_again t.formats is.puids is.different_puids pairs is.priorities)
+    (cc)

@@ -49,9 +49,13 @@ signature_records t = signature_header ∷ flat_map (records_of_signature t.form
 abbrev pub pair_record : List Puid → ℕ × ℕ → List (List ℕ)
 pair_record formats pair = name_of formats pair.0 ∷ name_of formats pair.1 ∷ []
 
--- the records of the priority file: the pairs in their order
+-- the records of a priority file: the pairs in their order
+abbrev pub pair_records : List Puid → List (ℕ × ℕ) → Records
+pair_records formats pairs = priority_header ∷ map (pair_record formats) pairs
+
+-- the records of the priority file
 abbrev pub priority_records : TableView → Records
-priority_records t = priority_header ∷ map (pair_record t.formats) t.priorities
+priority_records t = pair_records t.formats t.priorities
 
 -- fields with commas between them
 unfoldable pub joined : List (List ℕ) → List ℕ
@@ -67,6 +71,10 @@ line_text fields = joined fields ++ 10 ∷ []
 unfoldable pub signature_csv : TableView → List ℕ
 signature_csv t = flat_map line_text (signature_records t)
 
+-- the canonical priority file of these formats and pairs
+unfoldable pub pairs_csv : List Puid → List (ℕ × ℕ) → List ℕ
+pairs_csv formats pairs = flat_map line_text (pair_records formats pairs)
+
 -- the canonical priority file
-unfoldable pub priority_csv : TableView → List ℕ
-priority_csv t = flat_map line_text (priority_records t)
+abbrev pub priority_csv : TableView → List ℕ
+priority_csv t = pairs_csv t.formats t.priorities

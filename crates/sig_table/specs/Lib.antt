@@ -8,7 +8,9 @@ pub mod Places
 pub mod PriorityRows
 pub mod Puids
 pub mod PuidViews
+pub mod Ranked
 pub mod Ranking
+pub mod RankingViews
 pub mod Removal
 pub mod Remaining
 pub mod Rows
@@ -22,7 +24,6 @@ pub mod Budgets
 pub mod CsvTexts
 pub mod Drafts
 pub mod FormatSets
-pub mod RankingViews
 pub mod Records
 pub mod Spans
 -- The definitions of the crates below that clauses cite.

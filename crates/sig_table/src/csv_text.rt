@@ -1,4 +1,6 @@
-//! Records as text in memory.
+//! Records as text in memory: the library's writer, over a vector that grows.
+//!
+//! Its value is the text so far, so no contract sees what the writer still holds in its buffer.
 
 ghost use Rattle.std.specs.Prelude.{◌≡◌, [], ◌++◌, IfOk};
 ghost use Rattle.csv.specs.Records.{fields_of};
@@ -8,8 +10,8 @@ use csv::{ByteRecord, Writer};
 use std::alloc::{AllocError, Global};
 use std::marker::Model;
 
-// The text of the records so far, as `csv` writes them by default. The text moves from line to line,
-// and the buffer in a writer has 8 KiB, so the writer stands on the heap.
+// The text of the records so far, as `csv` writes them by default. The text moves from line to
+// line, and the buffer in a writer has 8 KiB, so the writer stands on the heap.
 #[derive(Drop)]
 pub(crate) struct CsvText {
     writer: Box<Writer<Vec<u8>>>,

@@ -1,3 +1,8 @@
+//! Why two files are no table, and why a table was not written.
+//!
+//! The variants of `TableError` stand in the order of judging; a refused allocation may come at any
+//! time. Their texts are for a caller of this crate; the program prints codes.
+
 use sig_expr::ExprError;
 use thiserror::Error;
 

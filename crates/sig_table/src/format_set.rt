@@ -1,4 +1,7 @@
-//! Sets of formats, one bit for each of the at most 1,000.
+//! Sets of formats: 125 bytes, a bit for each of the at most 1,000.
+//!
+//! While priorities are loaded, each format has the set of those below it (`ranking`). One bit then
+//! tells whether a new pair closes a cycle.
 
 ghost use Rattle.std.specs.Prelude.{◌≡◌, ℕ, ◌<◌, ◌⊎◌, ◌↔◌, IsTrue};
 ghost use Rattle.sig_table.specs.FormatSets.{HasFormat};

@@ -1,4 +1,7 @@
-//! Laws of tables and their texts.
+//! Laws of tables and their texts: what the fold over the rows of a file comes to, said without it.
+//!
+//! `rows_are_gathered` has the table of each file that loads, `first_fault_is_told` the fault of
+//! each other one. By `written_is_loaded` the canonical files load as the table that they are of.
 
 ghost use Rattle.std.specs.Prelude.{◌≡◌, ◌↔◌, ℕ, ◌<◌, List, [], All, Contains, length, Err, Ok};
 ghost use Rattle.sig_table.specs.Judging.{Records};
@@ -12,6 +15,7 @@ ghost use Rattle.sig_table.specs.Gathered.{IsFaultOf, IsTableOf};
 ghost use Rattle.sig_table.specs.Views.{TableView};
 ghost use Rattle.sig_table.specs.Loading.{pair_of, pairs_of, records_of, signatures_of, table_of};
 ghost use Rattle.sig_table.specs.PriorityRows.{ArePairsOf, IsPriorityFaultOf};
+ghost use Rattle.sig_table.specs.Ranked.{ranked};
 ghost use Rattle.sig_table.specs.Ranking.{NoCycle, Outranks};
 ghost use Rattle.sig_table.specs.Tables.{AllDifferent, HasAllSignatures, IsNumber, IsTable};
 
@@ -46,8 +50,8 @@ pub fn pairs_are_listed()
     ensures { (formats : List Puid) (file : Records) (pairs : List (ℕ × ℕ)) → pairs_of formats file ≡ Ok pairs ↔ ArePairsOf formats file pairs }
 {}
 
-/// A refused priority file has no header, or a first faulty row: those before it give priorities, and
-/// it writes no pair, or one of theirs, or else one that makes a cycle with them. And each such
+/// A refused priority file has no header, or a first faulty row: those before it give priorities,
+/// and it writes no pair, or one of theirs, or else one that makes a cycle with them. And each such
 /// fault is given.
 pub fn first_priority_fault_is_told()
     ensures { (formats : List Puid) (file : Records) (fault : TableError) → pairs_of formats file ≡ Err fault ↔ IsPriorityFaultOf formats file fault }
@@ -62,6 +66,12 @@ pub fn written_is_loaded()
 
     // Both files give the table.
     ensures table { (t : TableView) → IsTable t → HasAllSignatures t → table_of (records_of (signature_csv t)) (records_of (priority_csv t)) ≡ Ok t }
+{}
+
+/// Other priorities, as they are written, load beside the signature file that gave a table.
+pub fn written_priorities_are_loaded()
+    ensures { (signatures priorities : Records) (t : TableView) (pairs : List (ℕ × ℕ)) → IsTable (ranked t pairs) → table_of signatures priorities ≡ Ok t
+        → table_of signatures (records_of (priority_csv (ranked t pairs))) ≡ Ok (ranked t pairs) }
 {}
 
 /// Where pairs make no cycle, every nonempty list of formats has a member that no member outranks.

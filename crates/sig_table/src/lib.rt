@@ -1,7 +1,7 @@
 //! A table of signatures: formats, their signatures and the priorities among them.
 //!
-//! What a table is to its callers is in `specs/Views.antt`, its limits in `specs/Tables.antt`, when a
-//! sequence stands in a file and a signature hits it in `specs/Standing.antt`.
+//! What a table is to its callers is in `specs/Views.antt`, its limits in `specs/Tables.antt`, when
+//! a sequence stands in a file and a signature hits it in `specs/Standing.antt`.
 #![tactic(auto)]
 
 mod csv_text;
@@ -29,9 +29,11 @@ pub use ids::{FormatId, SigId};
 pub use laws::{
     first_fault_is_told, first_priority_fault_is_told, pairs_are_listed, pairs_are_spelled,
     rows_are_gathered, rows_are_spelled, some_is_not_outranked, written_is_loaded,
+    written_priorities_are_loaded,
 };
 pub use position::Position;
 pub use puid::{Puid, Registry, printed_is_read};
+pub use ranking::Ranking;
 pub use sequence::Sequence;
 pub use signatures_of::SignaturesOf;
 pub use table::Table;

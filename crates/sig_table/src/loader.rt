@@ -1,4 +1,9 @@
-//! From the two files to the table.
+//! From the two files to the table: the signature file whole, and then the priority file.
+//!
+//! A record is read and judged against the rows before it, and then the next one is read. So a
+//! faulty row ends the load before the others are split, and one record is in memory at a time.
+//! Rows and pairs go by one fold (`judged`), whose laws hold for both. A reader of `csv` drops a
+//! UTF-8 byte order mark.
 
 ghost use Rattle.std.specs.Prelude.{◌≡◌, ◌<◌, ◌⊎◌, [], List, ℕ, length, Some, true, false, Ok, Err, OnOk, IfOk, IfErr, IfSome, IsErr, IsErrOf, IsTrue, MatchResult};
 ghost use Rattle.csv.specs.Records.{fields_of};
@@ -37,7 +42,8 @@ impl Table {
         ensures limits { IfOk result (λ table. IsTable table) }
         ensures whole { IfOk result (λ table. HasAllSignatures table) }
 
-        // A fault of the signature file is found in that file alone, and leaves the other as it was.
+        // A fault of the signature file is found in that file alone, and leaves the other as it
+        // was.
         ensures first { (s : List ℕ) (fault : TableError) → A.to_come signatures.old ≡ Some s → signatures_of (records_of s) ≡ Err fault
             → Exact result (Err fault) × (IsErrOf result (TableError.Read TableFile.Priorities) → ⊥) × (priorities.new ≡ priorities.old) }
         ensures untouched { IfErr result (λ e. is_of_signatures e ≡ true → priorities.new ≡ priorities.old) }

@@ -1,4 +1,7 @@
 //! The numbers that fields write: decimal digits with no leading zero.
+//!
+//! `0` and `65535` have at most five digits; `007`, `+1` and the empty text are no numbers. Whether
+//! a number is within the limit of its field is asked by the caller.
 
 ghost use Rattle.std.specs.Prelude.{◌≡◌, ◌≤◌, length};
 ghost use Rattle.sig_table.specs.Numbers.{digits_number, number_of, positive_of};

@@ -1,3 +1,7 @@
+//! Where an expression may occur in a file. With `Bof { min: 0, max: 4 }` a word begins at one of
+//! the offsets 0 to 4; with `Eof { min: 0, max: 4 }` at most four bytes follow it. An offset is a
+//! `u16`, as the greatest is 65,535.
+
 /// Where a sequence stands in a file. Offsets are counted in bytes.
 #[derive(Clone, Copy, Debug, PartialEq, Eq)]
 pub enum Position {

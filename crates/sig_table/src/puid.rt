@@ -1,4 +1,8 @@
-//! The names of formats.
+//! The names of formats, as `fmt/40` and `x-fmt/7`.
+//!
+//! The number of a `Puid` is from 1 to 999,999,999 by its invariant. So what it prints is read as
+//! that `Puid` with no premise (`printed_is_read`). Definitions speak of its two parts
+//! (`PuidView`).
 
 ghost use Rattle.std.specs.Prelude.{◌≡◌, ◌<◌, ◌^◌, IfSome, Some};
 ghost use Rattle.sig_table.specs.Puids.{numbered, puid_of, puid_text};
@@ -48,6 +52,18 @@ impl Puid {
         ensures taken { (p : Puid) → puid_text p ≡ text.now → 0 < p.number → p.number < 10 ^ 9 → result ≡ Some p }
     {
         read_puid(text)
+    }
+
+    pub fn registry(&self) -> Registry
+        ensures { result ≡ self.now.registry }
+    {
+        self.registry
+    }
+
+    pub fn number(&self) -> u32
+        ensures { result ≡ self.now.number }
+    {
+        self.number
     }
 }
 

@@ -1,26 +1,28 @@
-//! Pairs of formats as they grow, row by row.
+//! Pairs of formats as they grow: row by row when a table is loaded, and behind the pairs of a table
+//! for an editor who adds to them.
 //!
 //! Beside the pairs stand, for each format, all formats below it, so no way down is searched for a
-//! row. The sets grow by a bit or more at each change, so all changes together are few.
+//! pair: it closes a cycle if its higher format is below its lower one. The sets grow by a bit
+//! or more at each change, so all changes together are few.
 
 ghost use Rattle.std.specs.Prelude.{◌≡◌, ◌⊎◌, ℕ, ◌<◌, ◌≤◌, ◌↔◌, ◌∷◌, ◌++◌, [], List, IsTrue, IfOk, IfSome, MatchResult, None, Ok, false, length};
 ghost use Rattle.sig_table.specs.FormatSets.{HasFormat};
 ghost use Rattle.sig_table.specs.Judging.{unless};
 ghost use Rattle.sig_table.specs.Loading.{is_listed, is_of_signatures, pair_fault};
-ghost use Rattle.sig_table.specs.Ranking.{is_above};
+ghost use Rattle.sig_table.specs.Ranking.{Outranks, is_above};
 ghost use Rattle.sig_table.specs.RankingViews.{AreBelow};
 ghost use Rattle.sig_table.specs.Judging.{IsFault, is_read};
 ghost use Rattle.sig_table.specs.Tables.{ArePriorities};
 
-use crate::TableError;
 use crate::format_set::FormatSet;
+use crate::{FormatId, Table, TableError};
 use indexmap::IndexSet;
 use std::alloc::{AllocError, Global};
 use std::marker::Model;
 
-// The pairs so far.
+/// Priorities among the formats of a table, without a cycle and none twice.
 #[derive(Debug, Drop)]
-pub(crate) struct Ranking {
+pub struct Ranking {
     pairs: IndexSet<(u16, u16)>,
     below: Vec<FormatSet>,
 }
@@ -37,6 +39,53 @@ impl Model for Ranking {
 }
 
 impl Ranking {
+    /// The priorities of the table, in their order.
+    pub fn of(alloc: Global, table: &Table) -> Result<Ranking, AllocError>
+        ensures { IfOk result (λ r. r ≡ record { format_count = length table.now.formats; pairs = table.now.priorities }) }
+    {
+        let mut ranking = Ranking::new(alloc, table.format_count())?;
+        for pair in table.priorities() {
+            ranking = ranking.insert(*pair)?;
+        }
+        Ok(ranking)
+    }
+
+    /// Whether the pair is listed.
+    pub fn outranks(&self, higher: FormatId, lower: FormatId) -> bool
+        ensures { IsTrue result ↔ Outranks self.now.pairs higher.0 lower.0 }
+    {
+        self.contains((higher.0, lower.0))
+    }
+
+    /// Whether the pair can be added: it is not listed, and closes no cycle.
+    pub fn takes(&self, higher: FormatId, lower: FormatId) -> bool
+        requires higher { higher.0 < self.now.format_count }
+        requires lower { lower.0 < self.now.format_count }
+        ensures { IsTrue result ↔ ArePriorities self.now.format_count (self.now.pairs ++ (higher.0, lower.0) ∷ []) }
+    {
+        // Its invariant: the pairs are priorities.
+        let _ = &self.pairs;
+        if higher == lower {
+            return false;
+        }
+        self.fault((higher.0, lower.0), 0).is_none()
+    }
+
+    /// Adds a pair behind the others.
+    pub fn with(self, higher: FormatId, lower: FormatId) -> Result<Ranking, AllocError>
+        requires { ArePriorities self.format_count (self.pairs ++ (higher.0, lower.0) ∷ []) }
+        ensures { IfOk result (λ r. r ≡ record self { pairs = self.pairs ++ (higher.0, lower.0) ∷ [] }) }
+    {
+        self.insert((higher.0, lower.0))
+    }
+
+    pub(crate) fn pairs(&self) -> &[(u16, u16)]
+        ensures pairs { result.now ≡ self.now.pairs }
+        ensures limits { ArePriorities self.now.format_count self.now.pairs }
+    {
+        self.pairs.as_slice()
+    }
+
     // No pair yet, of so many formats.
     pub(crate) fn new(alloc: Global, format_count: usize) -> Result<Ranking, AllocError>
         requires { format_count ≤ 1000 }

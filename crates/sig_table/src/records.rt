@@ -1,4 +1,8 @@
-//! The records of a text, one after the other.
+//! The records of a text, one after the other: the library's reader over a file in memory.
+//!
+//! Its value is the list of records still to come, as `csv` defines them at its defaults, and one
+//! of them is in memory at a time. Records may have any number of fields, and none is taken for a
+//! header: both is the loader's to judge.
 
 ghost use Rattle.std.specs.Prelude.{◌≡◌, ◌∷◌, [], true, IfOk, IfErr};
 ghost use Rattle.std.specs.Bool.{MatchBool};

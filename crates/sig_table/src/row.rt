@@ -1,4 +1,8 @@
-//! A row of the signature file.
+//! A row of the signature file: six fields, judged from left to right.
+//!
+//! `fmt/1,1,BOF,0,,4142` says that signature 1 of `fmt/1` has the expression `4142` at offset 0.
+//! The first field of a wrong form is the fault. What depends on other rows, and the count of
+//! slots, is judged where the row is added (`draft`).
 
 ghost use Rattle.std.specs.Prelude.{◌≡◌};
 ghost use Rattle.csv.specs.Records.{fields_of};

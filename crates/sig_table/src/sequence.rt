@@ -1,4 +1,7 @@
-//! An expression at its position.
+//! An expression at its position: what a signature asks of a file.
+//!
+//! `Placed` is one as a row spells it. A `Sequence` has at most 65,535 slots besides, as an
+//! invariant, so no crate above counts them again.
 
 ghost use Rattle.std.specs.Prelude.{◌≡◌, ◌≤◌};
 ghost use Rattle.sig_table.specs.Slots.{slot_count};

@@ -1,4 +1,7 @@
-//! The signatures of a format, in order.
+//! The signatures of a format in table order, as an iterator that takes no memory.
+//!
+//! It walks the part of the table from the format's first signature to its last (`spans`), and
+//! passes over those of other formats between them, if the table mixes its formats.
 
 ghost use Rattle.std.specs.Prelude.{◌≡◌, ◌+◌, ◌≤◌, length};
 

@@ -1,6 +1,8 @@
-//! How many slots a sequence takes in its automaton.
+//! How many slots a sequence takes: the positions of its position automaton, counted without it.
 //!
-//! Slots are taken off a budget, so that no sum overflows.
+//! `41{1-2}42` at offset 0 takes five: one for each byte, two for the gap, and one for whatever
+//! follows. Slots are taken off a budget, so that no sum overflows. That an automaton has as many
+//! is a law of `sig_auto` (`slots_are_counted`).
 
 ghost use Rattle.std.specs.Prelude.{◌≡◌, ◌≤◌, ◌+◌, nat_lt, length, map, min, sum_by};
 ghost use Rattle.sig_table.specs.Budgets.{minus};

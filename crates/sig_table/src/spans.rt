@@ -1,12 +1,16 @@
-//! Where the signatures of each format stand in the table.
+//! Where the signatures of each format stand in the table: from its first one up to its last.
+//!
+//! A format's list costs its own signatures and those between them, and not the whole table. Four
+//! bytes for each format are filled when the table is made, and filled again in the same room when
+//! signatures are removed: a list for each format would take memory then.
 
 ghost use Rattle.std.specs.Prelude.{◌≡◌, ◌<◌, ◌≤◌, All, length};
 ghost use Rattle.sig_table.specs.Spans.{AreSpans, AreSpansOfFirst, IsSpan, IsWidened};
 
 use crate::table::Signature;
 
-// The places from the first up to before the end. All signatures of a format stand there; where those
-// of other formats stand among them, so do they.
+// The places from the first up to before the end. All signatures of a format stand there; where
+// those of other formats stand among them, so do they.
 #[derive(Clone, Copy, Debug)]
 pub(crate) struct Span {
     pub(crate) first: u16,

@@ -1,4 +1,9 @@
-//! A table, and the calls that read it.
+//! A table, and the calls that read it. To its callers it is three lists (`TableView`): formats,
+//! signatures with their sequences, and pairs of a higher and a lower format.
+//!
+//! A format is its index: `FormatId(2)` is the third PUID of the file. `outranks` asks for listed
+//! pairs alone: from A over B and B over C does not follow A over C. No PUID occurs twice, so the
+//! place of a removed one is the first that the test of PUIDs finds. A removal takes no memory.
 
 ghost use Rattle.std.specs.Prelude.{◌≡◌, ◌<◌, ◌≤◌, ◌↔◌, [], ◌∷◌, ◌++◌, false, IsTrue, IfOk, OnOk, Some, Contains, length, option_map, position, slice_get};
 ghost use Rattle.sig_table.specs.Puids.{puid_eq};
@@ -160,8 +165,8 @@ impl Table {
         signature.number
     }
 
-    /// The format's signatures, rising. It costs a step for each signature from the format's first to
-    /// its last one.
+    /// The format's signatures, rising. It costs a step for each signature from the format's first
+    /// to its last one.
     pub fn signatures_of(&self, format: FormatId) -> SignaturesOf<'_>
         ensures { remaining_of result ≡ places_of format.0 0 self.now.signatures }
     {

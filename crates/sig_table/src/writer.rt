@@ -1,4 +1,9 @@
-//! From the table to its canonical files.
+//! From the table to its canonical files: each text is made whole and goes out in one write.
+//!
+//! `fmt/1,1,BOF,0,0,4142` is a canonical row. So nothing is written if memory runs out, and no file
+//! ends in half a table; the text is as large as the file. A canonical line is defined as fields
+//! with commas between them and a line feed. That `csv` writes just that is a lemma: no field of a
+//! table has a byte that asks for quotes.
 
 ghost use Rattle.std.specs.Prelude.{◌≡◌, ◌∷◌, ◌+◌, ◌++◌, [], true, false, length, slice_get, string_bytes, IfOk, IsErr, IsErrOf, IsTrue, OnOk};
 ghost use Rattle.std.specs.Fmt.{decimal};
@@ -7,18 +12,21 @@ ghost use Rattle.csv.specs.Records.{fields_of, partial_of};
 ghost use Rattle.csv.specs.Writing.{default_writer, row_text};
 ghost use Rattle.sig_bits.specs.Device.{Adds, AddsFront};
 ghost use Rattle.sig_expr.specs.Canon.{canon};
-ghost use Rattle.sig_table.specs.Canonical.{name_of, pair_record, position_fields, priority_csv, records_of_signature, sequence_record, signature_csv, signature_header};
+ghost use Rattle.sig_table.specs.Ranked.{ranked};
+ghost use Rattle.sig_table.specs.Tables.{IsTable};
+ghost use Rattle.sig_table.specs.Canonical.{name_of, pair_record, pairs_csv, position_fields, priority_csv, records_of_signature, sequence_record, signature_csv, signature_header};
 
 use crate::csv_text::CsvText;
 use crate::table::Signature;
-use crate::{OutError, Position, Puid, Sequence, Table};
+use crate::{OutError, Position, Puid, Ranking, Sequence, Table};
 use csv::ByteRecord;
 use sig_bits::{FromWrite, Output};
 use sig_expr::{Expr, print};
 use std::alloc::{AllocError, Global};
 
 impl Table {
-    /// Writes the canonical signature file: signatures in table order, the sequences of each together.
+    /// Writes the canonical signature file: signatures in table order, the sequences of each
+    /// together.
     ///
     /// The whole text is made first, so nothing is written where memory runs out.
     pub fn write_signatures<W: Output>(&self, alloc: Global, out: &mut W) -> Result<(), OutError>
@@ -28,7 +36,8 @@ impl Table {
         ensures write { IsErrOf result OutError.Write → W.failed out.new ≡ true }
         ensures stays_failed { IsTrue (W.failed out.old) → IsErr result }
 
-        // After a failed write only a front of the text may be written, and where memory ran out nothing is.
+        // After a failed write only a front of the text may be written, and where memory ran out
+        // nothing is.
         ensures front { IsErrOf result OutError.Write → AddsFront (W.written out.old) (signature_csv self.now) (W.written out.new) }
         ensures memory_stays { IsErrOf result OutError.OutOfMemory → out.new ≡ out.old }
     {
@@ -46,13 +55,59 @@ impl Table {
         ensures write { IsErrOf result OutError.Write → W.failed out.new ≡ true }
         ensures stays_failed { IsTrue (W.failed out.old) → IsErr result }
 
-        // After a failed write only a front of the text may be written, and where memory ran out nothing is.
+        // After a failed write only a front of the text may be written, and where memory ran out
+        // nothing is.
         ensures front { IsErrOf result OutError.Write → AddsFront (W.written out.old) (priority_csv self.now) (W.written out.new) }
         ensures memory_stays { IsErrOf result OutError.OutOfMemory → out.new ≡ out.old }
     {
-        let text = priority_text(alloc, self).map_err(|_| OutError::OutOfMemory)?;
-        out.write_all(&text).map_err(|_| OutError::Write)
+        write_pairs(alloc, self.formats(), self.priorities(), out)
     }
+}
+
+impl Ranking {
+    /// Writes the canonical priority file of the table with these priorities in place of its own.
+    ///
+    /// The whole text is made first, so nothing is written where memory runs out.
+    pub fn write<W: Output>(
+        &self,
+        alloc: Global,
+        table: &Table,
+        out: &mut W,
+    ) -> Result<(), OutError>
+        requires { self.now.format_count ≡ length table.now.formats }
+        ensures text { OnOk result (Adds (W.written out.old) (priority_csv (ranked table.now self.now.pairs)) (W.written out.new)) }
+        ensures table { IsTable (ranked table.now self.now.pairs) }
+        ensures writes { OnOk result (W.failed out.new ≡ false) }
+        ensures write { IsErrOf result OutError.Write → W.failed out.new ≡ true }
+
+        // After a failed write only a front of the text may be written, and where memory ran out
+        // nothing is.
+        ensures front { IsErrOf result OutError.Write → AddsFront (W.written out.old) (priority_csv (ranked table.now self.now.pairs)) (W.written out.new) }
+        ensures memory_stays { IsErrOf result OutError.OutOfMemory → out.new ≡ out.old }
+    {
+        // Called for its clause: the table is within its limits.
+        let _formats = table.format_count();
+        write_pairs(alloc, table.formats(), self.pairs(), out)
+    }
+}
+
+// Writes the canonical priority file of these formats and pairs.
+fn write_pairs<W: Output>(
+    alloc: Global,
+    formats: &[Puid],
+    pairs: &[(u16, u16)],
+    out: &mut W,
+) -> Result<(), OutError>
+    ensures text { OnOk result (Adds (W.written out.old) (pairs_csv formats.now pairs.now) (W.written out.new)) }
+    ensures lowers { OnOk result (W.limit out.old ≡ length (pairs_csv formats.now pairs.now) + W.limit out.new) }
+    ensures writes { OnOk result (W.failed out.new ≡ false) }
+    ensures write { IsErrOf result OutError.Write → W.failed out.new ≡ true }
+    ensures stays_failed { IsTrue (W.failed out.old) → IsErr result }
+    ensures front { IsErrOf result OutError.Write → AddsFront (W.written out.old) (pairs_csv formats.now pairs.now) (W.written out.new) }
+    ensures memory_stays { IsErrOf result OutError.OutOfMemory → out.new ≡ out.old }
+{
+    let text = priority_text(alloc, formats, pairs).map_err(|_| OutError::OutOfMemory)?;
+    out.write_all(&text).map_err(|_| OutError::Write)
 }
 
 // The text of the signature file.
@@ -169,15 +224,19 @@ fn expression_text(alloc: Global, expr: &Expr) -> Result<Vec<u8>, AllocError>
     Ok(out.into_inner())
 }
 
-// The text of the priority file.
-fn priority_text(alloc: Global, table: &Table) -> Result<Vec<u8>, AllocError>
-    ensures { IfOk result (λ text. text.items ≡ priority_csv table.now) }
+// The text of the priority file of these formats and pairs.
+fn priority_text(
+    alloc: Global,
+    formats: &[Puid],
+    pairs: &[(u16, u16)],
+) -> Result<Vec<u8>, AllocError>
+    ensures { IfOk result (λ text. text.items ≡ pairs_csv formats.now pairs.now) }
 {
     let header = ByteRecord::from_fields(alloc, &[b"higher", b"lower"])?;
     let start = CsvText::new(alloc)?;
     let mut lines = start.with(&header)?;
-    for pair in table.priorities() {
-        lines = lines.with(&pair_record(alloc, table.formats(), *pair)?)?;
+    for pair in pairs {
+        lines = lines.with(&pair_record(alloc, formats, *pair)?)?;
     }
     lines.into_text()
 }

@@ -3,10 +3,9 @@ use Rattle.std.proofs.lemmas.Grind.{flat_map-append}
 use Rattle.std.proofs.lemmas.List.{map-append, take_all, take_more}
 use Rattle.std.specs.List.{flat_map}
 use Rattle.csv.specs.Writing.{default_writer, row_text}
-use Rattle.sig_table.specs.Canonical.{pair_record, priority_csv, priority_header}
-use Rattle.sig_table.specs.Views.{TableView}
+use Rattle.sig_table.specs.Canonical.{pair_record, pairs_csv, priority_header}
 use Rattle.sig_table.specs.declared.puid.Puid.{Puid}
-use Rattle.sig_table.proofs.PlainLemmas.{priority_csv-rows}
+use Rattle.sig_table.proofs.PlainLemmas.{pairs_csv-rows}
 use Rattle.sig_table.proofs.writer.priority_text.Goals as goal
 
 -- one pair more
@@ -18,23 +17,22 @@ one_more formats pairs i d first within =
     ap (λ last. first ++ (flat_map rows (map (pair_record formats) (take i pairs)) ++ last)) (append-nil (rows (pair_record formats (get_or pairs i d))))
     ∙ sym (append_assoc first (flat_map rows (map (pair_record formats) (take i pairs))) (rows (pair_record formats (get_or pairs i d)))))
 
-grows : (formats own : List Puid) (pairs items : List (ℕ × ℕ)) (i : ℕ) (d : ℕ × ℕ) (row : List (List ℕ)) (first lines more : List ℕ) → items ≡ pairs → own ≡ formats → i < length items
-    → row ≡ pair_record own (get_or items i d) → more ≡ lines ++ row_text default_writer row
+grows : (formats : List Puid) (pairs : List (ℕ × ℕ)) (i : ℕ) (d : ℕ × ℕ) (row : List (List ℕ)) (first lines more : List ℕ) → i < length pairs
+    → row ≡ pair_record formats (get_or pairs i d) → more ≡ lines ++ row_text default_writer row
     → lines ≡ first ++ flat_map (row_text default_writer) (map (pair_record formats) (take i pairs))
     → more ≡ first ++ flat_map (row_text default_writer) (map (pair_record formats) (take (i + 1) pairs))
-grows formats own pairs items i d row first lines more same mine within is adds goes =
-    adds ∙ rw (is, mine, goes, same) (sym (one_more formats pairs i d first (rw same at within)))
+grows formats pairs i d row first lines more within is adds goes = adds ∙ rw (is, goes) (sym (one_more formats pairs i d first within))
 
-whole : (t : TableView) (i : ℕ) (header : List (List ℕ)) (start first lines : List ℕ) → length t.priorities ≤ i → start ≡ [] → header ≡ priority_header → first ≡ start ++ row_text default_writer header
-    → lines ≡ first ++ flat_map (row_text default_writer) (map (pair_record t.formats) (take i t.priorities)) → lines ≡ priority_csv t
-whole t i header start first lines end empty is begins goes =
-    goes ∙ rw (begins, empty, is, take_all i t.priorities end) (sym (priority_csv-rows t))
+whole : (formats : List Puid) (pairs : List (ℕ × ℕ)) (i : ℕ) (header : List (List ℕ)) (start first lines : List ℕ) → length pairs ≤ i → start ≡ [] → header ≡ priority_header → first ≡ start ++ row_text default_writer header
+    → lines ≡ first ++ flat_map (row_text default_writer) (map (pair_record formats) (take i pairs)) → lines ≡ pairs_csv formats pairs
+whole formats pairs i header start first lines end empty is begins goes =
+    goes ∙ rw (begins, empty, is, take_all i pairs end) (sym (pairs_csv-rows formats pairs))
 
 pub loop-pair-preserved : goal.loop-pair-preserved
-loop-pair-preserved c = grows _ _ _ _ c.loop-pair.pair-index _ _ _ _ _ c.priorities-pair-items.ensures c.formats.ensures c.loop-pair-test.true c.in_ok-pair_record.ensures c.in_ok-lines-2.ensures c.loop-pair.invariant
+loop-pair-preserved c = grows _ _ c.loop-pair.pair-index _ _ _ _ _ c.loop-pair-test.true c.in_ok-pair_record.ensures c.in_ok-lines-2.ensures c.loop-pair.invariant
 
 pub returns : goal.returns
 returns c =
-    let all : c.loop-pair.lines ≡ priority_csv c.args.table.now =
-    whole c.args.table.now c.loop-pair.pair-index _ _ _ c.loop-pair.lines (omega (arith, ap length c.priorities-pair-items.ensures)) c.in_ok-start.ensures c.in_ok-header.ensures.fields c.in_ok-lines.ensures c.loop-pair.invariant in
+    let all : c.loop-pair.lines ≡ pairs_csv c.args.formats.now c.args.pairs.now =
+    whole _ _ c.loop-pair.pair-index _ _ _ c.loop-pair.lines (omega arith) c.in_ok-start.ensures c.in_ok-header.ensures.fields c.in_ok-lines.ensures c.loop-pair.invariant in
     rw (← all) c.into_text.ensures

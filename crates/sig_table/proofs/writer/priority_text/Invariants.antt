@@ -6,4 +6,4 @@ use Rattle.sig_table.proofs.writer.priority_text.Given as goal
 
 -- the header, and a line for each pair so far
 abbrev pub invariant-loop-pair : goal.invariant-loop-pair
-invariant-loop-pair l = l.lines ≡ l.initial.lines ++ flat_map (row_text default_writer) (map (pair_record l.table.formats) (take l.pair-index l.table.priorities))
+invariant-loop-pair l = l.lines ≡ l.initial.lines ++ flat_map (row_text default_writer) (map (pair_record l.formats) (take l.pair-index l.pairs))
