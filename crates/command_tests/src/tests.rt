@@ -10,6 +10,7 @@ mod matching;
 mod matching_many;
 mod progress;
 mod refusals;
+mod settling;
 mod showing;
 mod stores;
 mod usage;

@@ -22,7 +22,7 @@ use Rattle.sig_command.specs.Statuses.{kind_status, status_of, table_status}
 use Rattle.sig_command.specs.declared.args.Request.{Request}
 use Rattle.sig_command.specs.declared.args.Request.TheVariants.{Check, Conflicts, Dead, Find, Match, MatchMany, Show, Witness}
 use Rattle.sig_command.specs.declared.fault.Fault.{Fault}
-use Rattle.sig_command.specs.declared.fault.Fault.TheVariants.{CannotOpen, CutShort, NotInTable, NotText, Run, SomeFiles, Table}
+use Rattle.sig_command.specs.declared.fault.Fault.TheVariants.{CannotOpen, CutShort, NoFile, NotInTable, NotText, Run, SomeFiles, SummaryOfOne, Table}
 
 -- memory can run out for whatever is asked
 pub memory_of : {R : Type 0} (failed : R → Bool) (held : Holding) (request : Request) → IsFaultOf failed held request (Run run.OutOfMemory)
@@ -100,7 +100,8 @@ nothing_behind (Some before) (Some mid) (Some after) text first second = second 
 no_files : {R : Type 0} (failed : R → Bool) (held : Holding) (request : Request) → (IsLaterFault failed held request SomeFiles → ⊥) → IsFaultOf failed held request SomeFiles → ⊥
 no_files failed held request never (inl is) = is
 no_files failed held request never (inr (inl is)) = let bad : SomeFiles ≡ Run run.OutOfMemory = is in cc
-no_files failed held request never (inr (inr is)) = never is.1
+no_files failed held request never (inr (inr (inl is))) = never is.1
+no_files failed held request never (inr (inr (inr is))) = let bad : SomeFiles ≡ SummaryOfOne = is.0 in cc
 
 -- and then each fault is told
 files_are_reported : {R : Type 0} (failed : R → Bool) (held : Holding) (request : Request) (status : ℕ) (before after : Option (List ℕ)) (is_failed : Bool) (err_before mid err_after : Option (List ℕ)) → IsFaultOf failed held request SomeFiles → Joins failed held request SomeFiles before after is_failed err_before mid → is_failed ≡ false → Reports SomeFiles status mid err_after → ReportsFiles err_before err_after
@@ -136,8 +137,10 @@ some_line failed held words request reason status is_failed written err mid befo
     go SomeFiles is joins reports = inr (files_are_reported failed held request status before after (is_failed mid) (written err) (written mid) err_after is joins sound reports)
     go NotText is joins reports = one NotText (λ same. let bad : NotText ≡ SomeFiles = same in cc) joins reports
     go (CannotOpen name) is joins reports = one (CannotOpen name) (λ same. let bad : CannotOpen name ≡ SomeFiles = same in cc) joins reports
+    go (NoFile folder name) is joins reports = one (NoFile folder name) (λ same. let bad : NoFile folder name ≡ SomeFiles = same in cc) joins reports
     go (Table error) is joins reports = one (Table error) (λ same. let bad : Table error ≡ SomeFiles = same in cc) joins reports
     go NotInTable is joins reports = one NotInTable (λ same. let bad : NotInTable ≡ SomeFiles = same in cc) joins reports
+    go SummaryOfOne is joins reports = one SummaryOfOne (λ same. let bad : SummaryOfOne ≡ SomeFiles = same in cc) joins reports
     go (Run error) is joins reports = one (Run error) (λ same. let bad : Run error ≡ SomeFiles = same in cc) joins reports
     go (CutShort error) is joins reports = one (CutShort error) (λ same. let bad : CutShort error ≡ SomeFiles = same in cc) joins reports
 
@@ -150,8 +153,10 @@ high_table _ = omega arith
 high_status : (reason : Fault) → 2 ≤ status_of reason
 high_status NotText = omega arith
 high_status (CannotOpen name) = omega arith
+high_status (NoFile folder name) = omega arith
 high_status (Table error) = high_table error
 high_status NotInTable = omega arith
+high_status SummaryOfOne = omega arith
 high_status (Run error) = omega arith
 high_status (CutShort error) = omega arith
 high_status SomeFiles = omega arith

@@ -3,6 +3,7 @@ pub mod BudgetLemmas
 pub mod EndLemmas
 pub mod FindLemmas
 pub mod OnceLemmas
+mod PairsLemmas
 pub mod RequestLemmas
 pub mod RowLemmas
 pub mod SeveralLemmas

@@ -13,7 +13,7 @@ use Rattle.sig_command.specs.Requests.{Answers, IsCutRequest, IsLoadFault, Joins
 use Rattle.sig_command.specs.Several.{AreTexts}
 use Rattle.sig_command.specs.declared.args.Request.TheVariants.{MatchMany}
 use Rattle.sig_command.specs.declared.fault.Fault.{Fault}
-use Rattle.sig_command.specs.declared.fault.Fault.TheVariants.{CannotOpen, CutShort, NotInTable, NotText, Run, SomeFiles, Table}
+use Rattle.sig_command.specs.declared.fault.Fault.TheVariants.{CannotOpen, CutShort, NoFile, NotInTable, NotText, Run, SomeFiles, SummaryOfOne, Table}
 
 -- ---- files of which none has a fault
 
@@ -91,8 +91,10 @@ first_told failed held all paths files core table before after err_failed err_be
 pub load_joined : {R : Type 0} (failed : R → Bool) (held : Holding) (all : Bool) (paths : TablePaths) (files : Bor (List (Bor (List ℕ)))) (fault : Fault) (before after : Option (List ℕ)) (err_failed : Bool) (err : Option (List ℕ)) → IsLoadFault failed held paths fault → Joins failed held (MatchMany all paths files) fault before after err_failed err err
 load_joined failed held all paths files NotText before after err_failed err is = absurd is
 load_joined failed held all paths files (CannotOpen name) before after err_failed err is = refl
+load_joined failed held all paths files (NoFile folder name) before after err_failed err is = absurd is
 load_joined failed held all paths files (Table error) before after err_failed err is = refl
 load_joined failed held all paths files NotInTable before after err_failed err is = absurd is
+load_joined failed held all paths files SummaryOfOne before after err_failed err is = absurd is
 load_joined failed held all paths files (Run error) before after err_failed err is = absurd is
 load_joined failed held all paths files (CutShort error) before after err_failed err is = absurd is
 load_joined failed held all paths files SomeFiles before after err_failed err is = absurd is

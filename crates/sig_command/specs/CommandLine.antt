@@ -66,9 +66,11 @@ out_rule = record (named (codes "out") (codes "OUT")) { required = true }
 abbrev pub find_command : App
 find_command = with_rule (with_rule (with_rule (with_rule (of_table (new_app (codes "find"))) budget_rule) out_rule) (given (codes "hex"))) (given (codes "progress"))
 
--- `conflicts [--budget N] [--only PUID] [--class] [--hex] [--progress] SIGS PRIOS`
+-- `conflicts [--budget N] [--only PUID] [--class] [--summary] [--hex] [--files DIR] [--priorities FILE] [--progress] SIGS PRIOS`
 abbrev pub conflicts_command : App
-conflicts_command = with_rule (with_rule (with_rule (with_rule (with_rule (of_table (new_app (codes "conflicts"))) budget_rule) (named (codes "only") (codes "PUID"))) (given (codes "class"))) (given (codes "hex"))) (given (codes "progress"))
+conflicts_command =
+    let of_pairs = with_rule (with_rule (with_rule (with_rule (of_table (new_app (codes "conflicts"))) budget_rule) (named (codes "only") (codes "PUID"))) (given (codes "class"))) (given (codes "summary")) in
+    with_rule (with_rule (with_rule (with_rule of_pairs (given (codes "hex"))) (named (codes "files") (codes "DIR"))) (named (codes "priorities") (codes "FILE"))) (given (codes "progress"))
 
 -- `dead [--budget N] [--hex] [--progress] SIGS PRIOS`
 abbrev pub dead_command : App
@@ -116,7 +118,10 @@ pub record NamesOptions (options : ConflictsOptions) (rows : List Row) : Type 0 
   pub budget : NamesBudget options.budget rows
   pub only : first_of (codes "PUID") rows ≡ option_map (λ w. w.now) options.only
   pub class : HasFlag (codes "class") options.class rows
+  pub summary : HasFlag (codes "summary") options.summary rows
   pub hex : HasFlag (codes "hex") options.hex rows
+  pub files : first_of (codes "DIR") rows ≡ option_map (λ w. w.now) options.files
+  pub priorities : first_of (codes "FILE") rows ≡ option_map (λ w. w.now) options.priorities
 
 -- the files are the values of their argument, in their order: two at least, or one with `--with-names`
 pub record NamesMany (files : List (Bor Text)) (rows : List Row) : Type 0 where

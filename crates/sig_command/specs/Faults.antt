@@ -7,6 +7,7 @@ use Rattle.sig_command.specs.declared.fault.Fault.TheVariants as fault
 use Rattle.sig_command.specs.declared.fault.Site.{Site}
 use Rattle.sig_command.specs.declared.fault.Site.TheVariants.{Nowhere, File, Row}
 use Rattle.sig_bits.specs.Device.{Adds}
+use Rattle.sig_engines.specs.Witnesses.{path_text}
 use Rattle.sig_engines.specs.Writing.{cut_text, run_text}
 use Rattle.sig_engines.specs.declared.error.CutShort.TheVariants as cut
 use Rattle.sig_engines.specs.declared.error.RunError.TheVariants as run
@@ -85,8 +86,10 @@ site_text (Row file row_number) = file_name file ++ codes " row " ++ decimal row
 abbrev pub fault_text : Fault → List ℕ
 fault_text fault.NotText = codes "error: invalid UTF-8 was detected in one or more arguments"
 fault_text (fault.CannotOpen name) = codes "cannot open " ++ name.now
+fault_text (fault.NoFile folder name) = codes "cannot open " ++ path_text folder.now name
 fault_text (fault.Table error) = site_text (site_of error) ++ code_text error
 fault_text fault.NotInTable = codes "only: not in the table"
+fault_text fault.SummaryOfOne = codes "error: the argument '--summary' cannot be used with '--only <PUID>'"
 fault_text (fault.Run error) = run_text error
 fault_text (fault.CutShort error) = cut_text error
 fault_text fault.SomeFiles = []
@@ -95,8 +98,10 @@ fault_text fault.SomeFiles = []
 abbrev pub line_end : Fault → List ℕ
 line_end fault.NotText = 10 ∷ []
 line_end (fault.CannotOpen name) = 10 ∷ []
+line_end (fault.NoFile folder name) = 10 ∷ []
 line_end (fault.Table error) = 10 ∷ []
 line_end fault.NotInTable = 10 ∷ []
+line_end fault.SummaryOfOne = 10 ∷ []
 line_end (fault.Run error) = 10 ∷ []
 line_end (fault.CutShort error) = 10 ∷ []
 line_end fault.SomeFiles = []

@@ -1,6 +1,6 @@
 -- What comes of what the words ask for: its answers, and its faults.
 use Rattle.std.specs.Borrow.{Bor}
-use Rattle.std.specs.Prelude.{◌≡◌, ℕ, ◌⊎◌, Bool, false, true, List, Option, None, Some, ⊤, ◌<◌, length, map}
+use Rattle.std.specs.Prelude.{◌≡◌, ℕ, ◌⊎◌, Bool, false, true, List, Option, None, Some, ⊤, ◌<◌, is_some, length, map}
 use Rattle.clap.specs.Words.{Text, subcommand_of}
 use Rattle.sig_bits.specs.Bytes.{IsBytes}
 use Rattle.sig_bits.specs.Device.{Adds}
@@ -10,7 +10,7 @@ use Rattle.sig_table.specs.declared.ids.FormatId.{FormatId}
 use Rattle.sig_table.specs.declared.puid.Puid.{Puid}
 use Rattle.sig_command.specs.CommandLine.{Asks, program}
 use Rattle.sig_engines.specs.Asks.{IsFormatNamed}
-use Rattle.sig_engines.specs.Conflicts.{AddsConflicts, AddsFirstPairs}
+use Rattle.sig_engines.specs.Conflicts.{AddsConflicts, AddsFirstPairs, Settles}
 use Rattle.sig_command.specs.Faults.{Reports, TellsWrite}
 use Rattle.sig_command.specs.Statuses.{status_of}
 use Rattle.sig_command.specs.Several.{AddsFaults, AddsLinesOfEach, AddsLinesOfSome}
@@ -21,14 +21,17 @@ use Rattle.sig_engines.specs.Lines.{AddsLines}
 use Rattle.sig_engines.specs.ManyFiles.{AddsFiles, CutsFiles, IsPrinted}
 use Rattle.sig_engines.specs.Progress.{AddsProgress, ShowsIf}
 use Rattle.sig_engines.specs.Shown.{show_text}
-use Rattle.sig_engines.specs.Stores.{Has, Holding, Holds, IsMade, IsTableFault, IsTableOf, Lacks, SomeFailed}
+use Rattle.sig_engines.specs.Stores.{Has, Holding, Holds, IsAny, IsMade, IsTableFault, IsTableOf, Lacks, SomeFailed}
 use Rattle.sig_engines.specs.Witnessed.{AddsWitness}
+use Rattle.sig_engines.specs.Witnesses.{IsWitnessOf}
 use Rattle.sig_engines.specs.declared.ask.ConflictsAsk.{ConflictsAsk}
 use Rattle.sig_engines.specs.declared.error.FileFault.{FileFault}
 use Rattle.sig_engines.specs.declared.error.FileFault.TheVariants as file
+use Rattle.sig_engines.specs.declared.error.PairsFault.{PairsFault}
+use Rattle.sig_engines.specs.declared.error.PairsFault.TheVariants as pairs
 use Rattle.sig_engines.specs.declared.error.RunError.TheVariants.{OutOfMemory, Read, Write}
 use Rattle.sig_command.specs.declared.fault.Fault.{Fault}
-use Rattle.sig_command.specs.declared.fault.Fault.TheVariants.{CannotOpen, CutShort, NotInTable, NotText, Run, SomeFiles, Table}
+use Rattle.sig_command.specs.declared.fault.Fault.TheVariants.{CannotOpen, CutShort, NoFile, NotInTable, NotText, Run, SomeFiles, SummaryOfOne, Table}
 use Rattle.sig_command.specs.declared.args.ConflictsOptions.{ConflictsOptions}
 use Rattle.sig_command.specs.declared.args.Request.{Request}
 use Rattle.sig_command.specs.declared.args.Request.TheVariants.{Check, Conflicts, Dead, Find, Match, MatchMany, Show, Witness}
@@ -43,8 +46,10 @@ IsUnopened held paths name = ((name ≡ paths.signatures) × Lacks held paths.si
 abbrev pub IsLoadFault : {R : Type 0} → (R → Bool) → Holding → TablePaths → Fault → Type 0
 IsLoadFault failed held paths NotText = ⊥
 IsLoadFault failed held paths (CannotOpen name) = IsUnopened held paths name
+IsLoadFault failed held paths (NoFile folder witness) = ⊥
 IsLoadFault failed held paths (Table error) = IsTableFault failed held paths error
 IsLoadFault failed held paths NotInTable = ⊥
+IsLoadFault failed held paths SummaryOfOne = ⊥
 IsLoadFault failed held paths (Run error) = ⊥
 IsLoadFault failed held paths (CutShort error) = ⊥
 IsLoadFault failed held paths SomeFiles = ⊥
@@ -53,8 +58,10 @@ IsLoadFault failed held paths SomeFiles = ⊥
 abbrev pub IsFileFault : {R : Type 0} → (R → Bool) → Holding → Bor (List ℕ) → Fault → Type 0
 IsFileFault failed held name NotText = ⊥
 IsFileFault failed held name (CannotOpen other) = (other ≡ name) × Lacks held name.now
+IsFileFault failed held name (NoFile folder witness) = ⊥
 IsFileFault failed held name (Table error) = ⊥
 IsFileFault failed held name NotInTable = ⊥
+IsFileFault failed held name SummaryOfOne = ⊥
 IsFileFault failed held name (Run Read) = Has held name.now × SomeFailed failed
 IsFileFault failed held name (Run Write) = Has held name.now
 IsFileFault failed held name (Run OutOfMemory) = ⊤
@@ -66,12 +73,20 @@ abbrev pub file_fault : Bor (List ℕ) → FileFault → Fault
 file_fault name file.CannotOpen = CannotOpen name
 file_fault name (file.Run error) = Run error
 
+-- why the pairs of formats were not all answered
+abbrev pub pairs_fault : PairsFault → Fault
+pairs_fault (pairs.CannotOpen name) = CannotOpen name
+pairs_fault (pairs.NoFile folder name) = NoFile folder name
+pairs_fault (pairs.Cut error) = CutShort error
+
 -- an engine stopped before its last line
 abbrev pub IsCutFault : Fault → Type 0
 IsCutFault NotText = ⊥
 IsCutFault (CannotOpen name) = ⊥
+IsCutFault (NoFile folder witness) = ⊥
 IsCutFault (Table error) = ⊥
 IsCutFault NotInTable = ⊥
+IsCutFault SummaryOfOne = ⊥
 IsCutFault (Run error) = ⊥
 IsCutFault (CutShort error) = ⊤
 IsCutFault SomeFiles = ⊥
@@ -93,14 +108,24 @@ pub record AsksPairs (options : ConflictsOptions) (table : TableView) (ask : Con
   pub budget : ask.budget ≡ options.budget
   pub hex : ask.hex ≡ options.hex
   pub class : ask.class ≡ options.class
+  pub summary : ask.summary ≡ options.summary
   pub only : IsOnly table options.only ask.only
+  pub priorities : ask.priorities ≡ options.priorities
+  pub files : ask.files ≡ options.files
+  pub of_all : options.summary ≡ true → is_some options.only ≡ false
 
--- the pairs of formats that are asked for are those of no format of the table; or they are some, and the engine stopped before its last line
+-- the folder or the priority file that these options name can't be made
+abbrev pub NamesMade : ConflictsOptions → Bor Text → Type 0
+NamesMade options name = (options.files ≡ Some name) ⊎ (options.priorities ≡ Some name)
+
+-- the pairs of formats that are asked for are those of no format of the table; or they are some, and a folder or a file that is asked for can't be made, or the engine stopped before its last line
 abbrev pub IsConflictsFault : Holding → TablePaths → ConflictsOptions → Fault → Type 0
 IsConflictsFault held paths options NotText = ⊥
-IsConflictsFault held paths options (CannotOpen name) = ⊥
+IsConflictsFault held paths options (CannotOpen name) = NamesMade options name
+IsConflictsFault held paths options (NoFile folder name) = (options.files ≡ Some folder) × (t : TableView) × IsTableOf held paths t × (formats : ℕ × ℕ) × IsWitnessOf t formats name
 IsConflictsFault held paths options (Table error) = ⊥
 IsConflictsFault held paths options NotInTable = (t : TableView) × IsTableOf held paths t × NamesNone t options.only
+IsConflictsFault held paths options SummaryOfOne = ⊥
 IsConflictsFault held paths options (Run error) = ⊥
 IsConflictsFault held paths options (CutShort error) = (t : TableView) × IsTableOf held paths t × (ask : ConflictsAsk) × AsksPairs options t ask
 IsConflictsFault held paths options SomeFiles = ⊥
@@ -131,9 +156,21 @@ IsLaterFault failed held (Dead table budget hex progress) fault = IsCutFault fau
 IsLaterFault failed held (Check table certificate) fault = IsFileFault failed held certificate fault
 IsLaterFault failed held (Witness table file) fault = IsFileFault failed held file fault
 
--- there is no table; or memory ran out; or there is one, and the fault comes behind its load
+-- both a summary of all formats and the pairs of one are asked for
+abbrev pub AsksTwo : Request → Type 0
+AsksTwo (Show table) = ⊥
+AsksTwo (Match all table file) = ⊥
+AsksTwo (MatchMany all table files) = ⊥
+AsksTwo (Find table budget out hex progress) = ⊥
+AsksTwo (Conflicts table options progress) = (options.summary ≡ true) × (is_some options.only ≡ true)
+AsksTwo (Dead table budget hex progress) = ⊥
+AsksTwo (Check table certificate) = ⊥
+AsksTwo (Witness table file) = ⊥
+
+-- there is no table; or memory ran out; or there is one, and the fault comes behind its load; or two things are asked for that exclude each other
 abbrev pub IsFaultOf : {R : Type 0} → (R → Bool) → Holding → Request → Fault → Type 0
-IsFaultOf failed held request fault = IsLoadFault failed held (paths_of request) fault ⊎ ((fault ≡ Run OutOfMemory) ⊎ (HasTable held (paths_of request) × IsLaterFault failed held request fault))
+IsFaultOf failed held request fault =
+    IsLoadFault failed held (paths_of request) fault ⊎ ((fault ≡ Run OutOfMemory) ⊎ ((HasTable held (paths_of request) × IsLaterFault failed held request fault) ⊎ ((fault ≡ SummaryOfOne) × AsksTwo request)))
 
 -- what is written grows by the canonical files of a table, by the lines that are asked for of what a file hits in a table, by those of each of several files, by the lines of what was found, by those of the pairs of formats of a table, by those of its formats that no file can leave, by the line of the verdict on a certificate, or by that of a file that is ambiguous or not; the first three can't be a no
 abbrev pub Answers : Holding → Request → Bool → Option (List ℕ) → Option (List ℕ) → Type 0
@@ -141,7 +178,7 @@ Answers held (Show table) is_yes before after = (is_yes ≡ true) × (t : TableV
 Answers held (Match all table name) is_yes before after = (is_yes ≡ true) × (t : TableView) × IsTableOf held table t × (file : List ℕ) × IsBytes file × Holds held name.now file × AddsLines all t file before after
 Answers held (MatchMany all table files) is_yes before after = (is_yes ≡ true) × (t : TableView) × IsTableOf held table t × AddsLinesOfEach all t held (map (λ n. n.now) files.now) before after
 Answers held (Find table budget out hex progress) is_yes before after = (t : TableView) × IsTableOf held table t × AddsFound is_yes hex t budget before after
-Answers held (Conflicts table options progress) is_yes before after = (t : TableView) × IsTableOf held table t × (ask : ConflictsAsk) × AsksPairs options t ask × AddsConflicts is_yes ask t before after
+Answers held (Conflicts table options progress) is_yes before after = (t : TableView) × IsTableOf held table t × (ask : ConflictsAsk) × AsksPairs options t ask × (refused : List ℕ) × AddsConflicts IsAny is_yes refused ask t before after
 Answers held (Dead table budget hex progress) is_yes before after = (t : TableView) × IsTableOf held table t × AddsFates is_yes hex t budget before after
 Answers held (Check table name) is_yes before after = (t : TableView) × IsTableOf held table t × (certificate : List ℕ) × IsBytes certificate × Holds held name.now certificate × AddsVerdict is_yes t certificate before after
 Answers held (Witness table name) is_yes before after = (t : TableView) × IsTableOf held table t × (file : List ℕ) × IsBytes file × Holds held name.now file × AddsWitness is_yes t file before after
@@ -150,18 +187,18 @@ Answers held (Witness table name) is_yes before after = (t : TableView) × IsTab
 abbrev pub AnswersWords : Holding → List Text → Bool → Option (List ℕ) → Option (List ℕ) → Type 0
 AnswersWords held words is_yes before after = (request : Request) × Asks (subcommand_of program words) request × Answers held request is_yes before after
 
--- of a search, what is written grows by the lines of what is found, and a file of the name that is asked for was made of the bytes of just that; of all else it says nothing
+-- of a search, what is written grows by the lines of what is found, and a file of the name that is asked for was made of the bytes of just that; of pairs of formats the files that are asked for were made; of all else it says nothing
 abbrev pub MakesOut : {F : Type 0} → (name_of written : F → Option (List ℕ)) → (F → Bool) → Holding → Request → Bool → (before after : Option (List ℕ)) → Type 0
 MakesOut name_of written failed held (Show table) is_yes before after = ⊤
 MakesOut name_of written failed held (Match all table path) is_yes before after = ⊤
 MakesOut name_of written failed held (MatchMany all table files) is_yes before after = ⊤
 MakesOut name_of written failed held (Find table budget out hex progress) is_yes before after = (t : TableView) × IsTableOf held table t × KeepsFound (IsMade name_of written failed held out.now) is_yes hex t budget before after
-MakesOut name_of written failed held (Conflicts table options progress) is_yes before after = ⊤
+MakesOut name_of written failed held (Conflicts table options progress) is_yes before after = (t : TableView) × IsTableOf held table t × (ask : ConflictsAsk) × AsksPairs options t ask × (refused : List ℕ) × AddsConflicts (IsMade name_of written failed held) is_yes refused ask t before after
 MakesOut name_of written failed held (Dead table budget hex progress) is_yes before after = ⊤
 MakesOut name_of written failed held (Check table path) is_yes before after = ⊤
 MakesOut name_of written failed held (Witness table path) is_yes before after = ⊤
 
--- the file that the words ask for was made, where they ask for one
+-- the files that the words ask for were made
 abbrev pub MakesWords : {F : Type 0} → (name_of written : F → Option (List ℕ)) → (F → Bool) → Holding → List Text → Bool → (before after : Option (List ℕ)) → Type 0
 MakesWords name_of written failed held words is_yes before after = (request : Request) × Asks (subcommand_of program words) request × MakesOut name_of written failed held request is_yes before after
 
@@ -189,6 +226,11 @@ abbrev pub KeepsOrCuts : {R W : Type 0} → (R → Bool) → Holding → Request
 KeepsOrCuts failed held request is_failed written before after =
     is_failed after ≡ false → (after ≡ before) ⊎ IsCutRequest failed held request (written before) (written after)
 
+-- of pairs of formats it is said which forced ones are not in the priority file, behind the progress, where that is asked for
+abbrev pub ShowsRefused : Holding → TablePaths → ConflictsOptions → Bool → Option (List ℕ) → Option (List ℕ) → Type 0
+ShowsRefused held paths options progress before after =
+    (t : TableView) × IsTableOf held paths t × (ask : ConflictsAsk) × AsksPairs options t ask × (is_yes : Bool) × (out_before : Option (List ℕ)) × (out_after : Option (List ℕ)) × Settles IsAny progress is_yes ask t out_before out_after false before after
+
 -- a search over products gave up, and behind its progress, where that is asked for, it is said why
 abbrev pub ShowsReason : Holding → TablePaths → (progress hex : Bool) → ℕ → Option (List ℕ) → Option (List ℕ) → Type 0
 ShowsReason held paths progress hex budget before after =
@@ -200,7 +242,7 @@ Shows failed held (Show table) is_answered is_failed before after = ⊥
 Shows failed held (Match all table path) is_answered is_failed before after = ⊥
 Shows failed held (MatchMany all table files) is_answered is_failed before after = (is_answered ≡ false) × (t : TableView) × IsTableOf held table t × (is_failed ≡ false → AddsFaults (IsPrinted failed all t held) (map (λ n. n.now) files.now) before after)
 Shows failed held (Find table budget out hex progress) is_answered is_failed before after = ((progress ≡ true) × (is_failed ≡ false → AddsProgress Products before after)) ⊎ ((is_answered ≡ true) × (is_failed ≡ false → ShowsReason held table progress hex budget before after))
-Shows failed held (Conflicts table options progress) is_answered is_failed before after = (progress ≡ true) × (is_failed ≡ false → AddsProgress Pairs before after)
+Shows failed held (Conflicts table options progress) is_answered is_failed before after = ((progress ≡ true) × (is_failed ≡ false → AddsProgress Pairs before after)) ⊎ ((is_answered ≡ true) × (is_some options.priorities ≡ true) × (is_failed ≡ false → ShowsRefused held table options progress before after))
 Shows failed held (Dead table budget hex progress) is_answered is_failed before after = (progress ≡ true) × (is_failed ≡ false → AddsProgress Formats before after)
 Shows failed held (Check table path) is_answered is_failed before after = ⊥
 Shows failed held (Witness table path) is_answered is_failed before after = ⊥
@@ -226,8 +268,10 @@ TellsMany failed all held table names (Run Read) before after err_failed err_bef
 TellsMany failed all held table names (Run OutOfMemory) before after err_failed err_before err_after = err_after ≡ err_before
 TellsMany failed all held table names NotText before after err_failed err_before err_after = err_after ≡ err_before
 TellsMany failed all held table names (CannotOpen name) before after err_failed err_before err_after = err_after ≡ err_before
+TellsMany failed all held table names (NoFile folder witness) before after err_failed err_before err_after = err_after ≡ err_before
 TellsMany failed all held table names (Table error) before after err_failed err_before err_after = err_after ≡ err_before
 TellsMany failed all held table names NotInTable before after err_failed err_before err_after = err_after ≡ err_before
+TellsMany failed all held table names SummaryOfOne before after err_failed err_before err_after = err_after ≡ err_before
 TellsMany failed all held table names (CutShort error) before after err_failed err_before err_after = err_after ≡ err_before
 
 -- what both outputs are of before the line of a fault: where there are several files, of the same ones
@@ -280,7 +324,9 @@ ShowsAsked held (MatchMany all table files) is_yes out_before out_after is_faile
 ShowsAsked held (Find table budget out hex progress) true out_before out_after is_failed before after written written_after = ShowsIf progress Products is_failed before after written written_after
 ShowsAsked held (Find table budget out hex progress) false out_before out_after is_failed before after written written_after =
     is_failed ≡ false → (t : TableView) × IsTableOf held table t × TellsWhy progress hex t budget out_before out_after written written_after
-ShowsAsked held (Conflicts table options progress) is_yes out_before out_after is_failed before after written written_after = ShowsIf progress Pairs is_failed before after written written_after
+ShowsAsked held (Conflicts table options progress) is_yes out_before out_after is_failed before after written written_after =
+    (options.priorities ≡ None → ShowsIf progress Pairs is_failed before after written written_after)
+    × ((t : TableView) × IsTableOf held table t × (ask : ConflictsAsk) × AsksPairs options t ask × Settles IsAny progress is_yes ask t out_before out_after is_failed written written_after)
 ShowsAsked held (Dead table budget hex progress) is_yes out_before out_after is_failed before after written written_after = ShowsIf progress Formats is_failed before after written written_after
 ShowsAsked held (Check table path) is_yes out_before out_after is_failed before after written written_after = after ≡ before
 ShowsAsked held (Witness table path) is_yes out_before out_after is_failed before after written written_after = after ≡ before

@@ -3,7 +3,7 @@ use Rattle.std.specs.Prelude.{ℕ}
 use Rattle.clap.specs.declared.error.kind.ErrorKind.{ErrorKind}
 use Rattle.clap.specs.declared.error.kind.ErrorKind.TheVariants.{DisplayHelp, DisplayVersion}
 use Rattle.sig_command.specs.declared.fault.Fault.{Fault}
-use Rattle.sig_command.specs.declared.fault.Fault.TheVariants.{CannotOpen, CutShort, NotInTable, NotText, Run, SomeFiles, Table}
+use Rattle.sig_command.specs.declared.fault.Fault.TheVariants.{CannotOpen, CutShort, NoFile, NotInTable, NotText, Run, SomeFiles, SummaryOfOne, Table}
 use Rattle.sig_table.specs.declared.error.TableError.{TableError}
 use Rattle.sig_table.specs.declared.error.TableError.TheVariants.{OutOfMemory, Read}
 
@@ -17,8 +17,10 @@ table_status _ = 2
 abbrev pub status_of : Fault → ℕ
 status_of NotText = 2
 status_of (CannotOpen name) = 3
+status_of (NoFile folder name) = 3
 status_of (Table error) = table_status error
 status_of NotInTable = 2
+status_of SummaryOfOne = 2
 status_of (Run error) = 3
 status_of (CutShort error) = 3
 status_of SomeFiles = 3

@@ -102,6 +102,23 @@ The last line then also counts the classes.
 
 With --only just the pairs of the format PUID are searched.
 
+With --summary each format has a line in place of the pairs. N lines have it,
+and then come as many of each class, which is that of a line with A first.
+Formats with most lines come first:
+  A N over .. under .. same .. apart .. open .. unknown ..
+
+With --files the file of each `ambiguous` line is written to the folder DIR,
+which is made if it is missing. Its name is A-B.bin, with _ for each slash.
+
+With --priorities the rows of PRIOS are written to FILE, and after them a row
+for each `over` and `under`, in the order of the lines. A pair is left out if,
+with the rows before it, it would close a cycle or take a format its last
+file. Standard error then has its line:
+  not written HIGHER LOWER: cycle
+  not written HIGHER LOWER: LOWER would be dead
+  not written HIGHER LOWER: unknown
+FILE is emptied before the search, so give it another name than PRIOS.
+
 A priority decides a pair even if it leaves a format with no file. So run
 `dead`, too. Each two signatures get a search with the whole budget.
 
@@ -110,8 +127,8 @@ Statuses:
      most one format of the table is reported for any file
   1  some pair is ambiguous or unknown
   2  usage error, the table is refused, or it lacks the format of --only
-  3  a file can't be opened, a read or a write failed, or memory ran out. The
-     lines that were printed are valid, and the last line is missing";
+  3  a file can't be opened or made, a read or a write failed, or memory ran
+     out. The lines that were printed are valid, and the last line is missing";
 
 const DEAD_HELP: &str = "\
 Prints a line for each format that is not reported for any file, or for which
@@ -168,7 +185,10 @@ pub(crate) struct ConflictsOptions<'a> {
     pub(crate) budget: u32,
     pub(crate) only: Option<&'a str>,
     pub(crate) class: bool,
+    pub(crate) summary: bool,
     pub(crate) hex: bool,
+    pub(crate) files: Option<&'a str>,
+    pub(crate) priorities: Option<&'a str>,
 }
 
 /// What the words ask for.
@@ -309,7 +329,8 @@ fn find_line<'a>(alloc: Global) -> Result<Command<'a>, Error>
     Ok(line)
 }
 
-// `conflicts [--budget N] [--only PUID] [--class] [--hex] [--progress] SIGS PRIOS`
+// `conflicts [--budget N] [--only PUID] [--class] [--summary] [--hex] [--files DIR] [--priorities FILE]
+// [--progress] SIGS PRIOS`
 fn conflicts_line<'a>(alloc: Global) -> Result<Command<'a>, Error>
     ensures line { IfOk result (IsLine conflicts_command) }
     ensures memory { IfErr result (λ e. kind_of e ≡ ErrorKind.OutOfMemory) }
@@ -320,7 +341,12 @@ fn conflicts_line<'a>(alloc: Global) -> Result<Command<'a>, Error>
         .arg(budget(alloc).help("States that one search may visit"))?
         .arg(option(alloc, "only", "PUID").help("Print the pairs of this format alone"))?
         .arg(flag(alloc, "class").help("Print the class of each pair, and count the classes"))?
+        .arg(flag(alloc, "summary").help("Print a line for each format in place of the pairs"))?
         .arg(flag(alloc, "hex").help("Also print the bytes of each file in hexadecimal"))?
+        .arg(option(alloc, "files", "DIR").help("Write each file to this folder"))?
+        .arg(option(alloc, "priorities", "FILE").help(
+            "Write the priorities with the forced pairs to this file",
+        ))?
         .arg(flag(alloc, "progress").help("Report on standard error how many pairs are done"))?;
     Ok(line)
 }
@@ -500,7 +526,10 @@ fn conflicts_options<'a>(matches: &ArgMatches<'a>) -> Option<ConflictsOptions<'a
         budget: matches.get_one::<u32>("N")?,
         only: matches.get_str("PUID"),
         class: matches.get_flag("class"),
+        summary: matches.get_flag("summary"),
         hex: matches.get_flag("hex"),
+        files: matches.get_str("DIR"),
+        priorities: matches.get_str("FILE"),
     })
 }
 

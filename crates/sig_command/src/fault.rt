@@ -9,7 +9,7 @@ ghost use Rattle.sig_command.specs.Statuses.{status_of};
 ghost use Rattle.sig_engines.specs.Writing.{Prints};
 
 use sig_bits::{DeviceFault, Output};
-use sig_engines::{CutShort, RunError, put, put_number};
+use sig_engines::{CutShort, RunError, WitnessName, put, put_number, put_path};
 use sig_expr::ExprError;
 use sig_table::{TableError, TableFile};
 
@@ -20,8 +20,12 @@ pub(crate) enum Fault<'a> {
     NotText,
     /// A file can't be opened. It is named as in the words.
     CannotOpen(&'a str),
+    /// The file of two formats can't be made in this folder.
+    NoFile(&'a str, WitnessName),
     /// The table is refused, or was not read.
     Table(TableError),
+    /// `--summary` is of all formats, and `--only` of one.
+    SummaryOfOne,
     /// The word of `--only` is the PUID of no format of the table.
     NotInTable,
     /// An engine gave no answer.
@@ -38,10 +42,14 @@ impl Fault<'_> {
         ensures { result ≡ status_of self.entry }
     {
         match self {
-            Fault::NotText | Fault::NotInTable => 2,
+            Fault::NotText | Fault::SummaryOfOne | Fault::NotInTable => 2,
             Fault::Table(TableError::Read { .. } | TableError::OutOfMemory) => 3,
             Fault::Table(_) => 2,
-            Fault::CannotOpen(_) | Fault::Run(_) | Fault::CutShort(_) | Fault::SomeFiles => 3,
+            Fault::CannotOpen(_)
+            | Fault::NoFile(..)
+            | Fault::Run(_)
+            | Fault::CutShort(_)
+            | Fault::SomeFiles => 3,
         }
     }
 
@@ -70,7 +78,9 @@ fn line_end(fault: Fault<'_>) -> &'static str
     match fault {
         Fault::SomeFiles => "",
         Fault::NotText
+        | Fault::SummaryOfOne
         | Fault::CannotOpen(_)
+        | Fault::NoFile(..)
         | Fault::Table(_)
         | Fault::NotInTable
         | Fault::Run(_)
@@ -91,10 +101,18 @@ fn write_text<E: Output>(fault: Fault<'_>, err: &mut E) -> Result<(), DeviceFaul
             put(err, "cannot open ")?;
             put(err, name)
         }
+        Fault::NoFile(folder, name) => {
+            put(err, "cannot open ")?;
+            put_path(err, folder, name)
+        }
         Fault::Table(error) => {
             write_site(site_of(error), err)?;
             write_code(error, err)
         }
+        Fault::SummaryOfOne => put(
+            err,
+            "error: the argument '--summary' cannot be used with '--only <PUID>'",
+        ),
         Fault::NotInTable => put(err, "only: not in the table"),
         Fault::Run(error) => put(err, error.text()),
         Fault::CutShort(error) => put(err, error.text()),

@@ -1,9 +1,10 @@
 //! All that the program does: it reads the words, opens the files, answers, and gives the status.
 
-ghost use Rattle.std.specs.Prelude.{None, Some, ◌≡◌, ◌≢◌, ◌<◌, ◌⊎◌, false, is_ok, length, List, true, IfErr, IfOk, OnOk};
+ghost use Rattle.std.specs.Borrow.{Bor};
+ghost use Rattle.std.specs.Prelude.{None, Some, ◌≡◌, ◌≢◌, ◌<◌, ◌⊎◌, false, is_ok, is_some, length, List, true, IfErr, IfOk, OnOk};
 ghost use Rattle.clap.specs.Values.{kind_of};
 ghost use Rattle.clap.specs.Words.{Text};
-ghost use Rattle.sig_command.specs.Requests.{Answers, AnswersWords, AsksPairs, CutsSomeWords, CutsWords, HasFiles, IsFaultOf, IsLoadFault, IsOnly, JoinsBoth, KeepsOrCuts, MakesOut, MakesWords, NamesNone, ShowsAsked, ShowsSomeWords, ShowsWords, TellsOf, file_fault};
+ghost use Rattle.sig_command.specs.Requests.{Answers, AnswersWords, AsksPairs, CutsSomeWords, CutsWords, HasFiles, IsFaultOf, IsLoadFault, IsOnly, JoinsBoth, KeepsOrCuts, MakesOut, MakesWords, NamesNone, ShowsAsked, ShowsSomeWords, ShowsWords, TellsOf, file_fault, pairs_fault};
 ghost use Rattle.sig_command.specs.Faults.{TellsWrite};
 ghost use Rattle.sig_engines.specs.Stores.{IsTableOf, Opens, SomeWriteFailed};
 ghost use Rattle.sig_command.specs.CommandLine.{AreTaken, texts_of};
@@ -16,8 +17,9 @@ use clap::Error;
 use clap::error::ErrorKind;
 use sig_bits::{FromRead, FromWrite, Input, Output};
 use sig_engines::{
-    ConflictsAsk, CutShort, FileFault, RunError, Store, SystemFiles, TablePaths, find_dead,
-    format_named, run_check, run_find, run_match, run_match_many, run_show, run_witness, settle,
+    ConflictsAsk, CutShort, FileFault, PairsFault, RunError, Store, SystemFiles, TablePaths,
+    WitnessName, find_dead, format_named, run_check, run_find, run_match, run_match_many, run_show,
+    run_witness, settle,
 };
 use sig_scan::BlockCore;
 use sig_table::{FormatId, Puid, Table};
@@ -111,6 +113,8 @@ pub fn command_over<S: Store, W: Output, E: Output>(
     ensures answers { AnswersBy (S.held store.now) (texts_of words.now) result (W.written out.old) (W.written out.new) }
     ensures made { AreTaken (texts_of words.now) → result ≡ 0 → MakesWords S.name_of S.Writer.written S.Writer.failed (S.held store.now) (texts_of words.now)
         true (W.written out.old) (W.written out.new) }
+    ensures made_by_no { AreTaken (texts_of words.now) → result ≡ 1 → MakesWords S.name_of S.Writer.written S.Writer.failed (S.held store.now) (texts_of words.now)
+        false (W.written out.old) (W.written out.new) }
     ensures told { TellsBy (S.held store.now) (texts_of words.now) result (W.written out.old) (W.written out.new)
         (E.failed err.new) err.old err.new (E.written err.old) (E.written err.new) }
     ensures faults { ReportsBy S.Reader.failed (SomeWriteFailed S.Writer.failed (W.failed out.new)) (S.held store.now) (texts_of words.now)
@@ -150,7 +154,7 @@ fn answer<'m, 'a, S: Store, W: Output, E: Output>(
     ensures faults { IfErr result (λ fault. IsFaultOf S.Reader.failed (S.held store.now) request.entry fault) }
     ensures write { IfErr result (λ fault. TellsWrite fault → SomeWriteFailed S.Writer.failed (W.failed out.new)) }
     ensures untouched { IfErr result (λ fault. fault ≢ Fault.Run RunError.Write → ((e : CutShort) → fault ≢ Fault.CutShort e)
-        → fault ≢ Fault.SomeFiles → out.new ≡ out.old) }
+        → ((folder : Bor Text) (name : WitnessName) → fault ≢ Fault.NoFile folder name) → fault ≢ Fault.SomeFiles → out.new ≡ out.old) }
     ensures whole { IfErr result (λ fault. KeepsOrCuts S.Reader.failed (S.held store.now) request.entry W.failed W.written out.old out.new) }
 {
     match request {
@@ -301,25 +305,42 @@ fn settle_pairs<'a, S: Store, W: Output, E: Output>(
     ensures told { TellsOf S.Reader.failed (S.held store.now) (Request.Conflicts table.entry options.entry progress) (is_ok result) E.failed E.written err.old err.new }
     ensures answers { IfOk result (λ is_yes. Answers (S.held store.now) (Request.Conflicts table.entry options.entry progress)
         is_yes (W.written out.old) (W.written out.new)) }
+    ensures made { IfOk result (λ is_yes. MakesOut S.name_of S.Writer.written S.Writer.failed (S.held store.now)
+        (Request.Conflicts table.entry options.entry progress) is_yes (W.written out.old) (W.written out.new)) }
     ensures shown { OnOk result (W.failed out.new ≡ false) }
     ensures progress { IfOk result (λ is_yes. ShowsAsked (S.held store.now) (Request.Conflicts table.entry options.entry progress) is_yes
         (W.written out.old) (W.written out.new) (E.failed err.new) err.old err.new (E.written err.old) (E.written err.new)) }
     ensures faults { IfErr result (IsFaultOf S.Reader.failed (S.held store.now) (Request.Conflicts table.entry options.entry progress)) }
-    ensures write { IfErr result (λ fault. TellsWrite fault → W.failed out.new ≡ true) }
-    ensures untouched { IfErr result (λ fault. ((e : CutShort) → fault ≢ Fault.CutShort e) → out.new ≡ out.old) }
+    ensures write { IfErr result (λ fault. TellsWrite fault → SomeWriteFailed S.Writer.failed (W.failed out.new)) }
+    ensures untouched { IfErr result (λ fault. ((e : CutShort) → fault ≢ Fault.CutShort e)
+        → ((folder : Bor Text) (name : WitnessName) → fault ≢ Fault.NoFile folder name) → out.new ≡ out.old) }
     ensures whole { IfErr result (λ fault. KeepsOrCuts S.Reader.failed (S.held store.now)
         (Request.Conflicts table.entry options.entry progress) W.failed W.written out.old out.new) }
 {
+    if options.summary && options.only.is_some() {
+        return Err(Fault::SummaryOfOne);
+    }
     let table = load(store, alloc, table)?;
     let ask = ask_of(&table, options)?;
-    match settle(alloc, &table, ask, progress, out, err) {
+    match settle(alloc, store, &table, ask, progress, out, err) {
         Ok(is_yes) => Ok(is_yes),
-        Err(error) => Err(Fault::CutShort(error)),
+        Err(fault) => Err(pairs_fault(fault)),
+    }
+}
+
+fn pairs_fault(fault: PairsFault<'_>) -> Fault<'_>
+    ensures { result ≡ pairs_fault fault.entry }
+{
+    match fault {
+        PairsFault::CannotOpen(name) => Fault::CannotOpen(name),
+        PairsFault::NoFile(folder, name) => Fault::NoFile(folder, name),
+        PairsFault::Cut(error) => Fault::CutShort(error),
     }
 }
 
 // What is asked of the pairs of this table.
-fn ask_of<'a>(table: &Table, options: ConflictsOptions<'a>) -> Result<ConflictsAsk, Fault<'a>>
+fn ask_of<'a>(table: &Table, options: ConflictsOptions<'a>) -> Result<ConflictsAsk<'a>, Fault<'a>>
+    requires { options.summary ≡ true → is_some options.only ≡ false }
     ensures asks { IfOk result (AsksPairs options.entry table.now) }
     ensures unnamed { IfErr result (λ fault. (fault ≡ Fault.NotInTable) × NamesNone table.now options.entry.only) }
 {
@@ -327,7 +348,10 @@ fn ask_of<'a>(table: &Table, options: ConflictsOptions<'a>) -> Result<ConflictsA
         budget: options.budget,
         hex: options.hex,
         class: options.class,
+        summary: options.summary,
         only: only_of(table, options.only)?,
+        priorities: options.priorities,
+        files: options.files,
     })
 }
 

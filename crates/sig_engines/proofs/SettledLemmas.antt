@@ -16,15 +16,19 @@ use Rattle.sig_table.specs.declared.ids.FormatId.{FormatId}
 use Rattle.sig_find.proofs.Exports.{decided_pairs_decide}
 use Rattle.sig_table.specs.Tables.{IsTable}
 use Rattle.sig_table.specs.Views.{TableView}
-use Rattle.sig_engines.specs.Conflicts.{AddsConflicts, AddsFrontOfPairs, AreCounts, IsCutShort, IsSettled, KnownPair, class_count, count_of, counted_class, counts_line, is_ambiguous, is_decided, is_unknown, is_unrelated, four_counts, last_line, pair_lines, pairs_in, pairs_of}
-use Rattle.sig_engines.specs.Asks.{asked_pairs, is_asked}
+use Rattle.sig_engines.specs.Conflicts.{AddsConflicts, AreCounts, IsSettled, KnownPair, StopsPairs, class_count, count_of, counted_class, counts_line, four_counts, is_ambiguous, is_decided, is_unknown, is_unrelated, last_line, last_lines, notes_of, pair_lines, pairs_in, pairs_of}
+use Rattle.sig_engines.specs.Asks.{asked_pairs, is_asked, shows_class}
 use Rattle.sig_engines.specs.ClassTexts.{classes_if_asked}
+use Rattle.sig_engines.specs.Forced.{Forces}
+use Rattle.sig_engines.specs.Notes.{summary_if_asked}
 use Rattle.sig_engines.specs.Pairs.{AreTold}
 use Rattle.sig_engines.specs.declared.ask.ConflictsAsk.{ConflictsAsk}
 use Rattle.sig_engines.specs.Tellings.{Tells}
 use Rattle.sig_engines.specs.declared.counts.Counts.{Counts}
 use Rattle.sig_engines.specs.declared.error.CutShort.{CutShort}
 use Rattle.sig_engines.specs.declared.error.CutShort.TheVariants.{Write}
+use Rattle.sig_engines.specs.declared.error.PairsFault.TheVariants.{Cut}
+use Rattle.sig_engines.specs.declared.note.Note.{Note}
 use Rattle.sig_engines.proofs.WriteLemmas.{adds_then}
 use Rattle.sig_engines.proofs.TellingLemmas.{front_then, sum_of_counts}
 
@@ -36,44 +40,51 @@ same_classes true known counts are = rw (are.over, are.under, are.same, are.apar
 same_classes false known counts are = refl
 
 -- the line of the counts is the last line
-line_of_all : (ask : ConflictsAsk) (table : TableView) (counts : Counts) (before after : Option (List ℕ)) (are : AreTold ask table [] counts before after) → counts_line ask.class counts ≡ last_line ask are.known
-line_of_all ask table counts before after are =
-    let sum = sum_of_counts are.known in
-    let pairs : pairs_in counts ≡ count_of is_unrelated are.known = omega (arith, sum, are.are_counts.decided, are.are_counts.ambiguous, are.are_counts.unknown) in
-    let four : four_counts (pairs_in counts) counts.decided counts.ambiguous counts.unknown ≡ four_counts (count_of is_unrelated are.known) (count_of is_decided are.known) (count_of is_ambiguous are.known) (count_of is_unknown are.known) =
-    rw (pairs, are.are_counts.decided, are.are_counts.ambiguous, are.are_counts.unknown) refl in
-    ap (λ l. l ++ classes_if_asked ask.class (counted_class counts) ++ 10 ∷ []) four
-    ∙ ap (λ l. four_counts (count_of is_unrelated are.known) (count_of is_decided are.known) (count_of is_ambiguous are.known) (count_of is_unknown are.known) ++ l ++ 10 ∷ []) (same_classes ask.class are.known counts are.are_counts)
+line_of_all : (ask : ConflictsAsk) (known : List KnownPair) (counts : Counts) → AreCounts known counts → counts_line (shows_class ask) counts ≡ last_line ask known
+line_of_all ask known counts are =
+    let sum = sum_of_counts known in
+    let pairs : pairs_in counts ≡ count_of is_unrelated known = omega (arith, sum, are.decided, are.ambiguous, are.unknown) in
+    let four : four_counts (pairs_in counts) counts.decided counts.ambiguous counts.unknown ≡ four_counts (count_of is_unrelated known) (count_of is_decided known) (count_of is_ambiguous known) (count_of is_unknown known) =
+    rw (pairs, are.decided, are.ambiguous, are.unknown) refl in
+    ap (λ l. l ++ classes_if_asked (shows_class ask) (counted_class counts) ++ 10 ∷ []) four
+    ∙ ap (λ l. four_counts (count_of is_unrelated known) (count_of is_decided known) (count_of is_ambiguous known) (count_of is_unknown known) ++ l ++ 10 ∷ []) (same_classes (shows_class ask) known counts are)
 
-pub all_answered : (ask : ConflictsAsk) (table : TableView) (counts : Counts) (before mid after : Option (List ℕ)) (is_yes : Bool) → AreTold ask table [] counts before mid → Adds mid (counts_line ask.class counts) after → (is_yes ≡ true → (counts.ambiguous ≡ 0) × (counts.unknown ≡ 0)) → (is_yes ≡ false → 0 < counts.ambiguous + counts.unknown) → AddsConflicts is_yes ask table before after
-all_answered ask table counts before mid after is_yes are adds when_yes when_no = record {
-  known = are.known;
-  are_all = are.are_first;
-  yes = λ h. (sym are.are_counts.ambiguous ∙ (when_yes h).0, sym are.are_counts.unknown ∙ (when_yes h).1);
-  no = λ h. (let some = when_no h in omega (arith, some, are.are_counts.ambiguous, are.are_counts.unknown));
-  adds = adds_then before mid after (pair_lines ask table are.known) (last_line ask are.known) are.adds (subst (λ l. Adds mid l after) (line_of_all ask table counts before mid are) adds);
-}
+module _ (Made : List ℕ → List ℕ → Type 0) (ask : ConflictsAsk) (table : TableView) (counts : Counts) (notes : List Note) (before mid after : Option (List ℕ)) (are : AreTold Made ask table [] counts notes before mid) (lines : List ℕ) (is : lines ≡ summary_if_asked ask.summary table notes ++ counts_line (shows_class ask) counts) where
+  lines_of_all : lines ≡ last_lines ask table are.known
+  lines_of_all = is ∙ ap (λ n. summary_if_asked ask.summary table n ++ counts_line (shows_class ask) counts) are.are_notes ∙ ap (λ l. summary_if_asked ask.summary table (notes_of are.known) ++ l) (line_of_all ask are.known counts are.are_counts)
 
--- the last line is not written whole
-pub last_cut : (ask : ConflictsAsk) (table : TableView) (counts : Counts) (before mid after : Option (List ℕ)) → AreTold ask table [] counts before mid → AddsFront mid (counts_line ask.class counts) after → AddsFrontOfPairs ask table before after
-last_cut ask table counts before mid after are front = record {
-  known = are.known;
-  others = [];
-  are_first = are.are_first;
-  text = pair_lines ask table are.known ++ last_line ask are.known;
-  is_text = inr (refl, refl);
-  adds = front_then before mid after (pair_lines ask table are.known) (last_line ask are.known) are.adds (subst (λ l. AddsFront mid l after) (line_of_all ask table counts before mid are) front);
-}
+  pub all_answered : (is_yes : Bool) (refused : List ℕ) → Adds mid lines after → (is_yes ≡ true → (counts.ambiguous ≡ 0) × (counts.unknown ≡ 0)) → (is_yes ≡ false → 0 < counts.ambiguous + counts.unknown) → Forces Made table ask.budget ask.priorities notes refused
+      → AddsConflicts Made is_yes refused ask table before after
+  all_answered is_yes refused adds when_yes when_no forces = record {
+    known = are.known;
+    are_all = are.are_first;
+    yes = λ h. (sym are.are_counts.ambiguous ∙ (when_yes h).0, sym are.are_counts.unknown ∙ (when_yes h).1);
+    no = λ h. (let some = when_no h in omega (arith, some, are.are_counts.ambiguous, are.are_counts.unknown));
+    adds = adds_then before mid after (pair_lines ask table are.known) (last_lines ask table are.known) are.adds (subst (λ l. Adds mid l after) lines_of_all adds);
+    files = are.files;
+    forces = subst (λ n. Forces Made table ask.budget ask.priorities n refused) are.are_notes forces;
+  }
+
+  -- the last lines are not written whole
+  pub last_is_cut : {F : Type 0} (failed : F → Bool) (e : CutShort) (is_failed : Bool) → (e ≡ Write) × (is_failed ≡ true) × AddsFront mid lines after → StopsPairs failed (Cut e) ask table is_failed before after
+  last_is_cut failed e is_failed cut =
+      subst (λ e. StopsPairs failed (Cut e) ask table is_failed before after) (sym cut.0) (inl (
+        cut.1,
+        record {
+          known = are.known;
+          others = [];
+          are_first = are.are_first;
+          text = pair_lines ask table are.known ++ last_lines ask table are.known;
+          is_text = inr (refl, refl);
+          adds = front_then before mid after (pair_lines ask table are.known) (last_lines ask table are.known) are.adds (subst (λ l. AddsFront mid l after) lines_of_all cut.2);
+        },
+      ))
 
 -- a no counts a pair that is not decided
 pub some_left : (m u : ℕ) (is_yes : Bool) → ((m ≡ 0) × (u ≡ 0) → is_yes ≡ true) → is_yes ≡ false → 0 < m + u
 some_left zero zero is_yes none is = absurd (false≢true (sym is ∙ none (refl, refl)))
 some_left zero (suc u) is_yes none is = omega arith
 some_left (suc m) u is_yes none is = omega arith
-
-pub last_is_cut : (e : CutShort) (ask : ConflictsAsk) (table : TableView) (counts : Counts) (line : List ℕ) (is_failed : Bool) (before mid after : Option (List ℕ)) → AreTold ask table [] counts before mid → line ≡ counts_line ask.class counts → (e ≡ Write) × (is_failed ≡ true) × AddsFront mid line after → IsCutShort e ask table is_failed before after
-last_is_cut e ask table counts line is_failed before mid after are is cut =
-    subst (λ e. IsCutShort e ask table is_failed before after) (sym cut.0) (cut.1, last_cut ask table counts before mid after are (subst (λ l. AddsFront mid l after) is cut.2))
 
 -- ---- the table
 
@@ -99,8 +110,8 @@ all_are_asked : (pairs : List (ℕ × ℕ)) → filter (is_asked None) pairs ≡
 all_are_asked [] = refl
 all_are_asked (pair ∷ pairs) = ap (λ l. pair ∷ l) (all_are_asked pairs)
 
-pub conflicts_decide : (is_yes : Bool) (ask : ConflictsAsk) (table : TableView) (before after : Option (List ℕ)) → IsTable table → AddsConflicts is_yes ask table before after → is_yes ≡ true → ask.only ≡ None → TableDecided table
-conflicts_decide is_yes ask table before after is adds all_known each =
+pub conflicts_decide : (Made : List ℕ → List ℕ → Type 0) (is_yes : Bool) (refused : List ℕ) (ask : ConflictsAsk) (table : TableView) (before after : Option (List ℕ)) → IsTable table → AddsConflicts Made is_yes refused ask table before after → is_yes ≡ true → ask.only ≡ None → TableDecided table
+conflicts_decide Made is_yes refused ask table before after is adds all_known each =
     let none = adds.yes all_known in
     let asked : asked_pairs None (length table.formats) ≡ pairs_of adds.known = subst (λ (only : Option FormatId). asked_pairs only (length table.formats) ≡ pairs_of adds.known) each (adds.are_all.at ∙ append-nil (pairs_of adds.known)) in
     let all : format_pairs (length table.formats) ≡ pairs_of adds.known = sym (all_are_asked (format_pairs (length table.formats))) ∙ asked in

@@ -1,9 +1,18 @@
 -- What `conflicts` is asked for.
-use Rattle.std.specs.Prelude.{◌≡◌, ◌==◌, ◌||◌, ℕ, Bool, true, List, Contains, Option, None, Some, filter, slice_get}
+use Rattle.std.specs.Prelude.{◌≡◌, ◌==◌, ◌||◌, ℕ, Bool, true, List, Contains, Option, None, Some, filter, is_some, slice_get}
 use Rattle.sig_cert.specs.Pairs.{format_pairs}
 use Rattle.sig_table.specs.Views.{TableView}
 use Rattle.sig_table.specs.declared.ids.FormatId.{FormatId}
 use Rattle.sig_table.specs.declared.puid.Puid.{Puid}
+use Rattle.sig_engines.specs.declared.ask.ConflictsAsk.{ConflictsAsk}
+
+-- whether the classes of pairs are printed
+abbrev pub shows_class : ConflictsAsk → Bool
+shows_class ask = ask.class || ask.summary
+
+-- whether they are found: they are printed, or say which pairs are forced
+abbrev pub needs_class : ConflictsAsk → Bool
+needs_class ask = shows_class ask || is_some ask.priorities
 
 -- whether a pair is asked for: each one is, or each one of this format
 abbrev pub is_asked : Option FormatId → ℕ × ℕ → Bool

@@ -1,5 +1,5 @@
 -- What is printed of the pairs of formats of a table.
-use Rattle.std.specs.Prelude.{◌≡◌, ℕ, ◌+◌, ◌<◌, ◌⊎◌, ◌&&◌, Bool, true, false, cond, List, [], ◌∷◌, ◌++◌, All, codes, count_by, flat_map, length, map, IfSome, Option, Some, None, is_some}
+use Rattle.std.specs.Prelude.{◌≡◌, ℕ, ⊤, ◌+◌, ◌<◌, ◌⊎◌, ◌&&◌, Bool, true, false, cond, List, [], ◌∷◌, ◌++◌, All, codes, count_by, flat_map, if◌then◌else◌, length, map, IfSome, Option, Some, None, is_some}
 use Rattle.std.specs.Fmt.{decimal}
 use Rattle.sig_bits.specs.Device.{Adds, AddsFront}
 use Rattle.sig_cert.specs.Pairs.{AreRelated}
@@ -10,14 +10,23 @@ use Rattle.sig_find.specs.declared.class.PairClass.TheVariants as kind
 use Rattle.sig_find.specs.declared.pair.PairDecision.{PairDecision}
 use Rattle.sig_find.specs.declared.pair.PairDecision.TheVariants.{Ambiguous, Decided, Unknown}
 use Rattle.sig_table.specs.Views.{TableView}
-use Rattle.sig_engines.specs.Asks.{asked_pairs}
+use Rattle.sig_engines.specs.Asks.{asked_pairs, needs_class, shows_class}
 use Rattle.sig_engines.specs.ClassTexts.{class_text, classes_if_asked, is_class}
+use Rattle.sig_engines.specs.Forced.{Forces}
+use Rattle.sig_engines.specs.Notes.{noted, summary_if_asked}
 use Rattle.sig_engines.specs.declared.ask.ConflictsAsk.{ConflictsAsk}
 use Rattle.sig_engines.specs.declared.counts.Counts.{Counts}
-use Rattle.sig_engines.specs.declared.error.CutShort.{CutShort}
 use Rattle.sig_engines.specs.declared.error.CutShort.TheVariants.{OutOfMemory, Write}
+use Rattle.sig_engines.specs.declared.error.PairsFault.{PairsFault}
+use Rattle.sig_engines.specs.declared.error.PairsFault.TheVariants.{CannotOpen, Cut, NoFile}
+use Rattle.sig_engines.specs.declared.note.Note.{Note}
+use Rattle.sig_engines.specs.declared.progress.Things.TheVariants.{Pairs}
+use Rattle.sig_engines.specs.declared.witness_name.WitnessName.{WitnessName}
+use Rattle.sig_engines.specs.Progress.{AddsIf}
+use Rattle.sig_engines.specs.Stores.{SomeMadeFailed}
 use Rattle.sig_engines.specs.Tellings.{Tells}
 use Rattle.sig_engines.specs.Texts.{hex_text, product_text}
+use Rattle.sig_engines.specs.Witnesses.{IsWitnessOf, KeepsWitness}
 
 -- ---- the pairs
 
@@ -39,9 +48,9 @@ is_ambiguous (Some Decided) = false
 is_ambiguous (Some (Ambiguous s t file)) = true
 is_ambiguous (Some (Unknown s t)) = false
 
--- where classes are asked for, an ambiguous pair has its class, and no other pair has one
+-- where classes are needed, an ambiguous pair has its class, and no other pair has one
 pub record IsClassOf (ask : ConflictsAsk) (table : TableView) (formats : ℕ × ℕ) (decision : Option PairDecision) (class : Option PairClass) : Type 0 where
-  pub there : is_some class ≡ (ask.class && is_ambiguous decision)
+  pub there : is_some class ≡ (needs_class ask && is_ambiguous decision)
   pub is : IfSome class (IsClass table ask.budget formats)
 
 -- what is known of the pair is so, and tells what it says
@@ -71,14 +80,27 @@ decision_line hex table formats Decided class = []
 decision_line hex table formats (Ambiguous s t file) class = codes "ambiguous" ++ product_text table formats s.0 t.0 ++ file_text class hex file.items
 decision_line hex table formats (Unknown s t) class = codes "unknown" ++ product_text table formats s.0 t.0 ++ 10 ∷ []
 
--- nor of one of which one outranks the other
-abbrev pub pair_line : Bool → TableView → ℕ × ℕ → Option PairDecision → Option PairClass → List ℕ
-pair_line hex table formats None class = []
-pair_line hex table formats (Some decision) class = decision_line hex table formats decision class
+-- the class where it is printed
+abbrev pub shown_class : Bool → Option PairClass → Option PairClass
+shown_class true class = class
+shown_class false class = None
+
+-- the line of a pair as it is asked for: none where there is a line for each format instead
+abbrev pub asked_line : ConflictsAsk → TableView → ℕ × ℕ → PairDecision → Option PairClass → List ℕ
+asked_line ask table formats decision class = if ask.summary then [] else decision_line ask.hex table formats decision (shown_class ask.class class)
+
+-- nor is there one of a pair of which one outranks the other
+abbrev pub pair_line : ConflictsAsk → TableView → ℕ × ℕ → Option PairDecision → Option PairClass → List ℕ
+pair_line ask table formats None class = []
+pair_line ask table formats (Some decision) class = asked_line ask table formats decision class
 
 -- the lines of pairs, in their order
 abbrev pub pair_lines : ConflictsAsk → TableView → List KnownPair → List ℕ
-pair_lines ask table known = flat_map (λ k. pair_line ask.hex table k.formats k.decision k.class) known
+pair_lines ask table known = flat_map (λ k. pair_line ask table k.formats k.decision k.class) known
+
+-- what is noted of them
+abbrev pub notes_of : List KnownPair → List Note
+notes_of known = flat_map (λ k. noted k.formats k.decision k.class) known
 
 -- ---- the last line
 
@@ -116,7 +138,11 @@ four_counts pairs decided ambiguous unknown = codes "pairs " ++ decimal pairs ++
 abbrev pub last_line : ConflictsAsk → List KnownPair → List ℕ
 last_line ask known =
     four_counts (count_of is_unrelated known) (count_of is_decided known) (count_of is_ambiguous known) (count_of is_unknown known)
-    ++ classes_if_asked ask.class (class_count known) ++ 10 ∷ []
+    ++ classes_if_asked (shows_class ask) (class_count known) ++ 10 ∷ []
+
+-- before it the lines of formats, where they are asked for
+abbrev pub last_lines : ConflictsAsk → TableView → List KnownPair → List ℕ
+last_lines ask table known = summary_if_asked ask.summary table (notes_of known) ++ last_line ask known
 
 -- these are the counts of the pairs
 pub record AreCounts (known : List KnownPair) (counts : Counts) : Type 0 where
@@ -162,13 +188,27 @@ pub record IsCounted (old new : Counts) (decision : Option PairDecision) (class 
 
 -- ---- what is written
 
--- the lines of all pairs that are asked for and the last line; it is a yes where none of them is ambiguous or unknown
-pub record AddsConflicts (is_yes : Bool) (ask : ConflictsAsk) (table : TableView) (before after : Option (List ℕ)) : Type 0 where
+-- the lines of all pairs that are asked for and the last lines; it is a yes where none of them is ambiguous or unknown; the files that are asked for are made, and `refused` tells which forced pairs are not in the priority file. `Made` says that a file of a name was made with some bytes
+pub record AddsConflicts (Made : List ℕ → List ℕ → Type 0) (is_yes : Bool) (refused : List ℕ) (ask : ConflictsAsk) (table : TableView) (before after : Option (List ℕ)) : Type 0 where
   pub known : List KnownPair
   pub are_all : AreFirst ask table known []
   pub yes : is_yes ≡ true → (count_of is_ambiguous known ≡ 0) × (count_of is_unknown known ≡ 0)
   pub no : is_yes ≡ false → 0 < count_of is_ambiguous known + count_of is_unknown known
-  pub adds : Adds before (pair_lines ask table known ++ last_line ask known) after
+  pub adds : Adds before (pair_lines ask table known ++ last_lines ask table known) after
+  pub files : All (λ k. KeepsWitness Made table ask.files k.formats k.decision) known
+  pub forces : Forces Made table ask.budget ask.priorities (notes_of known) refused
+
+-- the error output grows by the progress, where it is asked for, and by lines behind it
+pub record TellsRefused (progress : Bool) (refused : List ℕ) (before after : Option (List ℕ)) : Type 0 where
+  pub mid : Option (List ℕ)
+  pub shows : AddsIf progress Pairs before mid
+  pub tells : Adds mid refused after
+
+-- and the error output tells the progress, where it is asked for, and behind it the forced pairs that are not written, unless a write to it failed
+pub record Settles (Made : List ℕ → List ℕ → Type 0) (progress is_yes : Bool) (ask : ConflictsAsk) (table : TableView) (before after : Option (List ℕ)) (err_failed : Bool) (err_before err_after : Option (List ℕ)) : Type 0 where
+  pub refused : List ℕ
+  pub adds : AddsConflicts Made is_yes refused ask table before after
+  pub tells : err_failed ≡ false → TellsRefused progress refused err_before err_after
 
 -- the lines of the first pairs, and not the last line
 pub record AddsFirstPairs (ask : ConflictsAsk) (table : TableView) (before after : Option (List ℕ)) : Type 0 where
@@ -177,16 +217,33 @@ pub record AddsFirstPairs (ask : ConflictsAsk) (table : TableView) (before after
   pub are_first : AreFirst ask table known others
   pub adds : Adds before (pair_lines ask table known) after
 
--- a front of the bytes of these lines, or of those of all pairs and the last line
+-- a front of the bytes of these lines, or of those of all pairs and the last lines
 pub record AddsFrontOfPairs (ask : ConflictsAsk) (table : TableView) (before after : Option (List ℕ)) : Type 0 where
   pub known : List KnownPair
   pub others : List (ℕ × ℕ)
   pub are_first : AreFirst ask table known others
   pub text : List ℕ
-  pub is_text : (text ≡ pair_lines ask table known) ⊎ ((others ≡ []) × (text ≡ pair_lines ask table known ++ last_line ask known))
+  pub is_text : (text ≡ pair_lines ask table known) ⊎ ((others ≡ []) × (text ≡ pair_lines ask table known ++ last_lines ask table known))
   pub adds : AddsFront before text after
 
--- where memory ran out the lines of the first pairs are written, and after a failed write a front of such bytes
-abbrev pub IsCutShort : CutShort → ConflictsAsk → TableView → Bool → Option (List ℕ) → Option (List ℕ) → Type 0
-IsCutShort Write ask table is_failed before after = (is_failed ≡ true) × AddsFrontOfPairs ask table before after
-IsCutShort OutOfMemory ask table is_failed before after = AddsFirstPairs ask table before after
+-- the lines of the pairs before the one whose file has this name
+pub record StopsBefore (ask : ConflictsAsk) (table : TableView) (name : WitnessName) (before after : Option (List ℕ)) : Type 0 where
+  pub known : List KnownPair
+  pub formats : ℕ × ℕ
+  pub others : List (ℕ × ℕ)
+  pub is_named : IsWitnessOf table formats name
+  pub are_first : AreFirst ask table known (formats ∷ others)
+  pub adds : Adds before (pair_lines ask table known) after
+
+-- a folder or a file that is asked for can't be made: then no line is written, or those before the file's pair; where memory ran out, or a write to a file failed, the lines of the first pairs are written; and where a write of lines failed a front of such bytes. `failed` tells it of a file, `is_failed` of the output
+abbrev pub StopsPairs : {F : Type 0} → (F → Bool) → PairsFault → ConflictsAsk → TableView → Bool → Option (List ℕ) → Option (List ℕ) → Type 0
+StopsPairs failed (CannotOpen name) ask table is_failed before after = (ask.files ≡ Some name) ⊎ (ask.priorities ≡ Some name)
+StopsPairs failed (NoFile folder name) ask table is_failed before after = (ask.files ≡ Some folder) × StopsBefore ask table name before after
+StopsPairs failed (Cut Write) ask table is_failed before after = ((is_failed ≡ true) × AddsFrontOfPairs ask table before after) ⊎ (SomeMadeFailed failed × AddsFirstPairs ask table before after)
+StopsPairs failed (Cut OutOfMemory) ask table is_failed before after = AddsFirstPairs ask table before after
+
+-- nothing was searched
+abbrev pub IsBeforeSearch : PairsFault → Type 0
+IsBeforeSearch (CannotOpen name) = ⊤
+IsBeforeSearch (NoFile folder name) = ⊥
+IsBeforeSearch (Cut cut) = ⊥

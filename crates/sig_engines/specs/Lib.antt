@@ -4,15 +4,18 @@ pub mod ClassTexts
 pub mod Conflicts
 pub mod Fates
 pub mod Finding
+pub mod Forced
 pub mod Judged
 pub mod Lines
 pub mod ManyFiles
+pub mod Notes
 pub mod Progress
 pub mod Shown
 pub mod Stores
 pub mod Tellings
 pub mod Texts
 pub mod Witnessed
+pub mod Witnesses
 pub mod Writing
 pub use Rattle.sig_bits.specs.Device
 pub use Rattle.sig_cert.specs.Deciding
@@ -25,3 +28,4 @@ pub use Rattle.sig_table.specs.Views
 -- The vocabulary of proofs.
 pub mod Metered
 pub mod Pairs
+pub mod Ranking

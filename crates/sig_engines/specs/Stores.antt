@@ -50,6 +50,10 @@ pub record IsMade {F : Type 0} (name_of written : F → Option (List ℕ)) (is_f
   pub adds : Adds (written file) bytes (written after)
   pub sound : is_failed after ≡ false
 
+-- nothing is said of a file of this name with these bytes
+abbrev pub IsAny : List ℕ → List ℕ → Type 0
+IsAny name bytes = ⊤
+
 -- a reader has failed
 pub record SomeFailed {R : Type 0} (failed : R → Bool) : Type 0 where
   pub reader : R

@@ -1,27 +1,48 @@
 //! What `conflicts` is asked for.
 
 ghost use Rattle.std.specs.Prelude.{◌≡◌};
-ghost use Rattle.sig_engines.specs.Asks.{IsFormatNamed, is_asked};
+ghost use Rattle.sig_engines.specs.Asks.{IsFormatNamed, is_asked, needs_class, shows_class};
 
 use sig_table::{FormatId, Puid, Table};
 
 /// What `conflicts` is asked for.
 #[derive(Clone, Copy, Debug, PartialEq, Eq)]
-pub struct ConflictsAsk {
+pub struct ConflictsAsk<'a> {
     /// The greatest number of rows of one search.
     pub budget: u32,
     /// The lines have the bytes of their files.
     pub hex: bool,
     /// The lines have the class of their pair, and the last line counts the classes.
     pub class: bool,
+    /// A line for each format, with the classes of its pairs, in place of the lines of the pairs. The
+    /// last line counts the classes here, too.
+    pub summary: bool,
     /// The pairs of this format alone.
     pub only: Option<FormatId>,
+    /// The name of a priority file that is made: the priorities of the table and the forced pairs.
+    pub priorities: Option<&'a str>,
+    /// The name of a folder in which the file of each ambiguous pair is made.
+    pub files: Option<&'a str>,
 }
 
-impl ConflictsAsk {
+impl ConflictsAsk<'_> {
+    /// Whether the classes are printed.
+    pub(crate) fn shows_class(self) -> bool
+        ensures { result ≡ shows_class self.entry }
+    {
+        self.class || self.summary
+    }
+
+    /// Whether the class of each ambiguous pair is to be found.
+    pub(crate) fn needs_class(self) -> bool
+        ensures { result ≡ needs_class self.entry }
+    {
+        self.shows_class() || self.priorities.is_some()
+    }
+
     /// Whether the pair of these two formats is asked for.
     pub(crate) fn has_pair(self, a: FormatId, b: FormatId) -> bool
-        ensures { result ≡ is_asked self.only (a.0, b.0) }
+        ensures { result ≡ is_asked self.entry.only (a.0, b.0) }
     {
         match self.only {
             None => true,

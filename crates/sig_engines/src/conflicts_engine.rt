@@ -1,92 +1,204 @@
 //! `conflicts`, over any output: the pairs of formats of a table, one after another.
 //!
 //! A line is written as soon as its pair is known. So where memory runs out or a write fails, the
-//! lines before stand, and the last line is missing. Where classes are asked for, each signature of
+//! lines before stand, and the last line is missing. Where classes are needed, each signature of
 //! the table is decided once before the first pair (`lives_of_table`), since a format is in many
-//! pairs.
+//! pairs. What is made of all pairs together, a line for each format and the forced pairs, is made
+//! of their notes at the end.
 
-ghost use Rattle.std.specs.Prelude.{◌≡◌, ◌↔◌, ◌+◌, ◌-◌, ◌^◌, ◌<◌, [], None, Some, false, true, IfErr, IfOk, IsTrue, OnOk, length, option_map};
-ghost use Rattle.sig_engines.specs.Conflicts.{AddsConflicts, IsClassOf, IsCutShort, classes_in, pairs_in};
-ghost use Rattle.sig_engines.specs.Pairs.{AreLivesAsked, AreTold, IsPairCut, IsTold};
-ghost use Rattle.sig_engines.specs.Progress.{ShowsIf};
+ghost use Rattle.std.specs.Prelude.{◌≡◌, ◌↔◌, ◌+◌, ◌-◌, ◌++◌, ◌^◌, ◌<◌, [], None, Some, All, false, true, IfErr, IfOk, IsSome, IsTrue, OnOk, length, option_map, string_bytes};
+ghost use Rattle.sig_engines.specs.Conflicts.{AddsConflicts, IsBeforeSearch, IsClassOf, IsCounted, StopsPairs, asked_line, classes_in, counts_line, pairs_in};
+ghost use Rattle.sig_engines.specs.Forced.{Forces};
+ghost use Rattle.sig_engines.specs.Notes.{noted, summary_if_asked};
+ghost use Rattle.sig_engines.specs.Pairs.{AreLivesAsked, AreTold, IsFileAsked, IsFileFault, IsPairCut, IsRankFault, IsTargetFault, IsTold};
+ghost use Rattle.sig_engines.specs.Ranking.{IsOfFormats};
+ghost use Rattle.sig_engines.specs.Stores.{IsMade};
+ghost use Rattle.sig_engines.specs.Asks.{shows_class};
+ghost use Rattle.sig_engines.specs.Witnesses.{KeepsWitness};
 ghost use Rattle.sig_bits.specs.Device.{Adds, AddsFront};
-ghost use Rattle.sig_cert.specs.Deciding.{Decided};
+ghost use Rattle.sig_cert.specs.Deciding.{AreFormats, Decided};
 ghost use Rattle.sig_cert.specs.Pairs.{AreRelated};
+ghost use Rattle.sig_find.specs.FormatPairs.{NamesSignatures};
 ghost use Rattle.sig_table.specs.Tables.{IsTable};
 
 use crate::ask::ConflictsAsk;
 use crate::counts::Counts;
-use crate::error::CutShort;
+use crate::error::{CutShort, PairsFault};
+use crate::forced::rank_forced;
+use crate::note::Note;
 use crate::pair_lines::{line_of_counts, line_of_pair};
-use crate::progress::{Meter, Things};
+use crate::store::Store;
+use crate::summary::push_summary;
+use crate::witness_name::WitnessName;
 use sig_bits::Output;
 use sig_find::{
-    Observer, PairClass, PairDecision, TableLives, Unobserved, class_of_pair, decide_pair,
-    lives_of_table,
+    Observer, PairClass, PairDecision, TableLives, class_of_pair, decide_pair, lives_of_table,
 };
-use sig_table::{FormatId, Table};
+use sig_table::{FormatId, OutError, Table};
 use std::alloc::{AllocError, Global};
 
-/// Writes a line for each pair of formats that is asked for and not known to be decided, and a last
-/// one with the counts. Answers whether all these pairs are decided: then the table is, if all pairs
-/// were asked for.
+/// What `conflicts` answers.
+#[derive(Debug, Drop)]
+pub struct PairsAnswer {
+    /// Each pair that was asked for is decided.
+    pub all_decided: bool,
+    /// A line for each forced pair that does not stand in the priority file.
+    pub refused: String,
+}
+
+/// Writes a line for each pair of formats that is asked for and not known to be decided, or one for
+/// each format, and a last one with the counts. Answers whether all these pairs are decided: then the
+/// table is, if all pairs were asked for.
 ///
 /// Of a pair without a line no file leaves both formats, and the file of an `ambiguous` line leaves
-/// both. The observer is told how many of how many pairs are done, at once and after each.
+/// both. The folder and the files that are asked for are made: those of the pairs before their lines,
+/// and the priority file before the search, and it is written behind it. The observer is told how
+/// many of how many pairs are done, at once and after each.
 #[inline(never)]
-pub fn run_conflicts<W: Output, O: Observer>(
+pub fn run_conflicts<'a, S: Store, W: Output, O: Observer>(
     alloc: Global,
+    store: &S,
     table: &Table,
-    ask: ConflictsAsk,
+    ask: ConflictsAsk<'a>,
     out: &mut W,
     observer: &mut O,
-) -> Result<bool, CutShort>
-    ensures answers { IfOk result (λ is_yes. AddsConflicts is_yes ask table.now (W.written out.old) (W.written out.new)) }
-    ensures decided { IfOk result (λ is_yes. is_yes ≡ true → ask.only ≡ None → Decided table.now) }
+) -> Result<PairsAnswer, PairsFault<'a>>
+    ensures answers { IfOk result (λ answer. AddsConflicts (IsMade S.name_of S.Writer.written S.Writer.failed (S.held store.now))
+        answer.all_decided (string_bytes answer.refused) ask.entry table.now (W.written out.old) (W.written out.new)) }
+    ensures decided { IfOk result (λ answer. answer.all_decided ≡ true → ask.entry.only ≡ None → Decided table.now) }
     ensures writes { OnOk result (W.failed out.new ≡ false) }
-    ensures cut { IfErr result (λ e. IsCutShort e ask table.now (W.failed out.new) (W.written out.old) (W.written out.new)) }
+    ensures stops { IfErr result (λ fault. StopsPairs S.Writer.failed fault ask.entry table.now (W.failed out.new) (W.written out.old) (W.written out.new)) }
+    ensures untouched { IfErr result (λ fault. IsBeforeSearch fault → out.new ≡ out.old) }
+    ensures observed { O.becomes observer.old observer.new }
+{
+    let file = make_targets(store, ask)?;
+    answer_pairs(alloc, store, table, ask, file, out, observer)
+}
+
+/// Makes the folder and the priority file that are asked for.
+pub(crate) fn make_targets<'a, S: Store>(
+    store: &S,
+    ask: ConflictsAsk<'a>,
+) -> Result<Option<S::Writer>, PairsFault<'a>>
+    ensures made { IfOk result (IsFileAsked S.name_of S.Writer.written S.Writer.failed (S.held store.now) ask.entry.priorities) }
+    ensures faults { IfErr result (λ fault. IsTargetFault fault ask.entry) }
+{
+    if let Some(folder) = ask.files {
+        if !store.make_folder(folder) {
+            return Err(PairsFault::CannotOpen(folder));
+        }
+    }
+    let Some(name) = ask.priorities else {
+        return Ok(None);
+    };
+    match store.create(name) {
+        Some(file) => Ok(Some(file)),
+        None => Err(PairsFault::CannotOpen(name)),
+    }
+}
+
+/// The same over a priority file that was made, where one is asked for.
+pub(crate) fn answer_pairs<'a, S: Store, W: Output, O: Observer>(
+    alloc: Global,
+    store: &S,
+    table: &Table,
+    ask: ConflictsAsk<'a>,
+    file: Option<S::Writer>,
+    out: &mut W,
+    observer: &mut O,
+) -> Result<PairsAnswer, PairsFault<'a>>
+    requires { IsFileAsked S.name_of S.Writer.written S.Writer.failed (S.held store.now) ask.priorities file }
+    ensures answers { IfOk result (λ answer. AddsConflicts (IsMade S.name_of S.Writer.written S.Writer.failed (S.held store.now))
+        answer.all_decided (string_bytes answer.refused) ask.entry table.now (W.written out.old) (W.written out.new)) }
+    ensures decided { IfOk result (λ answer. answer.all_decided ≡ true → ask.entry.only ≡ None → Decided table.now) }
+    ensures writes { OnOk result (W.failed out.new ≡ false) }
+    ensures stops { IfErr result (λ fault. StopsPairs S.Writer.failed fault ask.entry table.now (W.failed out.new) (W.written out.old) (W.written out.new)) }
+    ensures searched { IfErr result (λ fault. ¬ IsBeforeSearch fault) }
     ensures observed { O.becomes observer.old observer.new }
 {
     let lives = lives_if_asked(alloc, table, ask)?;
-    let counts = write_pairs(alloc, table, ask, lives.as_ref(), out, observer)?;
-    let line = line_of_counts(alloc, counts, ask.class)?;
-    write_line(line.as_str(), out)?;
-    Ok(counts.are_all_decided())
+    let told = write_pairs(alloc, store, table, ask, lives.as_ref(), out, observer)?;
+    let refused = write_forced(alloc, store, table, ask, &told.notes, file)?;
+    let lines = last_lines(alloc, table, ask, told.counts, &told.notes)?;
+    write_line(lines.as_str(), out)?;
+    Ok(PairsAnswer {
+        all_decided: told.counts.are_all_decided(),
+        refused,
+    })
 }
 
-// The lives of the signatures of the table, where classes are asked for.
+// The lives of the signatures of the table, where classes are needed.
 fn lives_if_asked(
     alloc: Global,
     table: &Table,
-    ask: ConflictsAsk,
+    ask: ConflictsAsk<'_>,
 ) -> Result<Option<TableLives>, AllocError>
-    ensures { IfOk result (λ lives. AreLivesAsked ask table.now lives) }
+    ensures { IfOk result (λ lives. AreLivesAsked ask.entry table.now lives) }
 {
-    if ask.class {
+    if ask.needs_class() {
         Ok(Some(lives_of_table(alloc, table, ask.budget)?))
     } else {
         Ok(None)
     }
 }
 
+// What is known of the pairs so far: how many there are of each kind, and a note of each that has a
+// line.
+#[derive(Drop)]
+struct Told {
+    counts: Counts,
+    notes: Vec<Note>,
+}
+
+impl Told {
+    // One pair more.
+    fn add(
+        &mut self,
+        a: FormatId,
+        b: FormatId,
+        decision: &PairDecision,
+        class: Option<PairClass>,
+    ) -> Result<(), AllocError>
+        requires few { pairs_in self.old.counts < 2 ^ 32 - 1 }
+        requires few_classes { classes_in self.old.counts < 2 ^ 32 - 1 }
+        ensures counted { OnOk result (IsCounted self.old.counts self.new.counts (Some decision.now) class) }
+        ensures noted { OnOk result (self.new.notes.items ≡ self.old.notes.items ++ noted (a.0, b.0) (Some decision.now) class) }
+    {
+        self.counts.add(decision, class);
+        match decision {
+            PairDecision::Decided => Ok(()),
+            PairDecision::Ambiguous { .. } | PairDecision::Unknown { .. } => {
+                self.notes.push(Note { a, b, class })?;
+                Ok(())
+            }
+        }
+    }
+}
+
 // Writes the lines of all pairs that are asked for, in table order.
-fn write_pairs<W: Output, O: Observer>(
+fn write_pairs<'a, S: Store, W: Output, O: Observer>(
     alloc: Global,
+    store: &S,
     table: &Table,
-    ask: ConflictsAsk,
+    ask: ConflictsAsk<'a>,
     lives: Option<&TableLives>,
     out: &mut W,
     observer: &mut O,
-) -> Result<Counts, CutShort>
+) -> Result<Told, PairsFault<'a>>
     requires { AreLivesAsked ask table.now (option_map (λ l. l.now) lives) }
-    ensures told { IfOk result (λ counts. AreTold ask table.now [] counts (W.written out.old) (W.written out.new)) }
+    ensures told { IfOk result (λ told. AreTold (IsMade S.name_of S.Writer.written S.Writer.failed (S.held store.now)) ask.entry table.now []
+        told.counts told.notes.items (W.written out.old) (W.written out.new)) }
     ensures limits { IsTable table.now }
-    ensures few { IfOk result (λ counts. pairs_in counts < 2 ^ 32) }
-    ensures cut { IfErr result (λ e. IsCutShort e ask table.now (W.failed out.new) (W.written out.old) (W.written out.new)) }
+    ensures few { IfOk result (λ told. pairs_in told.counts < 2 ^ 32) }
+    ensures stops { IfErr result (λ fault. StopsPairs S.Writer.failed fault ask.entry table.now (W.failed out.new) (W.written out.old) (W.written out.new)) }
+    ensures searched { IfErr result (λ fault. ¬ IsBeforeSearch fault) }
     ensures observed { O.becomes observer.old observer.new }
 {
     let formats = table.format_count() as u16;
-    let mut counts = Counts::new();
+    let mut told = Told {
+        counts: Counts::new(),
+        notes: Vec::new(alloc),
+    };
     let pairs = pair_count(table, ask);
     observer.report(0, pairs);
     for i in 0..formats {
@@ -95,15 +207,15 @@ fn write_pairs<W: Output, O: Observer>(
             if !ask.has_pair(a, b) {
                 continue;
             }
-            write_pair(alloc, table, ask, lives, a, b, &mut counts, out)?;
-            observer.report(u64::from(counts.pairs()), pairs);
+            write_pair(alloc, store, table, ask, lives, a, b, &mut told, out)?;
+            observer.report(u64::from(told.counts.pairs()), pairs);
         }
     }
-    Ok(counts)
+    Ok(told)
 }
 
 // How many pairs of formats are asked for of which neither outranks the other.
-fn pair_count(table: &Table, ask: ConflictsAsk) -> u64 {
+fn pair_count(table: &Table, ask: ConflictsAsk<'_>) -> u64 {
     let formats = table.format_count() as u16;
     let mut count = 0u64;
     for i in 0..formats {
@@ -117,49 +229,51 @@ fn pair_count(table: &Table, ask: ConflictsAsk) -> u64 {
     count
 }
 
-// Settles one pair, counts it and writes its line, if it has one.
-fn write_pair<W: Output>(
+// Settles one pair, notes it, keeps its file and writes its line, if it has them.
+fn write_pair<'a, S: Store, W: Output>(
     alloc: Global,
+    store: &S,
     table: &Table,
-    ask: ConflictsAsk,
+    ask: ConflictsAsk<'a>,
     lives: Option<&TableLives>,
     a: FormatId,
     b: FormatId,
-    counts: &mut Counts,
+    told: &mut Told,
     out: &mut W,
-) -> Result<(), CutShort>
+) -> Result<(), PairsFault<'a>>
     requires lives { AreLivesAsked ask table.now (option_map (λ l. l.now) lives) }
-    requires first { a.0 < length table.now.formats }
-    requires second { b.0 < length table.now.formats }
-    requires few { pairs_in counts.old < 2 ^ 32 - 1 }
-    requires few_classes { classes_in counts.old < 2 ^ 32 - 1 }
-    ensures told { OnOk result (IsTold ask table.now (a.0, b.0) counts.old counts.new (W.written out.old) (W.written out.new)) }
-    ensures cut { IfErr result (λ e. IsPairCut e ask table.now (a.0, b.0) (W.failed out.new) (W.written out.old) (W.written out.new)) }
+    requires formats { AreFormats table.now (a, b) }
+    requires few { pairs_in told.old.counts < 2 ^ 32 - 1 }
+    requires few_classes { classes_in told.old.counts < 2 ^ 32 - 1 }
+    ensures told { OnOk result (IsTold (IsMade S.name_of S.Writer.written S.Writer.failed (S.held store.now)) ask.entry table.now (a.0, b.0)
+        told.old.counts told.new.counts told.old.notes.items told.new.notes.items (W.written out.old) (W.written out.new)) }
+    ensures cut { IfErr result (λ fault. IsPairCut S.Writer.failed fault ask.entry table.now (a.0, b.0) (W.failed out.new) (W.written out.old) (W.written out.new)) }
 {
     if are_related(table, a, b) {
         return Ok(());
     }
     let decision = decide_pair(alloc, table, a, b, ask.budget)?;
     let class = class_if_asked(alloc, table, ask, lives, a, b, &decision)?;
-    let line = line_of_pair(alloc, table, a, b, &decision, class, ask.hex)?;
-    counts.add(&decision, class);
-    write_line(line.as_str(), out)
+    let line = line_if_asked(alloc, table, ask, a, b, &decision, class)?;
+    told.add(a, b, &decision, class)?;
+    keep_witness(alloc, store, table, ask, a, b, &decision)?;
+    write_line(line.as_str(), out)?;
+    Ok(())
 }
 
-// The class of a pair that is ambiguous, where classes are asked for.
+// The class of a pair that is ambiguous, where classes are needed.
 fn class_if_asked(
     alloc: Global,
     table: &Table,
-    ask: ConflictsAsk,
+    ask: ConflictsAsk<'_>,
     lives: Option<&TableLives>,
     a: FormatId,
     b: FormatId,
     decision: &PairDecision,
 ) -> Result<Option<PairClass>, AllocError>
     requires lives { AreLivesAsked ask table.now (option_map (λ l. l.now) lives) }
-    requires first { a.0 < length table.now.formats }
-    requires second { b.0 < length table.now.formats }
-    ensures { IfOk result (λ class. IsClassOf ask table.now (a.0, b.0) (Some decision.now) class) }
+    requires formats { AreFormats table.now (a, b) }
+    ensures { IfOk result (λ class. IsClassOf ask.entry table.now (a.0, b.0) (Some decision.now) class) }
 {
     let Some(lives) = lives else {
         return Ok(None);
@@ -170,6 +284,108 @@ fn class_if_asked(
         }
         PairDecision::Decided | PairDecision::Unknown { .. } => Ok(None),
     }
+}
+
+// The line of a pair; nothing where each format has a line instead.
+fn line_if_asked(
+    alloc: Global,
+    table: &Table,
+    ask: ConflictsAsk<'_>,
+    a: FormatId,
+    b: FormatId,
+    decision: &PairDecision,
+    class: Option<PairClass>,
+) -> Result<String, AllocError>
+    requires formats { AreFormats table.now (a, b) }
+    requires signatures { NamesSignatures table.now (a.0, b.0) decision.now }
+    ensures { IfOk result (λ line. string_bytes line ≡ asked_line ask.entry table.now (a.0, b.0) decision.now class) }
+{
+    if ask.summary {
+        return Ok(String::new(alloc));
+    }
+    let shown = if ask.class { class } else { None };
+    line_of_pair(alloc, table, a, b, decision, shown, ask.hex)
+}
+
+// Writes the file of an ambiguous pair, where there is a folder for it.
+fn keep_witness<'a, S: Store>(
+    alloc: Global,
+    store: &S,
+    table: &Table,
+    ask: ConflictsAsk<'a>,
+    a: FormatId,
+    b: FormatId,
+    decision: &PairDecision,
+) -> Result<(), PairsFault<'a>>
+    requires { AreFormats table.now (a, b) }
+    ensures kept { OnOk result (KeepsWitness (IsMade S.name_of S.Writer.written S.Writer.failed (S.held store.now)) table.now ask.entry.files
+        (a.0, b.0) (Some decision.now)) }
+    ensures faults { IfErr result (λ fault. IsFileFault S.Writer.failed fault ask.entry table.now (a.0, b.0)) }
+{
+    let Some(folder) = ask.files else {
+        return Ok(());
+    };
+    let PairDecision::Ambiguous { file, .. } = decision else {
+        return Ok(());
+    };
+    let name = WitnessName::of(table, a, b);
+    let path = name.path(alloc, folder)?;
+    let Some(mut made) = store.create(path.as_str()) else {
+        return Err(PairsFault::NoFile(folder, name));
+    };
+    match made.write_all(file) {
+        Ok(()) => Ok(()),
+        Err(_) => Err(PairsFault::Cut(CutShort::Write)),
+    }
+}
+
+// Writes the priorities of the table and the forced pairs to the priority file, if there is one.
+// Answers a line for each forced pair that is not written.
+fn write_forced<'a, S: Store>(
+    alloc: Global,
+    store: &S,
+    table: &Table,
+    ask: ConflictsAsk<'a>,
+    notes: &[Note],
+    file: Option<S::Writer>,
+) -> Result<String, PairsFault<'a>>
+    requires file { IsFileAsked S.name_of S.Writer.written S.Writer.failed (S.held store.now) ask.priorities file }
+    requires notes { All (IsOfFormats table.now) notes.now }
+    requires limits { IsTable table.now }
+    ensures forces { IfOk result (λ refused. Forces (IsMade S.name_of S.Writer.written S.Writer.failed (S.held store.now)) table.now
+        ask.entry.budget ask.entry.priorities notes.now (string_bytes refused)) }
+    ensures faults { IfErr result (IsRankFault S.Writer.failed) }
+{
+    let Some(mut file) = file else {
+        return Ok(String::new(alloc));
+    };
+    let forced = rank_forced(alloc, table, notes, ask.budget)?;
+    match forced.ranking.write(alloc, table, &mut file) {
+        Ok(()) => Ok(forced.refused),
+        Err(OutError::Write) => Err(PairsFault::Cut(CutShort::Write)),
+        Err(OutError::OutOfMemory) => Err(PairsFault::Cut(CutShort::OutOfMemory)),
+    }
+}
+
+// The lines behind those of the pairs: one for each format, if they are asked for, and the counts.
+fn last_lines(
+    alloc: Global,
+    table: &Table,
+    ask: ConflictsAsk<'_>,
+    counts: Counts,
+    notes: &[Note],
+) -> Result<String, AllocError>
+    requires { pairs_in counts < 2 ^ 32 }
+    ensures { IfOk result (λ lines. string_bytes lines ≡ summary_if_asked ask.entry.summary table.now notes.now
+        ++ counts_line (shows_class ask.entry) counts) }
+{
+    let mut lines = String::new(alloc);
+    if ask.summary {
+        push_summary(alloc, &mut lines, table, notes)?;
+    }
+    let last = line_of_counts(alloc, counts, ask.shows_class())?;
+    lines.push_str(last.as_str())?;
+    Ok(lines)
 }
 
 /// Writes a line, if there is one.
@@ -183,31 +399,6 @@ pub(crate) fn write_line<W: Output>(line: &str, out: &mut W) -> Result<(), CutSh
     }
     out.write_all(line.as_bytes())?;
     Ok(())
-}
-
-/// Tells `err` how many pairs are done, where that is asked for.
-#[inline(never)]
-pub fn settle<W: Output, E: Output>(
-    alloc: Global,
-    table: &Table,
-    ask: ConflictsAsk,
-    progress: bool,
-    out: &mut W,
-    err: &mut E,
-) -> Result<bool, CutShort>
-    ensures answers { IfOk result (λ is_yes. AddsConflicts is_yes ask table.now (W.written out.old) (W.written out.new)) }
-    ensures decided { IfOk result (λ is_yes. is_yes ≡ true → ask.only ≡ None → Decided table.now) }
-    ensures writes { OnOk result (W.failed out.new ≡ false) }
-    ensures cut { IfErr result (λ e. IsCutShort e ask table.now (W.failed out.new) (W.written out.old) (W.written out.new)) }
-    ensures shown { ShowsIf progress Things.Pairs (E.failed err.new) err.old err.new (E.written err.old) (E.written err.new) }
-{
-    if !progress {
-        return run_conflicts(alloc, table, ask, out, &mut Unobserved);
-    }
-    let mut meter = Meter::new(Things::Pairs, err);
-    let answer = run_conflicts(alloc, table, ask, out, &mut meter);
-    meter.end();
-    answer
 }
 
 fn are_related(table: &Table, a: FormatId, b: FormatId) -> bool

@@ -1,5 +1,6 @@
 //! Why an engine gives no answer.
 
+use crate::witness_name::WitnessName;
 use sig_bits::{DeviceFault, ReadWholeError};
 use std::alloc::AllocError;
 use std::error::Error;
@@ -122,5 +123,39 @@ impl From<ReadWholeError> for RunError {
             ReadWholeError::Read => RunError::Read,
             ReadWholeError::OutOfMemory => RunError::OutOfMemory,
         }
+    }
+}
+
+/// Why `conflicts` stopped before its last line. The lines that it wrote until then stand.
+#[derive(Clone, Copy, Debug, PartialEq, Eq)]
+pub enum PairsFault<'a> {
+    /// The folder or the priority file of this name can't be made. Nothing was searched.
+    CannotOpen(&'a str),
+    /// The file of two formats can't be made in this folder.
+    NoFile(&'a str, WitnessName),
+    /// A write failed, or a growth was refused.
+    Cut(CutShort),
+}
+
+impl From<CutShort> for PairsFault<'_> {
+    ghost use Rattle.std.specs.Prelude.{◌≡◌};
+    ghost use Rattle.sig_engines.specs.declared.error.PairsFault.{PairsFault};
+
+    ghost from_gives = { λ cut gives. gives ≡ PairsFault.Cut cut };
+
+    fn from(cut: CutShort) -> Self {
+        PairsFault::Cut(cut)
+    }
+}
+
+impl From<AllocError> for PairsFault<'_> {
+    ghost use Rattle.std.specs.Prelude.{◌≡◌};
+    ghost use Rattle.sig_engines.specs.declared.error.CutShort.{CutShort};
+    ghost use Rattle.sig_engines.specs.declared.error.PairsFault.{PairsFault};
+
+    ghost from_gives = { λ _ gives. gives ≡ PairsFault.Cut CutShort.OutOfMemory };
+
+    fn from(_error: AllocError) -> Self {
+        PairsFault::Cut(CutShort::OutOfMemory)
     }
 }

@@ -35,6 +35,10 @@ pub trait Store {
         ensures named { IfSome result (λ file. IsNamed (name_of file) name.now) }
         ensures makes { IfSome result (λ file. Makes (held self.now) (Self.Writer.written file)) }
         ensures fresh { IfSome result (λ file. Self.Writer.failed file ≡ false) };
+
+    /// Makes a folder of this name, and those that it lies in, where they are missing. Answers whether
+    /// it is there.
+    fn make_folder(&self, name: &str) -> bool;
 }
 
 /// The names of the two files of a table.
@@ -77,5 +81,9 @@ impl<R: Files> Store for SystemFiles<'_, R> {
             Ok(file) => Some(FromWrite::new(file)),
             Err(_) => None,
         }
+    }
+
+    fn make_folder(&self, name: &str) -> bool {
+        fs::create_dir_all(self.rt, name).is_ok()
     }
 }

@@ -12,6 +12,7 @@ mod LoadLemmas
 mod NumberLemmas
 mod PairLemmas
 mod PairsAgainLemmas
+mod PassingLemmas
 mod PlainLemmas
 mod PriorityLemmas
 mod PriorityRowLemmas

@@ -48,6 +48,11 @@ abbrev pub unless : {A : Type 0} → Option TableError → Result A TableError �
 unless None rest = rest
 unless (Some fault) rest = Err fault
 
+-- what goes on, and the fault that is told, where a faulty record is left out
+abbrev pub passed : {S : Type 0} → S → Result S TableError → S × Option TableError
+passed done (Ok more) = (more, None)
+passed done (Err fault) = (done, Some fault)
+
 -- what these records give, each judged by its number and what those before it gave, or the first fault
 unfoldable pub judged : {S : Type 0} → (ℕ → S → List (List ℕ) → Result S TableError) → ℕ → S → Records → Result S TableError
 judged judge row_number done [] = Ok done

@@ -4,8 +4,8 @@
 
 ghost use Rattle.std.specs.Prelude.{◌≡◌, ◌<◌, ◌≤◌, ◌∷◌, ◌++◌, ℕ, [], false, length, nat_eq, not, OnOk, MatchResult, None, Some, Ok, IfOk, IfErr, IfSome};
 ghost use Rattle.std.specs.List.{list_any, position_or_len};
-ghost use Rattle.sig_table.specs.Judging.{unless};
-ghost use Rattle.sig_table.specs.Loading.{empty_table, fault_at, fault_in, grown, index_in, with_number, with_row};
+ghost use Rattle.sig_table.specs.Judging.{passed, unless};
+ghost use Rattle.sig_table.specs.Loading.{empty_table, fault_at, fault_in, grown, with_number, with_row};
 ghost use Rattle.sig_table.specs.Judging.{IsFault, is_read};
 ghost use Rattle.sig_table.specs.Rows.{IsRow};
 ghost use Rattle.sig_table.specs.Tables.{ArePriorities, HasAllSignatures, IsTable};
@@ -28,9 +28,9 @@ const MOST_SIGNATURES: usize = 4000;
 // How many sequences a signature has at most.
 const MOST_SEQUENCES: usize = 8;
 
-// The formats and the signatures of the rows so far.
+/// The formats and the signatures of the rows so far.
 #[derive(Debug, Drop)]
-pub(crate) struct Draft {
+pub struct Draft {
     puids: IndexSet<Puid>,
     numbers: IndexSet<u32>,
     signatures: Vec<Signature>,
@@ -50,8 +50,8 @@ impl Model for Draft {
 }
 
 impl Draft {
-    // No row yet.
-    pub(crate) fn new(alloc: Global) -> Draft
+    /// No row yet.
+    pub fn new(alloc: Global) -> Draft
         ensures { result ≡ empty_table }
     {
         Draft {
@@ -72,6 +72,25 @@ impl Draft {
             return Err(fault);
         }
         self.insert(alloc, row)
+    }
+
+    // Judges the row after those so far. It is added where it has no fault, and else left out.
+    pub(crate) fn take(
+        self,
+        alloc: Global,
+        row: Row,
+        row_number: usize,
+    ) -> Result<(Draft, Option<TableError>), AllocError>
+        requires { IsRow row }
+        ensures { IfOk result (λ r. r ≡ passed self (unless (fault_in self row_number row) (Ok (with_row self row)))) }
+    {
+        if let Some(fault) = self.fault(&row, row_number) {
+            return Ok((self, Some(fault)));
+        }
+        match self.insert(alloc, row) {
+            Ok(draft) => Ok((draft, None)),
+            Err(_) => Err(AllocError),
+        }
     }
 
     // The first fault of the row.
@@ -159,20 +178,12 @@ impl Draft {
         })
     }
 
-    // The index of the format of this name.
-    pub(crate) fn index_of(&self, puid: &Puid) -> Option<u16>
-        ensures index { result ≡ index_in self.now.formats puid.now }
-        ensures within { IfSome result (λ index. index < length self.now.formats) }
+    // The formats, each with its index.
+    pub(crate) fn formats(&self) -> &IndexSet<Puid>
+        ensures formats { result.now.keys ≡ self.now.formats }
+        ensures few { length result.now.keys ≤ 1000 }
     {
-        let index = self.puids.get_index_of(puid)?;
-        Some(index as u16)
-    }
-
-    pub(crate) fn format_count(&self) -> usize
-        ensures count { result ≡ length self.now.formats }
-        ensures few { result ≤ 1000 }
-    {
-        self.puids.len()
+        &self.puids
     }
 
     // The table, with these priorities.

@@ -12,6 +12,7 @@ mod ids;
 mod laws;
 mod loader;
 mod numbers;
+mod passing;
 mod position;
 mod puid;
 mod ranking;
@@ -24,6 +25,7 @@ mod spans;
 mod table;
 mod writer;
 
+pub use draft::Draft;
 pub use error::{OutError, TableError, TableFile};
 pub use ids::{FormatId, SigId};
 pub use laws::{
@@ -31,9 +33,13 @@ pub use laws::{
     rows_are_gathered, rows_are_spelled, some_is_not_outranked, written_is_loaded,
     written_priorities_are_loaded,
 };
+pub use loader::{is_priority_header, is_signature_header};
+pub use passing::{take_pair, take_row};
 pub use position::Position;
 pub use puid::{Puid, Registry, printed_is_read};
 pub use ranking::Ranking;
+pub use records::Records;
+pub use row::read_offset;
 pub use sequence::Sequence;
 pub use signatures_of::SignaturesOf;
 pub use table::Table;

@@ -5,7 +5,7 @@
 //! Rows and pairs go by one fold (`judged`), whose laws hold for both. A reader of `csv` drops a
 //! UTF-8 byte order mark.
 
-ghost use Rattle.std.specs.Prelude.{◌≡◌, ◌<◌, ◌⊎◌, [], List, ℕ, length, Some, true, false, Ok, Err, OnOk, IfOk, IfErr, IfSome, IsErr, IsErrOf, IsTrue, MatchResult};
+ghost use Rattle.std.specs.Prelude.{◌≡◌, ◌<◌, ◌≤◌, ◌⊎◌, [], List, ℕ, length, Some, true, false, Ok, Err, OnOk, IfOk, IfErr, IfSome, IsErr, IsErrOf, IsTrue, MatchResult};
 ghost use Rattle.csv.specs.Records.{fields_of};
 ghost use Rattle.sig_bits.specs.Device.{IsAtEnd};
 ghost use Rattle.sig_table.specs.Loading.{is_of_signatures, is_priority_header, is_signature_header, empty_table, pair_of, pairs_from, pairs_of, index_in, records_of, signatures_of, table_from, table_of, with_pair, with_record};
@@ -142,8 +142,8 @@ fn add_row(
     draft.add(alloc, row, row_number)
 }
 
-// Whether the record is the header of a signature file.
-fn is_signature_header(line: &ByteRecord) -> bool
+/// Whether the record is the header of a signature file.
+pub fn is_signature_header(line: &ByteRecord) -> bool
     ensures { result ≡ is_signature_header (fields_of line.now) }
 {
     line.len() == 6
@@ -190,7 +190,7 @@ fn read_pairs(
         (λ e. (is_of_signatures e ≡ false) × IsFault (pairs_from draft.now.formats 1 [] records.old) e) }
     ensures limits { IfOk result (λ pairs. ArePriorities (length draft.now.formats) pairs.keys) }
 {
-    let Ok(mut ranking) = Ranking::new(alloc, draft.format_count()) else {
+    let Ok(mut ranking) = Ranking::new(alloc, draft.formats().len()) else {
         return Err(TableError::OutOfMemory);
     };
     let mut record = ByteRecord::new(alloc);
@@ -217,17 +217,22 @@ fn add_pair(
         (λ e. (is_of_signatures e ≡ false) × IsFault (with_pair draft.now.formats row_number ranking.pairs (fields_of fields.now)) e) }
     ensures formats { IfOk result (λ more. more.format_count ≡ length draft.now.formats) }
 {
-    let pair = read_pair(draft, fields, row_number)?;
+    let pair = read_pair(draft.formats(), fields, row_number)?;
     ranking.add(pair, row_number)
 }
 
-// The pair that the record writes.
+// The pair that the record writes, of these formats.
 #[tactic(auto, unfolding(crate::specs::Loading::pair_of))]
-fn read_pair(draft: &Draft, line: &ByteRecord, row_number: usize) -> Result<(u16, u16), TableError>
-    ensures pair { result ≡ pair_of draft.now.formats row_number (fields_of line.now) }
+pub(crate) fn read_pair(
+    formats: &IndexSet<Puid>,
+    line: &ByteRecord,
+    row_number: usize,
+) -> Result<(u16, u16), TableError>
+    requires { length formats.now.keys ≤ 1000 }
+    ensures pair { result ≡ pair_of formats.now.keys row_number (fields_of line.now) }
     ensures later { IfErr result (λ e. (is_of_signatures e ≡ false) × (is_read e ≡ false)) }
-    ensures higher { IfOk result (λ pair. pair.0 < length draft.now.formats) }
-    ensures lower { IfOk result (λ pair. pair.1 < length draft.now.formats) }
+    ensures higher { IfOk result (λ pair. pair.0 < length formats.now.keys) }
+    ensures lower { IfOk result (λ pair. pair.1 < length formats.now.keys) }
     ensures other { IfOk result (λ pair. ¬ (pair.0 ≡ pair.1)) }
 {
     let file = TableFile::Priorities;
@@ -239,26 +244,28 @@ fn read_pair(draft: &Draft, line: &ByteRecord, row_number: usize) -> Result<(u16
     }
     let higher = read_puid(field(line, 0), file, row_number)?;
     let lower = read_puid(field(line, 1), file, row_number)?;
-    let higher = read_format(draft, &higher, row_number)?;
-    let lower = read_format(draft, &lower, row_number)?;
+    let higher = read_format(formats, &higher, row_number)?;
+    let lower = read_format(formats, &lower, row_number)?;
     if higher == lower {
         return Err(TableError::PrioritySelf { row: row_number });
     }
     Ok((higher, lower))
 }
 
-// The format of this name.
-fn read_format(draft: &Draft, puid: &Puid, row_number: usize) -> Result<u16, TableError>
-    ensures format { result ≡ ok_or (index_in draft.now.formats puid.now) (TableError.PriorityUnknown row_number) }
-    ensures within { IfOk result (λ format. format < length draft.now.formats) }
+// The index of the format of this name.
+fn read_format(formats: &IndexSet<Puid>, puid: &Puid, row_number: usize) -> Result<u16, TableError>
+    requires { length formats.now.keys ≤ 1000 }
+    ensures format { result ≡ ok_or (index_in formats.now.keys puid.now) (TableError.PriorityUnknown row_number) }
+    ensures within { IfOk result (λ format. format < length formats.now.keys) }
 {
-    draft
-        .index_of(puid)
-        .ok_or(TableError::PriorityUnknown { row: row_number })
+    match formats.get_index_of(puid) {
+        Some(index) => Ok(index as u16),
+        None => Err(TableError::PriorityUnknown { row: row_number }),
+    }
 }
 
-// Whether the record is the header of a priority file.
-fn is_priority_header(line: &ByteRecord) -> bool
+/// Whether the record is the header of a priority file.
+pub fn is_priority_header(line: &ByteRecord) -> bool
     ensures { result ≡ is_priority_header (fields_of line.now) }
 {
     line.len() == 2

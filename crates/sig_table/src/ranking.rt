@@ -7,7 +7,7 @@
 
 ghost use Rattle.std.specs.Prelude.{◌≡◌, ◌⊎◌, ℕ, ◌<◌, ◌≤◌, ◌↔◌, ◌∷◌, ◌++◌, [], List, IsTrue, IfOk, IfSome, MatchResult, None, Ok, false, length};
 ghost use Rattle.sig_table.specs.FormatSets.{HasFormat};
-ghost use Rattle.sig_table.specs.Judging.{unless};
+ghost use Rattle.sig_table.specs.Judging.{passed, unless};
 ghost use Rattle.sig_table.specs.Loading.{is_listed, is_of_signatures, pair_fault};
 ghost use Rattle.sig_table.specs.Ranking.{Outranks, is_above};
 ghost use Rattle.sig_table.specs.RankingViews.{AreBelow};
@@ -86,8 +86,8 @@ impl Ranking {
         self.pairs.as_slice()
     }
 
-    // No pair yet, of so many formats.
-    pub(crate) fn new(alloc: Global, format_count: usize) -> Result<Ranking, AllocError>
+    /// No pair yet, of so many formats.
+    pub fn new(alloc: Global, format_count: usize) -> Result<Ranking, AllocError>
         requires { format_count ≤ 1000 }
         ensures { IfOk result (λ r. r ≡ record { format_count = format_count; pairs = [] }) }
     {
@@ -111,6 +111,27 @@ impl Ranking {
             return Err(fault);
         }
         self.insert(pair).map_err(|_| TableError::OutOfMemory)
+    }
+
+    // Judges the pair of the row. It is added where it has no fault, and else left out.
+    pub(crate) fn take(
+        self,
+        pair: (u16, u16),
+        row_number: usize,
+    ) -> Result<(Ranking, Option<TableError>), AllocError>
+        requires higher { pair.0 < self.format_count }
+        requires lower { pair.1 < self.format_count }
+        requires other { ¬ (pair.0 ≡ pair.1) }
+        ensures formats { IfOk result (λ r. r.0.format_count ≡ self.format_count) }
+        ensures pairs { IfOk result (λ r. (r.0.pairs, r.1) ≡ passed self.pairs (unless (pair_fault self.pairs row_number pair) (Ok (self.pairs ++ pair ∷ [])))) }
+    {
+        if let Some(fault) = self.fault(pair, row_number) {
+            return Ok((self, Some(fault)));
+        }
+        match self.insert(pair) {
+            Ok(ranking) => Ok((ranking, None)),
+            Err(_) => Err(AllocError),
+        }
     }
 
     #[tactic(auto, unfolding(crate::specs::Loading::pair_fault))]

@@ -18,7 +18,7 @@ use std::marker::Model;
 
 /// The records of a text that are still to come. One is in memory at a time.
 #[derive(Drop)]
-pub(crate) struct Records<'a> {
+pub struct Records<'a> {
     reader: Reader<&'a [u8]>,
 }
 
@@ -34,7 +34,8 @@ impl<'a> Model for Records<'a> {
 }
 
 impl<'a> Records<'a> {
-    pub(crate) fn new(alloc: Global, text: &'a [u8]) -> Records<'a>
+    /// All records of the text.
+    pub fn new(alloc: Global, text: &'a [u8]) -> Records<'a>
         ensures { result ≡ records_of text.now }
     {
         let reader = ReaderBuilder::new()
@@ -45,7 +46,7 @@ impl<'a> Records<'a> {
     }
 
     /// Reads the next record into `fields`, and says whether there was one.
-    pub(crate) fn read(&mut self, fields: &mut ByteRecord) -> Result<bool, TableError>
+    pub fn read(&mut self, fields: &mut ByteRecord) -> Result<bool, TableError>
         ensures next { IfOk result (λ found. MatchBool found (self.old ≡ fields_of fields.new ∷ self.new) (self.old ≡ [])) }
         ensures memory { IfErr result (λ e. e ≡ TableError.OutOfMemory) }
     {

@@ -131,8 +131,8 @@ fn read_range(offset: &[u8], max: &[u8]) -> Option<(u16, u16)>
     if max < min { None } else { Some((min, max)) }
 }
 
-// A number that is at most 65,535.
-fn read_offset(text: &[u8]) -> Option<u16>
+/// The number of at most 65,535 that the text writes, if it writes one.
+pub fn read_offset(text: &[u8]) -> Option<u16>
     ensures { result ≡ offset_of text.now }
 {
     let number = read_number(text, 5)?;

@@ -1,7 +1,7 @@
-//! `conflicts` with classes, and of one format alone: tables and their lines, worked out by hand.
+//! `conflicts` with classes, by formats, and of one format alone: tables and their lines, worked out by hand.
 
 use crate::tests::table_of;
-use fixtures::{EVERY_FILE, OVER_FIRST, Rows, THREE_RELATED, TWO};
+use fixtures::{EVERY_FILE, Memory, Named, OVER_FIRST, Rows, THREE_RELATED, TWO};
 use sig_bits::FromWrite;
 use sig_engines::{ConflictsAsk, format_named, settle};
 use sig_table::{FormatId, Puid};
@@ -66,21 +66,39 @@ const CLASSED: &[Classed] = &[
 ];
 
 // What is asked for with this budget: the bytes, and no more.
-fn asked(budget: u32) -> ConflictsAsk {
+fn asked(budget: u32) -> ConflictsAsk<'static> {
     ConflictsAsk {
         budget,
         hex: true,
         class: false,
+        summary: false,
         only: None,
+        priorities: None,
+        files: None,
+    }
+}
+
+// A store for what asks for no file.
+fn nowhere(rt: &HostRuntime) -> Memory {
+    let nothing = Named {
+        name: "",
+        bytes: b"",
+    };
+    Memory {
+        alloc: rt.alloc(),
+        first: nothing,
+        second: nothing,
+        third: nothing,
     }
 }
 
 // Whether `conflicts` writes these lines of the table, and nothing on the error output.
-fn writes(rt: &HostRuntime, rows: Rows, ask: ConflictsAsk, lines: &str) -> Result<bool, Fail> {
+fn writes(rt: &HostRuntime, rows: Rows, ask: ConflictsAsk<'_>, lines: &str) -> Result<bool, Fail> {
     let table = table_of(rt, rows.0, rows.1)?;
     let mut out = FromWrite::new(Vec::new(rt.alloc()));
     let mut err = FromWrite::new(Vec::new(rt.alloc()));
-    let is_yes = settle(rt.alloc(), &table, ask, false, &mut out, &mut err)?;
+    let store = nowhere(rt);
+    let is_yes = settle(rt.alloc(), &store, &table, ask, false, &mut out, &mut err)?;
     let wants_yes = lines.contains("ambiguous 0 unknown 0");
     let written = out.into_inner();
     Ok(is_yes == wants_yes && written.as_slice() == lines.as_bytes() && err.into_inner().is_empty())
@@ -99,6 +117,70 @@ fn a_line_has_the_class_of_its_pair(rt: HostRuntime) -> Result<(), Fail> {
     for row in CLASSED {
         assert!(rt; is_classed(&rt, row)?, "{} {}", row.0.0, row.1);
     }
+    Ok(())
+}
+
+// A table, and the lines of its formats.
+#[derive(Clone, Copy)]
+struct Summed(Rows, &'static str);
+
+const SUMMED: &[Summed] = &[
+    // The third format is apart from the other two, which never meet, so it is in most lines.
+    Summed(
+        Rows(
+            "fmt/1,1,BOF,0,,41\nfmt/2,2,BOF,0,,42\nfmt/3,3,EOF,0,,43\n",
+            "",
+        ),
+        "fmt/3 2 over 0 under 0 same 0 apart 2 open 0 unknown 0\n\
+         fmt/1 1 over 0 under 0 same 0 apart 1 open 0 unknown 0\n\
+         fmt/2 1 over 0 under 0 same 0 apart 1 open 0 unknown 0\n\
+         pairs 3 decided 1 ambiguous 2 unknown 0 over 0 under 0 same 0 apart 2 open 0\n",
+    ),
+    // All are in two lines. Each file of the second hits the first, so the second must be over it.
+    Summed(
+        Rows(
+            "fmt/1,1,BOF,0,,41\nfmt/2,2,BOF,0,,4142\nfmt/3,3,EOF,0,,42\n",
+            "",
+        ),
+        "fmt/1 2 over 0 under 1 same 0 apart 1 open 0 unknown 0\n\
+         fmt/2 2 over 1 under 0 same 0 apart 1 open 0 unknown 0\n\
+         fmt/3 2 over 0 under 0 same 0 apart 2 open 0 unknown 0\n\
+         pairs 3 decided 0 ambiguous 3 unknown 0 over 0 under 1 same 0 apart 2 open 0\n",
+    ),
+    // A format that is in no line has a line, too.
+    Summed(
+        TWO,
+        "fmt/1 0 over 0 under 0 same 0 apart 0 open 0 unknown 0\n\
+         fmt/2 0 over 0 under 0 same 0 apart 0 open 0 unknown 0\n\
+         pairs 1 decided 1 ambiguous 0 unknown 0 over 0 under 0 same 0 apart 0 open 0\n",
+    ),
+];
+
+// Whether `conflicts` writes these lines of the formats.
+fn is_summed(rt: &HostRuntime, row: &Summed) -> Result<bool, Fail> {
+    let Summed(rows, lines) = *row;
+    let mut ask = asked(100);
+    ask.summary = true;
+    writes(rt, rows, ask, lines)
+}
+
+#[test]
+fn each_format_has_a_line(rt: HostRuntime) -> Result<(), Fail> {
+    for row in SUMMED {
+        assert!(rt; is_summed(&rt, row)?, "{}", row.0.0);
+    }
+    Ok(())
+}
+
+// A budget of one row: the two have no class, since it is not known whether they meet.
+#[test]
+fn unknown_pairs_are_counted_for_both_formats(rt: HostRuntime) -> Result<(), Fail> {
+    let mut ask = asked(1);
+    ask.summary = true;
+    let lines = "fmt/1 1 over 0 under 0 same 0 apart 0 open 0 unknown 1\n\
+                 fmt/2 1 over 0 under 0 same 0 apart 0 open 0 unknown 1\n\
+                 pairs 1 decided 0 ambiguous 0 unknown 1 over 0 under 0 same 0 apart 0 open 0\n";
+    assert!(rt; writes(&rt, APART, ask, lines)?);
     Ok(())
 }
 

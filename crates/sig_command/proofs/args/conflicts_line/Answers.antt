@@ -16,8 +16,17 @@ with_only = with_rule with_budget (named (codes "only") (codes "PUID"))
 abbrev with_class : App
 with_class = with_rule with_only (given (codes "class"))
 
+abbrev with_summary : App
+with_summary = with_rule with_class (given (codes "summary"))
+
 abbrev with_hex : App
-with_hex = with_rule with_class (given (codes "hex"))
+with_hex = with_rule with_summary (given (codes "hex"))
+
+abbrev with_files : App
+with_files = with_rule with_hex (named (codes "files") (codes "DIR"))
+
+abbrev with_priorities : App
+with_priorities = with_rule with_files (named (codes "priorities") (codes "FILE"))
 
 pub returns-clause-line : goal.returns-clause-line
 returns-clause-line c =
@@ -29,15 +38,26 @@ returns-clause-line c =
     let only_local : c.help-2.result.global ≡ false = rw c.help-2.ensures c.option.ensures.local in
     let class : rule_of c.help-3.result ≡ given (codes "class") = rw c.help-3.ensures c.flag.ensures.rule in
     let class_local : c.help-3.result.global ≡ false = rw c.help-3.ensures c.flag.ensures.local in
-    let hex : rule_of c.help-4.result ≡ given (codes "hex") = rw c.help-4.ensures c.flag-2.ensures.rule in
-    let hex_local : c.help-4.result.global ≡ false = rw c.help-4.ensures c.flag-2.ensures.local in
-    let shown : rule_of c.help-5.result ≡ given (codes "progress") = rw c.help-5.ensures c.flag-3.ensures.rule in
-    let shown_local : c.help-5.result.global ≡ false = rw c.help-5.ensures c.flag-3.ensures.local in
+    let summary : rule_of c.help-4.result ≡ given (codes "summary") = rw c.help-4.ensures c.flag-2.ensures.rule in
+    let summary_local : c.help-4.result.global ≡ false = rw c.help-4.ensures c.flag-2.ensures.local in
+    let hex : rule_of c.help-5.result ≡ given (codes "hex") = rw c.help-5.ensures c.flag-3.ensures.rule in
+    let hex_local : c.help-5.result.global ≡ false = rw c.help-5.ensures c.flag-3.ensures.local in
+    let files : rule_of c.help-6.result ≡ named (codes "files") (codes "DIR") = rw c.help-6.ensures c.option-2.ensures.rule in
+    let files_local : c.help-6.result.global ≡ false = rw c.help-6.ensures c.option-2.ensures.local in
+    let priorities : rule_of c.help-7.result ≡ named (codes "priorities") (codes "FILE") = rw c.help-7.ensures c.option-3.ensures.rule in
+    let priorities_local : c.help-7.result.global ≡ false = rw c.help-7.ensures c.option-3.ensures.local in
+    let shown : rule_of c.help-8.result ≡ given (codes "progress") = rw c.help-8.ensures c.flag-4.ensures.rule in
+    let shown_local : c.help-8.result.global ≡ false = rw c.help-8.ensures c.flag-4.ensures.local in
     let first : app_of c.in_ok-arg.field-0 ≡ with_budget = c.in_ok-arg.ensures.shape budget_local ∙ ap₂ with_rule table budget in
     let second : app_of c.in_ok-arg-2.field-0 ≡ with_only = c.in_ok-arg-2.ensures.shape only_local ∙ ap₂ with_rule first only in
     let third : app_of c.in_ok-arg-3.field-0 ≡ with_class = c.in_ok-arg-3.ensures.shape class_local ∙ ap₂ with_rule second class in
-    let fourth : app_of c.in_ok-arg-4.field-0 ≡ with_hex = c.in_ok-arg-4.ensures.shape hex_local ∙ ap₂ with_rule third hex in
+    let fourth : app_of c.in_ok-arg-4.field-0 ≡ with_summary = c.in_ok-arg-4.ensures.shape summary_local ∙ ap₂ with_rule third summary in
+    let fifth : app_of c.in_ok-arg-5.field-0 ≡ with_hex = c.in_ok-arg-5.ensures.shape hex_local ∙ ap₂ with_rule fourth hex in
+    let sixth : app_of c.in_ok-arg-6.field-0 ≡ with_files = c.in_ok-arg-6.ensures.shape files_local ∙ ap₂ with_rule fifth files in
+    let seventh : app_of c.in_ok-arg-7.field-0 ≡ with_priorities = c.in_ok-arg-7.ensures.shape priorities_local ∙ ap₂ with_rule sixth priorities in
     record {
-      is_app = c.in_ok-line.ensures.shape shown_local ∙ ap₂ with_rule fourth shown;
-      has_no_globals = c.in_ok-line.ensures.globals ∙ or_false _ _ shown_local ∙ c.in_ok-arg-4.ensures.globals ∙ or_false _ _ hex_local ∙ c.in_ok-arg-3.ensures.globals ∙ or_false _ _ class_local ∙ c.in_ok-arg-2.ensures.globals ∙ or_false _ _ only_local ∙ c.in_ok-arg.ensures.globals ∙ or_false _ _ budget_local ∙ table_local;
+      is_app = c.in_ok-line.ensures.shape shown_local ∙ ap₂ with_rule seventh shown;
+      has_no_globals = c.in_ok-line.ensures.globals ∙ or_false _ _ shown_local ∙ c.in_ok-arg-7.ensures.globals ∙ or_false _ _ priorities_local ∙ c.in_ok-arg-6.ensures.globals ∙ or_false _ _ files_local
+          ∙ c.in_ok-arg-5.ensures.globals ∙ or_false _ _ hex_local ∙ c.in_ok-arg-4.ensures.globals ∙ or_false _ _ summary_local ∙ c.in_ok-arg-3.ensures.globals ∙ or_false _ _ class_local
+          ∙ c.in_ok-arg-2.ensures.globals ∙ or_false _ _ only_local ∙ c.in_ok-arg.ensures.globals ∙ or_false _ _ budget_local ∙ table_local;
     }

@@ -17,5 +17,8 @@ returns-clause-named c = record {
       (one_of-rows (found_of c.args.matches.now) (codes "N")) c.get_one.ensures.none c.get_one.ensures.value (λ t x g. g.0) c.in_ok-get_one.was;
   only = first_of-rows (found_of c.args.matches.now) (codes "PUID") ∙ sym c.get_str.ensures;
   class = flag_is_read (found_of c.args.matches.now) (codes "class") _ c.get_flag.ensures.value c.get_flag.ensures.other c.get_flag.ensures.none;
-  hex = flag_is_read (found_of c.args.matches.now) (codes "hex") _ c.get_flag-2.ensures.value c.get_flag-2.ensures.other c.get_flag-2.ensures.none;
+  summary = flag_is_read (found_of c.args.matches.now) (codes "summary") _ c.get_flag-2.ensures.value c.get_flag-2.ensures.other c.get_flag-2.ensures.none;
+  hex = flag_is_read (found_of c.args.matches.now) (codes "hex") _ c.get_flag-3.ensures.value c.get_flag-3.ensures.other c.get_flag-3.ensures.none;
+  files = first_of-rows (found_of c.args.matches.now) (codes "DIR") ∙ sym c.get_str-2.ensures;
+  priorities = first_of-rows (found_of c.args.matches.now) (codes "FILE") ∙ sym c.get_str-3.ensures;
 }

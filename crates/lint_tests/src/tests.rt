@@ -1,0 +1,3 @@
+mod details;
+mod faults;
+mod warnings;

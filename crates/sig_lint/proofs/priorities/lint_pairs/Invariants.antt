@@ -1,0 +1,11 @@
+use Rattle.std.proofs.Common.{◌≡◌, ◌++◌, [], length}
+use Rattle.sig_lint.specs.Faults.{faults_from, pair_row_fault, with_named_pair}
+use Rattle.sig_lint.specs.Names.{formats_among}
+use Rattle.sig_lint.proofs.priorities.lint_pairs.Given as goal
+
+-- the faults are those so far, and those of the records to come
+abbrev pub invariant-loop-row_number : goal.invariant-loop-row_number
+invariant-loop-row_number l = record {
+  goes : l.fn.faults.items ++ faults_from (pair_row_fault l.names) (with_named_pair l.names) 1 [] l.fn.records ≡ l.all.items ++ faults_from (pair_row_fault l.names) (with_named_pair l.names) l.row_number l.ranking.pairs l.records;
+  count : l.ranking.format_count ≡ length (formats_among l.names);
+}

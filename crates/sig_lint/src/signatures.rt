@@ -1,0 +1,84 @@
+//! The faults of a signature file.
+
+ghost use Rattle.std.specs.Prelude.{◌≡◌, ◌++◌, IfOk, Some};
+ghost use Rattle.csv.specs.Records.{fields_of};
+ghost use Rattle.sig_table.specs.Loading.{empty_table, records_of, with_record};
+ghost use Rattle.sig_lint.specs.Faults.{faults_from, row_fault, signature_faults, told};
+
+use crate::fault::{Fault, with_fault};
+use crate::fields::signature_field;
+use crate::reading::{Lines, read_next};
+use csv::ByteRecord;
+use sig_table::{Draft, Records, TableError, TableFile, is_signature_header, take_row};
+use std::alloc::{AllocError, Global};
+
+// The faults of the file. A reader of `csv` is large, so each file is judged in a frame of its own.
+#[inline(never)]
+#[tactic(auto, unfolding(crate::specs::Faults::signature_faults))]
+pub(crate) fn lint_signatures(alloc: Global, text: &[u8]) -> Result<Vec<Fault>, AllocError>
+    ensures { IfOk result (λ faults. faults.items ≡ signature_faults (records_of text.now)) }
+{
+    let mut records = Records::new(alloc, text);
+    let mut header = ByteRecord::new(alloc);
+    let mut lines = Lines::new(text);
+    let found = read_next(&mut records, &mut header)?;
+    if !found {
+        return with_header_fault(Vec::new(alloc), &ByteRecord::new(alloc), 1);
+    }
+    if !is_signature_header(&header) {
+        return with_header_fault(Vec::new(alloc), &header, lines.line_of(&header));
+    }
+    lint_rows(alloc, &mut records, &mut lines)
+}
+
+// The faults with that of a record that is not the header.
+fn with_header_fault(
+    faults: Vec<Fault>,
+    record: &ByteRecord,
+    line: u64,
+) -> Result<Vec<Fault>, AllocError>
+    ensures { IfOk result (λ more. more.items ≡ faults.items ++ told row_fault (fields_of «record».now) (Some (TableError.Header TableFile.Signatures))) }
+{
+    let fault = TableError::Header {
+        file: TableFile::Signatures,
+    };
+    with_row_fault(faults, record, line, Some(fault))
+}
+
+// The faults with that of the record, if it has one.
+fn with_row_fault(
+    faults: Vec<Fault>,
+    record: &ByteRecord,
+    line: u64,
+    fault: Option<TableError>,
+) -> Result<Vec<Fault>, AllocError>
+    ensures { IfOk result (λ more. more.items ≡ faults.items ++ told row_fault (fields_of «record».now) fault) }
+{
+    match fault {
+        Some(error) => with_fault(faults, record, line, error, signature_field(record, error)),
+        None => Ok(faults),
+    }
+}
+
+// The faults of the rows, each judged behind those before it that have none.
+fn lint_rows(
+    alloc: Global,
+    records: &mut Records,
+    lines: &mut Lines,
+) -> Result<Vec<Fault>, AllocError>
+    ensures { IfOk result (λ faults. faults.items ≡ faults_from row_fault with_record 1 empty_table records.old) }
+{
+    let mut faults = Vec::new(alloc);
+    let mut draft = Draft::new(alloc);
+    let mut record = ByteRecord::new(alloc);
+    for row_number in 1..usize::MAX {
+        let found = read_next(records, &mut record)?;
+        if !found {
+            return Ok(faults);
+        }
+        let (taken, fault) = take_row(alloc, draft, &record, row_number)?;
+        draft = taken;
+        faults = with_row_fault(faults, &record, lines.line_of(&record), fault)?;
+    }
+    Err(AllocError)
+}
