@@ -5,7 +5,7 @@
 
 PROGRAM is the built `pronom_sig`. Each random table of three or four formats goes to `find` and to
 the plain finder; certificates of both versions and changed ones go to `check`, to the plain checker
-and to the one that was written from `docs/FORMATS.md` alone, and a few files to `witness`. Subcommands that the program lacks are left out. Any
+and to the one that was written from `docs/CERTIFICATES.md` alone, and a few files to `witness`. Subcommands that the program lacks are left out. Any
 difference is printed, with the folder that holds its files, and ends the script with status 1.
 """
 import argparse

@@ -4,8 +4,7 @@
     python3 bench/memory.py PROGRAM
 
 PROGRAM is the built `pronom_sig`, which takes its memory by `malloc` and `realloc` of the C library. Beside
-what it was lent, `check` needs the automata of one product and a row, and does without notes of states
-where they are refused. So over a certificate of
+what it was lent, `check` needs the automata of one product and two rows. So over a certificate of
 many tables it needs no more than over one of a single table, where all products have the same form; and
 over a table of many rows no more than over one of few. A small library that is loaded before the program
 (made here with `cc`) counts the bytes that live: from the end of the last file on, when the table and the

@@ -4,7 +4,7 @@
     python3 bench/plain_load.py SIGS PRIOS
 
 It prints `loads`, with status 0, or the line, with status 2. It was written from the pages on formats
-alone ("The signature file", "The priority file", "Expressions", "Refusals", "Slots"), and shares no code
+alone (`docs/FORMATS.md`), and shares no code
 with the program: it is an oracle for tests, slow and short.
 """
 import csv

@@ -116,7 +116,7 @@ def between(first, last, excludes):
 
 
 def _rows(a, b, excludes):
-    """How many rows of classes a bracket of several bytes unfolds into (FORMATS, "Slots and states")."""
+    """How many rows of classes a bracket of several bytes unfolds into (docs/CERTIFICATES.md)."""
     if excludes:
         return sum(byte > 0 for byte in a) + sum(byte < 255 for byte in b)
     k = next(j for j in range(len(a)) if a[j] != b[j])

@@ -345,7 +345,7 @@ fn conflicts_line<'a>(alloc: Global) -> Result<Command<'a>, Error>
         .arg(flag(alloc, "hex").help("Also print the bytes of each file in hexadecimal"))?
         .arg(option(alloc, "files", "DIR").help("Write each file to this folder"))?
         .arg(option(alloc, "priorities", "FILE").help(
-            "Write the priorities with the forced pairs to this file",
+            "Write a priority file with the forced pairs",
         ))?
         .arg(flag(alloc, "progress").help("Report on standard error how many pairs are done"))?;
     Ok(line)

@@ -73,9 +73,14 @@ const OF_CONFLICTS: &[&str] = &[
     "With --only just the pairs of the format PUID are searched.\n",
     "A priority decides a pair even if it leaves a format with no file. So run\n`dead`, too.",
     "  2  usage error, the table is refused, or it lacks the format of --only\n",
-    "  --budget <N>   States that one search may visit [default: 100000]\n",
-    "  --only <PUID>  Print the pairs of this format alone\n",
-    "  --class        Print the class of each pair, and count the classes\n",
+    "  --budget <N>         States that one search may visit [default: 100000]\n",
+    "  --only <PUID>        Print the pairs of this format alone\n",
+    "  --class              Print the class of each pair, and count the classes\n",
+    "  --summary            Print a line for each format in place of the pairs\n",
+    "  --files <DIR>        Write each file to this folder\n",
+    "  --priorities <FILE>  Write a priority file with the forced pairs\n",
+    "  A N over .. under .. same .. apart .. open .. unknown ..\n",
+    "  not written HIGHER LOWER: LOWER would be dead\n",
 ];
 
 // What the help of `dead` says.
