@@ -20,7 +20,7 @@ use sig_table::{FormatId, Table};
 use std::alloc::Global;
 
 /// Judges a certificate for a table of signatures: accepted, or the first fault in the order of
-/// judging (`docs/FORMATS.md`).
+/// judging (`docs/CERTIFICATES.md`).
 pub fn check(alloc: Global, table: &Table, certificate: &[u8]) -> Result<(), CheckError>
     ensures first_fault { IsErrOf result CheckError.OutOfMemory ⊎ Verdict table.now certificate.now result }
     ensures memory { IsErrOf result CheckError.OutOfMemory → MayGrow table.now certificate.now }

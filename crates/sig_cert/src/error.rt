@@ -8,7 +8,7 @@ use std::alloc::AllocError;
 use thiserror::Error;
 
 /// Why a certificate is refused: the first condition that fails. Pairs, tables of a pair and rows
-/// of a table are counted from 0. `docs/FORMATS.md` has the order of judging.
+/// of a table are counted from 0. `docs/CERTIFICATES.md` has the order of judging.
 #[derive(Clone, Copy, Debug, PartialEq, Eq, Error)]
 pub enum CheckError {
     /// The first four bytes are not `PSAC`.
