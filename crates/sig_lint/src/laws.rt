@@ -1,4 +1,7 @@
-//! Laws of faults: where they are judged, said without the fold over the rows.
+//! Laws of faults, said of whole files: against which rows a row is judged.
+//!
+//! Where the second of three rows is told, the first and the third load in a file of their own, and
+//! what is said of the third is what the loader says of it behind the first.
 
 ghost use Rattle.std.specs.Prelude.{◌≡◌, ◌++◌, ◌∷◌, ℕ, ◌+◌, ◌≤◌, [], true, false, All, List, Ok, length};
 ghost use Rattle.sig_table.specs.declared.puid.Puid.{Puid};

@@ -143,7 +143,9 @@ pub(crate) fn names_of(
     }
 }
 
-// Those of a signature file, if it has a header.
+// Those of a signature file, if it has a header. As the files are judged, each is read in a frame of
+// its own.
+#[inline(never)]
 fn names_of_rows(alloc: Global, text: &[u8]) -> Result<Option<Names>, AllocError>
     ensures header { IfOk result (λ found. is_some found ≡ has_signature_header (records_of text.now)) }
     ensures names { IfOk result (λ found. IfSome found (λ names. names ≡ fold with_row_name [] (rows_of_file (records_of text.now)))) }
@@ -175,6 +177,7 @@ fn row_names(alloc: Global, records: &mut Records) -> Result<Names, AllocError>
 }
 
 // Those of a priority file.
+#[inline(never)]
 fn names_of_priorities(alloc: Global, text: &[u8]) -> Result<Names, AllocError>
     ensures { IfOk result (λ names. names ≡ fold with_pair_names [] (rows_of_file (records_of text.now))) }
 {

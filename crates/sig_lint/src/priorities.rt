@@ -1,4 +1,7 @@
 //! The faults of a priority file, among the formats that are named.
+//!
+//! Behind `fmt/1,fmt/2` the row `fmt/2,fmt/1` closes a cycle: it is told and left out, so the row
+//! `fmt/2,fmt/3` has no fault, and `fmt/3,fmt/1` closes another cycle.
 
 ghost use Rattle.std.specs.Prelude.{◌≡◌, ◌++◌, [], IfOk, Some, length};
 ghost use Rattle.csv.specs.Records.{fields_of};
