@@ -229,6 +229,18 @@ fn lines_before_a_file_that_cannot_be_made_stand(rt: HostRuntime) -> Result<(), 
     remove(&rt, folder)
 }
 
+// A priority file that is not written ends the run: the lines before stand, and the last is missing.
+#[test]
+fn a_priority_file_that_is_not_written_ends_the_run(rt: HostRuntime) -> Result<(), Fail> {
+    let folder = "unwritten";
+    make_with(&rt, folder, NESTED)?;
+    let lines = "ambiguous fmt/1 fmt/2 1 2 2\nambiguous fmt/1 x-fmt/3 1 3 3\n\
+                 ambiguous fmt/2 x-fmt/3 2 3 3\n";
+    let words = ["conflicts", "--priorities", "/dev/full", S, P];
+    assert!(rt; run_in(&rt, folder, &words)?.is(3, lines, "write failed\n"));
+    remove(&rt, folder)
+}
+
 #[test]
 fn a_summary_is_of_all_formats(rt: HostRuntime) -> Result<(), Fail> {
     let words = ["conflicts", "--summary", "--only", "fmt/1", "a", "b"];
