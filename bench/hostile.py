@@ -45,13 +45,15 @@ CLASS = "|".join(plain_classes.CLASSES)
 OF_CLASSES = "".join(rf" {it} \d+" for it in plain_classes.CLASSES)
 PAIR = rf"{PUID} {PUID} [1-9]\d* [1-9]\d*"
 PAIR_LINE = rf"(ambiguous {PAIR} \d+( ({CLASS}))?( ([0-9a-f][0-9a-f])+)?|unknown {PAIR})\n"
+OF_FORMAT = rf"{PUID} \d+{OF_CLASSES} unknown \d+\n"
 # What each subcommand may print, by its status.
 SAID = {
     "match": {0: rf"({PUID} [1-9]\d*\n)*"},
     "show": {0: rf"{HEADER}(.*\n)*\n{PAIRS}({PUID},{PUID}\n)*"},
     "witness": {0: rf"ambiguous {PUID} {PUID}\n", 1: r"not ambiguous\n"},
     "check": {0: r"accepted\n", 1: r"refused C([1-9]|1[0-2]) [^\n]+\n"},
-    "conflicts": {0: rf"{COUNTS} 0 unknown 0({OF_CLASSES})?\n", 1: rf"({PAIR_LINE})+{COUNTS} \d+ unknown \d+({OF_CLASSES})?\n"},
+    "conflicts": {0: rf"({OF_FORMAT})*{COUNTS} 0 unknown 0({OF_CLASSES})?\n",
+                  1: rf"(({PAIR_LINE})+|({OF_FORMAT})+){COUNTS} \d+ unknown \d+({OF_CLASSES})?\n"},
     "dead": {0: rf"({ALIVE})*formats {FATES} 0 unknown 0 signatures {FATES} 0 unknown 0\n",
              1: rf"((dead|unknown) {PUID}( [1-9]\d*)?\n|{ALIVE})+formats {FATES} \d+ unknown \d+ signatures {FATES} \d+ unknown \d+\n"},
     "find": {0: rf"(decided|witness {PUID} {PUID})\n([0-9a-f]*\n)?", 1: r"gave up [1-9]\d* [1-9]\d*\n"},
@@ -433,7 +435,7 @@ def viewed(runs, chance, words, unrelated, lines, puids):
         said, wanted = runs.run(*words, "--only", only, *TABLE_FILES), (2, "", UNNAMED)
         runs.count("conflicts --only with no format of the table", "")
     else:
-        flags, printed, status = chance.choice(list(plain_classes.views(unrelated, lines, only)))
+        flags, printed, status = chance.choice(list(plain_classes.views(puids, unrelated, lines, only)))
         said, wanted = runs.run(*words, *flags, *TABLE_FILES), (status, "".join(line + "\n" for line in printed), "")
         runs.count("conflicts by its own lines", " ".join(it for it in flags if it.startswith("--")) or "no flag")
     if said != wanted:
