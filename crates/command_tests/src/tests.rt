@@ -22,8 +22,8 @@ use sig_command::command;
 use std::test::Fail;
 use std::{env, fs, process};
 
-// The words for the files of a table, for a file beside them, and for what is made there. In words and in texts
-// `@` stands for the folder of the test.
+// The words for the files of a table, for a file beside them, and for what is made there. In words
+// and in texts `@` stands for the folder of the test.
 pub(crate) const S: &str = "@/signatures.csv";
 
 pub(crate) const P: &str = "@/priorities.csv";

@@ -89,8 +89,8 @@ pub(crate) fn find(cells: &[Cell], p: u32) -> usize
 }
 
 impl Behind {
-    /// Whether the same states are found to follow. Where it is not found, they may be the same. It is
-    /// found of the last slots of the alternatives of a list.
+    /// Whether the same states are found to follow. Where it is not found, they may be the same. It
+    /// is found of the last slots of the alternatives of a list.
     pub fn leads_like(&self, other: &Behind) -> bool
         ensures { IsTrue result → HaveSameSuccessors self.now other.now }
     {

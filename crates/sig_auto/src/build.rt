@@ -1,8 +1,9 @@
 //! From a sequence to its cells.
 //!
-//! One pass over the items. Each item is put between the joint behind the one before and a joint of its
-//! own; so `41(42|4344)` puts `41` between 0 and 1, `42` between 1 and 4, `43` between 1 and 3, and `44`
-//! between 3 and 4. A bracket of several bytes is unfolded into rows of classes (`class_word`).
+//! One pass over the items. Each item is put between the joint behind the one before and a joint of
+//! its own; so `41(42|4344)` puts `41` between 0 and 1, `42` between 1 and 4, `43` between 1 and 3,
+//! and `44` between 3 and 4. A bracket of several bytes is unfolded into rows of classes
+//! (`class_word`).
 
 ghost use Rattle.std.specs.Prelude.{◌≡◌, ◌+◌, ◌<◌, ◌≤◌, IfOk, OnOk, if◌then◌else◌, length, map};
 ghost use Rattle.sig_auto.specs.Trees.{Gap, Slot, alternatives_tree, atom_tree, atoms_tree, back_tree, front_tree, item_tree, outside_tree, row_tree, rows_tree};

@@ -1,7 +1,8 @@
 //! The bytes that lead on, and those that tell slots apart.
 //!
-//! Of the cells `41`, `[42:43]` and `41` the bytes 41, 42, 43 and 44 are cuts: at each some cell takes the
-//! byte and not the one below, or the other way round. Between two cuts all bytes do the same.
+//! Of the cells `41`, `[42:43]` and `41` the bytes 41, 42, 43 and 44 are cuts: at each some cell
+//! takes the byte and not the one below, or the other way round. Between two cuts all bytes do the
+//! same.
 
 ghost use Rattle.std.specs.Prelude.{◌↔◌, ◌+◌, ◌<◌, ℕ};
 ghost use Rattle.sig_auto.specs.Behind.{AreReady};
@@ -44,7 +45,8 @@ pub(crate) fn add_class(class: Class, live: &mut ByteClass, cuts: &mut ByteClass
     class.add_cuts(cuts);
 }
 
-// Adds the bytes on which a cell is entered that begins where this one does, and the cuts between them.
+// Adds the bytes on which a cell is entered that begins where this one does, and the cuts between
+// them.
 pub(crate) fn add_entered(
     cells: &[Cell],
     joints: &Joints,

@@ -1,8 +1,9 @@
 //! The cells of an automaton: its slots in order, those of a gap together.
 //!
-//! `41{1-2}42` at offset 0 has four cells: `41`, the gap, `42`, and the gap for whatever follows. Between
-//! cells stand joints, each named by how many cells stand before it: `41` stands between the joints 0 and
-//! 1, the gap between 1 and 2. The alternatives of a list stand side by side between the same two joints.
+//! `41{1-2}42` at offset 0 has four cells: `41`, the gap, `42`, and the gap for whatever follows.
+//! Between cells stand joints, each named by how many cells stand before it: `41` stands between
+//! the joints 0 and 1, the gap between 1 and 2. The alternatives of a list stand side by side
+//! between the same two joints.
 
 use crate::class::Class;
 

@@ -1,8 +1,9 @@
 //! Where one goes on behind each cell.
 //!
-//! For each cell the first cell that is entered behind it, and the one that is entered beside it where it
-//! is entered itself: the next alternative of its list, or, where it is a gap that may be skipped, what
-//! stands behind it. Of `41{0-2}42` the gap is entered behind `41`, and `42` beside the gap.
+//! For each cell the first cell that is entered behind it, and the one that is entered beside it
+//! where it is entered itself: the next alternative of its list, or, where it is a gap that may be
+//! skipped, what stands behind it. Of `41{0-2}42` the gap is entered behind `41`, and `42` beside
+//! the gap.
 
 ghost use Rattle.std.specs.Prelude.{◌≡◌, ◌⊎◌, ◌≤◌, ◌<◌, false, length, slice_index, slice_index_or, slice_set, IfOk};
 ghost use Rattle.sig_auto.specs.Joined.{Bounded, joint_past};
@@ -75,8 +76,9 @@ pub(crate) fn join(alloc: Global, cells: &[Cell]) -> Result<Joints, AllocError>
     })
 }
 
-// The joint behind the cell at place k, where `first` has for each joint the first cell behind it from the next place
-// on, and `lands` whether nothing need come behind it. They then say so from this place on.
+// The joint behind the cell at place k, where `first` has for each joint the first cell behind it
+// from the next place on, and `lands` whether nothing need come behind it. They then say so from
+// this place on.
 fn pass(cell: &Cell, k: usize, first: &mut Vec<u32>, lands: &mut Vec<bool>) -> Joint
     requires front { cell.now.front < length first.old.items }
     requires behind { cell.now.behind < length first.old.items }

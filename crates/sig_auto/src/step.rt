@@ -1,8 +1,9 @@
 //! Steps of a set of states.
 //!
-//! One pass over the cells, from the first to the last. That a cell is entered is noted in the new set
-//! itself, at its first slot; when the pass comes to the cell, it enters the cell beside it, and keeps the
-//! slot only if it takes the byte. A gap of any length is one cell, whose slots are shifted by whole bytes.
+//! One pass over the cells, from the first to the last. That a cell is entered is noted in the new
+//! set itself, at its first slot; when the pass comes to the cell, it enters the cell beside it,
+//! and keeps the slot only if it takes the byte. A gap of any length is one cell, whose slots are
+//! shifted by whole bytes.
 
 ghost use Rattle.std.specs.Prelude.{◌≡◌, ◌≢◌, ◌⊎◌, ◌↔◌, ◌+◌, ◌*◌, ◌<◌, ◌≤◌, ℕ, IsTrue, length};
 ghost use Rattle.sig_auto.specs.Behind.{AreReady, slots_in};

@@ -1,7 +1,7 @@
 //! The states that follow one state on a byte, rising, without memory of their own.
 //!
-//! First the state's own next slot, if it takes the byte; then the first slots of the cells that are
-//! entered behind it, from one to the one beside it.
+//! First the state's own next slot, if it takes the byte; then the first slots of the cells that
+//! are entered behind it, from one to the one beside it.
 
 ghost use Rattle.std.specs.Prelude.{◌≡◌, ◌≤◌, drop};
 ghost use Rattle.sig_auto.specs.Behind.{AreReady};
@@ -45,7 +45,8 @@ impl Iterator for Successors<'_> {
     }
 }
 
-// The first slot of the first cell from here on that is entered and takes the byte, and the cell that is entered next.
+// The first slot of the first cell from here on that is entered and takes the byte, and the cell
+// that is entered next.
 fn next_taken(cells: &[Cell], joints: &Joints, from: usize, byte: u8) -> (Option<u32>, usize)
     requires ready { AreReady cells.now }
     requires joints { AreJoints cells.now joints.now }

@@ -1,8 +1,8 @@
 //! Groups of bytes that nothing so far tells apart.
 //!
-//! Each byte knows the lowest one of its group, its *lead*. A span that has some bytes of a group and
-//! lacks others splits it: where all bytes are in one group, the span 41 to 42 leaves 00 the lead of all
-//! but 41 and 42, which 41 leads.
+//! Each byte knows the lowest one of its group, its *lead*. A span that has some bytes of a group
+//! and lacks others splits it: where all bytes are in one group, the span 41 to 42 leaves 00 the
+//! lead of all but 41 and 42, which 41 leads.
 
 ghost use Rattle.std.specs.Prelude.{◌≡◌, ◌↔◌, ◌<◌, ◌≤◌, ℕ, IsTrue, false, slice_index};
 ghost use Rattle.sig_bits.specs.ByteClasses.{Holds};
@@ -11,7 +11,8 @@ ghost use Rattle.sig_bits.specs.Groups.{AreLeads, SameSide, Together};
 use crate::byte_class::ByteClass;
 use std::marker::Model;
 
-/// Groups of bytes: each byte is in one. To callers it is the list of the lowest byte of the group of each.
+/// Groups of bytes: each byte is in one. To callers it is the list of the lowest byte of the group
+/// of each.
 #[derive(Debug, Drop)]
 pub struct Groups {
     leads: [u8; 256],
@@ -55,8 +56,8 @@ impl Groups {
         lowest
     }
 
-    /// Splits each group of which some bytes are in the span from the first byte to the last, and others
-    /// are not.
+    /// Splits each group of which some bytes are in the span from the first byte to the last, and
+    /// others are not.
     pub fn split(&mut self, first: u8, last: u8)
         ensures { (a b : ℕ) → a < 256 → b < 256 → (Together self.new a b ↔ (Together self.old a b × SameSide first last a b)) }
     {
@@ -67,8 +68,8 @@ impl Groups {
         }
     }
 
-    // Leaves the byte alone in its group. Most spans are of one byte, so this looks at all bytes only once
-    // for each, and not at all where another leads its group.
+    // Leaves the byte alone in its group. Most spans are of one byte, so this looks at all bytes
+    // only once for each, and not at all where another leads its group.
     fn split_off(&mut self, byte: u8)
         ensures { (a b : ℕ) → a < 256 → b < 256 → (Together self.new a b ↔ (Together self.old a b × SameSide byte byte a b)) }
     {
@@ -103,15 +104,16 @@ fn splits(leads: &[u8; 256], first: u8, last: u8) -> bool
     found
 }
 
-// The leads behind the split. The bytes of a group that are not on its lead's side are led by the lowest
-// of them.
+// The leads behind the split. The bytes of a group that are not on its lead's side are led by the
+// lowest of them.
 fn split(leads: &[u8; 256], first: u8, last: u8) -> [u8; 256]
     requires { AreLeads leads.now }
     ensures leads { AreLeads result }
     ensures split { (a b : ℕ) → a < 256 → b < 256 → (Together result a b ↔ (Together leads.now a b × SameSide first last a b)) }
 {
     let mut split = *leads;
-    // For each lead the lowest byte of its group on the other side; 0, which leads its own group, for none.
+    // For each lead the lowest byte of its group on the other side; 0, which leads its own group,
+    // for none.
     let mut others = [0; 256];
     for (b, lead) in leads.iter().enumerate() {
         if same_side(first, last, b as u8, *lead) {

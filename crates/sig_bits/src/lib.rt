@@ -2,8 +2,8 @@
 //! reader and any writer. Sets of bytes, and sets of states, as bits; groups of bytes.
 //!
 //! What a device means is in the ghost members of its trait, in the words of `specs/Device.antt`.
-//! A set is its bits, one by one: `specs/BitSets.antt` and `specs/ByteClasses.antt`. Groups are the list of the lowest byte of the group of
-//! each byte: `specs/Groups.antt`.
+//! A set is its bits, one by one: `specs/BitSets.antt` and `specs/ByteClasses.antt`. Groups are the
+//! list of the lowest byte of the group of each byte: `specs/Groups.antt`.
 #![tactic(auto)]
 
 mod bit_ranges;

@@ -4,6 +4,9 @@
 //! A read has room for 4 KiB at least. The room that is added grows from 16 to 64 KiB, so a small
 //! file costs a few pages and not a cleared buffer of 64 KiB. The vector doubles its capacity, and
 //! bytes are read to their place, so none is copied here.
+//!
+//! Of a failed read and memory that runs out, whichever comes first is the answer. An input that
+//! has failed before fails again at its first read. So no call in which a read failed answers `Ok`.
 
 ghost use Rattle.std.specs.Prelude.{◌≡◌, ◌+◌, ◌≤◌, true, false, OnOk, IfOk, IfErr, IfSome, IsErr, IsErrOf, IsTrue, take, vec_len};
 ghost use Rattle.sig_bits.specs.Device.{IsAtEnd};

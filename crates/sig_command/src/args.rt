@@ -1,4 +1,10 @@
 //! What the words of the command line ask for, as `clap` reads them.
+//!
+//! `match a b c` asks for `Match`, of the table in `a` and `b` and of the file `c`; `match a b c d`
+//! and `match --with-names a b c` ask for `MatchMany`. The names of several files are the list that
+//! `clap` keeps, so they take no memory here. That is why `ArgMatches` outlives the request.
+//!
+//! No file is opened, and whether a table has the format of `--only` is not looked at.
 
 ghost use Rattle.std.specs.Prelude.{◌≡◌, ◌⊎◌, [], codes, false, IfErr, IfOk, IfSome, Some, true};
 ghost use Rattle.clap.specs.Values.{kind_of};
@@ -179,7 +185,8 @@ Statuses:
   2  usage error, or the table is refused
   3  a file can't be opened, a read or a write failed, or memory ran out";
 
-/// What the words ask of `conflicts`. Whether the table has the format of `only` is not looked at yet.
+/// What the words ask of `conflicts`. Whether the table has the format of `only` is not looked at
+/// yet.
 #[derive(Clone, Copy, Debug, PartialEq, Eq)]
 pub(crate) struct ConflictsOptions<'a> {
     pub(crate) budget: u32,
@@ -329,8 +336,8 @@ fn find_line<'a>(alloc: Global) -> Result<Command<'a>, Error>
     Ok(line)
 }
 
-// `conflicts [--budget N] [--only PUID] [--class] [--summary] [--hex] [--files DIR] [--priorities FILE]
-// [--progress] SIGS PRIOS`
+// `conflicts [--budget N] [--only PUID] [--class] [--summary] [--hex] [--files DIR] [--priorities
+// FILE] [--progress] SIGS PRIOS`
 fn conflicts_line<'a>(alloc: Global) -> Result<Command<'a>, Error>
     ensures line { IfOk result (IsLine conflicts_command) }
     ensures memory { IfErr result (λ e. kind_of e ≡ ErrorKind.OutOfMemory) }

@@ -1,4 +1,9 @@
 //! Laws of the command line.
+//!
+//! `accepted_tables_match_once` and `accepted_tables_match_each_once` are what a certificate is
+//! for: if `check` accepts one of a table, `match` without `--all` names at most one format for a
+//! file. `words_are_taken` and `words_name_files` say on examples of each subcommand which words
+//! are taken, and which of them names which file.
 
 ghost use Rattle.std.specs.Borrow.{Bor};
 ghost use Rattle.std.specs.Prelude.{◌≡◌, ◌≤◌, ℕ, Bool, List, None, Option, Some, false, true, [], ◌∷◌, codes, length, map};
@@ -15,8 +20,9 @@ ghost use Rattle.sig_table.specs.Views.{TableView};
 
 use clap::error::ErrorKind;
 
-/// If a certificate of a table is accepted, `match` of one file without `--all` never writes two lines: of whatever
-/// store that tells what its files hold, of whatever file there, and whoever made the certificate.
+/// If a certificate of a table is accepted, `match` of one file without `--all` never writes two
+/// lines: of whatever store that tells what its files hold, of whatever file there, and whoever
+/// made the certificate.
 pub fn accepted_tables_match_once()
     ensures { (files : List ℕ → Option (List ℕ)) (table : TablePaths) (certificate name : Bor (List ℕ)) (is_yes : Bool)
         (checked_before checked_after before after : Option (List ℕ))
@@ -25,7 +31,8 @@ pub fn accepted_tables_match_once()
         → (t : TableView) × (hits : List Hit) × (length hits ≤ 1) × Adds before (lines_of t hits) after }
 {}
 
-/// The same of each of several files, and of one with `--with-names`: each has one line, of a format or a hyphen.
+/// The same of each of several files, and of one with `--with-names`: each has one line, of a
+/// format or a hyphen.
 pub fn accepted_tables_match_each_once()
     ensures { (files : List ℕ → Option (List ℕ)) (table : TablePaths) (certificate : Bor (List ℕ)) (names : Bor (List (Bor (List ℕ)))) (is_yes : Bool)
         (checked_before checked_after before after : Option (List ℕ))
@@ -64,8 +71,9 @@ pub fn words_are_taken()
     ensures version { fault_of program (codes "--version" ∷ []) ≡ ErrorKind.DisplayVersion ∷ [] }
 {}
 
-/// The words behind a subcommand are the signatures, the priorities and then what else it takes, and
-/// the word behind an option is its value. A flag is read as `true` where it is among the words.
+/// The words behind a subcommand are the signatures, the priorities and then what else it takes,
+/// and the word behind an option is its value. A flag is read as `true` where it is among the
+/// words.
 pub fn words_name_files()
     ensures shown_table { AreTableWords (codes "a") (codes "b") (codes "show" ∷ codes "a" ∷ codes "b" ∷ []) }
     ensures matched_table { AreTableWords (codes "a") (codes "b") (codes "match" ∷ codes "a" ∷ codes "b" ∷ codes "c" ∷ []) }

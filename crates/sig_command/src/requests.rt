@@ -1,4 +1,14 @@
-//! All that the program does: it reads the words, opens the files, answers, and gives the status.
+//! All that the program does: it reads its arguments, opens the files, answers, and gives the
+//! status.
+//!
+//! Arguments that `clap` takes get an answer, with 0 or 1, or a fault of what they ask for. Others
+//! end by the kind of their fault: with 0 for help and the version, which are answers and go to the
+//! output, else with 2; or with 3 if memory ran out or the text could not be written. Arguments
+//! that are no UTF-8 are a fault with 2.
+//!
+//! A fault's line follows the reports of progress, and comes whole only if none of their writes
+//! failed. With an error output that fails, the status is still that of a fault of what is asked
+//! for. If some of several files have a fault, each has its line and the run none of its own.
 
 ghost use Rattle.std.specs.Borrow.{Bor};
 ghost use Rattle.std.specs.Prelude.{None, Some, ◌≡◌, ◌≢◌, ◌<◌, ◌⊎◌, false, is_ok, is_some, length, List, true, IfErr, IfOk, OnOk};
@@ -28,6 +38,9 @@ use std::rt::{Env, Files};
 use std::{env, io};
 
 /// Runs the program on the words that it was started with, and answers the status.
+///
+/// No contract says which words these are. So the clauses speak of some words, and of what is
+/// written with 0 they say nothing: some words ask for help. `command` says it.
 pub fn run<R: Env + Files + AllocGlobal, W: Output, E: Output>(
     rt: &R,
     out: &mut W,
@@ -96,8 +109,8 @@ pub fn command<R: Files + AllocGlobal, W: Output, E: Output>(
 ///
 /// The answer and the help go to `out`; a fault is one line on `err`, and a usage fault is the text
 /// of `clap`. With `--progress` a search tells `err` how much of it is done, and of files that are
-/// matched by their names each that has a fault is one line there. A failed write to `err` changes no
-/// status.
+/// matched by their names each that has a fault is one line there. A failed write to `err` changes
+/// no status.
 pub fn command_over<S: Store, W: Output, E: Output>(
     store: &S,
     alloc: Global,
@@ -455,8 +468,9 @@ fn file_fault(name: &str, fault: FileFault) -> Fault<'_>
     }
 }
 
-// Opens both files of a table before either is read. It stands in a frame of its own, as the engines
-// do: the buffers of all of them in one frame would double the stack that the program needs.
+// Opens both files of a table before either is read. It stands in a frame of its own, as the
+// engines do: the buffers of all of them in one frame would double the stack that the program
+// needs.
 #[inline(never)]
 fn load<'a, S: Store>(store: &S, alloc: Global, paths: TablePaths<'a>) -> Result<Table, Fault<'a>>
     ensures read { IfOk result (IsTableOf (S.held store.now) paths.entry) }

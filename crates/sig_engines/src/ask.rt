@@ -14,8 +14,8 @@ pub struct ConflictsAsk<'a> {
     pub hex: bool,
     /// The lines have the class of their pair, and the last line counts the classes.
     pub class: bool,
-    /// A line for each format, with the classes of its pairs, in place of the lines of the pairs. The
-    /// last line counts the classes here, too.
+    /// A line for each format, with the classes of its pairs, in place of the lines of the pairs.
+    /// The last line counts the classes here, too.
     pub summary: bool,
     /// The pairs of this format alone.
     pub only: Option<FormatId>,

@@ -1,6 +1,7 @@
 //! `check`, over any input and any output.
 //!
-//! The certificate is judged whole before a byte is written.
+//! The certificate is judged whole before a byte is written. The line is made in memory and written
+//! by one write.
 
 ghost use Rattle.std.specs.Prelude.{◌≡◌, false, true, IfErr, IfOk, IsErrOf, Ok, OnOk};
 ghost use Rattle.sig_bits.specs.Bytes.{IsBytes};

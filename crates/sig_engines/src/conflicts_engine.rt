@@ -47,13 +47,13 @@ pub struct PairsAnswer {
 }
 
 /// Writes a line for each pair of formats that is asked for and not known to be decided, or one for
-/// each format, and a last one with the counts. Answers whether all these pairs are decided: then the
-/// table is, if all pairs were asked for.
+/// each format, and a last one with the counts. Answers whether all these pairs are decided: then
+/// the table is, if all pairs were asked for.
 ///
 /// Of a pair without a line no file leaves both formats, and the file of an `ambiguous` line leaves
-/// both. The folder and the files that are asked for are made: those of the pairs before their lines,
-/// and the priority file before the search, and it is written behind it. The observer is told how
-/// many of how many pairs are done, at once and after each.
+/// both. The folder and the files that are asked for are made: those of the pairs before their
+/// lines, and the priority file before the search, and it is written behind it. The observer is
+/// told how many of how many pairs are done, at once and after each.
 #[inline(never)]
 pub fn run_conflicts<'a, S: Store, W: Output, O: Observer>(
     alloc: Global,

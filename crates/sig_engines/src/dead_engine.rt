@@ -1,5 +1,5 @@
-//! `dead`, over any output: the formats of a table, one after another, and which of them and of their
-//! signatures no file can ever leave.
+//! `dead`, over any output: the formats of a table, one after another, and which of them and of
+//! their signatures no file can ever leave.
 //!
 //! The lines of a format are written as soon as it is decided. So where memory runs out or a write
 //! fails, the lines before stand, and the last line is missing.
@@ -22,9 +22,9 @@ use std::alloc::{AllocError, Global};
 /// Writes the lines of each format, and a last one with the counts. Answers whether each format and
 /// each signature is alive.
 ///
-/// No file leaves a format A with a line `dead A`, and some file leaves each format that has neither
-/// this line nor `unknown A`. The observer is told how many of how many formats are done, at once and
-/// after each.
+/// No file leaves a format A with a line `dead A`, and some file leaves each format that has
+/// neither this line nor `unknown A`. The observer is told how many of how many formats are done,
+/// at once and after each.
 #[inline(never)]
 pub fn run_dead<W: Output, O: Observer>(
     alloc: Global,

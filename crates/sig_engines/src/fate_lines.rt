@@ -1,4 +1,8 @@
-//! The lines of `dead`.
+//! The lines of `dead`: `dead fmt/3` of a format that no file leaves, `dead fmt/1 2` of such a
+//! signature of a format that is alive.
+//!
+//! A format that is alive has no line of its own. A signature that is alive has one only with
+//! `--hex`, with the bytes of its file. The last line has all counts.
 
 ghost use Rattle.std.specs.Prelude.{◌≡◌, ◌<◌, ◌++◌, ◌∷◌, [], All, IfOk, OnOk, count_by, flat_map, length, string_bytes};
 ghost use Rattle.sig_engines.specs.Texts.{format_text, signature_text};
@@ -11,8 +15,8 @@ use sig_table::{FormatId, SigId, Table};
 use std::alloc::{AllocError, Global};
 use std::fmt::Write;
 
-/// The lines of a format. With `with_hex` each signature that is alive has one with the bytes of its
-/// file.
+/// The lines of a format. With `with_hex` each signature that is alive has one with the bytes of
+/// its file.
 pub(crate) fn lines_of_fate(
     alloc: Global,
     table: &Table,

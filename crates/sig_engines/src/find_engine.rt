@@ -1,9 +1,9 @@
 //! `find`, over any output for what is found and any output for its lines.
 //!
 //! What is found is written before a byte of its lines is. Where the search gave up, a line on the
-//! error output says why, once the answer is written. Two signatures can be too much in two ways: more
-//! signatures outrank one of them than a product can have, or a product has more rows than the budget.
-//! Where both hold the first is named, which a greater budget alone seldom mends.
+//! error output says why, once the answer is written. Two signatures can be too much in two ways:
+//! more signatures outrank one of them than a product can have, or a product has more rows than the
+//! budget. Where both hold the first is named, which a greater budget alone seldom mends.
 
 ghost use Rattle.std.specs.Prelude.{◌≡◌, ◌≢◌, ◌⊎◌, ◌++◌, false, option_map, string_bytes, true, IfErr, IfOk, IfSome, OnOk};
 ghost use Rattle.sig_engines.specs.Texts.{signature_text};
@@ -29,11 +29,16 @@ use std::fmt::Write;
 // The greatest number of blockers of a product.
 const MOST_BLOCKERS: usize = 64;
 
-/// Writes what the finder finds of a table to a file of this name, and then its lines. Answers whether
-/// it is a certificate or a witness.
+/// Writes what the finder finds of a table to a file of this name, and then its lines. Answers
+/// whether it is a certificate or a witness.
 ///
 /// The file is made only once something is found, and where the search gave up not at all. With
-/// `progress` the search tells `err` how many products are done, and where it gave up `err` is told why.
+/// `progress` the search tells `err` how many products are done, and where it gave up `err` is told
+/// why.
+///
+/// `made` says that a file of this name was made and was written these bytes. It names no value,
+/// since the file is dropped here. So no clause can say that none is made where the search gave up,
+/// nor that nothing more is written to it: tests do.
 #[inline(never)]
 pub fn run_find<S: Store, W: Output, E: Output>(
     alloc: Global,
@@ -172,8 +177,8 @@ fn push_budget(line: &mut String, budget: u32) -> Result<(), AllocError>
     Ok(())
 }
 
-// Writes what was found to the file of this name, and then its lines. The file is made only now, and
-// where the search gave up not at all.
+// Writes what was found to the file of this name, and then its lines. The file is made only now,
+// and where the search gave up not at all.
 fn write_answer<S: Store, W: Output>(
     alloc: Global,
     store: &S,

@@ -1,10 +1,10 @@
-//! The forced pairs of formats: each file that leaves the one hits the other, so the one must be over
-//! the other.
+//! The forced pairs of formats: each file that leaves the one hits the other, so the one must be
+//! over the other.
 //!
-//! Each alone takes no format its last file, and several together may. So they are tried in the order
-//! of their lines, each behind the priorities of the table and those that were taken before it
-//! (`try_addition`), and one that would close a cycle or leave its lower format without a file is left
-//! out.
+//! Each alone takes no format its last file, and several together may. So they are tried in the
+//! order of their lines, each behind the priorities of the table and those that were taken before
+//! it (`try_addition`), and one that would close a cycle or leave its lower format without a file
+//! is left out.
 
 ghost use Rattle.std.specs.Prelude.{◌≡◌, ◌++◌, All, IfOk, OnOk, length, string_bytes};
 ghost use Rattle.sig_cert.specs.Deciding.{AreFormats};

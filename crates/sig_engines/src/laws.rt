@@ -7,8 +7,8 @@ ghost use Rattle.sig_engines.specs.Lines.{AddsLinesOfSome, AreLinesOfSome, file_
 ghost use Rattle.sig_core.specs.declared.results.Hit.{Hit};
 ghost use Rattle.sig_table.specs.Views.{TableView};
 
-/// Of a decided table `match` without `--all` never writes two lines of a file, also where nothing is known of
-/// the file's bytes.
+/// Of a decided table `match` without `--all` never writes two lines of a file, also where nothing
+/// is known of the file's bytes.
 pub fn two_lines_are_never_added()
     ensures alone { (table : TableView) (to_come before after : Option (List ℕ)) → Decided table → AddsLinesOfSome false table to_come before after
         → (hits : List Hit) × (length hits ≤ 1) × Adds before (lines_of table hits) after }

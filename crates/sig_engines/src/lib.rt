@@ -2,15 +2,15 @@
 //! files. They read no arguments and print no help, so another program can call them.
 //!
 //! `run_match`, `run_match_many`, `run_show`, `run_find`, `run_check` and `run_witness` are
-//! subcommands; `settle` is `conflicts` and `find_dead` is `dead`, and `run_conflicts` and `run_dead`
-//! are the same without reports. But for `run_match_many` and these four, each has its whole answer
-//! before it writes: after a failed read, and where memory runs out, the output is as it was. A fault
-//! says that a read or a write failed only where one did.
+//! subcommands; `settle` is `conflicts` and `find_dead` is `dead`, and `run_conflicts` and
+//! `run_dead` are the same without reports. But for `run_match_many` and these four, each has its
+//! whole answer before it writes: after a failed read, and where memory runs out, the output is as
+//! it was. A fault says that a read or a write failed only where one did.
 //!
-//! What each adds to an output stands in `specs/`: `Lines`, `ManyFiles`, `Shown`, `Finding`, `Judged`,
-//! `Witnessed`, `Conflicts`, `Fates` and `Progress`. `Asks` says which pairs `conflicts` is asked for,
-//! and `ClassTexts` how their classes are written and counted. `Stores` says what a store of files
-//! holds and makes.
+//! What each adds to an output stands in `specs/`: `Lines`, `ManyFiles`, `Shown`, `Finding`,
+//! `Judged`, `Witnessed`, `Conflicts`, `Fates` and `Progress`. `Asks` says which pairs `conflicts`
+//! is asked for, and `ClassTexts` how their classes are written and counted. `Stores` says what a
+//! store of files holds and makes.
 #![tactic(auto)]
 
 mod ask;

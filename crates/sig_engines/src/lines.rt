@@ -1,4 +1,9 @@
-//! The lines that are answers.
+//! The lines that are answers: of `match`, `witness`, `find` and `check`.
+//!
+//! For a file that hits `fmt/1` by its signature 7 `match` has the line `fmt/1 7`; if it is one of
+//! several files, its name and a tab come first. All lines of an answer are made here before one is
+//! written, and only memory can run out. The lines of `conflicts` and `dead` are made by
+//! `pair_lines`, `summary` and `fate_lines`.
 
 ghost use Rattle.std.specs.Prelude.{◌≡◌, ◌++◌, ◌∷◌, [], All, codes, decimal, IfOk, IfSome, OnOk, option_map, Some, string_bytes};
 ghost use Rattle.sig_engines.specs.Finding.{AreSignatures, IsKnown, found_text, hex_line, numbers_text};
@@ -16,8 +21,8 @@ use std::fmt::Write;
 
 /// The lines of a file: one for each hit, in their order.
 ///
-/// With a name, that of one of several files, each line begins with it and a tab, and where there is
-/// no hit a line says so. The name is written byte by byte.
+/// With a name, that of one of several files, each line begins with it and a tab, and where there
+/// is no hit a line says so. The name is written byte by byte.
 pub(crate) fn lines_of_file(
     alloc: Global,
     table: &Table,

@@ -1,4 +1,9 @@
-//! The lines of `conflicts`.
+//! The lines of `conflicts`, as `ambiguous fmt/1 fmt/2 1 2 3 under`: two formats, a signature of
+//! each, the length of a file that gets both, and with `--class` the class of the pair.
+//!
+//! A line is made whole in memory and written by one write, so a failed write leaves a prefix of
+//! that line alone. A decided pair has no line and costs no memory. The lines of `--summary` are
+//! made by `summary`.
 
 ghost use Rattle.std.specs.Prelude.{◌≡◌, ◌+◌, ◌++◌, ◌^◌, ◌<◌, IfOk, OnOk, string_bytes};
 ghost use Rattle.sig_engines.specs.ClassTexts.{class_word, classes_text};
@@ -68,7 +73,8 @@ fn push_product(
     Ok(())
 }
 
-// What a line says of a file: its length, the class of its pair, and its bytes if they are asked for.
+// What a line says of a file: its length, the class of its pair, and its bytes if they are asked
+// for.
 fn push_file(
     alloc: Global,
     line: &mut String,

@@ -1,8 +1,11 @@
-//! Progress: how much of a long search is done, as one line of the error output that is written over
-//! and over.
+//! Progress: how much of a long search is done, as one line of the error output that is written
+//! over and over.
 //!
-//! A report is written when so many more are done that a percent of all can be, so there are at most
-//! some hundred of them. A failed write changes nothing else.
+//! A report is written when so many more are done that a percent of all can be, so there are at
+//! most some hundred of them. A failed write changes nothing else.
+//!
+//! `find` counts products, and `conflicts` pairs: a pair ends with its first witness, so how many
+//! products it takes is not known before.
 
 ghost use Rattle.std.specs.Prelude.{◌≡◌, ◌<◌, ◌≤◌, codes, false};
 ghost use Rattle.std.proofs.Common.{◌∙◌, refl};

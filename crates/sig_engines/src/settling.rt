@@ -1,5 +1,5 @@
-//! `conflicts` with its error output: how much of the search is done, and behind it the forced pairs
-//! that are not in the priority file.
+//! `conflicts` with its error output: how much of the search is done, and behind it the forced
+//! pairs that are not in the priority file.
 
 ghost use Rattle.std.specs.Prelude.{◌≡◌, ◌⊎◌, None, false, true, IfErr, IfOk, OnOk, string_bytes};
 ghost use Rattle.sig_engines.specs.Conflicts.{AddsConflicts, IsBeforeSearch, Settles, StopsPairs};
@@ -38,7 +38,8 @@ pub fn settle<'a, S: Store, W: Output, E: Output>(
     ensures stops { IfErr result (λ fault. StopsPairs S.Writer.failed fault ask.entry table.now (W.failed out.new) (W.written out.old) (W.written out.new)) }
     ensures untouched { IfErr result (λ fault. IsBeforeSearch fault → out.new ≡ out.old) }
 
-    // The error output: the progress alone, where no priority file is asked for, and before a fault.
+    // The error output: the progress alone, where no priority file is asked for, and before a
+    // fault.
     ensures shown { OnOk result (ask.entry.priorities ≡ None → ShowsIf progress Things.Pairs (E.failed err.new) err.old err.new (E.written err.old) (E.written err.new)) }
     ensures faulted { IfErr result (λ fault. (err.new ≡ err.old) ⊎ ShowsIf progress Things.Pairs (E.failed err.new) err.old err.new (E.written err.old) (E.written err.new)) }
 {

@@ -1,4 +1,7 @@
 //! `show`, over any output.
+//!
+//! Both canonical files are made in memory, with an empty line between them, and written by one
+//! write. So a table too large for memory is written not at all, and not by half.
 
 ghost use Rattle.std.specs.Prelude.{◌≡◌, ◌≢◌, false, true, IfOk, IsErrOf, OnOk};
 ghost use Rattle.sig_bits.specs.Device.{Adds};

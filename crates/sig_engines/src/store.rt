@@ -1,7 +1,13 @@
 //! Files by their names.
 //!
 //! What the program reads and makes by name it asks of a store, so what it does with the files of a
-//! store that tells what it holds can be said in a contract. The files of the system tell nothing.
+//! store that tells what it holds can be said in a contract. `held` is one function of all names: a
+//! store that tells what its files hold also tells of a name that it has no file. What is written
+//! to a file that was made is not part of it.
+//!
+//! The files of the system tell nothing. A folder opens there, and its first read fails, so the
+//! program's line is `read failed`. No clause says when a store refuses a name, nor that
+//! `SystemFiles` ever opens or makes a file: `.ci/program` shows that it does.
 
 ghost use Rattle.std.specs.Prelude.{◌≡◌, ℕ, false, IfSome, List, None, Option, option_map};
 ghost use Rattle.sig_engines.specs.Stores.{Holding, IsNamed, Makes, Opens};
@@ -29,15 +35,15 @@ pub trait Store {
 
     /// Makes a file of this name, in place of one that is there.
     ///
-    /// What is written to it is not among what the store is known to hold. Over any store nothing but this
-    /// call gives a file of a name, so who promises one (`IsMade`) has made it here.
+    /// What is written to it is not among what the store is known to hold. Over any store nothing
+    /// but this call gives a file of a name, so who promises one (`IsMade`) has made it here.
     fn create(&self, name: &str) -> Option<Self::Writer>
         ensures named { IfSome result (λ file. IsNamed (name_of file) name.now) }
         ensures makes { IfSome result (λ file. Makes (held self.now) (Self.Writer.written file)) }
         ensures fresh { IfSome result (λ file. Self.Writer.failed file ≡ false) };
 
-    /// Makes a folder of this name, and those that it lies in, where they are missing. Answers whether
-    /// it is there.
+    /// Makes a folder of this name, and those that it lies in, where they are missing. Answers
+    /// whether it is there.
     fn make_folder(&self, name: &str) -> bool;
 }
 

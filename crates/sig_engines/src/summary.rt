@@ -1,5 +1,5 @@
-//! A line for each format: in how many lines of pairs it is, and in how many of each class. A format
-//! with many lines is a loose one, and is to be mended before its pairs are looked at.
+//! A line for each format: in how many lines of pairs it is, and in how many of each class. A
+//! format with many lines is a loose one, and is to be mended before its pairs are looked at.
 //!
 //! Most lines first, and formats of equally many in table order. Each format is counted by going
 //! through the notes of all lines; that is little beside the search for each line.

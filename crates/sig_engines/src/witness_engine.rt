@@ -1,6 +1,7 @@
 //! `witness`, over any input and any output.
 //!
-//! The file is judged whole before a byte is written.
+//! The file is judged whole before a byte is written. The line is made in memory and written by one
+//! write.
 
 ghost use Rattle.std.specs.Prelude.{◌≡◌, ◌↔◌, false, true, IfErr, IfOk, IfSome, IsErrOf, IsSome, OnOk};
 ghost use Rattle.sig_bits.specs.Bytes.{IsBytes};

@@ -1,5 +1,5 @@
-//! The names of the files in which `conflicts` keeps what is ambiguous: `fmt_1-x-fmt_2.bin` for a file
-//! that leaves the formats `fmt/1` and `x-fmt/2`.
+//! The names of the files in which `conflicts` keeps what is ambiguous: `fmt_1-x-fmt_2.bin` for a
+//! file that leaves the formats `fmt/1` and `x-fmt/2`.
 //!
 //! A slash can't stand in a file's name, so `_` stands for it, which is in no PUID: two pairs never
 //! have one name.

@@ -130,7 +130,8 @@ fn pair(high: u8, low: u8) -> u8
 /// The byte of the two digits in front, where both are there.
 ///
 /// Most of a usual text is such pairs. Between two pieces, one that is read whole costs a fraction
-/// of two bytes that are fed.
+/// of two bytes that are fed: the state of a reading has room for both ends of a bracket, and is
+/// slow to copy.
 pub(crate) fn pair_in_front(rest: &[u8]) -> Option<u8>
     ensures byte { result ≡ pair_in_front rest.now }
     ensures within { IfSome result (λ _. 2 ≤ length rest.now) }

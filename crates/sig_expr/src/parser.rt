@@ -2,7 +2,9 @@
 //!
 //! Two passes find every refusal and allocate nothing: `syntax_place` where no expression goes on,
 //! and `first_fault` the first gap or bracket out of the profile. `build_items` then builds the
-//! value. In one pass memory could run out before a text is refused.
+//! value. In one pass memory could run out before a text is refused. No clause can refuse an answer
+//! of out of memory, whatever the text: that a text of 8,192 bytes is parsed if there is memory, a
+//! test shows.
 
 ghost use Rattle.std.specs.Prelude.{◌≡◌, ◌<◌, IfOk, IfErr, length, OnOk};
 ghost use Rattle.sig_expr.specs.Built.{built};

@@ -1,11 +1,12 @@
 //! One pair more: what it would do to the formats of a table.
 //!
-//! Let each file that leaves A hit B, and some that leaves B not hit A: then A must be over B, since
-//! B over A would leave no file for A. One such pair alone takes no format its last file. Several may:
-//! of `41`, `??` and `[!41]`, each a format at offset 0, the first and the third must be over the
-//! second, and then no file is left for the second one. So pairs are tried one after another, each
-//! with those before it: the formats over its lower one must leave it a file. Those over any other
-//! format stay the same, so every other format keeps its files (`additions_keep_formats_alive`).
+//! Let each file that leaves A hit B, and some that leaves B not hit A: then A must be over B,
+//! since B over A would leave no file for A. One such pair alone takes no format its last file.
+//! Several may: of `41`, `??` and `[!41]`, each a format at offset 0, the first and the third must
+//! be over the second, and then no file is left for the second one. So pairs are tried one after
+//! another, each with those before it: the formats over its lower one must leave it a file. Those
+//! over any other format stay the same, so every other format keeps its files
+//! (`additions_keep_formats_alive`).
 
 ghost use Rattle.std.specs.Prelude.{◌≡◌, ◌↔◌, ◌<◌, ◌∷◌, ◌++◌, [], All, IfOk, IsTrue, length, map};
 ghost use Rattle.sig_find.specs.Additions.{AreOverBelow, IsAddition, IsEscape, IsOver, addition_by};

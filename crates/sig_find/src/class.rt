@@ -1,12 +1,12 @@
 //! The class of two formats: what a priority between them would do.
 //!
-//! Let some file leave both formats A and B, as `41` at offset 0 of A and `4142` of B leave `41 42`.
-//! Then an editor may put one of them over the other, and which one follows from two questions:
-//! does each file that leaves A hit B, and does each that leaves B hit A? Here the second one holds
-//! and the first does not, for the file `41`. So B must be over A: were A over B, no file would
-//! leave B. Each question is one of inclusion (`inclusion`), for each signature of the one format,
-//! in the signatures of the other and in those that outrank the one. Mostly a file that is known
-//! of the one format (`lives`) answers it at once.
+//! Let some file leave both formats A and B, as `41` at offset 0 of A and `4142` of B leave
+//! `41 42`. Then an editor may put one of them over the other, and which one follows from two
+//! questions: does each file that leaves A hit B, and does each that leaves B hit A? Here the
+//! second one holds and the first does not, for the file `41`. So B must be over A: were A over B,
+//! no file would leave B. Each question is one of inclusion (`inclusion`), for each signature of
+//! the one format, in the signatures of the other and in those that outrank the one. Mostly a file
+//! that is known of the one format (`lives`) answers it at once.
 
 ghost use Rattle.std.specs.Prelude.{◌≡◌, ◌<◌, ℕ, IfOk, IsTrue, length, map};
 ghost use Rattle.sig_find.specs.Classes.{AreTakers, IsClass, IsContainment, IsContainmentOf, StandsAlone, class_by, mirror_of};

@@ -2,7 +2,8 @@
 //! for which it does.
 //!
 //! What it answers is `specs/Answers.antt`; what it answers of two formats,
-//! `specs/FormatPairs.antt`; what a search over the rows of one product finds, `specs/Searches.antt`.
+//! `specs/FormatPairs.antt`; what a search over the rows of one product finds,
+//! `specs/Searches.antt`.
 #![tactic(auto)]
 
 mod addition;

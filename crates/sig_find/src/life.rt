@@ -1,9 +1,9 @@
 //! One signature: whether some file that it hits leaves its format.
 //!
-//! In a table with a priority of `fmt/2` over `fmt/1`, a signature `4142` of `fmt/1` is dead if `fmt/2`
-//! has `41`: each file that the first one hits is hit by the second one too, so `fmt/1` is removed.
-//! This is the product of the signature with itself: a closed set of rows without a bad one says that
-//! it is dead, and a bad row gives a shortest file that leaves the format.
+//! In a table with a priority of `fmt/2` over `fmt/1`, a signature `4142` of `fmt/1` is dead if
+//! `fmt/2` has `41`: each file that the first one hits is hit by the second one too, so `fmt/1` is
+//! removed. This is the product of the signature with itself: a closed set of rows without a bad
+//! one says that it is dead, and a bad row gives a shortest file that leaves the format.
 
 ghost use Rattle.std.specs.Prelude.{◌≡◌, ◌<◌, All, IfOk, length};
 ghost use Rattle.std.specs.List.{list_any};
@@ -57,8 +57,8 @@ pub enum Fate {
     Unknown,
 }
 
-/// Decides whether a signature of this format is alive, within a budget of rows as [`decide_product`]
-/// counts them.
+/// Decides whether a signature of this format is alive, within a budget of rows as
+/// [`decide_product`] counts them.
 pub fn decide_signature(
     alloc: Global,
     table: &Table,

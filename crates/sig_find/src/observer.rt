@@ -1,4 +1,9 @@
-//! Who is told how far a search has come.
+//! Reports of progress: a search calls an observer that its caller lends, and asks nothing of it.
+//!
+//! So a failed write of a report changes no answer. What reports can make of an observer is a
+//! relation, `becomes`, which holds without a report and goes on from one to the next: whoever
+//! knows what one report does knows what a search did, and no clause counts reports. Of a closure
+//! less could be said after a call.
 
 ghost use Rattle.std.specs.Prelude.{⊤};
 

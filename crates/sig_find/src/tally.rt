@@ -1,4 +1,7 @@
-//! How many of the products of a table are done.
+//! How many of the products of a table are done, for reports of progress.
+//!
+//! All are counted before the search begins. The counts saturate, and no answer depends on them, so
+//! no clause speaks of them.
 
 use crate::finder::are_related;
 use crate::observer::Observer;

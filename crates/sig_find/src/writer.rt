@@ -1,4 +1,7 @@
-//! The bytes of a certificate, as the checker reads them: numbers stand with their highest byte first.
+//! The bytes of a certificate, as the checker reads them: numbers have their highest byte first.
+//!
+//! `50 53 41 43 02` and the number of pairs begin it. A table is a number of blockers, these, a
+//! number of rows, and these; rows are kept as bytes already. The byte of each pair is `finder`'s.
 
 ghost use Rattle.std.specs.Prelude.{◌≡◌, ◌<◌, ◌≤◌, ◌^◌, ◌∷◌, ◌++◌, OnOk, flat_map, length, map};
 ghost use Rattle.std.specs.List.{concat};

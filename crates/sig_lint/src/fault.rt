@@ -1,7 +1,7 @@
 //! A fault of a row, with the record that has it.
 //!
-//! `fmt/1;1;BOF;0;;4142` in the third line of a file is told as the fault `Fields` of row 2, line 3,
-//! with the one field that the record has.
+//! `fmt/1;1;BOF;0;;4142` in the third line of a file is told as the fault `Fields` of row 2, line
+//! 3, with the one field that the record has.
 
 ghost use Rattle.std.specs.Prelude.{◌≡◌, ◌++◌, ◌∷◌, [], IfOk};
 ghost use Rattle.csv.specs.Records.{fields_of};

@@ -1,7 +1,8 @@
 //! The field of a row that is at fault.
 //!
-//! In `fmt/1,1,BOF,0,4.00E+05,4142` it is the greatest offset, since the offset is one. A fault that
-//! no field has alone, as a row of five fields or a pair that stands twice, is one of the record.
+//! In `fmt/1,1,BOF,0,4.00E+05,4142` it is the greatest offset, since the offset is one. A fault
+//! that no field has alone, as a row of five fields or a pair that stands twice, is one of the
+//! record.
 
 ghost use Rattle.std.specs.Prelude.{◌≡◌, if◌then◌else◌};
 ghost use Rattle.csv.specs.Records.{fields_of};

@@ -13,8 +13,8 @@ ghost use Rattle.sig_lint.specs.Faults.{done_by, faultless, faults_from, is_unkn
 
 use sig_table::rows_are_spelled;
 
-/// The rows of a signature file that have no fault load, in a file of their own. The table that they
-/// give is the one against which a later row is judged.
+/// The rows of a signature file that have no fault load, in a file of their own. The table that
+/// they give is the one against which a later row is judged.
 pub fn faultless_rows_load()
     ensures { (header : List (List ℕ)) (rows : Records) → is_signature_header header ≡ true
         → signatures_of (header ∷ faultless with_record 1 empty_table rows) ≡ Ok (done_by with_record 1 empty_table rows) }

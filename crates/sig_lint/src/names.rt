@@ -143,8 +143,8 @@ pub(crate) fn names_of(
     }
 }
 
-// Those of a signature file, if it has a header. As the files are judged, each is read in a frame of
-// its own.
+// Those of a signature file, if it has a header. As the files are judged, each is read in a frame
+// of its own.
 #[inline(never)]
 fn names_of_rows(alloc: Global, text: &[u8]) -> Result<Option<Names>, AllocError>
     ensures header { IfOk result (λ found. is_some found ≡ has_signature_header (records_of text.now)) }

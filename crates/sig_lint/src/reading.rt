@@ -1,8 +1,8 @@
 //! Records, their fields, and the lines on which they begin.
 //!
-//! Where line 2 of a file is empty, and the first row stands on line 3 with a quoted line end in its
-//! expression, the second row begins on line 5. `csv` says at which byte it began to read a record;
-//! the line ends up to there, and those of empty lines behind it, are counted once each.
+//! Where line 2 of a file is empty, and the first row stands on line 3 with a quoted line end in
+//! its expression, the second row begins on line 5. `csv` says at which byte it began to read a
+//! record; the line ends up to there, and those of empty lines behind it, are counted once each.
 
 ghost use Rattle.std.specs.Prelude.{◌≡◌, ◌∷◌, [], IfOk};
 ghost use Rattle.std.specs.Bool.{MatchBool};

@@ -1,8 +1,8 @@
 //! The faults of a signature file.
 //!
-//! Behind `fmt/1,1,BOF,0,,4142` the row `fmt/2,x,BOF,0,,4143` has no signature number: it is told as
-//! row 2 and left out, and row 3 is judged behind row 1 alone. A header with `;` for the comma is
-//! the only fault of its file.
+//! Behind `fmt/1,1,BOF,0,,4142` the row `fmt/2,x,BOF,0,,4143` has no signature number: it is told
+//! as row 2 and left out, and row 3 is judged behind row 1 alone. A header with `;` for the comma
+//! is the only fault of its file.
 
 ghost use Rattle.std.specs.Prelude.{◌≡◌, ◌++◌, IfOk, Some};
 ghost use Rattle.csv.specs.Records.{fields_of};

@@ -5,8 +5,8 @@
 //! A `Scan` is fed by its caller, in pieces of any length. `left_in` and `signature_hits` answer of
 //! bytes in memory.
 //!
-//! `whole` searches a file in memory, `scan` passes over a file once, and `stream` reads a file for a
-//! scan.
+//! `whole` searches a file in memory, `scan` passes over a file once, and `stream` reads a file for
+//! a scan.
 #![tactic(auto)]
 
 mod laws;

@@ -2,9 +2,9 @@
 //!
 //! For each sequence of a table there is its position automaton and a set of its states: those in
 //! which runs of the bytes so far end. A byte leads from each set to the next one, so it makes no
-//! difference where a file is cut. The file ends where no more is fed, and a sequence then stands in
-//! it exactly where some state of its set accepts. Of `41{1-2}42` at the start of a file the bytes
-//! `41 42 42` lead through the sets {0}, {1}, {2} and {3, 4}, and 4 accepts.
+//! difference where a file is cut. The file ends where no more is fed, and a sequence then stands
+//! in it exactly where some state of its set accepts. Of `41{1-2}42` at the start of a file the
+//! bytes `41 42 42` lead through the sets {0}, {1}, {2} and {3, 4}, and 4 accepts.
 //!
 //! This is the subset construction, walked and not built. Nothing is passed over: each byte costs a
 //! step of each set.

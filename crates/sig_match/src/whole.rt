@@ -4,8 +4,8 @@
 //! signature is given up at its first sequence that does not stand. A run of fixed bytes is looked
 //! for whole, and any other item, or part of an alternative, costs at most the file's length,
 //! whatever the table and the file. An EOF sequence whose words are bounded is looked for near the
-//! end of the file alone. A frontier has at most about half as many intervals as the file has bytes,
-//! of sixteen bytes each; two stand at a time, and three more within a list of alternatives.
+//! end of the file alone. A frontier has at most about half as many intervals as the file has
+//! bytes, of sixteen bytes each; two stand at a time, and three more within a list of alternatives.
 
 ghost use Rattle.std.specs.Prelude.{◌≡◌, ◌<◌, ◌↔◌, IfOk, IfErr, IsTrue, length};
 ghost use Rattle.sig_bits.specs.Bytes.{IsBytes};

@@ -1,8 +1,9 @@
 //! An attempt: the first end of a stage in the bytes at hand.
 //!
-//! Of `(41424344|43)` over `41 42 43 44` the word that begins at 0 ends at 4, and the one that begins
-//! at 2 ends at 3: a later word can end earlier, also one that begins behind the offsets that are
-//! tried. So once some end is found, all words that begin before it are asked for the first one.
+//! Of `(41424344|43)` over `41 42 43 44` the word that begins at 0 ends at 4, and the one that
+//! begins at 2 ends at 3: a later word can end earlier, also one that begins behind the offsets
+//! that are tried. So once some end is found, all words that begin before it are asked for the
+//! first one.
 
 ghost use Rattle.std.specs.Prelude.{◌≡◌, ◌≤◌, IfSome, length};
 ghost use Rattle.sig_scan.specs.Frontiers.{IsLeastEnd};
@@ -12,8 +13,8 @@ ghost use Rattle.sig_scan.specs.Scans.{IsFirstOf};
 use crate::frontier::Frontier;
 use sig_expr::Item;
 
-/// The first end of all words of the items that begin at `from` or later and before `until`, if one of
-/// them begins before `limit`. No word has more bytes than `reach`.
+/// The first end of all words of the items that begin at `from` or later and before `until`, if one
+/// of them begins before `limit`. No word has more bytes than `reach`.
 pub(crate) fn attempt(
     items: &[Item],
     bytes: &[u8],

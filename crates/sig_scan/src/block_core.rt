@@ -1,12 +1,14 @@
 //! The matcher that scans a file by blocks while it reads it.
 //!
-//! The table is compiled (`program`), once for many files or for each of them. A file is read straight
-//! into the buffer over which the sequences go, which has room for its first 32 KiB at first. A file
-//! that fits in there is scanned where it stands: to clear a block of 256 KiB would take longer than to
-//! scan it. For a longer one the buffer grows, once, to a block and what is kept of the one before it.
+//! The table is compiled (`program`), once for many files or for each of them. A file is read
+//! straight into the buffer over which the sequences go, which has room for its first 32 KiB at
+//! first. A file that fits in there is scanned where it stands: to clear a block of 256 KiB would
+//! take longer than to scan it. For a longer one the buffer grows, once, to a block and what is
+//! kept of the one before it.
 //!
-//! The first bytes exclude signatures (`head`). None of their sequences is looked for, nor even compiled
-//! where the table is compiled for one file.
+//! The first bytes exclude signatures (`head`). None of their sequences is looked for, nor even
+//! compiled where the table is compiled for one file. The heads are asked once, of the first 32 KiB
+//! at most: a head behind them excludes nothing.
 //!
 //! The memory is that of a program and of one scan, however long the file is.
 
@@ -84,8 +86,8 @@ impl BlockCore {
         }
     }
 
-    /// The same, with the table compiled once for many files. Where there is no memory for it, it is
-    /// compiled for each of them.
+    /// The same, with the table compiled once for many files. Where there is no memory for it, it
+    /// is compiled for each of them.
     pub fn prepared(alloc: Global, table: Table) -> BlockCore
         ensures { result ≡ table }
     {
@@ -138,8 +140,8 @@ fn compiled(alloc: Global, table: &Table) -> Result<Program, AllocError>
     Program::of(alloc, table, &all)
 }
 
-// The formats that the input hits, which is read to its end. A table that is not prepared is compiled for
-// this file, as far as its first bytes leave signatures that it may hit.
+// The formats that the input hits, which is read to its end. A table that is not prepared is
+// compiled for this file, as far as its first bytes leave signatures that it may hit.
 fn scan_input<R: Input>(
     alloc: Global,
     table: &Table,
@@ -171,7 +173,8 @@ fn scan_input<R: Input>(
     }
 }
 
-// Of each signature, whether a file that begins with these bytes may hit it, as far as the heads tell.
+// Of each signature, whether a file that begins with these bytes may hit it, as far as the heads
+// tell.
 fn may_hit_of(
     alloc: Global,
     table: &Table,

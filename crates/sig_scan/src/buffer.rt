@@ -1,9 +1,10 @@
 //! The bytes at hand: the last ones of those that were read.
 //!
-//! Bytes are read to their place behind the last one, so none is copied as it comes, and taken off at
-//! the front, where the rest moves to. The room is made when a buffer is made, and once more if it
-//! proves too small: then it grows. Behind the last byte there is always one more, which belongs to
-//! no file: the prefilter looks at whole fours of bytes, and so it finds what ends with the file too.
+//! Bytes are read to their place behind the last one, so none is copied as it comes, and taken off
+//! at the front, where the rest moves to. The room is made when a buffer is made, and once more if
+//! it proves too small: then it grows. Behind the last byte there is always one more, which belongs
+//! to no file: the prefilter looks at whole fours of bytes, and so it finds what ends with the file
+//! too.
 
 ghost use Rattle.std.specs.Prelude.{◌≡◌, ℕ, ◌+◌, ◌<◌, ◌≤◌, ◌^◌, ◌++◌, ◌∷◌, [], IfOk, IsTrue, OnErr, OnOk, drop, false, is_err, length, take};
 ghost use Rattle.sig_bits.specs.Bytes.{IsBytes};

@@ -1,8 +1,8 @@
 //! A byte, or a bracket of one byte, as a class: a range of bytes, or all bytes outside of it.
 //!
-//! `41` is the range from 41 to 41, `[41:44]` that from 41 to 44, and `[!41]` all bytes outside of the
-//! first one. So a byte is judged by two comparisons. A bracket of several bytes is no class, and goes
-//! by `part`.
+//! `41` is the range from 41 to 41, `[41:44]` that from 41 to 44, and `[!41]` all bytes outside of
+//! the first one. So a byte is judged by two comparisons. A bracket of several bytes is no class,
+//! and goes by `part`.
 
 ghost use Rattle.std.specs.Prelude.{◌≡◌, ◌↔◌, List, ℕ, [], ◌∷◌, IfSome, IsTrue};
 ghost use Rattle.sig_bits.specs.Bytes.{IsBytes};

@@ -1,7 +1,7 @@
 //! Copies of items, so that a compiled table outlives the table that it is made of.
 //!
-//! Of `41(42|4344)` the list and both of its alternatives are copied; a byte and the ends of a bracket
-//! are values. Nothing is shared between an expression and its copy.
+//! Of `41(42|4344)` the list and both of its alternatives are copied; a byte and the ends of a
+//! bracket are values. Nothing is shared between an expression and its copy.
 
 ghost use Rattle.std.specs.Prelude.{◌≡◌, IfOk, map};
 

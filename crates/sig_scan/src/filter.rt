@@ -1,15 +1,15 @@
 //! The prefilter: one look at a block for the literals of many stages.
 //!
-//! Of each literal four bytes in a row are entered, say `50 4B 03 04`. Every second place of a block is
-//! looked at, so one of the threes `50 4B 03` and `4B 03 04` begins at such a place: both are marked in
-//! a table of 64 KiB, and most places of a file are not marked. Where a mark is met, the four bytes at
-//! the place and at the one before it are asked for in a table of lists, and the literals of the list
-//! are compared. What is found is the first offset of the block at which each sequence may go on. Where
-//! one of two bytes may stand, as in a word in either case, all texts of the four places are entered,
-//! sixteen at most.
+//! Of each literal four bytes in a row are entered, say `50 4B 03 04`. Every second place of a
+//! block is looked at, so one of the threes `50 4B 03` and `4B 03 04` begins at such a place: both
+//! are marked in a table of 64 KiB, and most places of a file are not marked. Where a mark is met,
+//! the four bytes at the place and at the one before it are asked for in a table of lists, and the
+//! literals of the list are compared. What is found is the first offset of the block at which each
+//! sequence may go on. Where one of two bytes may stand, as in a word in either case, all texts of
+//! the four places are entered, sixteen at most.
 //!
-//! The literal of a stage that has a greatest offset is looked for only as far as it may stand, and not
-//! at all once that offset is passed.
+//! The literal of a stage that has a greatest offset is looked for only as far as it may stand, and
+//! not at all once that offset is passed.
 //!
 //! It leaves out literals of less than four bytes, those that find a list full, and which of its
 //! four bytes make a literal rare: that is a guess.
@@ -39,8 +39,8 @@ const ENTRIES: usize = 65_535;
 // How many texts four places of two bytes each have.
 const TEXTS: u32 = 16;
 
-/// A literal, where in it the four bytes are by which it is found, the greatest offset at which its stage
-/// may begin, and whose it is: that of the stage of a sequence that has so many before it.
+/// A literal, where in it the four bytes are by which it is found, the greatest offset at which its
+/// stage may begin, and whose it is: that of the stage of a sequence that has so many before it.
 #[derive(Debug, Drop)]
 pub(crate) struct Entry {
     pub(crate) literal: Literal,
@@ -54,7 +54,8 @@ pub(crate) struct Entry {
 /// The literals of stages.
 #[derive(Debug, Drop)]
 pub(crate) struct Filter {
-    // Of each three bytes, whether they begin at one of the first two of the four bytes of an entry.
+    // Of each three bytes, whether they begin at one of the first two of the four bytes of an
+    // entry.
     marks: Vec<u8>,
     // The lists: one more than the place of each entry, and 0 behind the last.
     slots: Vec<u16>,
@@ -117,9 +118,9 @@ impl Filter {
         Ok(())
     }
 
-    /// Finds for each sequence of a signature that the file may hit that waits in the stage of an entry an offset before
-    /// which its literal stands behind none of those at which it may go on. What was found of the others
-    /// stays.
+    /// Finds for each sequence of a signature that the file may hit that waits in the stage of an
+    /// entry an offset before which its literal stands behind none of those at which it may go on.
+    /// What was found of the others stays.
     pub(crate) fn look(
         &self,
         bytes: &[u8],
@@ -142,7 +143,8 @@ impl Filter {
         }
     }
 
-    // The first place from this one on, in steps of two, at which entries are found, or one near the end.
+    // The first place from this one on, in steps of two, at which entries are found, or one near
+    // the end.
     fn next_listed(&self, bytes: &[u8], from: usize) -> usize
         requires even { from % 2 ≡ 0 }
         requires few { from < 2 ^ 63 }
@@ -178,8 +180,8 @@ impl Filter {
     }
 }
 
-// Lowers what was found for the sequence of the entry, if its literal stands here with its four bytes at
-// this place.
+// Lowers what was found for the sequence of the entry, if its literal stands here with its four
+// bytes at this place.
 fn compare(entry: &Entry, bytes: &[u8], place: usize, states: &[State], found: &mut [usize])
     ensures lowered { AreLowered found.old found.new }
     ensures passed { IsPassedAt entry.now bytes.now states.now place found.new }
@@ -208,8 +210,9 @@ fn first_of(entry: &Entry, bytes: &[u8], place: usize, state: State, found: usiz
     offset
 }
 
-// Takes it that of no sequence of a signature that the file may hit that waits in the stage of an entry the literal
-// stands. Answers how many of the bytes at hand, of which there are so many, a look has to see for this.
+// Takes it that of no sequence of a signature that the file may hit that waits in the stage of an
+// entry the literal stands. Answers how many of the bytes at hand, of which there are so many, a
+// look has to see for this.
 fn begin(
     entries: &[Entry],
     len: usize,
@@ -313,8 +316,8 @@ fn behind_of(literal: &Literal, window: usize, choice: u32) -> u32
         + u32::from(literal.byte(window + 3, choice / 8 % 2)) * 0x1_0000
 }
 
-// Marks four bytes, of which the last three are given too, and puts an entry into their list, if there
-// is room.
+// Marks four bytes, of which the last three are given too, and puts an entry into their list, if
+// there is room.
 fn enter(marks: &mut [u8], slots: &mut [u16], four: u32, behind: u32, id: u16) -> bool
     requires marks { length marks.old ≡ 65536 }
     requires slots { length slots.old ≡ 32768 }
@@ -347,7 +350,8 @@ fn slot_for(slots: &[u16], list: usize, id: u16) -> Option<usize>
     None
 }
 
-// The first marked place from this one on, in steps of two, or one near the end. Four are asked at once.
+// The first marked place from this one on, in steps of two, or one near the end. Four are asked at
+// once.
 #[inline(never)]
 fn next_marked(marks: &[u8], bytes: &[u8], from: usize) -> usize
     requires marks { length marks.now ≡ 65536 }

@@ -1,8 +1,8 @@
 //! Where words of a chunk end: a set of offsets, item by item, with no automaton.
 //!
-//! `41{1-2}42` over the bytes 41 42 42 from their start: the set is 0, then 1 behind `41`, then 2 and
-//! 3 behind the gap, then 3 behind `42`. All places that a gap allows are in the set at once, so the
-//! search never goes back, and each item costs one pass over the window.
+//! `41{1-2}42` over the bytes 41 42 42 from their start: the set is 0, then 1 behind `41`, then 2
+//! and 3 behind the gap, then 3 behind `42`. All places that a gap allows are in the set at once,
+//! so the search never goes back, and each item costs one pass over the window.
 
 ghost use Rattle.std.specs.Prelude.{◌≡◌, ℕ, ◌+◌, ◌*◌, ◌/◌, ◌<◌, ◌≤◌, IfOk, length};
 ghost use Rattle.sig_bits.specs.BitSets.{HasBit};

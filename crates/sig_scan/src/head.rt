@@ -1,12 +1,12 @@
 //! A head: the first byte of a sequence that may begin at one offset alone.
 //!
-//! Of `504B0304` at the beginning of a file the head is `50` at offset 0; of `(48|68)54` sixteen bytes
-//! behind it, it is `48` or `68` at offset 16. Each file that the signature hits has it. So one look at a
-//! byte of the first block excludes most signatures, and none of their sequences is looked for, nor even
-//! compiled where the table is compiled for one file.
+//! Of `504B0304` at the beginning of a file the head is `50` at offset 0; of `(48|68)54` sixteen
+//! bytes behind it, it is `48` or `68` at offset 16. Each file that the signature hits has it. So
+//! one look at a byte of the first block excludes most signatures, and none of their sequences is
+//! looked for, nor even compiled where the table is compiled for one file.
 //!
-//! It leaves out sequences that may begin at several offsets, and those that do not begin with one byte or
-//! one of two.
+//! It leaves out sequences that may begin at several offsets, and those that do not begin with one
+//! byte or one of two.
 
 ghost use Rattle.std.specs.Prelude.{◌≡◌, ◌≢◌, ◌<◌, IfOk, IfSome, List, ℕ, false, length, slice_index};
 ghost use Rattle.sig_scan.specs.Heads.{AreHeadsOf, HasHead};
@@ -77,7 +77,8 @@ pub(crate) fn heads_of(alloc: Global, table: &Table) -> Result<Vec<Head>, AllocE
     Ok(heads)
 }
 
-/// Excludes each signature with one of these heads that a file does not have which begins with the bytes.
+/// Excludes each signature with one of these heads that a file does not have which begins with the
+/// bytes.
 pub(crate) fn exclude(heads: &[Head], bytes: &[u8], may_hit: &mut [bool])
     ensures { (table : TableView) → AreHeadsOf table heads.now → AreExcluded table may_hit.old bytes.now → AreExcluded table may_hit.new bytes.now }
 {

@@ -25,7 +25,8 @@ pub(crate) fn span_of(items: &[Item]) -> usize
     sum
 }
 
-// The same of one item. Not inlined, so that the loop over the items, most of which are bytes, stays short.
+// The same of one item. Not inlined, so that the loop over the items, most of which are bytes,
+// stays short.
 #[inline(never)]
 fn span_of_item(item: &Item) -> usize
     requires { item_span item.now ≤ 65535 }

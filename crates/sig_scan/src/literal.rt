@@ -1,11 +1,11 @@
 //! Required literals: bytes that every word of a stage has, at one distance from its beginning.
 //!
-//! Each word of `41[42:44]504B03{1-2}45` has `50 4B 03` two bytes behind its beginning. So where these
-//! bytes do not stand two bytes behind an offset, no word begins there, and a search for bytes
-//! (`memmem`) passes over such offsets. A place of a literal has one byte or one of two: of a word in
-//! either case, `(48|68)(54|74)`, the literal is the whole word. Such a literal is looked for by its
-//! rarest place (`memchr2`). Of several runs before the first item of varying length the one is taken
-//! whose bytes are rarest by a guess, at most eight of it.
+//! Each word of `41[42:44]504B03{1-2}45` has `50 4B 03` two bytes behind its beginning. So where
+//! these bytes do not stand two bytes behind an offset, no word begins there, and a search for
+//! bytes (`memmem`) passes over such offsets. A place of a literal has one byte or one of two: of a
+//! word in either case, `(48|68)(54|74)`, the literal is the whole word. Such a literal is looked
+//! for by its rarest place (`memchr2`). Of several runs before the first item of varying length the
+//! one is taken whose bytes are rarest by a guess, at most eight of it.
 //!
 //! It leaves out classes of more bytes: of `[41:43]42` the literal is `42`.
 
@@ -35,8 +35,8 @@ const SHORT: usize = 1024;
 // How far behind the beginning of a word a literal stands at most.
 const FARTHEST: usize = 65_535;
 
-/// Bytes, in the place of each of which another one may stand, and how far behind the beginning of a
-/// word they are.
+/// Bytes, in the place of each of which another one may stand, and how far behind the beginning of
+/// a word they are.
 #[derive(Debug, Drop)]
 pub(crate) struct Literal {
     at: usize,
@@ -59,8 +59,9 @@ impl Model for Literal {
 }
 
 impl Literal {
-    /// A literal of the items. Where it can be all of them, that is the one; else it is the rarest one by a
-    /// guess, or the last that is as rare, when runs of places of one byte or one of two are cut into eights.
+    /// A literal of the items. Where it can be all of them, that is the one; else it is the rarest
+    /// one by a guess, or the last that is as rare, when runs of places of one byte or one of two
+    /// are cut into eights.
     pub(crate) fn of(items: &[Item]) -> Literal
         ensures { IsLiteralOf items.now result }
     {
@@ -81,7 +82,8 @@ impl Literal {
         best
     }
 
-    /// The literal with which the items begin, if it has enough bytes for one offset, and else the rarest.
+    /// The literal with which the items begin, if it has enough bytes for one offset, and else the
+    /// rarest.
     pub(crate) fn in_front(items: &[Item]) -> Literal
         ensures { IsLiteralOf items.now result }
     {
@@ -109,7 +111,8 @@ impl Literal {
         sum
     }
 
-    /// How rare the bytes of one place are, by a guess: one of two bytes tells half of what one tells.
+    /// How rare the bytes of one place are, by a guess: one of two bytes tells half of what one
+    /// tells.
     pub(crate) fn weight(&self, k: usize) -> u32
         requires { k < length self.now.text }
         ensures { result ≤ 9 }
@@ -213,8 +216,8 @@ impl Literal {
         }
     }
 
-    // Whether a search for all its bytes is the quicker one among so many places and one more. One for one
-    // of them needs a byte, and one for all of them needs one text.
+    // Whether a search for all its bytes is the quicker one among so many places and one more. One
+    // for one of them needs a byte, and one for all of them needs one text.
     fn is_found_whole(&self, places: usize) -> bool
         ensures same { IsTrue result → self.now.text ≡ self.now.other }
         ensures some { result ≡ false → 0 < length self.now.text }
@@ -322,8 +325,8 @@ fn rarest_of(text: &[u8], other: &[u8]) -> usize
     best
 }
 
-// Writes the bytes with which the items begin, as far as there is room, and answers how many they are. Not inlined, so that
-// they are written to memory one by one.
+// Writes the bytes with which the items begin, as far as there is room, and answers how many they
+// are. Not inlined, so that they are written to memory one by one.
 #[inline(never)]
 fn copy_run(items: &[Item], text: &mut [u8], other: &mut [u8]) -> usize
     ensures run { BeginsWith items.now (take result text.new) (take result other.new) }

@@ -1,9 +1,9 @@
-//! Sets of offsets of a window, as bits in bytes: of the offsets 0 to n of a window of n bytes those
-//! at which something ends.
+//! Sets of offsets of a window, as bits in bytes: of the offsets 0 to n of a window of n bytes
+//! those at which something ends.
 //!
-//! The set of 1 and 2 is `06`. The byte `42` behind it, over the window `41 42 42`, makes the set of
-//! 2 and 3: `0C`. In the field these are marker streams (Parabix). Each of these calls passes over
-//! the window once, whatever the set and however wide a gap is.
+//! The set of 1 and 2 is `06`. The byte `42` behind it, over the window `41 42 42`, makes the set
+//! of 2 and 3: `0C`. In the field these are marker streams (Parabix). Each of these calls passes
+//! over the window once, whatever the set and however wide a gap is.
 
 ghost use Rattle.std.specs.Prelude.{◌≡◌, ◌*◌, ◌+◌, ◌<◌, ◌≤◌, ◌^◌, ◌↔◌, ◌⊎◌, ℕ, None, Some, length};
 ghost use Rattle.sig_bits.specs.BitSets.{HasBit};
@@ -167,7 +167,8 @@ pub(crate) fn add_gap(ends: &mut [u8], starts: &[u8], bytes: &[u8], min: u32, ma
     }
 }
 
-// Adds the ends of a gap without a greatest length: all from the first start and the least length on.
+// Adds the ends of a gap without a greatest length: all from the first start and the least length
+// on.
 fn add_open_gap(ends: &mut [u8], starts: &[u8], bytes: &[u8], min: u32)
     requires ends { length bytes.now < 8 * length ends.old }
     requires starts { length bytes.now < 8 * length starts.now }
@@ -179,9 +180,9 @@ fn add_open_gap(ends: &mut [u8], starts: &[u8], bytes: &[u8], min: u32)
     }
 }
 
-// Adds the ends of a gap with a greatest length. The ends of one start are a range, and those of the
-// starts between this one and the last whose range touches it are in the two ranges: so it goes from
-// the one to the other, and each two steps are longer than the range.
+// Adds the ends of a gap with a greatest length. The ends of one start are a range, and those of
+// the starts between this one and the last whose range touches it are in the two ranges: so it goes
+// from the one to the other, and each two steps are longer than the range.
 fn add_bounded_gap(ends: &mut [u8], starts: &[u8], bytes: &[u8], min: u32, max: u32)
     requires ends { length bytes.now < 8 * length ends.old }
     requires starts { length bytes.now < 8 * length starts.now }

@@ -1,7 +1,7 @@
 //! Parts of a fixed length: bytes and brackets.
 //!
-//! `[4142:4344]` has the words of two bytes from `41 42` to `43 44`, so `42 FF` is one and `43 45` is
-//! not. It leaves out what is quick: parts of one byte go by their `class` where they can.
+//! `[4142:4344]` has the words of two bytes from `41 42` to `43 44`, so `42 FF` is one and `43 45`
+//! is not. It leaves out what is quick: parts of one byte go by their `class` where they can.
 
 ghost use Rattle.std.specs.Prelude.{◌≡◌, ◌↔◌, ◌<◌, ◌≤◌, IsTrue, length};
 ghost use Rattle.sig_bits.specs.Bytes.{IsBytes};

@@ -1,11 +1,13 @@
-//! A table, compiled once for many files: its sequences, each cut at its unbounded gaps into stages.
+//! A table, compiled once for many files: its sequences, each cut at its unbounded gaps into
+//! stages.
 //!
 //! Of `41{0-1}42{3-*}43` anywhere there are two stages, `41{0-1}42` with a delay of three bytes and
-//! `43`; at the end of a file the second one is the tail. The items are copied, so that a program serves
-//! for as long as it is wanted. The stages of all sequences stand in one list, and a course says which
-//! of them are those of its sequence. Beside them stand the literals of stages (`filter`), which are looked
-//! for all at once. Those of stages that may begin at several offsets from the beginning of a file have a
-//! filter of their own, so that what is looked for anywhere is not slowed down by them.
+//! `43`; at the end of a file the second one is the tail. The items are copied, so that a program
+//! serves for as long as it is wanted. The stages of all sequences stand in one list, and a course
+//! says which of them are those of its sequence. Beside them stand the literals of stages
+//! (`filter`), which are looked for all at once. Those of stages that may begin at several offsets
+//! from the beginning of a file have a filter of their own, so that what is looked for anywhere is
+//! not slowed down by them.
 
 ghost use Rattle.std.specs.Prelude.{◌≡◌, ◌≤◌, ◌<◌, ◌++◌, ◌∷◌, [], ℕ, All, List, IfOk, IfSome, OnOk, MatchOption, None, Some, length, map};
 ghost use Rattle.sig_expr.specs.declared.item.Item.TheVariants.{Gap};
@@ -27,8 +29,8 @@ use sig_table::{Position, Sequence, SigId, Table};
 use std::alloc::{AllocError, Global};
 use std::marker::Model;
 
-// A sequence: the first offset at which it may begin, where its stages stand among those of the table, and
-// its tail.
+// A sequence: the first offset at which it may begin, where its stages stand among those of the
+// table, and its tail.
 #[derive(Debug, Drop)]
 struct Course {
     from: u16,
@@ -46,8 +48,8 @@ pub(crate) struct Program {
     courses: Vec<Course>,
     // Of each sequence, what is known of it at the beginning of a file.
     states: Vec<State>,
-    // The literals of stages that may begin at several offsets from the beginning of a file, and of those
-    // that may begin anywhere.
+    // The literals of stages that may begin at several offsets from the beginning of a file, and of
+    // those that may begin anywhere.
     early: Filter,
     late: Filter,
     keep: usize,
@@ -68,7 +70,8 @@ impl Model for Program {
 }
 
 impl Program {
-    // Compiles those signatures of a table that the file may hit. Of the others no sequence is looked for.
+    // Compiles those signatures of a table that the file may hit. Of the others no sequence is
+    // looked for.
     pub(crate) fn of(alloc: Global, table: &Table, may_hit: &[bool]) -> Result<Program, AllocError>
         requires { length may_hit.now ≡ length table.now.signatures }
         ensures { IfOk result (IsProgramOf table.now may_hit.now) }
@@ -99,8 +102,8 @@ impl Program {
         })
     }
 
-    // How many bytes hold any word that is looked for: that of a stage, and that of a tail with what
-    // may stand behind it.
+    // How many bytes hold any word that is looked for: that of a stage, and that of a tail with
+    // what may stand behind it.
     pub(crate) fn keep(&self) -> usize
         ensures holds { All (IsShortCourse result) self.now.courses }
         ensures few { result ≤ 65535 }
@@ -149,8 +152,8 @@ impl Program {
         self.owners[sequence]
     }
 
-    // Finds for each sequence of a signature that the file may hit an offset before which no word of the stage that it
-    // waits in begins, as far as the prefilters tell.
+    // Finds for each sequence of a signature that the file may hit an offset before which no word
+    // of the stage that it waits in begins, as far as the prefilters tell.
     pub(crate) fn look(
         &self,
         bytes: &[u8],
@@ -183,8 +186,8 @@ fn first_states(
     Ok(states)
 }
 
-// The state in which a sequence waits for all of its course. A stage of no byte that may begin anywhere, as that of
-// `*41`, ends where it begins, so the sequence waits behind it.
+// The state in which a sequence waits for all of its course. A stage of no byte that may begin
+// anywhere, as that of `*41`, ends where it begins, so the sequence waits behind it.
 fn first_state(course: &Course, stages: &[Stage]) -> State
     ensures { IsFirst (course_in stages.now course.now) result }
 {
@@ -201,8 +204,8 @@ fn first_state(course: &Course, stages: &[Stage]) -> State
     State { done: 0, from }
 }
 
-// The literals of all stages that may begin at several offsets from the beginning of a file, or of those
-// that may begin anywhere.
+// The literals of all stages that may begin at several offsets from the beginning of a file, or of
+// those that may begin anywhere.
 fn filter_of(
     alloc: Global,
     stages: &[Stage],
@@ -231,8 +234,8 @@ fn filter_of(
     Ok(filter)
 }
 
-// Adds the literal of a stage, if it is one of these and has enough bytes. A stage that may begin at one
-// offset alone is judged by a head.
+// Adds the literal of a stage, if it is one of these and has enough bytes. A stage that may begin
+// at one offset alone is judged by a head.
 fn add_literal(
     filter: &mut Filter,
     stage: &Stage,
@@ -351,7 +354,8 @@ fn cut_whole(
     Ok(())
 }
 
-// Adds a stage for the items up to each unbounded gap, and gives the one of those behind the last gap.
+// Adds a stage for the items up to each unbounded gap, and gives the one of those behind the last
+// gap.
 fn cut(
     alloc: Global,
     items: &[Item],

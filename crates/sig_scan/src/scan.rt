@@ -1,14 +1,18 @@
 //! A scan of one file, block by block.
 //!
 //! The bytes at hand are a block, with as many bytes before it as the longest word takes. Of each
-//! sequence a state is known. When the buffer is full, each sequence goes on over the words that begin
-//! before the last `keep` bytes, which all end in sight; then these bytes move to the front. At the
-//! end of the file all that is left is in the bytes at hand, and the sequences of a signature are asked
-//! in turn until one of them does not stand.
+//! sequence a state is known. When the buffer is full, each sequence goes on over the words that
+//! begin before the last `keep` bytes, which all end in sight; then these bytes move to the front.
+//! At the end of the file all that is left is in the bytes at hand, and the sequences of a
+//! signature are asked in turn until one of them does not stand.
 //!
-//! A signature is excluded where the greatest offset of a stage that it waits in is passed. None of its
-//! sequences is looked for any more: of `BOF,0,,FFD8` and `FFD9` anywhere, the second is not looked for
-//! behind the first block of a file in which the first did not stand.
+//! A signature is excluded where the greatest offset of a stage that it waits in is passed. None of
+//! its sequences is looked for any more: of `BOF,0,,FFD8` and `FFD9` anywhere, the second is not
+//! looked for behind the first block of a file in which the first did not stand.
+//!
+//! One loop goes over the sequences of all signatures. Each has the number of its signature beside
+//! it, and each signature one flag: whether it may still hit the file. So nothing depends on where
+//! the sequences of a signature begin among all.
 
 ghost use Rattle.std.specs.Prelude.{◌≡◌, ℕ, ◌+◌, ◌<◌, ◌≤◌, ◌↔◌, ◌^◌, ◌-◌, All, IfOk, IsTrue, List, OnOk, Some, drop, false, is_err, length, min, true};
 ghost use Rattle.sig_bits.specs.Bytes.{IsBytes};
@@ -70,8 +74,8 @@ impl<'p> Model for Scan<'p> {
 }
 
 impl<'p> Scan<'p> {
-    // Of a file of which the buffer has all bytes that are read, for the signatures that it may hit. So many
-    // bytes hold any word. All memory is asked for here.
+    // Of a file of which the buffer has all bytes that are read, for the signatures that it may
+    // hit. So many bytes hold any word. All memory is asked for here.
     pub(crate) fn new(
         alloc: Global,
         program: &'p Program,
@@ -103,8 +107,8 @@ impl<'p> Scan<'p> {
         })
     }
 
-    // Reads on in the file until the buffer is full, and answers whether it is. If it is not, the file
-    // is at its end.
+    // Reads on in the file until the buffer is full, and answers whether it is. If it is not, the
+    // file is at its end.
     pub(crate) fn read_on<R: Input>(&mut self, input: &mut R) -> Result<bool, DeviceFault>
         requires { self.old.keep < self.old.buffer.room }
         ensures len { length self.new.may_hit ≡ length self.old.may_hit }
@@ -217,8 +221,9 @@ impl<'p> Scan<'p> {
     }
 }
 
-// The sequences of each signature that the file may hit go on over the words that begin before the limit, and their
-// offsets are counted from there on. A signature of which one can't stand any more is excluded.
+// The sequences of each signature that the file may hit go on over the words that begin before the
+// limit, and their offsets are counted from there on. A signature of which one can't stand any more
+// is excluded.
 fn settle_all(
     program: &Program,
     states: &mut [State],

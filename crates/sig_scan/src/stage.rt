@@ -1,8 +1,9 @@
-//! The parts that a sequence is cut into at its unbounded gaps: stages, and a tail at the end of a file.
+//! The parts that a sequence is cut into at its unbounded gaps: stages, and a tail at the end of a
+//! file.
 //!
-//! `41{0-1}42{3-*}43` has the stage `41{0-1}42`, behind whose end three bytes must pass, and the stage
-//! `43`. At the end of a file `43` is the tail instead. Each has its own copies of the items, and the bytes
-//! that every word of them has.
+//! `41{0-1}42{3-*}43` has the stage `41{0-1}42`, behind whose end three bytes must pass, and the
+//! stage `43`. At the end of a file `43` is the tail instead. Each has its own copies of the items,
+//! and the bytes that every word of them has.
 
 use crate::copy::copy_items;
 use crate::lengths::span_of;
@@ -11,8 +12,8 @@ use sig_expr::Item;
 use std::alloc::{AllocError, Global};
 use std::marker::Model;
 
-// Items without an unbounded gap, the greatest offset at which a word of them may begin, how many bytes
-// behind its end the next stage may begin, and bytes that each word of it has.
+// Items without an unbounded gap, the greatest offset at which a word of them may begin, how many
+// bytes behind its end the next stage may begin, and bytes that each word of it has.
 #[derive(Debug, Drop)]
 pub(crate) struct Stage {
     pub(crate) items: Vec<Item>,

@@ -1,10 +1,10 @@
-//! What a scan knows of one sequence: the stage that it waits in, and the first offset at which a word
-//! of it may begin.
+//! What a scan knows of one sequence: the stage that it waits in, and the first offset at which a
+//! word of it may begin.
 //!
-//! `41*42*43` over `41 42 40` has two stages behind it, and waits for `43` from the third byte on. No
-//! more has to be known: what stands before is not asked again. An offset here is one of the bytes at
-//! hand, so nothing counts the bytes of a file; only the greatest offset of a stage is one of the
-//! file, and `base`, the number of the bytes before those at hand, stops at its maximum.
+//! `41*42*43` over `41 42 40` has two stages behind it, and waits for `43` from the third byte on.
+//! No more has to be known: what stands before is not asked again. An offset here is one of the
+//! bytes at hand, so nothing counts the bytes of a file; only the greatest offset of a stage is one
+//! of the file, and `base`, the number of the bytes before those at hand, stops at its maximum.
 
 ghost use Rattle.std.specs.Prelude.{◌≡◌, ℕ, ◌+◌, ◌<◌, ◌≤◌, ◌↔◌, All, List, ◌∷◌, ◌++◌, drop, length, IsTrue, Option, true};
 ghost use Rattle.sig_expr.specs.Words.{IsAtMost};
@@ -21,8 +21,8 @@ use crate::stage::{Stage, Tail};
 // So many offsets are tried at once, or as many as the longest word has bytes.
 const AT_ONCE: usize = 1024;
 
-// What an attempt shows: no word of the stage begins before this offset, or the next stage begins at
-// this offset or behind it.
+// What an attempt shows: no word of the stage begins before this offset, or the next stage begins
+// at this offset or behind it.
 #[derive(Clone, Copy, Debug, Drop)]
 enum Step {
     Past(usize),
@@ -77,16 +77,16 @@ pub(crate) fn offsets_up_to(until: Option<u32>, base: u64, all: usize) -> usize
     }
 }
 
-/// What is known of a sequence: how many of its stages have ended, and the first offset of the bytes at
-/// hand at which a word of the next one may begin.
+/// What is known of a sequence: how many of its stages have ended, and the first offset of the
+/// bytes at hand at which a word of the next one may begin.
 #[derive(Clone, Copy, Debug, Drop)]
 pub(crate) struct State {
     pub(crate) done: usize,
     pub(crate) from: usize,
 }
 
-/// Goes on over the words that begin before the limit. No word that is looked for has more bytes than
-/// `reach`, so all of them end in the bytes at hand, unless these are the last ones.
+/// Goes on over the words that begin before the limit. No word that is looked for has more bytes
+/// than `reach`, so all of them end in the bytes at hand, unless these are the last ones.
 pub(crate) fn settle(
     state: State,
     stages: &[Stage],
@@ -130,7 +130,8 @@ pub(crate) fn settle(
     State { done, from }
 }
 
-/// Whether no word of the stage that it waits in may begin any more, so that the sequence never stands.
+/// Whether no word of the stage that it waits in may begin any more, so that the sequence never
+/// stands.
 pub(crate) fn is_past(state: State, stages: &[Stage], base: u64) -> bool
     requires { state.done ≤ length stages.now }
     ensures { IsTrue result → (s : SequenceView) (before bytes : List ℕ) (tail : Option TailView) → IsBase before base
@@ -153,8 +154,8 @@ fn is_behind(until: Option<u32>, base: u64, from: usize) -> bool
     }
 }
 
-/// Whether what is left of a sequence stands in the file, which ends with the bytes at hand: they are
-/// all of it, or at least `reach`.
+/// Whether what is left of a sequence stands in the file, which ends with the bytes at hand: they
+/// are all of it, or at least `reach`.
 pub(crate) fn stands(
     state: State,
     stages: &[Stage],

@@ -1,7 +1,8 @@
 //! From the two files to the table: the signature file whole, and then the priority file.
 //!
-//! A record is read and judged against the rows before it, and then the next one is read. So a
-//! faulty row ends the load before the others are split, and one record is in memory at a time.
+//! A file is judged after it was read to its end, so a failed read comes before a fault of the
+//! bytes that came. A record is split and judged against the rows before it, and then the next one
+//! is split. So a faulty row ends the load, and one record is in memory at a time.
 //! Rows and pairs go by one fold (`judged`), whose laws hold for both. A reader of `csv` drops a
 //! UTF-8 byte order mark.
 
@@ -155,7 +156,7 @@ pub fn is_signature_header(line: &ByteRecord) -> bool
         && field(line, 5) == b"expression".as_slice()
 }
 
-// The pairs of the priority file.
+// The pairs of the priority file, in a frame of its own, too.
 #[inline(never)]
 #[tactic(auto, unfolding(crate::specs::Loading::pairs_of))]
 fn read_priorities(
@@ -221,7 +222,8 @@ fn add_pair(
     ranking.add(pair, row_number)
 }
 
-// The pair that the record writes, of these formats.
+// The pair that the record writes, of these formats. Both PUIDs are read before either is looked
+// for: in a row with an unknown format and a text that is no PUID, that text is the fault.
 #[tactic(auto, unfolding(crate::specs::Loading::pair_of))]
 pub(crate) fn read_pair(
     formats: &IndexSet<Puid>,

@@ -1,5 +1,5 @@
-//! Pairs of formats as they grow: row by row when a table is loaded, and behind the pairs of a table
-//! for an editor who adds to them.
+//! Pairs of formats as they grow: row by row when a table is loaded, and behind the pairs of a
+//! table for an editor who adds to them.
 //!
 //! Beside the pairs stand, for each format, all formats below it, so no way down is searched for a
 //! pair: it closes a cycle if its higher format is below its lower one. The sets grow by a bit

@@ -1,4 +1,5 @@
-//! `find` through the program: tables worked out by hand, and what the other subcommands say of OUT.
+//! `find` through the program: tables worked out by hand, and what the other subcommands say of
+//! OUT.
 
 use crate::tests::{
     Fault, O, P, S, Shown, first_untold, make, make_with, path_in, put_table, remove, run_in,

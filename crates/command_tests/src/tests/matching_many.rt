@@ -1,5 +1,5 @@
-//! `match` of several files through the program, and of one with its name: each line behind its file's
-//! name, files with faults among others, a refused table and a failed write.
+//! `match` of several files through the program, and of one with its name: each line behind its
+//! file's name, files with faults among others, a refused table and a failed write.
 
 use crate::tests::{Fault, P, S, first_untold, make_with, path_of, put, remove, run_in, words_in};
 use fixtures::{Broken, Rows};
@@ -80,7 +80,8 @@ fn prints_the_lines_of_each_file_behind_its_name(rt: HostRuntime) -> Result<(), 
     remove(&rt, folder)
 }
 
-// With the flag the name stands before the lines of the only file, too, and of several all is as without it.
+// With the flag the name stands before the lines of the only file, too, and of several all is as
+// without it.
 const WITH_NAMES: &[Answered] = &[
     Answered(
         &["match", "--with-names", S, P, "@/both.bin"],

@@ -91,7 +91,8 @@ fn shows_how_much_is_done(rt: HostRuntime) -> Result<(), Fail> {
     remove(&rt, folder)
 }
 
-// Puts the row of this number behind the others: those of the first format begin with 41, the others with 42.
+// Puts the row of this number behind the others: those of the first format begin with 41, the
+// others with 42.
 fn push_row(rt: &HostRuntime, rows: &mut String, number: u32) -> Result<(), Fail> {
     let (format, byte) = if number < 16 { (1, 41) } else { (2, 42) };
     let row = format!(in rt.alloc(); "fmt/{format},{number},BOF,0,,{byte}\n")?;
@@ -134,7 +135,8 @@ fn decides_by_thirds(rt: &HostRuntime, folder: &str) -> Result<bool, Fail> {
     Ok(shown.answer() == "decided\n" && are_thirds(shown.report()))
 }
 
-// Two formats with 15 signatures each have 225 products, and every third one is more than a percent.
+// Two formats with 15 signatures each have 225 products, and every third one is more than a
+// percent.
 #[test]
 fn shows_at_most_a_report_for_a_percent(rt: HostRuntime) -> Result<(), Fail> {
     let folder = "percents";

@@ -133,7 +133,8 @@ fn names_the_first_fault_of_the_priorities(rt: HostRuntime) -> Result<(), Fail> 
     remove(&rt, folder)
 }
 
-// Puts the row of this number behind the others: the text, with the number in the place of each `#`.
+// Puts the row of this number behind the others: the text, with the number in the place of each
+// `#`.
 fn push_row(rt: &HostRuntime, rows: &mut String, number: u64, text: &str) -> Result<(), Fail> {
     let number = number.to_string(rt.alloc())?;
     let row = text.replace(rt.alloc(), "#", &number)?;

@@ -1,5 +1,5 @@
-//! What `conflicts` makes beside its lines: a priority file with the forced pairs, and a file for each
-//! ambiguous pair. Tables and files are worked out by hand.
+//! What `conflicts` makes beside its lines: a priority file with the forced pairs, and a file for
+//! each ambiguous pair. Tables and files are worked out by hand.
 
 use crate::tests::{
     Fault, P, S, make, make_with, path_in, path_of, put, put_table, remove, run_in,
@@ -8,14 +8,15 @@ use fixtures::Rows;
 use std::fs;
 use std::test::Fail;
 
-// The files of the first and of the third are together those of the second: each of them must be over
-// it, and both together leave it no file.
+// The files of the first and of the third are together those of the second: each of them must be
+// over it, and both together leave it no file.
 const NOTHING_LEFT: Rows = Rows(
     "fmt/1,1,BOF,0,,41\nfmt/2,2,BOF,0,,??\nfmt/3,3,BOF,0,,[!41]\n",
     "",
 );
 
-// Each file of the second is one of the first, but the first is over the third, and that over the second.
+// Each file of the second is one of the first, but the first is over the third, and that over the
+// second.
 const ROUND: Rows = Rows(
     "fmt/1,1,BOF,0,,41\nfmt/2,2,BOF,0,,4142\nfmt/3,3,BOF,0,,43\n",
     "fmt/1,fmt/3\nfmt/3,fmt/2\n",
@@ -64,7 +65,8 @@ fn has_rows(rt: &HostRuntime, folder: &str, name: &str, rows: &str) -> Result<bo
     Ok(bytes_of(rt, folder, name)?.as_slice() == wanted.as_bytes())
 }
 
-// Whether the forced pairs of the row's table are written so, and the lines are those without a file.
+// Whether the forced pairs of the row's table are written so, and the lines are those without a
+// file.
 fn is_ranked(rt: &HostRuntime, folder: &str, row: &Ranked) -> Result<bool, Fail> {
     let Ranked(Rows(rows, pairs), written, refused) = *row;
     put_table(rt, folder, rows, pairs)?;
@@ -138,8 +140,8 @@ fn witnesses_are_kept_by_the_names_of_their_formats(rt: HostRuntime) -> Result<(
     remove(&rt, folder)
 }
 
-// They are kept also where each format has a line instead; one that is longer is replaced, and other
-// files stay.
+// They are kept also where each format has a line instead; one that is longer is replaced, and
+// other files stay.
 #[test]
 fn witnesses_replace_files_of_their_names(rt: HostRuntime) -> Result<(), Fail> {
     let folder = "replaced";
@@ -229,7 +231,8 @@ fn lines_before_a_file_that_cannot_be_made_stand(rt: HostRuntime) -> Result<(), 
     remove(&rt, folder)
 }
 
-// A priority file that is not written ends the run: the lines before stand, and the last is missing.
+// A priority file that is not written ends the run: the lines before stand, and the last is
+// missing.
 #[test]
 fn a_priority_file_that_is_not_written_ends_the_run(rt: HostRuntime) -> Result<(), Fail> {
     let folder = "unwritten";

@@ -57,8 +57,8 @@ fn takes(auto: &Auto, q: u32, first: u8, last: u8) -> bool {
     true
 }
 
-// An automaton: its sequence, how many slots it has, the first and the last byte that some slots take, the
-// states that follow some, and the accepting states, if it says them.
+// An automaton: its sequence, how many slots it has, the first and the last byte that some slots
+// take, the states that follow some, and the accepting states, if it says them.
 struct Made {
     placed: &'static str,
     slots: u32,
@@ -420,8 +420,8 @@ fn leads_on(auto: &Auto, p: u32, live: ByteClass, at: &[u8]) -> bool {
     auto.live_bytes(auto.behind(p), &mut cuts) == live && cuts == class_of(at)
 }
 
-// Whether any byte leads on behind the states 1 and 4 of `(41|[42:44])??46`, and 46 alone behind 3: there are
-// cuts at it and behind it, and none at 41.
+// Whether any byte leads on behind the states 1 and 4 of `(41|[42:44])??46`, and 46 alone behind 3:
+// there are cuts at it and behind it, and none at 41.
 fn leads_on_by_46(auto: &Auto) -> bool {
     if auto.slots() < 4 {
         return false;
@@ -545,8 +545,8 @@ fn a_gap_of_many_slots_steps_as_one(rt: HostRuntime) {
     assert!(rt; has_successors(&auto, 60001, 0x41, &[]));
 }
 
-// The bytes with which the one sequence with this position and this expression begins, and whether it
-// stands in the empty file.
+// The bytes with which the one sequence with this position and this expression begins, and whether
+// it stands in the empty file.
 fn begin_of(alloc: Global, placed: &str) -> Option<(ByteClass, bool)> {
     let table = table_of(alloc, placed)?;
     match first_of(&table) {
@@ -555,7 +555,8 @@ fn begin_of(alloc: Global, placed: &str) -> Option<(ByteClass, bool)> {
     }
 }
 
-// A sequence, the first and the last byte with which it begins, and whether it stands in the empty file.
+// A sequence, the first and the last byte with which it begins, and whether it stands in the empty
+// file.
 const BEGINS: &[(&str, u8, u8, bool)] = &[
     ("BOF,0,,4142", 0x41, 0x41, false),
     ("BOF,0,1,4142", 0, 255, false),

@@ -11,7 +11,8 @@ enum Expected {
     Unknown,
 }
 
-// A table of three signatures, a budget, and whether each file of the first is one of the two others.
+// A table of three signatures, a budget, and whether each file of the first is one of the two
+// others.
 struct Row {
     rows: &'static str,
     budget: u32,

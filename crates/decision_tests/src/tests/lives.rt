@@ -168,8 +168,8 @@ fn is_life_under(alloc: Global, count: u32, wanted: Found) -> Result<bool, Alloc
     Ok(is_found(&life, wanted))
 }
 
-// Each blocker takes the lowest byte that is left, so a file of byte 40 is found with 64 of them, and a
-// 65th is one too many.
+// Each blocker takes the lowest byte that is left, so a file of byte 40 is found with 64 of them,
+// and a 65th is one too many.
 #[test]
 fn sixty_four_blockers_are_taken_and_no_more(rt: HostRuntime) -> Result<(), Fail> {
     assert!(rt; is_life_under(rt.alloc(), 63, Found::Alive(b"\x3F"))?);

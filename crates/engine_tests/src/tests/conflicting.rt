@@ -1,4 +1,5 @@
-//! `conflicts` with classes, by formats, and of one format alone: tables and their lines, worked out by hand.
+//! `conflicts` with classes, by formats, and of one format alone: tables and their lines, worked
+//! out by hand.
 
 use crate::tests::table_of;
 use fixtures::{EVERY_FILE, Memory, Named, OVER_FIRST, Rows, THREE_RELATED, TWO};
@@ -43,8 +44,8 @@ const CLASSED: &[Classed] = &[
         "ambiguous fmt/1 fmt/2 1 2 2 apart 4142\n\
          pairs 1 decided 0 ambiguous 1 unknown 0 over 0 under 0 same 0 apart 1 open 0\n",
     ),
-    // Each file of fmt/1 has 41 and 42 five bytes apart, so fmt/2 hits it. But the bytes between may
-    // be 41 too or not, each for itself, and the search has a row for each case: more than 40.
+    // Each file of fmt/1 has 41 and 42 five bytes apart, so fmt/2 hits it. But the bytes between
+    // may be 41 too or not, each for itself, and the search has a row for each case: more than 40.
     Classed(
         Rows("fmt/1,1,BOF,0,,41{5}42\nfmt/2,2,Variable,,,41{5}42\n", ""),
         40,

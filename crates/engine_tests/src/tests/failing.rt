@@ -81,8 +81,8 @@ fn crowded_answer<K: DroidCore>(rt: &HostRuntime, core: &K, room: usize) -> Resu
     run_match(rt.alloc(), core, false, &mut file, &mut out)
 }
 
-// Whether a write fails where there is room for less than the line, `fmt/1 1` and its end, of eight bytes, and
-// none where there is just that room.
+// Whether a write fails where there is room for less than the line, `fmt/1 1` and its end, of eight
+// bytes, and none where there is just that room.
 fn needs_eight_bytes<K: DroidCore>(rt: &HostRuntime, core: &K) -> bool {
     for room in 0..8 {
         if crowded_answer(rt, core, room) != Err(RunError::Write) {
@@ -180,8 +180,8 @@ fn finds<K: DroidCore>(core: &mut K, puid: &[u8]) -> Option<bool> {
     Some(core.remove_signature_for_puid(&puid))
 }
 
-// Whether the core of so many formats, each of which is hit, hits this one no more once it is removed, and still
-// all others, and no other removal counts.
+// Whether the core of so many formats, each of which is hit, hits this one no more once it is
+// removed, and still all others, and no other removal counts.
 fn removes<K: DroidCore>(core: &mut K, puid: &[u8], count: usize) -> Result<bool, Fail> {
     Ok(
         finds(core, b"fmt/9") == Some(false)

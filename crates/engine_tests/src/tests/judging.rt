@@ -1,4 +1,5 @@
-//! Certificates and files that the engines judge, from readers that give one byte a read and may fail.
+//! Certificates and files that the engines judge, from readers that give one byte a read and may
+//! fail.
 
 ghost use Rattle.std.specs.Prelude.{◌<◌};
 
@@ -20,7 +21,8 @@ const OF_OVER_BOTH: &[u8] = b"PSAC\x01\x00\x00\x00\x03\
       \x00\x00\x00\x00\x01\x00\x01\x00\x01\x02\x00\x02\x00\x02\x04\x00\x03\x00\x03\x08\
       \x00\x00";
 
-// Whether the engine judges a certificate so, from an input that gives one byte a read, and writes this line.
+// Whether the engine judges a certificate so, from an input that gives one byte a read, and writes
+// this line.
 fn is_judged(
     rt: &HostRuntime,
     table: &Table,
@@ -75,8 +77,8 @@ fn refuses_a_certificate_with_a_byte_behind_it(rt: HostRuntime) -> Result<(), Fa
     Ok(())
 }
 
-// Whether the certificate with this change in this place is judged, and accepted just where the change makes its
-// version two.
+// Whether the certificate with this change in this place is judged, and accepted just where the
+// change makes its version two.
 fn is_told_apart(rt: &HostRuntime, table: &Table, place: usize, change: u8) -> bool
     requires { place < 24 }
 {
@@ -138,7 +140,8 @@ fn judges_nothing_after_a_failed_read(rt: HostRuntime) -> Result<(), Fail> {
     Ok(())
 }
 
-// Whether the engine answers so of a file, from an input that gives one byte a read, and writes this line.
+// Whether the engine answers so of a file, from an input that gives one byte a read, and writes
+// this line.
 fn is_told(rt: &HostRuntime, table: &Table, file: &[u8], is_ambiguous: bool, line: &str) -> bool {
     let mut file = Pieces::of(file);
     let mut out = FromWrite::new(Vec::new(rt.alloc()));

@@ -32,8 +32,8 @@ const FAILING: &Failing = &Failing {
     third: BAD,
 };
 
-// The names of files, whether all hits are asked for, whether no file has a fault, the lines, and the
-// lines of the faults.
+// The names of files, whether all hits are asked for, whether no file has a fault, the lines, and
+// the lines of the faults.
 #[derive(Clone, Copy)]
 struct Printed(
     &'static [&'static str],

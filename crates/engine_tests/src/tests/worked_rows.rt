@@ -1,5 +1,5 @@
-//! The worked rows: tables and files with their answers, worked out by hand. Every core answers each
-//! of them, however the file is cut into pieces.
+//! The worked rows: tables and files with their answers, worked out by hand. Every core answers
+//! each of them, however the file is cut into pieces.
 
 use crate::tests::table_of;
 use fixtures::Pieces;

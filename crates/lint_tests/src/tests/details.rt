@@ -1,5 +1,5 @@
-//! The texts of faults, worked out by hand: what stands there, what was expected, and what is likely
-//! to mend it.
+//! The texts of faults, worked out by hand: what stands there, what was expected, and what is
+//! likely to mend it.
 
 use sig_lint::{Cure, lint};
 use std::test::Fail;

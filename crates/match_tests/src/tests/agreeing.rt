@@ -1,4 +1,5 @@
-//! Sequences of many kinds over files of few letters: a scan agrees with the search of the whole file.
+//! Sequences of many kinds over files of few letters: a scan agrees with the search of the whole
+//! file.
 
 use crate::tests::{
     fronts_agree, letters, loaded, push_letters, push_repeated, repeated, table_of,
@@ -93,7 +94,8 @@ const FAR_FROM_END: &[&str] = &[
     "EOF,0,280,(41|4200)4100",
 ];
 
-// Letters, so many zeros, letters, and as many bytes 41 as the longest of these sequences is far from the end.
+// Letters, so many zeros, letters, and as many bytes 41 as the longest of these sequences is far
+// from the end.
 fn with_zeros(alloc: Global, seed: u32) -> Result<Vec<u8>, Fail> {
     let mut file = letters(alloc, seed, 90)?;
     push_repeated(&mut file, b"\x00", 230)?;

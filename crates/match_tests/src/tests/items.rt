@@ -1,4 +1,5 @@
-//! At which places a word of one item ends, worked out by hand, and asked of two cores and of a scan.
+//! At which places a word of one item ends, worked out by hand, and asked of two cores and of a
+//! scan.
 
 use crate::tests::{loaded, scanned_by};
 use sig_match::{StreamCore, WholeCore};
@@ -69,8 +70,8 @@ fn an_item_ends_at_each_place_that_it_allows(rt: HostRuntime) -> Result<(), Fail
     Ok(())
 }
 
-// A sequence, a file, and whether it stands: runs that overlap themselves, and a bracket that is compared from its
-// first byte.
+// A sequence, a file, and whether it stands: runs that overlap themselves, and a bracket that is
+// compared from its first byte.
 const OVERLAPPING: &[(&str, &[u8], bool)] = &[
     ("BOF,0,1,4141", b"AA", true),
     ("BOF,1,,4141", b"AAA", true),

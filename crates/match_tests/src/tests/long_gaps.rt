@@ -20,7 +20,8 @@ fn file_of(alloc: Global, fill: u8, others: &[(usize, u8)]) -> Result<Vec<u8>, A
     Ok(file)
 }
 
-// The row of a table, the byte of a file, what stands at other places, and whether the sequence stands in it.
+// The row of a table, the byte of a file, what stands at other places, and whether the sequence
+// stands in it.
 const FILES: &[(&str, u8, &[(usize, u8)], bool)] = &[
     // The gap has 4,000 bytes at most, whatever they are.
     (

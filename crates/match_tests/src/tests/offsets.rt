@@ -37,7 +37,8 @@ fn put(file: &mut [u8], place: usize, bytes: &[u8]) {
     }
 }
 
-// The row of a table, the bytes of a file, what stands at other places, and whether the sequence stands in it.
+// The row of a table, the bytes of a file, what stands at other places, and whether the sequence
+// stands in it.
 const FILES: &[(&str, &[u8], &[(usize, &[u8])], bool)] = &[
     // At the first offset, at the last one, and behind it.
     ("BOF,0,9000,41424344", b"\x00", &[(0, b"ABCD")], true),

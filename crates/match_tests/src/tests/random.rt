@@ -1,4 +1,5 @@
-//! Random tables over random files, cut anywhere: a scan, the scan by blocks and the search of the whole file agree.
+//! Random tables over random files, cut anywhere: a scan, the scan by blocks and the search of the
+//! whole file agree.
 
 use crate::tests::{agrees_by, are_searched, letters, loaded, next_state, scanned_by};
 use sig_bits::FromRead;
@@ -25,8 +26,8 @@ fn position_of(state: u32, has_words: bool) -> &'static str {
     }
 }
 
-// One of its items, among them brackets of two bytes inside alternatives, alternatives of other lengths, and gaps of all
-// kinds.
+// One of its items, among them brackets of two bytes inside alternatives, alternatives of other
+// lengths, and gaps of all kinds.
 fn item_of(state: u32) -> &'static str {
     match (state >> 24) % 16 {
         0 => "41",
@@ -115,8 +116,8 @@ fn random_table(alloc: Global, seed: u32, has_words: bool) -> Result<Table, Fail
     loaded(alloc, &rows)
 }
 
-// What a scan answers where the lengths of the pieces come of the number: one to nine bytes each, and none once the file
-// has come to its end.
+// What a scan answers where the lengths of the pieces come of the number: one to nine bytes each,
+// and none once the file has come to its end.
 fn scanned_in_random_pieces(
     alloc: Global,
     table: &Table,
@@ -160,7 +161,8 @@ fn agree_however_cut(alloc: Global, table: &Table, file: &[u8], seed: u32) -> Re
     agree_in_random_pieces(alloc, table, file, seed)
 }
 
-// Whether they do on each front of the file whose length is a multiple of this one, with a new scan for each.
+// Whether they do on each front of the file whose length is a multiple of this one, with a new scan
+// for each.
 fn agree_on_fronts(
     alloc: Global,
     table: &Table,
@@ -209,7 +211,8 @@ fn random_words_in_long_files_are_told_alike(rt: HostRuntime) -> Result<(), Fail
 // The lengths of blocks: with few bytes, words lie across many borders.
 const BLOCKS: &[u32] = &[1, 2, 3, 5, 8, 17, 64];
 
-// Whether a core that scans by blocks answers what the search of the whole file does, and what a scan does.
+// Whether a core that scans by blocks answers what the search of the whole file does, and what a
+// scan does.
 fn core_agrees(alloc: Global, core: &BlockCore, file: &[u8]) -> Result<bool, Fail> {
     let results = core.match_binary_signatures(&mut FromRead::new(file))?;
     let scanned = scanned_by(alloc, core.table(), file, 64)?;

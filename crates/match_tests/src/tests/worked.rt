@@ -136,7 +136,8 @@ pub(crate) const WORKED: &[(&str, &[u8], bool)] = &[
     ("EOF,0,,4142*4243", b"xABBC", true),
 ];
 
-// Signature rows, a file, and each format that it hits with its first signature, worked out by hand.
+// Signature rows, a file, and each format that it hits with its first signature, worked out by
+// hand.
 const WORKED_TABLES: &[(&str, &[u8], &[(u16, u16)])] = &[
     ("fmt/1,9,BOF,0,,41\nfmt/1,2,BOF,0,,41\n", b"A", &[(0, 0)]),
     (
@@ -203,7 +204,8 @@ fn answers(
     Ok(true)
 }
 
-// Whether it does so of the sequences of one signature, and agrees with the search behind each front.
+// Whether it does so of the sequences of one signature, and agrees with the search behind each
+// front.
 fn answers_one(
     alloc: Global,
     sequences: &str,

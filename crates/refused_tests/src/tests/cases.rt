@@ -6,7 +6,8 @@ use sig_core::{CoreError, Results};
 use sig_table::{FormatId, SigId, Table};
 use std::test::Fail;
 
-// Two blockers, neither of which is hit wherever both others are, over brackets of two bytes, a gap and a list.
+// Two blockers, neither of which is hit wherever both others are, over brackets of two bytes, a gap
+// and a list.
 pub(crate) const TWO_BLOCKERS: Rows = Rows(
     "fmt/1,1,BOF,0,,[4142:4241]{0-1}43\n\
      fmt/2,2,BOF,0,,[4142:4241](43|44)*\n\
@@ -42,8 +43,9 @@ pub(crate) fn table_of(rt: &HostRuntime, rows: Rows) -> Result<Table, Fail> {
     Ok(table)
 }
 
-// A table, a file, the formats that it hits, those of them that are left, each by its place, the lines of the
-// latter, and the line on whether it is ambiguous. The n-th signature is of the n-th format.
+// A table, a file, the formats that it hits, those of them that are left, each by its place, the
+// lines of the latter, and the line on whether it is ambiguous. The n-th signature is of the n-th
+// format.
 #[derive(Clone, Copy)]
 pub(crate) struct Case {
     pub(crate) rows: Rows,

@@ -1,4 +1,7 @@
 //! One sequence of a scan: its automaton, and the states that it can be in.
+//!
+//! For `4142` at offset 0 the bytes `41 42` lead from the set {0} to {1} and {2}. The set before
+//! the last step is not kept: two sets of the same room take turns.
 
 ghost use Rattle.std.specs.Prelude.{◌↔◌, ◌++◌, ℕ, [], List, IfOk, IsTrue};
 ghost use Rattle.sig_bits.specs.Bytes.{IsBytes};

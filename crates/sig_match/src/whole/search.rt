@@ -1,4 +1,7 @@
 //! Which signatures hit a file: those of which all sequences stand in it.
+//!
+//! Each signature is searched by itself, and its first sequence that does not stand ends its
+//! search. Nothing found of one signature serves another.
 
 ghost use Rattle.std.specs.Prelude.{◌≡◌, ◌<◌, ◌↔◌, IsTrue, All, IfOk, length, vec_len};
 ghost use Rattle.sig_core.specs.FirstHits.{MarksHits};

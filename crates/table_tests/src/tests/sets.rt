@@ -172,8 +172,8 @@ fn set_with(alloc: Global, len: usize, bytes: u8, place: usize, byte: u8) -> Opt
     Some(set)
 }
 
-// The bytes of another set, and its byte in the place where the one set has a bit: none, the same, another one of
-// that byte, or all.
+// The bytes of another set, and its byte in the place where the one set has a bit: none, the same,
+// another one of that byte, or all.
 const OTHERS: &[(u8, u8)] = &[(0x00, 0x00), (0x00, 0x10), (0x00, 0x80), (0xff, 0xff)];
 
 // Whether they do where one set has one bit, in this byte, and the other is any of those.
@@ -238,7 +238,8 @@ fn one_bit_is_found_in_long_sets(rt: HostRuntime) {
     }
 }
 
-// Whether the kernels see the bit that `one` alone has and `rest` alone lacks, and join the two to `all`.
+// Whether the kernels see the bit that `one` alone has and `rest` alone lacks, and join the two to
+// `all`.
 fn bit_is_seen(one: &[u8], rest: &mut [u8], all: &[u8]) -> Option<bool> {
     if rest.len() != one.len() || all.len() != one.len() {
         return None;

@@ -425,8 +425,8 @@ fn push_row(alloc: Global, rows: &mut Vec<u8>, format: u32, number: u32) -> Resu
     Ok(())
 }
 
-// So many rows, each of a signature of its own. The first ones are each of a format of its own, and where
-// there are as many formats as asked for, the others are of the last one.
+// So many rows, each of a signature of its own. The first ones are each of a format of its own, and
+// where there are as many formats as asked for, the others are of the last one.
 fn many_rows(alloc: Global, count: u32, formats: u32) -> Result<Vec<u8>, Fail> {
     let mut rows = Vec::new(alloc);
     for i in 0..count {
@@ -582,8 +582,8 @@ impl Read for OneByOne<'_> {
     }
 }
 
-// What a load refuses of two files that come byte by byte, each with whether a read fails behind it, and
-// how often the priority file is read.
+// What a load refuses of two files that come byte by byte, each with whether a read fails behind
+// it, and how often the priority file is read.
 fn refused_of(
     alloc: Global,
     signatures: (&[u8], bool),
