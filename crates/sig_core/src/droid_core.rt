@@ -1,8 +1,8 @@
 //! What a matcher is, whatever it searches with: one law for all of them.
 //!
 //! Its calls are named after the interface of DROID: match a file, remove the hits of lower
-//! priority, remove the signatures of a format. `StreamCore` and `WholeCore` meet it, so what is
-//! proved of an engine over this trait holds with each of them. It says nothing of time.
+//! priority, remove the signatures of a format. `BlockCore`, `StreamCore` and `WholeCore` meet it,
+//! so what is proved of an engine over this trait holds with each of them. It says nothing of time.
 
 ghost use Rattle.std.specs.Prelude.{◌≡◌, ◌<◌, ◌↔◌, true, false, Contains, IfOk, IsTrue, OnOk, IsErrOf, length};
 ghost use Rattle.sig_bits.specs.Device.{IsAtEnd};

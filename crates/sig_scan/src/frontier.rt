@@ -1,4 +1,4 @@
-//! Where words of a chunk end: a set of offsets, item by item, with no automaton.
+//! Where words of items end: a set of offsets, item by item, with no automaton.
 //!
 //! `41{1-2}42` over the bytes 41 42 42 from their start: the set is 0, then 1 behind `41`, then 2
 //! and 3 behind the gap, then 3 behind `42`. All places that a gap allows are in the set at once,

@@ -2,7 +2,7 @@
 //!
 //! A sequence is cut at its unbounded gaps into stages, words of bounded length that stand in turn.
 //! `41{0-1}42{3-*}43` anywhere is the stage `41{0-1}42`, behind whose end three bytes must pass,
-//! and then the stage `43`. At the end of a file the items behind the last unbounded gap are no
+//! and then the stage `43`. Of an EOF sequence the items behind the last unbounded gap are no
 //! stage but a tail, whose offsets count from the end. Of each stage the first end is enough:
 //! whatever stands behind a later end stands behind it too. So all that a scan has to know of a
 //! sequence is the stage that it waits in and the first offset at which a word of it may begin; and

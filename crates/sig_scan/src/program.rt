@@ -2,7 +2,7 @@
 //! stages.
 //!
 //! Of `41{0-1}42{3-*}43` anywhere there are two stages, `41{0-1}42` with a delay of three bytes and
-//! `43`; at the end of a file the second one is the tail. The items are copied, so that a program
+//! `43`; in an EOF sequence the second one is the tail. The items are copied, so that a program
 //! serves for as long as it is wanted. The stages of all sequences stand in one list, and a course
 //! says which of them are those of its sequence. Beside them stand the literals of stages
 //! (`filter`), which are looked for all at once. Those of stages that may begin at several offsets

@@ -1,8 +1,8 @@
-//! The parts that a sequence is cut into at its unbounded gaps: stages, and a tail at the end of a
-//! file.
+//! The parts that a sequence is cut into at its unbounded gaps: stages, and the tail of an EOF
+//! sequence.
 //!
 //! `41{0-1}42{3-*}43` has the stage `41{0-1}42`, behind whose end three bytes must pass, and the
-//! stage `43`. At the end of a file `43` is the tail instead. Each has its own copies of the items,
+//! stage `43`. In an EOF sequence `43` is the tail instead. Each has its own copies of the items,
 //! and the bytes that every word of them has.
 
 use crate::copy::copy_items;
