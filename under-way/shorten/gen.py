@@ -1,3 +1,7 @@
+# These scripts made the proofs of `sig_auto` and `sig_scan` a third shorter: they put `grind (arith, ..)`, with the
+# lemmas that a proof cites, in its place and keep what passes (`gen.py`, `loop.py`; `leaf.py` for branches of an
+# `elim`), leave out helper lemmas (`elimx.py`) and lemmas that nothing cites (`dead.py`). Their paths are those of one
+# checkout. They go with the last crate that wants them.
 import re,os,sys,json
 sys.path.insert(0,'/tmp')
 BL=set('refl ap ap₂ subst sym arith rules tests cc omega search grind rw simp elim inl inr tt absurd cases_lt cases_eq cases_Bool zero suc true false None Some either both drop take length get_or map replicate'.split())
