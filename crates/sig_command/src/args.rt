@@ -89,7 +89,8 @@ the other are left out.
   ambiguous A B S T N  the formats A and B are both reported for a file of N
                        bytes, which the signatures numbered S of A and T of B
                        match. No shorter file that these two match gets both
-                       formats
+                       formats. With `tried` behind N one may: the search
+                       gave up, and a simple file was tried
   unknown A B S T      the search gave up on the signatures numbered S of A
                        and T of B, and no other two gave a file
 With --hex the bytes of the file are the last word of an `ambiguous` line. If

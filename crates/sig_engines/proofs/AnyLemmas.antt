@@ -3,7 +3,7 @@ use Rattle.std.specs.Borrow.{Bor}
 use Rattle.std.proofs.Common.{ℕ, All, Bool, List, None, Option, Some}
 use Rattle.std.proofs.lemmas.List.Elements.{All-weaker}
 use Rattle.sig_find.specs.declared.pair.PairDecision.{PairDecision}
-use Rattle.sig_find.specs.declared.pair.PairDecision.TheVariants.{Ambiguous, Decided, Unknown}
+use Rattle.sig_find.specs.declared.pair.PairDecision.TheVariants.{Ambiguous, Decided, Tried, Unknown}
 use Rattle.sig_table.specs.Views.{TableView}
 use Rattle.sig_engines.specs.Conflicts.{AddsConflicts, KnownPair, Settles}
 use Rattle.sig_engines.specs.Forced.{Forces}
@@ -17,6 +17,7 @@ module _ (Made : List ℕ → List ℕ → Type 0) (t : TableView) where
   any_in folder formats None keeps = tt
   any_in folder formats (Some Decided) keeps = tt
   any_in folder formats (Some (Ambiguous s u file)) keeps = record { name = keeps.name; is = keeps.is; made = tt }
+  any_in folder formats (Some (Tried s u file)) keeps = record { name = keeps.name; is = keeps.is; made = tt }
   any_in folder formats (Some (Unknown s u)) keeps = tt
 
   any_witness : (files : Option (Bor (List ℕ))) (formats : ℕ × ℕ) (decision : Option PairDecision) → KeepsWitness Made t files formats decision → KeepsWitness IsAny t files formats decision

@@ -11,7 +11,7 @@ use Rattle.sig_cert.specs.Pairs.{format_pairs}
 use Rattle.sig_cert.proofs.Exports.{first_or_later, is_format_pair, none_is_there}
 use Rattle.sig_find.specs.FormatPairs.{AreNeverLeft}
 use Rattle.sig_find.specs.declared.pair.PairDecision.{PairDecision}
-use Rattle.sig_find.specs.declared.pair.PairDecision.TheVariants.{Ambiguous, Decided, Unknown}
+use Rattle.sig_find.specs.declared.pair.PairDecision.TheVariants.{Ambiguous, Decided, Tried, Unknown}
 use Rattle.sig_table.specs.declared.ids.FormatId.{FormatId}
 use Rattle.sig_find.proofs.Exports.{decided_pairs_decide}
 use Rattle.sig_table.specs.Tables.{IsTable}
@@ -93,6 +93,7 @@ never_left : (table : TableView) (formats : ℕ × ℕ) (d : Option PairDecision
 never_left table formats None ambiguous unknown tells = tells
 never_left table formats (Some Decided) ambiguous unknown tells = tells
 never_left table formats (Some (Ambiguous s t file)) ambiguous unknown tells = absurd (omega (arith, ambiguous))
+never_left table formats (Some (Tried s t file)) ambiguous unknown tells = absurd (omega (arith, ambiguous))
 never_left table formats (Some (Unknown s t)) ambiguous unknown tells = absurd (omega (arith, unknown))
 
 none_left : (ask : ConflictsAsk) (table : TableView) (known : List KnownPair) → All (IsSettled ask table) known → count_of is_ambiguous known ≡ 0 → count_of is_unknown known ≡ 0 → (formats : ℕ × ℕ) → Contains (pairs_of known) formats → AreNeverLeft table formats

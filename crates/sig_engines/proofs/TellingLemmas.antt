@@ -13,7 +13,7 @@ use Rattle.sig_bits.specs.Device.{Adds, AddsFront}
 use Rattle.sig_cert.specs.Pairs.{format_pairs}
 use Rattle.sig_cert.proofs.Exports.{length-format_pairs}
 use Rattle.sig_find.specs.declared.pair.PairDecision.{PairDecision}
-use Rattle.sig_find.specs.declared.pair.PairDecision.TheVariants.{Ambiguous, Decided, Unknown}
+use Rattle.sig_find.specs.declared.pair.PairDecision.TheVariants.{Ambiguous, Decided, Tried, Unknown}
 use Rattle.sig_find.specs.declared.class.PairClass.{PairClass}
 use Rattle.sig_find.specs.declared.class.PairClass.TheVariants.{Apart, Open, Over, Same, Under}
 use Rattle.sig_table.specs.declared.ids.FormatId.{FormatId}
@@ -101,6 +101,7 @@ three_of : (d : Option PairDecision) → cond (is_unrelated d) 1 0 ≡ cond (is_
 three_of None = refl
 three_of (Some Decided) = refl
 three_of (Some (Ambiguous s t file)) = refl
+three_of (Some (Tried s t file)) = refl
 three_of (Some (Unknown s t)) = refl
 
 most_one : (d : Option PairDecision) → cond (is_unrelated d) 1 0 ≤ 1
@@ -178,6 +179,7 @@ noted_within : (table : TableView) (formats : ℕ × ℕ) → (formats.0 < lengt
 noted_within table formats within None class = All-nil (IsOfFormats table)
 noted_within table formats within (Some Decided) class = All-nil (IsOfFormats table)
 noted_within table formats within (Some (Ambiguous s t file)) class = one_within table formats class within
+noted_within table formats within (Some (Tried s t file)) class = one_within table formats class within
 noted_within table formats within (Some (Unknown s t)) class = one_within table formats class within
 
 module _ (Made : List ℕ → List ℕ → Type 0) (ask : ConflictsAsk) (table : TableView) where

@@ -8,7 +8,7 @@ use Rattle.sig_find.specs.FormatPairs.{IsPairDecision, NamesSignatures}
 use Rattle.sig_find.specs.declared.class.PairClass.{PairClass}
 use Rattle.sig_find.specs.declared.class.PairClass.TheVariants as kind
 use Rattle.sig_find.specs.declared.pair.PairDecision.{PairDecision}
-use Rattle.sig_find.specs.declared.pair.PairDecision.TheVariants.{Ambiguous, Decided, Unknown}
+use Rattle.sig_find.specs.declared.pair.PairDecision.TheVariants.{Ambiguous, Decided, Tried, Unknown}
 use Rattle.sig_table.specs.Views.{TableView}
 use Rattle.sig_engines.specs.Asks.{asked_pairs, needs_class, shows_class}
 use Rattle.sig_engines.specs.ClassTexts.{class_text, classes_if_asked, is_class}
@@ -46,6 +46,7 @@ abbrev pub is_ambiguous : Option PairDecision → Bool
 is_ambiguous None = false
 is_ambiguous (Some Decided) = false
 is_ambiguous (Some (Ambiguous s t file)) = true
+is_ambiguous (Some (Tried s t file)) = true
 is_ambiguous (Some (Unknown s t)) = false
 
 -- where classes are needed, an ambiguous pair has its class, and no other pair has one
@@ -70,14 +71,15 @@ pub record AreFirst (ask : ConflictsAsk) (table : TableView) (known : List Known
 
 -- ---- their lines
 
--- what a line says of a file: its length, the class of its pair, and its bytes if they are asked for
-abbrev pub file_text : Option PairClass → Bool → List ℕ → List ℕ
-file_text class hex file = 32 ∷ decimal (length file) ++ class_text class ++ hex_text hex file ++ 10 ∷ []
+-- what a line says of a file: its length, a word, the class of its pair, and its bytes if they are asked for
+abbrev pub file_text : List ℕ → Option PairClass → Bool → List ℕ → List ℕ
+file_text word class hex file = 32 ∷ decimal (length file) ++ word ++ class_text class ++ hex_text hex file ++ 10 ∷ []
 
--- the line of a pair: `ambiguous A B S T N`, or `unknown A B S T`; nothing of one that is decided
+-- the line of a pair: `ambiguous A B S T N`, with `tried` behind N if N is no shortest length, or `unknown A B S T`; nothing of one that is decided
 abbrev pub decision_line : Bool → TableView → ℕ × ℕ → PairDecision → Option PairClass → List ℕ
 decision_line hex table formats Decided class = []
-decision_line hex table formats (Ambiguous s t file) class = codes "ambiguous" ++ product_text table formats s.0 t.0 ++ file_text class hex file.items
+decision_line hex table formats (Ambiguous s t file) class = codes "ambiguous" ++ product_text table formats s.0 t.0 ++ file_text [] class hex file.items
+decision_line hex table formats (Tried s t file) class = codes "ambiguous" ++ product_text table formats s.0 t.0 ++ file_text (codes " tried") class hex file.items
 decision_line hex table formats (Unknown s t) class = codes "unknown" ++ product_text table formats s.0 t.0 ++ 10 ∷ []
 
 -- the class where it is printed
@@ -114,12 +116,14 @@ abbrev pub is_decided : Option PairDecision → Bool
 is_decided None = false
 is_decided (Some Decided) = true
 is_decided (Some (Ambiguous s t file)) = false
+is_decided (Some (Tried s t file)) = false
 is_decided (Some (Unknown s t)) = false
 
 abbrev pub is_unknown : Option PairDecision → Bool
 is_unknown None = false
 is_unknown (Some Decided) = false
 is_unknown (Some (Ambiguous s t file)) = false
+is_unknown (Some (Tried s t file)) = false
 is_unknown (Some (Unknown s t)) = true
 
 -- how many pairs are so

@@ -6,7 +6,7 @@ use Rattle.sig_find.specs.Classes.{mirror_of}
 use Rattle.sig_find.specs.declared.class.PairClass.{PairClass}
 use Rattle.sig_find.specs.declared.class.PairClass.TheVariants.{Apart, Open, Over, Same, Under}
 use Rattle.sig_find.specs.declared.pair.PairDecision.{PairDecision}
-use Rattle.sig_find.specs.declared.pair.PairDecision.TheVariants.{Ambiguous, Decided, Unknown}
+use Rattle.sig_find.specs.declared.pair.PairDecision.TheVariants.{Ambiguous, Decided, Tried, Unknown}
 use Rattle.sig_table.specs.Views.{TableView}
 use Rattle.sig_table.specs.declared.ids.FormatId.{FormatId}
 use Rattle.sig_engines.specs.ClassTexts.{classes_text, is_class}
@@ -22,6 +22,7 @@ abbrev pub noted : ℕ × ℕ → Option PairDecision → Option PairClass → L
 noted formats None class = []
 noted formats (Some Decided) class = []
 noted formats (Some (Ambiguous s t file)) class = note_of formats class ∷ []
+noted formats (Some (Tried s t file)) class = note_of formats class ∷ []
 noted formats (Some (Unknown s t)) class = note_of formats class ∷ []
 
 -- ---- forced pairs

@@ -3,7 +3,7 @@ use Rattle.std.specs.Borrow.{Bor}
 use Rattle.std.specs.Prelude.{◌≡◌, ℕ, ⊤, List, ◌++◌, codes, Option, None, Some, slice_get}
 use Rattle.std.specs.Fmt.{decimal}
 use Rattle.sig_find.specs.declared.pair.PairDecision.{PairDecision}
-use Rattle.sig_find.specs.declared.pair.PairDecision.TheVariants.{Ambiguous, Decided, Unknown}
+use Rattle.sig_find.specs.declared.pair.PairDecision.TheVariants.{Ambiguous, Decided, Tried, Unknown}
 use Rattle.sig_table.specs.Views.{TableView}
 use Rattle.sig_table.specs.declared.puid.Puid.{Puid}
 use Rattle.sig_table.specs.declared.puid.Registry.{Registry}
@@ -51,6 +51,7 @@ abbrev pub KeepsIn : (List ℕ → List ℕ → Type 0) → TableView → List �
 KeepsIn Made table folder formats None = ⊤
 KeepsIn Made table folder formats (Some Decided) = ⊤
 KeepsIn Made table folder formats (Some (Ambiguous s t file)) = IsKept Made table folder formats file.items
+KeepsIn Made table folder formats (Some (Tried s t file)) = IsKept Made table folder formats file.items
 KeepsIn Made table folder formats (Some (Unknown s t)) = ⊤
 
 -- where there is a folder for it

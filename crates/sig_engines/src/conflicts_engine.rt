@@ -167,7 +167,9 @@ impl Told {
         self.counts.add(decision, class);
         match decision {
             PairDecision::Decided => Ok(()),
-            PairDecision::Ambiguous { .. } | PairDecision::Unknown { .. } => {
+            PairDecision::Ambiguous { .. }
+            | PairDecision::Tried { .. }
+            | PairDecision::Unknown { .. } => {
                 self.notes.push(Note { a, b, class })?;
                 Ok(())
             }
@@ -279,7 +281,7 @@ fn class_if_asked(
         return Ok(None);
     };
     match decision {
-        PairDecision::Ambiguous { .. } => {
+        PairDecision::Ambiguous { .. } | PairDecision::Tried { .. } => {
             Ok(Some(class_of_pair(alloc, table, lives, a, b, ask.budget)?))
         }
         PairDecision::Decided | PairDecision::Unknown { .. } => Ok(None),
@@ -325,8 +327,9 @@ fn keep_witness<'a, S: Store>(
     let Some(folder) = ask.files else {
         return Ok(());
     };
-    let PairDecision::Ambiguous { file, .. } = decision else {
-        return Ok(());
+    let file = match decision {
+        PairDecision::Ambiguous { file, .. } | PairDecision::Tried { file, .. } => file,
+        PairDecision::Decided | PairDecision::Unknown { .. } => return Ok(()),
     };
     let name = WitnessName::of(table, a, b);
     let path = name.path(alloc, folder)?;

@@ -43,7 +43,7 @@ impl Counts {
     {
         match decision {
             PairDecision::Decided => self.decided += 1,
-            PairDecision::Ambiguous { .. } => self.ambiguous += 1,
+            PairDecision::Ambiguous { .. } | PairDecision::Tried { .. } => self.ambiguous += 1,
             PairDecision::Unknown { .. } => self.unknown += 1,
         }
         match class {

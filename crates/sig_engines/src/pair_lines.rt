@@ -41,7 +41,12 @@ pub(crate) fn line_of_pair(
         PairDecision::Ambiguous { s, t, file } => {
             line.push_str("ambiguous")?;
             push_product(&mut line, table, a, b, *s, *t)?;
-            push_file(alloc, &mut line, class, with_hex, file)?;
+            push_file(alloc, &mut line, "", class, with_hex, file)?;
+        }
+        PairDecision::Tried { s, t, file } => {
+            line.push_str("ambiguous")?;
+            push_product(&mut line, table, a, b, *s, *t)?;
+            push_file(alloc, &mut line, " tried", class, with_hex, file)?;
         }
         PairDecision::Unknown { s, t } => {
             line.push_str("unknown")?;
@@ -73,19 +78,19 @@ fn push_product(
     Ok(())
 }
 
-// What a line says of a file: its length, the class of its pair, and its bytes if they are asked
-// for.
+// What a line says of a file: its length, a word, its class, and its bytes if they are asked for.
 fn push_file(
     alloc: Global,
     line: &mut String,
+    word: &str,
     class: Option<PairClass>,
     with_hex: bool,
     file: &[u8],
 ) -> Result<(), AllocError>
-    ensures { OnOk result (string_bytes line.new ≡ string_bytes line.old ++ file_text class with_hex file.now) }
+    ensures { OnOk result (string_bytes line.new ≡ string_bytes line.old ++ file_text word.now class with_hex file.now) }
 {
     let length = file.len();
-    write!(line, " {length}")?;
+    write!(line, " {length}{word}")?;
     if let Some(class) = class {
         line.push_str(word_of(class))?;
     }

@@ -3,6 +3,7 @@ mod AdditionLemmas
 mod AllBlockerLemmas
 mod AloneLemmas
 mod ByteLemmas
+mod ClashLemmas
 mod ClassLemmas
 mod ExpandLemmas
 pub mod Exports
@@ -13,6 +14,7 @@ mod InclusionLemmas
 mod KeptLemmas
 mod KeyLemmas
 mod LeavingLemmas
+mod LengthLemmas
 mod LifeLemmas
 mod OrderLemmas
 mod PairLaws

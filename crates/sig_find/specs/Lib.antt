@@ -7,10 +7,12 @@ pub mod FormatPairs
 pub mod Leaving
 pub mod Lives
 pub mod Inclusions
+pub mod Clashes
 pub mod Classes
 pub mod Additions
 -- The vocabulary of proofs.
 pub mod Kept
+pub mod Lengths
 pub mod Frontiers
 pub mod Judgements
 pub mod Rounds

@@ -7,8 +7,10 @@
 #![tactic(auto)]
 
 mod addition;
+mod clash;
 mod class;
 mod decision;
+mod direct;
 mod finder;
 mod found;
 mod frontier;
@@ -20,6 +22,7 @@ mod lives;
 mod observer;
 mod pair;
 mod search;
+mod simple;
 mod tally;
 mod writer;
 
@@ -30,9 +33,9 @@ pub use finder::{find, find_observed};
 pub use found::Found;
 pub use inclusion::{Inclusion, decide_inclusion};
 pub use laws::{
-    additions_keep_formats_alive, bad_rows_are_unblocked, closed_products_leave_none,
-    dead_signatures_leave_none, decided_pairs_decide, formats_left_leave_pair,
-    pair_left_leaves_formats, related_pairs_leave_none, rows_over_some_are_over_all,
+    additions_keep_formats_alive, bad_rows_are_unblocked, dead_signatures_leave_none,
+    decided_pairs_decide, formats_left_leave_pair, pair_left_leaves_formats,
+    related_pairs_leave_none, rows_over_some_are_over_all, settled_products_leave_none,
     unblocked_files_lead_to_bad_rows,
 };
 pub use life::{Fate, Life, SignatureLife, decide_format, decide_signature};

@@ -64,6 +64,7 @@ const OF_FIND: &[&str] = &[
 const OF_CONFLICTS: &[&str] = &[
     "Pairs of which one format outranks\nthe other are left out.\n  ambiguous A B S T N  the formats",
     "match. No shorter file that these two match gets both\n",
+    "formats. With `tried` behind N one may: the search\n",
     "  unknown A B S T      the search gave up on the signatures numbered S of A\n",
     "With --hex the bytes of the file are the last word of an `ambiguous` line.",
     "the pairs:\n  pairs P decided D ambiguous M unknown U\n\nWith --class a word behind N tells",
