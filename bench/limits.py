@@ -439,7 +439,7 @@ NO_BUDGET = b"error: invalid value '%s' for '--budget <N>': %s is not in 1..=429
 
 
 def budget_cases():
-    apart, halfway = table(bof(1, "41"), bof(2, "42")), table(bof(1, "4141"), bof(2, "4142"))
+    apart, halfway = table(bof(1, "41"), bof(2, "42")), table(bof(1, "4141"), bof(2, "41[42:43]"))
     for budget in (1, BUDGET):
         words = ["--budget", str(budget)]
         yield Case(f"budget {budget}: find", ["find", *words, "--out", "o", "s", "p"], apart, b"decided\n", made={"o": certificate([APART])})

@@ -24,11 +24,24 @@ const LATER_MEETS_SOON: Rows = Rows(
     "",
 );
 
+// They begin alike and differ then, which is told by no byte at one offset alone.
+const TWO_SEARCHED: Rows = Rows("fmt/1,1,BOF,0,,41(42|43)\nfmt/2,2,BOF,0,,4144\n", "");
+
 // The first of the products that need more than three rows is that of the signatures 1 and 3.
 const TWO_GIVE_UP: Rows = Rows(
-    "fmt/1,1,BOF,0,,41424344\nfmt/2,2,BOF,0,,42\nfmt/2,3,BOF,0,,41424345\nfmt/2,4,BOF,0,,41424346\n",
+    "fmt/1,1,BOF,0,,41424344\nfmt/2,2,BOF,0,,42\nfmt/2,3,BOF,0,,414243[45:46]\nfmt/2,4,BOF,0,,414243[47:48]\n",
     "",
 );
+
+// Three rows are too few to see that the first two never meet. The last two meet in the file `00`.
+const LATER_PAIR_MEETS: Rows = Rows(
+    "fmt/1,1,BOF,0,,414243[45:46]\nfmt/2,2,BOF,0,,414243[47:48]\nfmt/3,3,BOF,0,,00\nfmt/4,4,EOF,0,,00\n",
+    "fmt/4,fmt/1\nfmt/4,fmt/2\n",
+);
+
+// The second stands in front of the first in a shortest file, and behind it in a simple one. A
+// search finds the former with its 16th row; each of the two alone is alive by its eighth.
+const IN_FRONT: Rows = Rows("fmt/1,1,BOF,4,,43\nfmt/2,2,Variable,,,4142\n", "");
 
 // A table, a budget, and the lines that are printed with `--hex`.
 #[derive(Clone, Copy)]
@@ -37,12 +50,18 @@ struct Settled(Rows, &'static str, &'static str);
 const SETTLED: &[Settled] = &[
     Settled(NONE, "1", "pairs 0 decided 0 ambiguous 0 unknown 0\n"),
     Settled(ONE, "1", "pairs 0 decided 0 ambiguous 0 unknown 0\n"),
+    // Different bytes at one offset need no search, others do.
+    Settled(TWO, "1", "pairs 1 decided 1 ambiguous 0 unknown 0\n"),
     Settled(
-        TWO,
+        TWO_SEARCHED,
         "1",
         "unknown fmt/1 fmt/2 1 2\npairs 1 decided 0 ambiguous 0 unknown 1\n",
     ),
-    Settled(TWO, "2", "pairs 1 decided 1 ambiguous 0 unknown 0\n"),
+    Settled(
+        TWO_SEARCHED,
+        "2",
+        "pairs 1 decided 1 ambiguous 0 unknown 0\n",
+    ),
     Settled(
         EVERY_FILE,
         "100",
@@ -70,11 +89,12 @@ const SETTLED: &[Settled] = &[
         "100",
         "ambiguous fmt/2 fmt/3 2 3 2 4142\npairs 2 decided 1 ambiguous 1 unknown 0\n",
     ),
+    // The file of five bytes is too long for a search within three rows, and is tried.
     Settled(
         THREE_RELATED,
         "3",
-        "ambiguous fmt/1 fmt/3 10 30 1 41\nunknown fmt/1 fmt/4 10 40\n\
-         pairs 3 decided 1 ambiguous 1 unknown 1\n",
+        "ambiguous fmt/1 fmt/3 10 30 1 41\nambiguous fmt/1 fmt/4 10 40 5 tried 4142434445\n\
+         pairs 3 decided 1 ambiguous 2 unknown 0\n",
     ),
     Settled(
         THREE_RELATED,
@@ -101,6 +121,23 @@ const SETTLED: &[Settled] = &[
         TWO_GIVE_UP,
         "100",
         "pairs 1 decided 1 ambiguous 0 unknown 0\n",
+    ),
+    Settled(
+        LATER_PAIR_MEETS,
+        "3",
+        "unknown fmt/1 fmt/2 1 2\nambiguous fmt/3 fmt/4 3 4 1 00\n\
+         pairs 4 decided 2 ambiguous 1 unknown 1\n",
+    ),
+    Settled(
+        IN_FRONT,
+        "1",
+        "ambiguous fmt/1 fmt/2 1 2 7 tried 00000000434142\n\
+         pairs 1 decided 0 ambiguous 1 unknown 0\n",
+    ),
+    Settled(
+        IN_FRONT,
+        "100",
+        "ambiguous fmt/1 fmt/2 1 2 5 0000414243\npairs 1 decided 0 ambiguous 1 unknown 0\n",
     ),
 ];
 
@@ -181,6 +218,19 @@ const FLAGGED: &[Flagged] = &[
         1,
         "ambiguous fmt/1 fmt/2 1 2 1 apart 41\n\
          pairs 1 decided 0 ambiguous 1 unknown 0 over 0 under 0 same 0 apart 1 open 0\n",
+    ),
+    Flagged(
+        IN_FRONT,
+        &["--class", "--hex", "--budget", "10"],
+        1,
+        "ambiguous fmt/1 fmt/2 1 2 7 tried apart 00000000434142\n\
+         pairs 1 decided 0 ambiguous 1 unknown 0 over 0 under 0 same 0 apart 1 open 0\n",
+    ),
+    Flagged(
+        IN_FRONT,
+        &["--budget", "10"],
+        1,
+        "ambiguous fmt/1 fmt/2 1 2 7 tried\npairs 1 decided 0 ambiguous 1 unknown 0\n",
     ),
     Flagged(
         THREE_RELATED,
@@ -354,8 +404,8 @@ fn fills(rt: &HostRuntime, words: &[String], room: usize) -> bool {
     status == 1 && out.left() == 0
 }
 
-// The room for an output, and what is left of it: the lines have 30, 26 and 40 bytes.
-const ROOMS: &[(usize, usize)] = &[(29, 29), (30, 0), (55, 25), (56, 0), (95, 39)];
+// The room for an output, and what is left of it: the lines have 30, 36 and 40 bytes.
+const ROOMS: &[(usize, usize)] = &[(29, 29), (30, 0), (65, 35), (66, 0), (105, 39)];
 
 #[test]
 fn lines_before_a_failed_write_stand(rt: HostRuntime) -> Result<(), Fail> {
@@ -365,6 +415,6 @@ fn lines_before_a_failed_write_stand(rt: HostRuntime) -> Result<(), Fail> {
     for (room, left) in ROOMS {
         assert!(rt; is_left(&rt, &words, *room, *left), "{room}");
     }
-    assert!(rt; fills(&rt, &words, 96));
+    assert!(rt; fills(&rt, &words, 106));
     remove(&rt, folder)
 }
