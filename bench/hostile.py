@@ -50,6 +50,7 @@ OF_FORMAT = rf"{PUID} \d+{OF_CLASSES} unknown \d+\n"
 SAID = {
     "match": {0: rf"({PUID} [1-9]\d*\n)*"},
     "show": {0: rf"{HEADER}(.*\n)*\n{PAIRS}({PUID},{PUID}\n)*"},
+    "lint": {0: r"no fault\n(warning: [^\n]+\n)*"},
     "witness": {0: rf"ambiguous {PUID} {PUID}\n", 1: r"not ambiguous\n"},
     "check": {0: r"accepted\n", 1: r"refused C([1-9]|1[0-2]) [^\n]+\n"},
     "conflicts": {0: rf"({OF_FORMAT})*{COUNTS} 0 unknown 0({OF_CLASSES})?\n",
@@ -497,9 +498,30 @@ def shown(runs, kind):
             raise Failed("what is shown is shown otherwise")
 
 
+LINTED = re.compile(r"(signatures|priorities) line [1-9]\d*( row [1-9]\d*)?: (L([2-9]|1[0-57]) [^\n:]+): [a-z_]+ \"[^\n]*\"( at \d+)?: expected [^\n]+\n")
+
+
+def linted(runs, kind):
+    """`lint`: `no fault` of a table that loads, and else lines of faults, the first of which `show` answers."""
+    runs.runs += 1
+    done = subprocess.run([runs.program, "lint", *TABLE_FILES], cwd=runs.folder, capture_output=True, timeout=LONGEST)
+    status, out, err = done.returncode, done.stdout.decode("latin-1"), done.stderr.decode("latin-1")
+    runs.count(kind, f"lint: status {status}")
+    lines = out.splitlines(True)
+    if not runs.refusal:
+        if (status, err) != (0, "") or not re.fullmatch(SAID["lint"][0], out):
+            raise Failed(f"lint: {(status, out, err)} of a table that loads")
+        return
+    found = [LINTED.fullmatch(line) for line in lines]
+    if (status, err) != (2, "") or not found or not all(found):
+        raise Failed(f"lint: {(status, out, err)}, and the plain judge of tables says {runs.refusal}")
+    if f"{found[0][1]}{found[0][2] or ''}: {found[0][3]}" != runs.refusal:
+        raise Failed(f"lint: {lines[0]}, and the plain judge of tables says {runs.refusal}")
+
+
 def words_case(runs, chance):
     """A command line that is mixed up. A usage fault has some lines, and each other answer its form."""
-    words = [chance.choice(["match", "show", "check", "witness", "find", "conflicts", "dead", "--all", "--with-names", "--out", "--budget",
+    words = [chance.choice(["match", "show", "lint", "check", "witness", "find", "conflicts", "dead", "--all", "--with-names", "--out", "--budget",
                             "--hex", "--progress", "--class", "--only", "fmt/1", "0", "1", "4294967296", "-1", "--", "-", "", "none", "signatures.csv", "priorities.csv", "certificate",
                             "--al", "match=1", "/", "n\u00e4me", "a\x1bb"]) for _ in range(chance.randrange(7))]
     words = [word.encode() if chance.random() < 0.9 else word.encode() + b"\xff" for word in words]
@@ -512,6 +534,8 @@ def words_case(runs, chance):
         err = re.sub(rf"\A{TOLD['find', 1]}\Z".encode(), b"", err)
     is_fault = done.returncode in (2, 3) and done.stdout == b"" and err.endswith(b"\n")
     is_line = err.count(b"\n") == 1 or err.startswith(b"error: ") or err.startswith(b"Usage")
+    if words[:1] == [b"lint"] and (done.returncode, err) == (2, b"") and LINTED.match(done.stdout.decode("latin-1")):
+        return
     if not (is_fault and is_line or done.returncode in (0, 1) and done.stdout != b"" and err == b""):
         if not (done.returncode == 0 and b"match" in words):
             raise Failed(f"{words}: {done.returncode} {done.stdout} {done.stderr}")
@@ -566,6 +590,7 @@ class Cases:
             matched(self.runs, "tables, match", signatures, self.file())
         elif kind == 1:
             shown(self.runs, "tables, show")
+            linted(self.runs, "tables, lint")
         elif kind == 2:
             judged(self.runs, "tables, check", signatures, priorities, chance.choice(seed.certificates))
         elif kind == 3:

@@ -144,6 +144,7 @@ TWO_BLOCKERS = (HEADER + "fmt/1,1,BOF,0,,[4142:4241]{0-1}43\nfmt/2,2,BOF,0,,[414
                 PAIRS + "fmt/3,fmt/1\nfmt/3,fmt/2\nfmt/4,fmt/1\nfmt/4,fmt/2\n")
 SHOWN = "fmt/1,1,BOF,0,0,[4142:4241]{0-1}43\nfmt/2,2,BOF,0,0,[4142:4241](43|44)*\nfmt/3,3,BOF,0,0,????43\nfmt/4,4,BOF,0,0,????44\n\n"
 REFUSED = (HEADER + "fmt/1,1,BOF,0,,41 42\n", PAIRS)
+GAPS = (HEADER + "fmt/1,1,BOF,0,,{4}\nfmt/2,2,BOF,0,0,{4-4}\n", PAIRS)
 VERSION_2 = OF_BLOCKED.replace(" 01 00000003", " 02 00000003")
 TWO_IN_VERSION_2 = OF_TWO.replace(" 01 00000001", " 02 00000001")
 # All rows that are reached. Of the third, where one format has met its byte at the start and the other at the end, both are hit.
@@ -178,6 +179,7 @@ CASES = [
     ("one format", ONE_FORMAT, b"AB", ["match", "--all"], (0, "fmt/1 1\n", "")),
     ("one format", ONE_FORMAT, b"AB", ["witness"], (1, "not ambiguous\n", "")),
     ("one format", ONE_FORMAT, None, ["show"], (0, HEADER + "fmt/1,1,BOF,0,0,4142\n\n" + PAIRS, "")),
+    ("one format", ONE_FORMAT, None, ["lint"], (0, "no fault\n", "")),
     ("one format", ONE_FORMAT, bytes.fromhex("50534143 01 00000000"), ["check"], (0, "accepted\n", "")),
     ("one format", ONE_FORMAT, None, FIND, (0, "decided\n", "")),
     ("one format", ONE_FORMAT, None, SETTLE, (0, "pairs 0 decided 0 ambiguous 0 unknown 0\n", "")),
@@ -229,6 +231,12 @@ CASES = [
     ("two blockers", TWO_BLOCKERS, None, [*FIND, "--progress"],
      (0, "decided\n", "\r0 of 2 products\r1 of 2 products\r2 of 2 products\n")),
     ("a refused text", REFUSED, None, ["show"], (2, "", "signatures row 1: L8 expression E2 at 2\n")),
+    ("a refused text", REFUSED, None, ["lint"],
+     (2, "signatures line 2 row 1: L8 expression E2 at 2: expression \"41 42\" at 2: "
+         "expected an expression that goes on from the bytes before it; remove blanks and tabs\n", "")),
+    ("gaps and equal rows", GAPS, None, ["lint"],
+     (0, "no fault\nwarning: signature 1 of fmt/1 has gaps alone\nwarning: signature 2 of fmt/2 has gaps alone\n"
+         "warning: signature 2 of fmt/2 has a row of signature 1 of fmt/1\n", "")),
     ("a long file", ONE_FORMAT, b"AB" + b"\0" * 100_000, ["match"], (0, "fmt/1 1\n", "")),
     ("nine words", NINE_WORDS, b"ABCDE", ["match"], (0, "fmt/4 4\nfmt/9 9\nfmt/10 10\n", "")),
     ("nine words in two pieces", NINE_WORDS, TWO_PIECES, ["match"], (0, "fmt/4 4\nfmt/9 9\nfmt/10 11\n", "")),

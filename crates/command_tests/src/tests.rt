@@ -6,6 +6,7 @@ mod conflicting;
 mod dying;
 mod failing;
 mod finding;
+mod linting;
 mod matching;
 mod matching_many;
 mod progress;

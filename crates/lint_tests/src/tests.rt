@@ -1,3 +1,4 @@
 mod details;
 mod faults;
+mod reports;
 mod warnings;

@@ -1,6 +1,7 @@
 -- How a run ends, whatever is asked for.
 use Rattle.std.proofs.Common.{◌≡◌, ◌≢◌, ◌⊎◌, ℕ, ◌<◌, ◌≤◌, Bool, List, [], None, Option, Some, ap, arith, false, inl, inr, refl, subst, sym, true, ◌∙◌}
 use Rattle.std.proofs.lemmas.List.{append-nil}
+use Rattle.std.specs.Borrow.{Bor}
 use Rattle.clap.specs.Words.{HasKind, IsAmong, Row, Text, fault_of, kind_of, subcommand_of}
 use Rattle.clap.specs.declared.error.Error.{Error}
 use Rattle.clap.specs.declared.error.kind.ErrorKind.{ErrorKind}
@@ -9,20 +10,22 @@ use Rattle.clap.specs.declared.error.kind.ErrorKind.TheVariants.{DisplayHelp, Di
 use Rattle.sig_bits.specs.Device.{Adds}
 use Rattle.sig_engines.specs.ManyFiles.{err_texts}
 use Rattle.sig_engines.specs.Stores.{Holding}
+use Rattle.sig_engines.specs.declared.error.CutShort.{CutShort as Cut}
 use Rattle.sig_engines.specs.declared.error.CutShort.TheVariants as cut
 use Rattle.sig_engines.specs.declared.error.RunError.TheVariants as run
+use Rattle.sig_engines.specs.declared.witness_name.WitnessName.{WitnessName}
 use Rattle.sig_table.specs.declared.error.TableError.{TableError}
 use Rattle.sig_table.specs.declared.error.TableError.TheVariants as table
 use Rattle.sig_command.specs.CommandLine.{AreTaken, Asks, HasFaultKind, IsHelpAsked, program}
-use Rattle.sig_command.specs.Endings.{AnswersBy, EndsByFault, KeepsErrors, ReportsMemory, TellsBy}
+use Rattle.sig_command.specs.Endings.{AnswersBy, EndsByFault, KeepsErrors, KeepsOutput, ReportsMemory, TellsBy}
 use Rattle.sig_command.specs.Faults.{Reports, ReportsLine, TellsWrite}
-use Rattle.sig_command.specs.Requests.{Behind, HasFiles, IsFaultOf, IsLaterFault, Joins, ReportsFaultOf, ReportsLineOf, Shows, ShowsBefore, ShowsSomeWords, ShowsWords, TellsOf}
+use Rattle.sig_command.specs.Requests.{Behind, CutsSomeWords, CutsWords, HasFiles, IsCutRequest, IsFaultOf, IsFirstFault, IsLaterFault, Joins, KeepsOrCuts, ListsIf, ListsRequest, ListsSomeWords, ListsWords, ReportsFaultOf, ReportsLineOf, Shows, ShowsBefore, ShowsSomeWords, ShowsWords, TellsOf}
 use Rattle.sig_command.specs.Several.{ReportsFiles}
 use Rattle.sig_command.specs.Statuses.{kind_status, status_of, table_status}
 use Rattle.sig_command.specs.declared.args.Request.{Request}
-use Rattle.sig_command.specs.declared.args.Request.TheVariants.{Check, Conflicts, Dead, Find, Match, MatchMany, Show, Witness}
+use Rattle.sig_command.specs.declared.args.Request.TheVariants.{Check, Conflicts, Dead, Find, Lint, Match, MatchMany, Show, Witness}
 use Rattle.sig_command.specs.declared.fault.Fault.{Fault}
-use Rattle.sig_command.specs.declared.fault.Fault.TheVariants.{CannotOpen, CutShort, NoFile, NotInTable, NotText, Run, SomeFiles, SummaryOfOne, Table}
+use Rattle.sig_command.specs.declared.fault.Fault.TheVariants.{CannotOpen, CutShort, FaultyTable, NoFile, NotInTable, NotText, Run, SomeFiles, SummaryOfOne, Table}
 
 -- memory can run out for whatever is asked
 pub memory_of : {R : Type 0} (failed : R → Bool) (held : Holding) (request : Request) → IsFaultOf failed held request (Run run.OutOfMemory)
@@ -34,6 +37,7 @@ memory_first failed held request before after err = (inl refl, go request)
   where
     go : (request : Request) → Joins failed held request (Run run.OutOfMemory) before after false err err
     go (Show table) = tt
+    go (Lint table) = tt
     go (Match all table file) = tt
     go (MatchMany all table files) = refl
     go (Find table budget out hex progress) = tt
@@ -45,6 +49,7 @@ memory_first failed held request before after err = (inl refl, go request)
 -- of the several files that words name there are some
 pub has_files : (found : Option (Text × List Row)) (request : Request) → Asks found request → HasFiles request
 has_files found (Show table) asks = tt
+has_files found (Lint table) asks = tt
 has_files found (Match all table file) asks = tt
 has_files found (MatchMany all table files) asks = asks.3.some
 has_files found (Find table budget out hex progress) asks = tt
@@ -52,6 +57,35 @@ has_files found (Conflicts table options progress) asks = tt
 has_files found (Dead table budget hex progress) asks = tt
 has_files found (Check table certificate) asks = tt
 has_files found (Witness table file) asks = tt
+
+-- ---- a fault of two kinds, which tells more than its line
+
+-- a fault is none of these
+no_such : {R : Type 0} (failed : R → Bool) (held : Holding) (request : Request) (reason : Fault) → reason ≢ Run run.OutOfMemory → reason ≢ SummaryOfOne → (IsFirstFault failed held request reason → ⊥) → (IsLaterFault failed held request reason → ⊥) → IsFaultOf failed held request reason → ⊥
+no_such failed held request reason memory two first later (inl is) = first is
+no_such failed held request reason memory two first later (inr (inl is)) = memory is
+no_such failed held request reason memory two first later (inr (inr (inl is))) = later is.1
+no_such failed held request reason memory two first later (inr (inr (inr is))) = two is.0
+
+-- the faults of a table are no fault of one that loads
+later_faulty : {R : Type 0} (failed : R → Bool) (held : Holding) (request : Request) → IsLaterFault failed held request FaultyTable → ⊥
+later_faulty failed held (Show table) is = let bad : FaultyTable ≡ Run run.Write = is in cc
+later_faulty failed held (MatchMany all table files) (inl is) = let bad : FaultyTable ≡ SomeFiles = is in cc
+later_faulty failed held (MatchMany all table files) (inr is) = let bad : FaultyTable ≡ Run run.Write = is in cc
+later_faulty failed held (Find table budget out hex progress) (inl is) = let bad : FaultyTable ≡ CannotOpen out = is in cc
+later_faulty failed held (Find table budget out hex progress) (inr is) = let bad : FaultyTable ≡ Run run.Write = is in cc
+later_faulty failed held request is = is
+
+-- they are told where `lint` is asked for, and only there
+faults_are_listed : {R : Type 0} (failed : R → Bool) (held : Holding) (request : Request) (is_failed : Bool) (before after : Option (List ℕ)) → IsFaultOf failed held request FaultyTable → ListsIf held request FaultyTable is_failed before after → (is_failed ≡ false) × ListsRequest held request before after
+faults_are_listed failed held (Lint table) is_failed before after is lists = let told = lists refl in (told.0, (table, refl, told.1))
+faults_are_listed failed held request is_failed before after is lists =
+    absurd (no_such failed held request FaultyTable (λ same. let bad : FaultyTable ≡ Run run.OutOfMemory = same in cc) (λ same. let bad : FaultyTable ≡ SummaryOfOne = same in cc) (λ never. never) (later_faulty failed held request) is)
+
+-- so where this is the fault
+pub listed : {R : Type 0} (failed : R → Bool) (held : Holding) (request : Request) (reason : Fault) (is_failed : Bool) (before after : Option (List ℕ)) → IsFaultOf failed held request reason → ListsIf held request reason is_failed before after → reason ≡ FaultyTable → (is_failed ≡ false) × ListsRequest held request before after
+listed failed held request reason is_failed before after is lists same =
+    faults_are_listed failed held request is_failed before after (subst (IsFaultOf failed held request) same is) (subst (λ fault. ListsIf held request fault is_failed before after) same lists)
 
 -- ---- a fault is reported
 
@@ -64,12 +98,13 @@ line_is_reported failed held request reason status is_failed written err mid bef
     shown (inl same) = inl (ap written same)
     shown (inr shows) = inr (subst (λ b. Shows failed held request false b (written err) (written mid)) sound shows)
 
-pub fault_is_reported : {R E : Type 0} (failed : R → Bool) (WriteFailed : Type 0) (held : Holding) (request : Request) (reason : Fault) (status : ℕ) (is_failed : E → Bool) (written : E → Option (List ℕ)) (err mid last : E) (before after : Option (List ℕ)) → IsFaultOf failed held request reason → (TellsWrite reason → WriteFailed) → TellsOf failed held request false is_failed written err mid → Joins failed held request reason before after (is_failed mid) (written err) (written mid) → status ≡ status_of reason → (is_failed last ≡ false → is_failed mid ≡ false) → (is_failed last ≡ false → Reports reason status (written mid) (written last)) → ReportsFaultOf failed WriteFailed held request status before after (is_failed last) (written err) (written last)
-fault_is_reported failed WriteFailed held request reason status is_failed written err mid last before after is write told joins ends sound reports = record {
+pub fault_is_reported : {R E : Type 0} (failed : R → Bool) (WriteFailed : Type 0) (held : Holding) (request : Request) (reason : Fault) (status : ℕ) (is_failed : E → Bool) (written : E → Option (List ℕ)) (err mid last : E) (before after : Option (List ℕ)) (out_failed : Bool) → IsFaultOf failed held request reason → (TellsWrite reason → WriteFailed) → ListsIf held request reason out_failed before after → TellsOf failed held request false is_failed written err mid → Joins failed held request reason before after (is_failed mid) (written err) (written mid) → status ≡ status_of reason → (is_failed last ≡ false → is_failed mid ≡ false) → (is_failed last ≡ false → Reports reason status (written mid) (written last)) → ReportsFaultOf failed WriteFailed held request status before after (is_failed last) (written err) (written last)
+fault_is_reported failed WriteFailed held request reason status is_failed written err mid last before after out_failed is write lists told joins ends sound reports = record {
   reason = reason;
   is = is;
   write = write;
   ends = ends;
+  lists = λ same. (listed failed held request reason out_failed before after is lists same).1;
   line = λ whole. line_is_reported failed held request reason status is_failed written err mid before after (written last) told joins (sound whole) (reports whole);
 }
 
@@ -80,6 +115,7 @@ memory_is_reported failed WriteFailed held request status is_failed written err 
   is = memory_of failed held request;
   write = λ tells. absurd (no_write tells);
   ends = ends;
+  lists = λ same. let bad : Run run.OutOfMemory ≡ FaultyTable = same in cc;
   line = λ whole. (written err, memory_first failed held request before after (written err), subst (λ (s : ℕ). Reports (Run run.OutOfMemory) s (written err) (written last)) (sym ends) (reports whole));
 }
   where
@@ -97,15 +133,18 @@ nothing_behind (Some before) (Some mid) None text first second = absurd second
 nothing_behind (Some before) (Some mid) (Some after) text first second = second ∙ append-nil mid ∙ first
 
 -- only of several files some have a fault
+first_files : {R : Type 0} (failed : R → Bool) (held : Holding) (request : Request) → IsFirstFault failed held request SomeFiles → ⊥
+first_files failed held (Lint table) is = is
+first_files failed held request is = is
+
 no_files : {R : Type 0} (failed : R → Bool) (held : Holding) (request : Request) → (IsLaterFault failed held request SomeFiles → ⊥) → IsFaultOf failed held request SomeFiles → ⊥
-no_files failed held request never (inl is) = is
-no_files failed held request never (inr (inl is)) = let bad : SomeFiles ≡ Run run.OutOfMemory = is in cc
-no_files failed held request never (inr (inr (inl is))) = never is.1
-no_files failed held request never (inr (inr (inr is))) = let bad : SomeFiles ≡ SummaryOfOne = is.0 in cc
+no_files failed held request never is =
+    no_such failed held request SomeFiles (λ same. let bad : SomeFiles ≡ Run run.OutOfMemory = same in cc) (λ same. let bad : SomeFiles ≡ SummaryOfOne = same in cc) (first_files failed held request) never is
 
 -- and then each fault is told
 files_are_reported : {R : Type 0} (failed : R → Bool) (held : Holding) (request : Request) (status : ℕ) (before after : Option (List ℕ)) (is_failed : Bool) (err_before mid err_after : Option (List ℕ)) → IsFaultOf failed held request SomeFiles → Joins failed held request SomeFiles before after is_failed err_before mid → is_failed ≡ false → Reports SomeFiles status mid err_after → ReportsFiles err_before err_after
 files_are_reported failed held (Show table) status before after is_failed err_before mid err_after is joins sound reports = absurd (no_files failed held (Show table) (λ same. let bad : SomeFiles ≡ Run run.Write = same in cc) is)
+files_are_reported failed held (Lint table) status before after is_failed err_before mid err_after is joins sound reports = absurd (no_files failed held (Lint table) (λ never. never) is)
 files_are_reported failed held (Match all table file) status before after is_failed err_before mid err_after is joins sound reports = absurd (no_files failed held (Match all table file) (λ never. never) is)
 files_are_reported failed held (MatchMany all table files) status before after is_failed err_before mid err_after is joins sound reports =
     let added = joins.2 in
@@ -143,6 +182,7 @@ some_line failed held words request reason status is_failed written err mid befo
     go SummaryOfOne is joins reports = one SummaryOfOne (λ same. let bad : SummaryOfOne ≡ SomeFiles = same in cc) joins reports
     go (Run error) is joins reports = one (Run error) (λ same. let bad : Run error ≡ SomeFiles = same in cc) joins reports
     go (CutShort error) is joins reports = one (CutShort error) (λ same. let bad : CutShort error ≡ SomeFiles = same in cc) joins reports
+    go FaultyTable is joins reports = one FaultyTable (λ same. let bad : FaultyTable ≡ SomeFiles = same in cc) joins reports
 
 -- a fault is no answer
 high_table : (error : TableError) → 2 ≤ table_status error
@@ -160,6 +200,7 @@ high_status SummaryOfOne = omega arith
 high_status (Run error) = omega arith
 high_status (CutShort error) = omega arith
 high_status SomeFiles = omega arith
+high_status FaultyTable = omega arith
 
 never_low : (status : ℕ) (reason : Fault) → status ≡ status_of reason → status < 2 → ⊥
 never_low status reason ends low = let high = high_status reason in omega (arith, low, high, ends)
@@ -171,6 +212,35 @@ fault_keeps_errors failed held words request reason status is_failed written err
       subst (λ (s : ℕ). Behind (ShowsWords failed held words false false) (ReportsLine s) (written err) (written last) ⊎ ReportsFiles (written err) (written last)) three
       (some_line failed held words request reason status is_failed written err mid before after (written last) asks is told joins (sound whole) (reports whole));
 }
+
+-- with 2 the output is as it was, or has the faults of a table; with 3 an answer may be cut short
+pub fault_keeps_output : {R W : Type 0} (failed : R → Bool) (held : Holding) (words : List Text) (request : Request) (reason : Fault) (status : ℕ) (is_failed : W → Bool) (written : W → Option (List ℕ)) (before after : W) → Asks (subcommand_of program words) request → IsFaultOf failed held request reason → status ≡ status_of reason → (reason ≢ Run run.Write → ((e : Cut) → reason ≢ CutShort e) → ((folder : Bor Text) (name : WitnessName) → reason ≢ NoFile folder name) → reason ≢ SomeFiles → reason ≢ FaultyTable → after ≡ before) → ListsIf held request reason (is_failed after) (written before) (written after) → (reason ≢ FaultyTable → KeepsOrCuts failed held request is_failed written before after) → KeepsOutput (CutsWords failed held words (written before) (written after)) (ListsWords held words (written before) (written after)) status (is_failed after) before after
+fault_keeps_output failed held words request reason status is_failed written before after asks is ends untouched lists keeps = record {
+  shown = λ low. absurd (never_low status reason ends low);
+  refused = λ two. refused reason is (sym two ∙ ends) untouched lists;
+  whole = λ three sound. whole (keeps (λ same. let bad : 3 ≡ 2 = sym three ∙ ends ∙ ap status_of same in omega (arith, bad)) sound);
+}
+  where
+    Untouched : Fault → Type 0
+    Untouched reason = reason ≢ Run run.Write → ((e : Cut) → reason ≢ CutShort e) → ((folder : Bor Text) (name : WitnessName) → reason ≢ NoFile folder name) → reason ≢ SomeFiles → reason ≢ FaultyTable → after ≡ before
+
+    whole : (after ≡ before) ⊎ IsCutRequest failed held request (written before) (written after) → (after ≡ before) ⊎ CutsWords failed held words (written before) (written after)
+    whole (inl same) = inl same
+    whole (inr cut) = inr (request, asks, cut)
+
+    refused : (reason : Fault) → IsFaultOf failed held request reason → 2 ≡ status_of reason → Untouched reason → ListsIf held request reason (is_failed after) (written before) (written after) → (after ≡ before) ⊎ ((is_failed after ≡ false) × ListsWords held words (written before) (written after))
+    refused FaultyTable is two untouched lists =
+        let told = faults_are_listed failed held request (is_failed after) (written before) (written after) is lists in
+        inr (told.0, (request, asks, told.1))
+    refused (NoFile folder name) is two untouched lists = absurd (omega (arith, two))
+    refused (Run error) is two untouched lists = absurd (omega (arith, two))
+    refused (CutShort error) is two untouched lists = absurd (omega (arith, two))
+    refused SomeFiles is two untouched lists = absurd (omega (arith, two))
+    refused NotText is two untouched lists = inl (untouched (λ same. cc) (λ e same. cc) (λ folder name same. cc) (λ same. cc) (λ same. cc))
+    refused (CannotOpen name) is two untouched lists = inl (untouched (λ same. cc) (λ e same. cc) (λ folder name same. cc) (λ same. cc) (λ same. cc))
+    refused (Table error) is two untouched lists = inl (untouched (λ same. cc) (λ e same. cc) (λ folder name same. cc) (λ same. cc) (λ same. cc))
+    refused NotInTable is two untouched lists = inl (untouched (λ same. cc) (λ e same. cc) (λ folder name same. cc) (λ same. cc) (λ same. cc))
+    refused SummaryOfOne is two untouched lists = inl (untouched (λ same. cc) (λ e same. cc) (λ folder name same. cc) (λ same. cc) (λ same. cc))
 
 -- nor is want of memory
 pub memory_tells : {E : Type 0} (held : Holding) (words : List Text) (status : ℕ) (out_before out_after : Option (List ℕ)) (is_failed : Bool) (err last : E) (written written_after : Option (List ℕ)) → (AreTaken words → status ≡ 3) → TellsBy held words status out_before out_after is_failed err last written written_after
@@ -223,6 +293,17 @@ help_answers held words status before after e known refused memory help asked = 
 }
 
 -- ---- of words that are not known
+
+pub output_of_some : {R W : Type 0} (failed : R → Bool) (words : List Text) (status : ℕ) (is_failed : Bool) (before after : W) (written written_after : Option (List ℕ)) → KeepsOutput (CutsWords failed None words written written_after) (ListsWords None words written written_after) status is_failed before after → KeepsOutput (CutsSomeWords failed written written_after) (ListsSomeWords written written_after) status is_failed before after
+output_of_some failed words status is_failed before after written written_after keeps = record { shown = keeps.shown; refused = λ two. refused (keeps.refused two); whole = λ three sound. whole (keeps.whole three sound) }
+  where
+    refused : (after ≡ before) ⊎ ((is_failed ≡ false) × ListsWords None words written written_after) → (after ≡ before) ⊎ ((is_failed ≡ false) × ListsSomeWords written written_after)
+    refused (inl same) = inl same
+    refused (inr lists) = inr (lists.0, (words, lists.1))
+
+    whole : (after ≡ before) ⊎ CutsWords failed None words written written_after → (after ≡ before) ⊎ CutsSomeWords failed written written_after
+    whole (inl same) = inl same
+    whole (inr cut) = inr (words, cut)
 
 pub errors_of_some : {R E : Type 0} (failed : R → Bool) (words : List Text) (status : ℕ) (is_failed : Bool) (before after : E) (written written_after : Option (List ℕ)) → KeepsErrors (ShowsWords failed None words) status is_failed before after written written_after → KeepsErrors (ShowsSomeWords failed) status is_failed before after written written_after
 errors_of_some failed words status is_failed before after written written_after keeps = record { quiet = λ low. quiet (keeps.quiet low); reported = λ three whole. reported (keeps.reported three whole) }

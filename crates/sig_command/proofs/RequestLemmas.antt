@@ -10,7 +10,7 @@ use Rattle.clap.specs.declared.error.kind.ErrorKind.TheVariants.{DisplayHelp, Di
 use Rattle.sig_command.specs.CommandLine.{Asks, NamesBudget, NamesMany, NamesOptions, NamesTable}
 use Rattle.sig_command.specs.declared.args.ConflictsOptions.{ConflictsOptions}
 use Rattle.sig_command.specs.declared.args.Request.{Request}
-use Rattle.sig_command.specs.declared.args.Request.TheVariants.{Check, Conflicts, Dead, Find, Match, MatchMany, Show, Witness}
+use Rattle.sig_command.specs.declared.args.Request.TheVariants.{Check, Conflicts, Dead, Find, Lint, Match, MatchMany, Show, Witness}
 use Rattle.sig_engines.specs.declared.store.TablePaths.{TablePaths}
 
 -- one subcommand and its rows are another and its own
@@ -25,6 +25,18 @@ rows_of_found name rows more same =
     let mine : Text × List Row = (name, rows) in
     let asked : Text × List Row = (name, more) in
     sym (ap (λ (p : Text × List Row). p.1) (same_Some mine asked same))
+
+-- the subcommand that asks for this
+abbrev name_of : Request → Text
+name_of (Show table) = codes "show"
+name_of (Lint table) = codes "lint"
+name_of (Match all table file) = codes "match"
+name_of (MatchMany all table files) = codes "match"
+name_of (Find table budget out hex progress) = codes "find"
+name_of (Conflicts table options progress) = codes "conflicts"
+name_of (Dead table budget hex progress) = codes "dead"
+name_of (Check table certificate) = codes "check"
+name_of (Witness table file) = codes "witness"
 
 -- a subcommand does not ask for what another one does: their names begin with other letters
 other_name : (name other : Text) (rows more : List Row) → get_or name 0 0 ≢ get_or other 0 0 → AreSame name rows other more → ⊥
@@ -43,13 +55,11 @@ other_later name other rows more letters same =
 -- nothing is asked for where a word is missing
 pub no_show : (rows : List Row) → ((table : TablePaths) → NamesTable table rows → ⊥) → (asked : Request) → Asks (Some (codes "show", rows)) asked → ⊥
 no_show rows missing (Show table) asks = missing table (subst (NamesTable table) (rows_of_found (codes "show") rows asks.0 asks.1) asks.2)
-no_show rows missing (Match all table file) asks = other_name (codes "show") (codes "match") rows asks.0 (omega arith) asks.1
-no_show rows missing (MatchMany all table files) asks = other_name (codes "show") (codes "match") rows asks.0 (omega arith) asks.1
-no_show rows missing (Find table budget out hex progress) asks = other_name (codes "show") (codes "find") rows asks.0 (omega arith) asks.1
-no_show rows missing (Conflicts table options progress) asks = other_name (codes "show") (codes "conflicts") rows asks.0 (omega arith) asks.1
-no_show rows missing (Dead table budget hex progress) asks = other_name (codes "show") (codes "dead") rows asks.0 (omega arith) asks.1
-no_show rows missing (Check table certificate) asks = other_name (codes "show") (codes "check") rows asks.0 (omega arith) asks.1
-no_show rows missing (Witness table file) asks = other_name (codes "show") (codes "witness") rows asks.0 (omega arith) asks.1
+no_show rows missing asked asks = other_name (codes "show") (name_of asked) rows asks.0 (omega arith) asks.1
+
+pub no_lint : (rows : List Row) → ((table : TablePaths) → NamesTable table rows → ⊥) → (asked : Request) → Asks (Some (codes "lint", rows)) asked → ⊥
+no_lint rows missing (Lint table) asks = missing table (subst (NamesTable table) (rows_of_found (codes "lint") rows asks.0 asks.1) asks.2)
+no_lint rows missing asked asks = other_name (codes "lint") (name_of asked) rows asks.0 (omega arith) asks.1
 
 -- files that are named have a first one
 many_named : (files : List (Bor Text)) (rows : List Row) → NamesMany files rows → ((text : Text) (texts : List Text) → all_of (codes "FILE") rows ≡ Some (text ∷ texts) → ⊥) → ⊥
@@ -57,78 +67,45 @@ many_named [] rows named none = let few : 0 < 0 = named.some in absurd (omega (a
 many_named (file ∷ files) rows named none = none file.now (map (λ f. f.now) files) named.are
 
 pub no_match : (rows : List Row) → ((table : TablePaths) (text : Text) (texts : List Text) → NamesTable table rows → all_of (codes "FILE") rows ≡ Some (text ∷ texts) → ⊥) → (asked : Request) → Asks (Some (codes "match", rows)) asked → ⊥
-no_match rows missing (Show table) asks = other_name (codes "match") (codes "show") rows asks.0 (omega arith) asks.1
 no_match rows missing (Match all table file) asks =
     let same : asks.0 ≡ rows = rows_of_found (codes "match") rows asks.0 asks.1 in
     missing table file.now [] (subst (NamesTable table) same asks.2) (subst (λ (r : List Row). all_of (codes "FILE") r ≡ Some (file.now ∷ [])) same asks.3)
 no_match rows missing (MatchMany all table files) asks =
     let same : asks.0 ≡ rows = rows_of_found (codes "match") rows asks.0 asks.1 in
     many_named files.now rows (subst (NamesMany files.now) same asks.3) (λ text texts is. missing table text texts (subst (NamesTable table) same asks.2) is)
-no_match rows missing (Find table budget out hex progress) asks = other_name (codes "match") (codes "find") rows asks.0 (omega arith) asks.1
-no_match rows missing (Conflicts table options progress) asks = other_name (codes "match") (codes "conflicts") rows asks.0 (omega arith) asks.1
-no_match rows missing (Dead table budget hex progress) asks = other_name (codes "match") (codes "dead") rows asks.0 (omega arith) asks.1
-no_match rows missing (Check table certificate) asks = other_name (codes "match") (codes "check") rows asks.0 (omega arith) asks.1
-no_match rows missing (Witness table file) asks = other_name (codes "match") (codes "witness") rows asks.0 (omega arith) asks.1
+no_match rows missing asked asks = other_name (codes "match") (name_of asked) rows asks.0 (omega arith) asks.1
 
 pub no_check : (rows : List Row) → ((table : TablePaths) (text : Text) → NamesTable table rows → first_of (codes "CERT") rows ≡ Some text → ⊥) → (asked : Request) → Asks (Some (codes "check", rows)) asked → ⊥
-no_check rows missing (Show table) asks = other_name (codes "check") (codes "show") rows asks.0 (omega arith) asks.1
-no_check rows missing (Match all table file) asks = other_name (codes "check") (codes "match") rows asks.0 (omega arith) asks.1
-no_check rows missing (MatchMany all table files) asks = other_name (codes "check") (codes "match") rows asks.0 (omega arith) asks.1
-no_check rows missing (Find table budget out hex progress) asks = other_name (codes "check") (codes "find") rows asks.0 (omega arith) asks.1
 no_check rows missing (Conflicts table options progress) asks = other_later (codes "check") (codes "conflicts") rows asks.0 (omega arith) asks.1
-no_check rows missing (Dead table budget hex progress) asks = other_name (codes "check") (codes "dead") rows asks.0 (omega arith) asks.1
 no_check rows missing (Check table certificate) asks =
     let same : asks.0 ≡ rows = rows_of_found (codes "check") rows asks.0 asks.1 in
     missing table certificate.now (subst (NamesTable table) same asks.2) (subst (λ (r : List Row). first_of (codes "CERT") r ≡ Some certificate.now) same asks.3)
-no_check rows missing (Witness table file) asks = other_name (codes "check") (codes "witness") rows asks.0 (omega arith) asks.1
+no_check rows missing asked asks = other_name (codes "check") (name_of asked) rows asks.0 (omega arith) asks.1
 
 pub no_witness : (rows : List Row) → ((table : TablePaths) (text : Text) → NamesTable table rows → first_of (codes "FILE") rows ≡ Some text → ⊥) → (asked : Request) → Asks (Some (codes "witness", rows)) asked → ⊥
-no_witness rows missing (Show table) asks = other_name (codes "witness") (codes "show") rows asks.0 (omega arith) asks.1
-no_witness rows missing (Match all table file) asks = other_name (codes "witness") (codes "match") rows asks.0 (omega arith) asks.1
-no_witness rows missing (MatchMany all table files) asks = other_name (codes "witness") (codes "match") rows asks.0 (omega arith) asks.1
-no_witness rows missing (Find table budget out hex progress) asks = other_name (codes "witness") (codes "find") rows asks.0 (omega arith) asks.1
-no_witness rows missing (Conflicts table options progress) asks = other_name (codes "witness") (codes "conflicts") rows asks.0 (omega arith) asks.1
-no_witness rows missing (Dead table budget hex progress) asks = other_name (codes "witness") (codes "dead") rows asks.0 (omega arith) asks.1
-no_witness rows missing (Check table certificate) asks = other_name (codes "witness") (codes "check") rows asks.0 (omega arith) asks.1
 no_witness rows missing (Witness table file) asks =
     let same : asks.0 ≡ rows = rows_of_found (codes "witness") rows asks.0 asks.1 in
     missing table file.now (subst (NamesTable table) same asks.2) (subst (λ (r : List Row). first_of (codes "FILE") r ≡ Some file.now) same asks.3)
+no_witness rows missing asked asks = other_name (codes "witness") (name_of asked) rows asks.0 (omega arith) asks.1
 
 pub no_find : (rows : List Row) → ((table : TablePaths) (budget : ℕ) (text : Text) → NamesTable table rows → NamesBudget budget rows → first_of (codes "OUT") rows ≡ Some text → ⊥) → (asked : Request) → Asks (Some (codes "find", rows)) asked → ⊥
-no_find rows missing (Show table) asks = other_name (codes "find") (codes "show") rows asks.0 (omega arith) asks.1
-no_find rows missing (Match all table file) asks = other_name (codes "find") (codes "match") rows asks.0 (omega arith) asks.1
-no_find rows missing (MatchMany all table files) asks = other_name (codes "find") (codes "match") rows asks.0 (omega arith) asks.1
 no_find rows missing (Find table budget out hex progress) asks =
     let same : asks.0 ≡ rows = rows_of_found (codes "find") rows asks.0 asks.1 in
     missing table budget out.now (subst (NamesTable table) same asks.2) (subst (NamesBudget budget) same asks.3) (subst (λ (r : List Row). first_of (codes "OUT") r ≡ Some out.now) same asks.4)
-no_find rows missing (Conflicts table options progress) asks = other_name (codes "find") (codes "conflicts") rows asks.0 (omega arith) asks.1
-no_find rows missing (Dead table budget hex progress) asks = other_name (codes "find") (codes "dead") rows asks.0 (omega arith) asks.1
-no_find rows missing (Check table certificate) asks = other_name (codes "find") (codes "check") rows asks.0 (omega arith) asks.1
-no_find rows missing (Witness table file) asks = other_name (codes "find") (codes "witness") rows asks.0 (omega arith) asks.1
+no_find rows missing asked asks = other_name (codes "find") (name_of asked) rows asks.0 (omega arith) asks.1
 
 pub no_conflicts : (rows : List Row) → ((table : TablePaths) (options : ConflictsOptions) → NamesTable table rows → NamesOptions options rows → ⊥) → (asked : Request) → Asks (Some (codes "conflicts", rows)) asked → ⊥
-no_conflicts rows missing (Show table) asks = other_name (codes "conflicts") (codes "show") rows asks.0 (omega arith) asks.1
-no_conflicts rows missing (Match all table file) asks = other_name (codes "conflicts") (codes "match") rows asks.0 (omega arith) asks.1
-no_conflicts rows missing (MatchMany all table files) asks = other_name (codes "conflicts") (codes "match") rows asks.0 (omega arith) asks.1
-no_conflicts rows missing (Find table budget out hex progress) asks = other_name (codes "conflicts") (codes "find") rows asks.0 (omega arith) asks.1
 no_conflicts rows missing (Conflicts table options progress) asks =
     let same : asks.0 ≡ rows = rows_of_found (codes "conflicts") rows asks.0 asks.1 in
     missing table options (subst (NamesTable table) same asks.2) (subst (NamesOptions options) same asks.3)
-no_conflicts rows missing (Dead table budget hex progress) asks = other_name (codes "conflicts") (codes "dead") rows asks.0 (omega arith) asks.1
 no_conflicts rows missing (Check table certificate) asks = other_later (codes "conflicts") (codes "check") rows asks.0 (omega arith) asks.1
-no_conflicts rows missing (Witness table file) asks = other_name (codes "conflicts") (codes "witness") rows asks.0 (omega arith) asks.1
+no_conflicts rows missing asked asks = other_name (codes "conflicts") (name_of asked) rows asks.0 (omega arith) asks.1
 
 pub no_dead : (rows : List Row) → ((table : TablePaths) (budget : ℕ) → NamesTable table rows → NamesBudget budget rows → ⊥) → (asked : Request) → Asks (Some (codes "dead", rows)) asked → ⊥
-no_dead rows missing (Show table) asks = other_name (codes "dead") (codes "show") rows asks.0 (omega arith) asks.1
-no_dead rows missing (Match all table file) asks = other_name (codes "dead") (codes "match") rows asks.0 (omega arith) asks.1
-no_dead rows missing (MatchMany all table files) asks = other_name (codes "dead") (codes "match") rows asks.0 (omega arith) asks.1
-no_dead rows missing (Find table budget out hex progress) asks = other_name (codes "dead") (codes "find") rows asks.0 (omega arith) asks.1
-no_dead rows missing (Conflicts table options progress) asks = other_name (codes "dead") (codes "conflicts") rows asks.0 (omega arith) asks.1
 no_dead rows missing (Dead table budget hex progress) asks =
     let same : asks.0 ≡ rows = rows_of_found (codes "dead") rows asks.0 asks.1 in
     missing table budget (subst (NamesTable table) same asks.2) (subst (NamesBudget budget) same asks.3)
-no_dead rows missing (Check table certificate) asks = other_name (codes "dead") (codes "check") rows asks.0 (omega arith) asks.1
-no_dead rows missing (Witness table file) asks = other_name (codes "dead") (codes "witness") rows asks.0 (omega arith) asks.1
+no_dead rows missing asked asks = other_name (codes "dead") (name_of asked) rows asks.0 (omega arith) asks.1
 
 -- where memory ran out, no help is asked for
 pub no_help : (e : Error) → kind_of e ≡ OutOfMemory → (kind_of e ≡ DisplayHelp) ⊎ (kind_of e ≡ DisplayVersion) → ⊥

@@ -13,7 +13,7 @@ use Rattle.sig_command.specs.Requests.{Answers, IsCutRequest, IsLoadFault, Joins
 use Rattle.sig_command.specs.Several.{AreTexts}
 use Rattle.sig_command.specs.declared.args.Request.TheVariants.{MatchMany}
 use Rattle.sig_command.specs.declared.fault.Fault.{Fault}
-use Rattle.sig_command.specs.declared.fault.Fault.TheVariants.{CannotOpen, CutShort, NoFile, NotInTable, NotText, Run, SomeFiles, SummaryOfOne, Table}
+use Rattle.sig_command.specs.declared.fault.Fault.TheVariants.{CannotOpen, CutShort, FaultyTable, NoFile, NotInTable, NotText, Run, SomeFiles, SummaryOfOne, Table}
 
 -- ---- files of which none has a fault
 
@@ -98,3 +98,4 @@ load_joined failed held all paths files SummaryOfOne before after err_failed err
 load_joined failed held all paths files (Run error) before after err_failed err is = absurd is
 load_joined failed held all paths files (CutShort error) before after err_failed err is = absurd is
 load_joined failed held all paths files SomeFiles before after err_failed err is = absurd is
+load_joined failed held all paths files FaultyTable before after err_failed err is = absurd is

@@ -14,7 +14,7 @@ use Rattle.clap.specs.declared.error.Error.{Error}
 use Rattle.clap.specs.declared.error.kind.ErrorKind.TheVariants.{DisplayHelp, DisplayVersion}
 use Rattle.sig_command.specs.declared.args.ConflictsOptions.{ConflictsOptions}
 use Rattle.sig_command.specs.declared.args.Request.{Request}
-use Rattle.sig_command.specs.declared.args.Request.TheVariants.{Check, Conflicts, Dead, Find, Match, MatchMany, Show, Witness}
+use Rattle.sig_command.specs.declared.args.Request.TheVariants.{Check, Conflicts, Dead, Find, Lint, Match, MatchMany, Show, Witness}
 use Rattle.sig_engines.specs.declared.store.TablePaths.{TablePaths}
 
 -- the texts of the words
@@ -37,6 +37,10 @@ of_table app = with_rule (with_rule app (wanted (codes "SIGS"))) (wanted (codes 
 -- `show SIGS PRIOS`
 abbrev pub show_command : App
 show_command = of_table (new_app (codes "show"))
+
+-- `lint SIGS PRIOS`
+abbrev pub lint_command : App
+lint_command = of_table (new_app (codes "lint"))
 
 -- a flag, with two hyphens before its name
 abbrev pub given : Text → Rule
@@ -88,7 +92,7 @@ witness_command = with_rule (of_table (new_app (codes "witness"))) (wanted (code
 abbrev pub program : App
 program =
     let top = on_top (λ s. record s { has_version = true; no_binary_name = true; subcommand_required = true }) (new_app (codes "pronom_sig")) in
-    with_subcommand (with_subcommand (with_subcommand (with_subcommand (with_subcommand (with_subcommand (with_subcommand top show_command.top) match_command.top) find_command.top) conflicts_command.top) dead_command.top) check_command.top) witness_command.top
+    with_subcommand (with_subcommand (with_subcommand (with_subcommand (with_subcommand (with_subcommand (with_subcommand (with_subcommand top show_command.top) lint_command.top) match_command.top) find_command.top) conflicts_command.top) dead_command.top) check_command.top) witness_command.top
 
 -- the subcommand of this name with these arguments
 abbrev pub asking : Text → ArgMatches → Option (Text × List Row)
@@ -132,6 +136,7 @@ pub record NamesMany (files : List (Bor Text)) (rows : List Row) : Type 0 where
 -- the subcommand and its arguments ask for this
 abbrev pub Asks : Option (Text × List Row) → Request → Type 0
 Asks found (Show table) = (rows : List Row) × (found ≡ Some (codes "show", rows)) × NamesTable table rows
+Asks found (Lint table) = (rows : List Row) × (found ≡ Some (codes "lint", rows)) × NamesTable table rows
 Asks found (Match all table file) = (rows : List Row) × (found ≡ Some (codes "match", rows)) × NamesTable table rows × (all_of (codes "FILE") rows ≡ Some (file.now ∷ [])) × HasFlag (codes "all") all rows × HasFlag (codes "with-names") false rows
 Asks found (MatchMany all table files) = (rows : List Row) × (found ≡ Some (codes "match", rows)) × NamesTable table rows × NamesMany files.now rows × HasFlag (codes "all") all rows
 Asks found (Find table budget out hex progress) = (rows : List Row) × (found ≡ Some (codes "find", rows)) × NamesTable table rows × NamesBudget budget rows × (first_of (codes "OUT") rows ≡ Some out.now) × HasFlag (codes "hex") hex rows × HasFlag (codes "progress") progress rows

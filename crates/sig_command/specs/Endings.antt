@@ -11,10 +11,10 @@ use Rattle.sig_engines.specs.Stores.{Holding}
 use Rattle.sig_engines.specs.declared.error.RunError.TheVariants.{OutOfMemory}
 use Rattle.sig_command.specs.declared.fault.Fault.TheVariants.{Run}
 
--- with 0 and 1 no write to the output failed; with 2 it is as it was, and with 3 too, unless a write failed, or an answer was cut short
-pub record KeepsOutput {W : Type 0} (Cut : Type 0) (status : ℕ) (is_failed : Bool) (before after : W) : Type 0 where
+-- with 0 and 1 no write to the output failed; with 2 it is as it was, or has the faults of a table; and with 3 it is as it was, unless a write failed, or an answer was cut short
+pub record KeepsOutput {W : Type 0} (Cut Lists : Type 0) (status : ℕ) (is_failed : Bool) (before after : W) : Type 0 where
   pub shown : status < 2 → is_failed ≡ false
-  pub refused : status ≡ 2 → after ≡ before
+  pub refused : status ≡ 2 → (after ≡ before) ⊎ ((is_failed ≡ false) × Lists)
   pub whole : status ≡ 3 → is_failed ≡ false → (after ≡ before) ⊎ Cut
 
 -- with 0 and 1 the error output is as it was, or has what an answer shows; with 3 it has grown by the line of a fault, behind what is shown, or by those of several files, unless a write failed

@@ -12,6 +12,7 @@ pub use Rattle.sig_engines.specs.Fates
 pub use Rattle.sig_engines.specs.Finding
 pub use Rattle.sig_engines.specs.Judged
 pub use Rattle.sig_engines.specs.Lines
+pub use Rattle.sig_engines.specs.Linted
 pub use Rattle.sig_engines.specs.ManyFiles
 pub use Rattle.sig_engines.specs.Progress
 pub use Rattle.sig_engines.specs.Shown
@@ -19,6 +20,8 @@ pub use Rattle.sig_engines.specs.Stores
 pub use Rattle.sig_engines.specs.Witnessed
 pub use Rattle.sig_engines.specs.Writing
 pub use Rattle.sig_bits.specs.Device
+pub use Rattle.sig_lint.specs.Codes
+pub use Rattle.sig_lint.specs.Reports
 pub use Rattle.sig_table.specs.Puids
 pub use Rattle.sig_table.specs.Tables
 pub use Rattle.sig_table.specs.Views

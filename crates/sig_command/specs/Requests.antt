@@ -1,11 +1,13 @@
 -- What comes of what the words ask for: its answers, and its faults.
 use Rattle.std.specs.Borrow.{Bor}
-use Rattle.std.specs.Prelude.{◌≡◌, ℕ, ◌⊎◌, Bool, false, true, List, Option, None, Some, ⊤, ◌<◌, is_some, length, map}
+use Rattle.std.specs.Prelude.{◌≡◌, ℕ, ◌⊎◌, Bool, false, true, List, Option, None, Some, Err, ⊤, ◌<◌, is_some, length, map}
 use Rattle.clap.specs.Words.{Text, subcommand_of}
 use Rattle.sig_bits.specs.Bytes.{IsBytes}
 use Rattle.sig_bits.specs.Device.{Adds}
+use Rattle.sig_table.specs.Loading.{records_of, table_of}
 use Rattle.sig_table.specs.Puids.{puid_of}
 use Rattle.sig_table.specs.Views.{TableView}
+use Rattle.sig_table.specs.declared.error.TableError.{TableError}
 use Rattle.sig_table.specs.declared.ids.FormatId.{FormatId}
 use Rattle.sig_table.specs.declared.puid.Puid.{Puid}
 use Rattle.sig_command.specs.CommandLine.{Asks, program}
@@ -18,6 +20,7 @@ use Rattle.sig_engines.specs.Fates.{AddsFates, AddsFirstFates}
 use Rattle.sig_engines.specs.Finding.{AddsFound, KeepsFound, TellsWhy}
 use Rattle.sig_engines.specs.Judged.{AddsVerdict}
 use Rattle.sig_engines.specs.Lines.{AddsLines}
+use Rattle.sig_engines.specs.Linted.{AddsReport}
 use Rattle.sig_engines.specs.ManyFiles.{AddsFiles, CutsFiles, IsPrinted}
 use Rattle.sig_engines.specs.Progress.{AddsProgress, ShowsIf}
 use Rattle.sig_engines.specs.Shown.{show_text}
@@ -31,10 +34,10 @@ use Rattle.sig_engines.specs.declared.error.PairsFault.{PairsFault}
 use Rattle.sig_engines.specs.declared.error.PairsFault.TheVariants as pairs
 use Rattle.sig_engines.specs.declared.error.RunError.TheVariants.{OutOfMemory, Read, Write}
 use Rattle.sig_command.specs.declared.fault.Fault.{Fault}
-use Rattle.sig_command.specs.declared.fault.Fault.TheVariants.{CannotOpen, CutShort, NoFile, NotInTable, NotText, Run, SomeFiles, SummaryOfOne, Table}
+use Rattle.sig_command.specs.declared.fault.Fault.TheVariants.{CannotOpen, CutShort, FaultyTable, NoFile, NotInTable, NotText, Run, SomeFiles, SummaryOfOne, Table}
 use Rattle.sig_command.specs.declared.args.ConflictsOptions.{ConflictsOptions}
 use Rattle.sig_command.specs.declared.args.Request.{Request}
-use Rattle.sig_command.specs.declared.args.Request.TheVariants.{Check, Conflicts, Dead, Find, Match, MatchMany, Show, Witness}
+use Rattle.sig_command.specs.declared.args.Request.TheVariants.{Check, Conflicts, Dead, Find, Lint, Match, MatchMany, Show, Witness}
 use Rattle.sig_engines.specs.declared.store.TablePaths.{TablePaths}
 use Rattle.sig_engines.specs.declared.progress.Things.TheVariants.{Formats, Pairs, Products}
 
@@ -53,6 +56,7 @@ IsLoadFault failed held paths SummaryOfOne = ⊥
 IsLoadFault failed held paths (Run error) = ⊥
 IsLoadFault failed held paths (CutShort error) = ⊥
 IsLoadFault failed held paths SomeFiles = ⊥
+IsLoadFault failed held paths FaultyTable = ⊥
 
 -- there is no file of this name, or an engine gives no answer of it: a read failed only where a reader has
 abbrev pub IsFileFault : {R : Type 0} → (R → Bool) → Holding → Bor (List ℕ) → Fault → Type 0
@@ -67,6 +71,7 @@ IsFileFault failed held name (Run Write) = Has held name.now
 IsFileFault failed held name (Run OutOfMemory) = ⊤
 IsFileFault failed held name (CutShort error) = ⊥
 IsFileFault failed held name SomeFiles = ⊥
+IsFileFault failed held name FaultyTable = ⊥
 
 -- why there is no answer of the file of this name
 abbrev pub file_fault : Bor (List ℕ) → FileFault → Fault
@@ -90,6 +95,7 @@ IsCutFault SummaryOfOne = ⊥
 IsCutFault (Run error) = ⊥
 IsCutFault (CutShort error) = ⊤
 IsCutFault SomeFiles = ⊥
+IsCutFault FaultyTable = ⊥
 
 -- the word of `--only` is the PUID of this format; and where it is left out there is none
 abbrev pub IsOnly : TableView → Option (Bor Text) → Option FormatId → Type 0
@@ -129,10 +135,12 @@ IsConflictsFault held paths options SummaryOfOne = ⊥
 IsConflictsFault held paths options (Run error) = ⊥
 IsConflictsFault held paths options (CutShort error) = (t : TableView) × IsTableOf held paths t × (ask : ConflictsAsk) × AsksPairs options t ask
 IsConflictsFault held paths options SomeFiles = ⊥
+IsConflictsFault held paths options FaultyTable = ⊥
 
 -- the two files of the table that is asked of
 abbrev pub paths_of : Request → TablePaths
 paths_of (Show table) = table
+paths_of (Lint table) = table
 paths_of (Match all table file) = table
 paths_of (MatchMany all table files) = table
 paths_of (Find table budget out hex progress) = table
@@ -148,6 +156,7 @@ HasTable held paths = (t : TableView) × IsTableOf held paths t
 -- the faults that come behind the load of the table: of the file that is matched or judged, of some of several files, of the file that is made, of the format that is named, and of the engine
 abbrev pub IsLaterFault : {R : Type 0} → (R → Bool) → Holding → Request → Fault → Type 0
 IsLaterFault failed held (Show table) fault = fault ≡ Run Write
+IsLaterFault failed held (Lint table) fault = ⊥
 IsLaterFault failed held (Match all table file) fault = IsFileFault failed held file fault
 IsLaterFault failed held (MatchMany all table files) fault = (fault ≡ SomeFiles) ⊎ (fault ≡ Run Write)
 IsLaterFault failed held (Find table budget out hex progress) fault = (fault ≡ CannotOpen out) ⊎ (fault ≡ Run Write)
@@ -159,6 +168,7 @@ IsLaterFault failed held (Witness table file) fault = IsFileFault failed held fi
 -- both a summary of all formats and the pairs of one are asked for
 abbrev pub AsksTwo : Request → Type 0
 AsksTwo (Show table) = ⊥
+AsksTwo (Lint table) = ⊥
 AsksTwo (Match all table file) = ⊥
 AsksTwo (MatchMany all table files) = ⊥
 AsksTwo (Find table budget out hex progress) = ⊥
@@ -167,14 +177,54 @@ AsksTwo (Dead table budget hex progress) = ⊥
 AsksTwo (Check table certificate) = ⊥
 AsksTwo (Witness table file) = ⊥
 
+-- what `lint` writes of the files of these names: a line for each fault, or that there is none
+abbrev pub IsReported : Bool → Holding → TablePaths → Option (List ℕ) → Option (List ℕ) → Type 0
+IsReported is_faultless held paths before after = (signatures priorities : List ℕ) × Holds held paths.signatures.now signatures × Holds held paths.priorities.now priorities × AddsReport is_faultless signatures priorities before after
+
+-- `load` refuses what the two files hold
+abbrev pub IsRefused : Holding → TablePaths → Type 0
+IsRefused held paths = (signatures priorities : List ℕ) × Holds held paths.signatures.now signatures × Holds held paths.priorities.now priorities × (error : TableError) × (table_of (records_of signatures) (records_of priorities) ≡ Err error)
+
+-- there are both files of the table
+abbrev pub HasBoth : Holding → TablePaths → Type 0
+HasBoth held paths = Has held paths.signatures.now × Has held paths.priorities.now
+
+-- a file can't be opened or read, or what `lint` tells can't be written, or it has told that the table is refused
+abbrev pub IsLintFault : {R : Type 0} → (R → Bool) → Holding → TablePaths → Fault → Type 0
+IsLintFault failed held paths NotText = ⊥
+IsLintFault failed held paths (CannotOpen name) = IsUnopened held paths name
+IsLintFault failed held paths (NoFile folder witness) = ⊥
+IsLintFault failed held paths (Table error) = ⊥
+IsLintFault failed held paths NotInTable = ⊥
+IsLintFault failed held paths SummaryOfOne = ⊥
+IsLintFault failed held paths (Run Read) = HasBoth held paths × SomeFailed failed
+IsLintFault failed held paths (Run Write) = HasBoth held paths
+IsLintFault failed held paths (Run OutOfMemory) = ⊤
+IsLintFault failed held paths (CutShort error) = ⊥
+IsLintFault failed held paths SomeFiles = ⊥
+IsLintFault failed held paths FaultyTable = IsRefused held paths
+
+-- the faults of the files of the table: all but `lint` load it
+abbrev pub IsFirstFault : {R : Type 0} → (R → Bool) → Holding → Request → Fault → Type 0
+IsFirstFault failed held (Show table) fault = IsLoadFault failed held table fault
+IsFirstFault failed held (Lint table) fault = IsLintFault failed held table fault
+IsFirstFault failed held (Match all table file) fault = IsLoadFault failed held table fault
+IsFirstFault failed held (MatchMany all table files) fault = IsLoadFault failed held table fault
+IsFirstFault failed held (Find table budget out hex progress) fault = IsLoadFault failed held table fault
+IsFirstFault failed held (Conflicts table options progress) fault = IsLoadFault failed held table fault
+IsFirstFault failed held (Dead table budget hex progress) fault = IsLoadFault failed held table fault
+IsFirstFault failed held (Check table certificate) fault = IsLoadFault failed held table fault
+IsFirstFault failed held (Witness table file) fault = IsLoadFault failed held table fault
+
 -- there is no table; or memory ran out; or there is one, and the fault comes behind its load; or two things are asked for that exclude each other
 abbrev pub IsFaultOf : {R : Type 0} → (R → Bool) → Holding → Request → Fault → Type 0
 IsFaultOf failed held request fault =
-    IsLoadFault failed held (paths_of request) fault ⊎ ((fault ≡ Run OutOfMemory) ⊎ ((HasTable held (paths_of request) × IsLaterFault failed held request fault) ⊎ ((fault ≡ SummaryOfOne) × AsksTwo request)))
+    IsFirstFault failed held request fault ⊎ ((fault ≡ Run OutOfMemory) ⊎ ((HasTable held (paths_of request) × IsLaterFault failed held request fault) ⊎ ((fault ≡ SummaryOfOne) × AsksTwo request)))
 
--- what is written grows by the canonical files of a table, by the lines that are asked for of what a file hits in a table, by those of each of several files, by the lines of what was found, by those of the pairs of formats of a table, by those of its formats that no file can leave, by the line of the verdict on a certificate, or by that of a file that is ambiguous or not; the first three can't be a no
+-- what is written grows by the canonical files of a table, by what is told of one without a fault, by the lines that are asked for of what a file hits in a table, by those of each of several files, by the lines of what was found, by those of the pairs of formats of a table, by those of its formats that no file can leave, by the line of the verdict on a certificate, or by that of a file that is ambiguous or not; the first four can't be a no
 abbrev pub Answers : Holding → Request → Bool → Option (List ℕ) → Option (List ℕ) → Type 0
 Answers held (Show table) is_yes before after = (is_yes ≡ true) × (t : TableView) × IsTableOf held table t × Adds before (show_text t) after
+Answers held (Lint table) is_yes before after = (is_yes ≡ true) × IsReported true held table before after
 Answers held (Match all table name) is_yes before after = (is_yes ≡ true) × (t : TableView) × IsTableOf held table t × (file : List ℕ) × IsBytes file × Holds held name.now file × AddsLines all t file before after
 Answers held (MatchMany all table files) is_yes before after = (is_yes ≡ true) × (t : TableView) × IsTableOf held table t × AddsLinesOfEach all t held (map (λ n. n.now) files.now) before after
 Answers held (Find table budget out hex progress) is_yes before after = (t : TableView) × IsTableOf held table t × AddsFound is_yes hex t budget before after
@@ -190,6 +240,7 @@ AnswersWords held words is_yes before after = (request : Request) × Asks (subco
 -- of a search, what is written grows by the lines of what is found, and a file of the name that is asked for was made of the bytes of just that; of pairs of formats the files that are asked for were made; of all else it says nothing
 abbrev pub MakesOut : {F : Type 0} → (name_of written : F → Option (List ℕ)) → (F → Bool) → Holding → Request → Bool → (before after : Option (List ℕ)) → Type 0
 MakesOut name_of written failed held (Show table) is_yes before after = ⊤
+MakesOut name_of written failed held (Lint table) is_yes before after = ⊤
 MakesOut name_of written failed held (Match all table path) is_yes before after = ⊤
 MakesOut name_of written failed held (MatchMany all table files) is_yes before after = ⊤
 MakesOut name_of written failed held (Find table budget out hex progress) is_yes before after = (t : TableView) × IsTableOf held table t × KeepsFound (IsMade name_of written failed held out.now) is_yes hex t budget before after
@@ -205,6 +256,7 @@ MakesWords name_of written failed held words is_yes before after = (request : Re
 -- the pairs of formats of a table, and its formats, are written one by one, so that the lines of the first ones can be all that is written; and of several files those without a fault can be all that are written
 abbrev pub IsCutRequest : {R : Type 0} → (R → Bool) → Holding → Request → Option (List ℕ) → Option (List ℕ) → Type 0
 IsCutRequest failed held (Show table) before after = ⊥
+IsCutRequest failed held (Lint table) before after = ⊥
 IsCutRequest failed held (Match all table path) before after = ⊥
 IsCutRequest failed held (MatchMany all table files) before after = (t : TableView) × IsTableOf held table t × AddsLinesOfSome (IsPrinted failed all t held) (map (λ n. n.now) files.now) before after
 IsCutRequest failed held (Find table budget out hex progress) before after = ⊥
@@ -220,6 +272,30 @@ CutsWords failed held words before after = (request : Request) × Asks (subcomma
 -- so for some words, where it is not known what the files hold
 abbrev pub CutsSomeWords : {R : Type 0} → (R → Bool) → Option (List ℕ) → Option (List ℕ) → Type 0
 CutsSomeWords failed before after = (words : List Text) × CutsWords failed None words before after
+
+-- `lint` is asked for, and what is written grows by a line for each fault of the table
+abbrev pub ListsRequest : Holding → Request → Option (List ℕ) → Option (List ℕ) → Type 0
+ListsRequest held request before after = (table : TablePaths) × (request ≡ Lint table) × IsReported false held table before after
+
+-- so for what the words ask for
+abbrev pub ListsWords : Holding → List Text → Option (List ℕ) → Option (List ℕ) → Type 0
+ListsWords held words before after = (request : Request) × Asks (subcommand_of program words) request × ListsRequest held request before after
+
+-- so for some words, where it is not known what the files hold
+abbrev pub ListsSomeWords : Option (List ℕ) → Option (List ℕ) → Type 0
+ListsSomeWords before after = (words : List Text) × ListsWords None words before after
+
+-- where `lint` ends by the faults of a table, they are told; `is_failed` says whether the output has failed
+abbrev pub ListsIf : Holding → Request → Fault → Bool → Option (List ℕ) → Option (List ℕ) → Type 0
+ListsIf held (Show table) fault is_failed before after = ⊤
+ListsIf held (Lint table) fault is_failed before after = fault ≡ FaultyTable → (is_failed ≡ false) × IsReported false held table before after
+ListsIf held (Match all table file) fault is_failed before after = ⊤
+ListsIf held (MatchMany all table files) fault is_failed before after = ⊤
+ListsIf held (Find table budget out hex progress) fault is_failed before after = ⊤
+ListsIf held (Conflicts table options progress) fault is_failed before after = ⊤
+ListsIf held (Dead table budget hex progress) fault is_failed before after = ⊤
+ListsIf held (Check table certificate) fault is_failed before after = ⊤
+ListsIf held (Witness table file) fault is_failed before after = ⊤
 
 -- unless a write failed, the output is as it was, or the answer to the request is cut short; `written` tells what an output has written, and `is_failed` whether it has failed
 abbrev pub KeepsOrCuts : {R W : Type 0} → (R → Bool) → Holding → Request → (W → Bool) → (W → Option (List ℕ)) → (before after : W) → Type 0
@@ -239,6 +315,7 @@ ShowsReason held paths progress hex budget before after =
 -- unless a write failed, a search over products, pairs or formats shows its progress where that is asked for, and one over products that is answered can show why it gave up; of several files each of the first that has a fault has a line, but only where there is no answer; nothing else shows any
 abbrev pub Shows : {R : Type 0} → (R → Bool) → Holding → Request → Bool → Bool → Option (List ℕ) → Option (List ℕ) → Type 0
 Shows failed held (Show table) is_answered is_failed before after = ⊥
+Shows failed held (Lint table) is_answered is_failed before after = ⊥
 Shows failed held (Match all table path) is_answered is_failed before after = ⊥
 Shows failed held (MatchMany all table files) is_answered is_failed before after = (is_answered ≡ false) × (t : TableView) × IsTableOf held table t × (is_failed ≡ false → AddsFaults (IsPrinted failed all t held) (map (λ n. n.now) files.now) before after)
 Shows failed held (Find table budget out hex progress) is_answered is_failed before after = ((progress ≡ true) × (is_failed ≡ false → AddsProgress Products before after)) ⊎ ((is_answered ≡ true) × (is_failed ≡ false → ShowsReason held table progress hex budget before after))
@@ -273,10 +350,12 @@ TellsMany failed all held table names (Table error) before after err_failed err_
 TellsMany failed all held table names NotInTable before after err_failed err_before err_after = err_after ≡ err_before
 TellsMany failed all held table names SummaryOfOne before after err_failed err_before err_after = err_after ≡ err_before
 TellsMany failed all held table names (CutShort error) before after err_failed err_before err_after = err_after ≡ err_before
+TellsMany failed all held table names FaultyTable before after err_failed err_before err_after = err_after ≡ err_before
 
 -- what both outputs are of before the line of a fault: where there are several files, of the same ones
 abbrev pub Joins : {R : Type 0} → (R → Bool) → Holding → Request → Fault → (before after : Option (List ℕ)) (err_failed : Bool) (err_before err_after : Option (List ℕ)) → Type 0
 Joins failed held (Show table) fault before after err_failed err_before err_after = ⊤
+Joins failed held (Lint table) fault before after err_failed err_before err_after = ⊤
 Joins failed held (Match all table path) fault before after err_failed err_before err_after = ⊤
 Joins failed held (MatchMany all table files) fault before after err_failed err_before err_after = TellsMany failed all held table (map (λ n. n.now) files.now) fault before after err_failed err_before err_after
 Joins failed held (Find table budget out hex progress) fault before after err_failed err_before err_after = ⊤
@@ -304,12 +383,13 @@ ShowsBefore failed held request fault before after err_before err_after = ((err_
 abbrev pub ReportsLineOf : {R : Type 0} → (R → Bool) → Holding → Request → Fault → ℕ → (before after err_before err_after : Option (List ℕ)) → Type 0
 ReportsLineOf failed held request reason status before after err_before err_after = (mid : Option (List ℕ)) × ShowsBefore failed held request reason before after err_before mid × Reports reason status mid err_after
 
--- the status is that of a fault of the request, a failed write is told only where one failed, and the line of the fault is reported, unless a write to the error output failed
+-- the status is that of a fault of the request, a failed write is told only where one failed, faults of a table are told where the reason are they, and the line of the fault is reported, unless a write to the error output failed
 pub record ReportsFaultOf {R : Type 0} (failed : R → Bool) (WriteFailed : Type 0) (held : Holding) (request : Request) (status : ℕ) (before after : Option (List ℕ)) (err_failed : Bool) (err_before err_after : Option (List ℕ)) : Type 0 where
   pub reason : Fault
   pub is : IsFaultOf failed held request reason
   pub write : TellsWrite reason → WriteFailed
   pub ends : status ≡ status_of reason
+  pub lists : reason ≡ FaultyTable → ListsRequest held request before after
   pub line : err_failed ≡ false → ReportsLineOf failed held request reason status before after err_before err_after
 
 -- so for what the words ask for
@@ -319,6 +399,7 @@ ReportsFaultOfWords failed WriteFailed held words status before after err_failed
 -- with an answer the error output shows progress just where that is asked for; and with a no of a search over products it is said why the search gave up, unless a write failed
 abbrev pub ShowsAsked : {E : Type 0} → Holding → Request → Bool → (out_before out_after : Option (List ℕ)) → Bool → (before after : E) → Option (List ℕ) → Option (List ℕ) → Type 0
 ShowsAsked held (Show table) is_yes out_before out_after is_failed before after written written_after = after ≡ before
+ShowsAsked held (Lint table) is_yes out_before out_after is_failed before after written written_after = after ≡ before
 ShowsAsked held (Match all table path) is_yes out_before out_after is_failed before after written written_after = after ≡ before
 ShowsAsked held (MatchMany all table files) is_yes out_before out_after is_failed before after written written_after = after ≡ before
 ShowsAsked held (Find table budget out hex progress) true out_before out_after is_failed before after written written_after = ShowsIf progress Products is_failed before after written written_after
@@ -339,6 +420,7 @@ ShowsAskedWords held words is_yes out_before out_after is_failed before after wr
 -- the files that are matched by their names are some
 abbrev pub HasFiles : Request → Type 0
 HasFiles (Show table) = ⊤
+HasFiles (Lint table) = ⊤
 HasFiles (Match all table path) = ⊤
 HasFiles (MatchMany all table files) = 0 < length files.now
 HasFiles (Find table budget out hex progress) = ⊤

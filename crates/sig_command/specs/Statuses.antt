@@ -3,7 +3,7 @@ use Rattle.std.specs.Prelude.{ℕ}
 use Rattle.clap.specs.declared.error.kind.ErrorKind.{ErrorKind}
 use Rattle.clap.specs.declared.error.kind.ErrorKind.TheVariants.{DisplayHelp, DisplayVersion}
 use Rattle.sig_command.specs.declared.fault.Fault.{Fault}
-use Rattle.sig_command.specs.declared.fault.Fault.TheVariants.{CannotOpen, CutShort, NoFile, NotInTable, NotText, Run, SomeFiles, SummaryOfOne, Table}
+use Rattle.sig_command.specs.declared.fault.Fault.TheVariants.{CannotOpen, CutShort, FaultyTable, NoFile, NotInTable, NotText, Run, SomeFiles, SummaryOfOne, Table}
 use Rattle.sig_table.specs.declared.error.TableError.{TableError}
 use Rattle.sig_table.specs.declared.error.TableError.TheVariants.{OutOfMemory, Read}
 
@@ -24,6 +24,7 @@ status_of SummaryOfOne = 2
 status_of (Run error) = 3
 status_of (CutShort error) = 3
 status_of SomeFiles = 3
+status_of FaultyTable = 2
 
 -- help and the version are answered, and all else that clap says is a fault of the words
 abbrev pub kind_status : ErrorKind → ℕ

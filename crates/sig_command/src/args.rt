@@ -11,7 +11,7 @@ ghost use Rattle.clap.specs.Values.{kind_of};
 ghost use Rattle.clap.specs.Matches.{found_of};
 ghost use Rattle.clap.specs.declared.Command.TheViews.{out-Command as fields_of};
 ghost use Rattle.clap.specs.Words.{app_of, fault_of, one_of, rows_of, rule_of, subcommand_of, subcommand_rows_of};
-ghost use Rattle.sig_command.specs.CommandLine.{AreTaken, Asks, HasFaultKind, HasFlag, IsHelpAsked, IsLine, NamesOptions, NamesTable, asking, budget_rule, check_command, conflicts_command, dead_command, find_command, given, match_command, named, of_table, out_rule, program, show_command, texts_of, wanted, witness_command};
+ghost use Rattle.sig_command.specs.CommandLine.{AreTaken, Asks, HasFaultKind, HasFlag, IsHelpAsked, IsLine, NamesOptions, NamesTable, asking, budget_rule, check_command, conflicts_command, dead_command, find_command, given, lint_command, match_command, named, of_table, out_rule, program, show_command, texts_of, wanted, witness_command};
 
 use clap::error::ErrorKind;
 use clap::{Arg, ArgAction, ArgMatches, Command, Error, value_parser};
@@ -26,6 +26,24 @@ rows in canonical form. The two files load as the same table.
 Statuses:
   0  the table was printed
   2  usage error, or the table is refused
+  3  a file can't be opened, a read or a write failed, or memory ran out";
+
+const LINT_HELP: &str = "\
+Prints a line for each fault of the two files, those of the signatures first:
+  FILE line L row N: CODE: FIELD \"TEXT\" at PLACE: expected WHAT; CURE
+FILE is `signatures` or `priorities`. CODE is what the other subcommands print
+for the first fault, and they print no other. PLACE counts bytes from 0, and
+stands where the fault is in an expression. CURE is a guess, where there is
+one. A row has at most one line, its first fault, and later rows are judged
+without it.
+
+If there is no fault, the first line is `no fault`. Then come warnings, which
+change no status: of a signature that asks for no byte, and of one that has a
+row of another format's signature.
+
+Statuses:
+  0  no fault
+  2  usage error, or a fault of the two files
   3  a file can't be opened, a read or a write failed, or memory ran out";
 
 const MATCH_HELP: &str = "\
@@ -206,6 +224,10 @@ pub(crate) enum Request<'m, 'a> {
     Show {
         table: TablePaths<'a>,
     },
+    /// All faults of a table.
+    Lint {
+        table: TablePaths<'a>,
+    },
     /// Which formats are left for a file, or with `all` which it hits.
     Match {
         all: bool,
@@ -282,6 +304,7 @@ fn command_line<'a>(alloc: Global) -> Result<Command<'a>, Error>
         .no_binary_name(true)
         .subcommand_required(true)
         .subcommand(show_line(alloc)?)?
+        .subcommand(lint_line(alloc)?)?
         .subcommand(match_line(alloc)?)?
         .subcommand(find_line(alloc)?)?
         .subcommand(conflicts_line(alloc)?)?
@@ -299,6 +322,17 @@ fn show_line<'a>(alloc: Global) -> Result<Command<'a>, Error>
     let line = with_table_args(alloc, Command::new(alloc, "show"))?
         .about("Check a table and print it in canonical form")
         .after_help(SHOW_HELP);
+    Ok(line)
+}
+
+// `lint SIGS PRIOS`
+fn lint_line<'a>(alloc: Global) -> Result<Command<'a>, Error>
+    ensures line { IfOk result (IsLine lint_command) }
+    ensures memory { IfErr result (λ e. kind_of e ≡ ErrorKind.OutOfMemory) }
+{
+    let line = with_table_args(alloc, Command::new(alloc, "lint"))?
+        .about("List all faults of a table, and how to mend them")
+        .after_help(LINT_HELP);
     Ok(line)
 }
 
@@ -472,6 +506,9 @@ pub(crate) fn request_of<'m, 'a>(matches: &'m ArgMatches<'a>) -> Option<Request<
     if let Some(judging) = matches.subcommand_matches("witness") {
         return witness_request(judging);
     }
+    if let Some(linted) = matches.subcommand_matches("lint") {
+        return lint_request(linted);
+    }
     match_request(matches.subcommand_matches("match")?)
 }
 
@@ -480,6 +517,15 @@ fn show_request<'m, 'a>(matches: &'m ArgMatches<'a>) -> Option<Request<'m, 'a>>
     ensures none { result ≡ None → (request : Request) → ¬ Asks (asking (codes "show") matches.now) request }
 {
     Some(Request::Show {
+        table: table_paths(matches)?,
+    })
+}
+
+fn lint_request<'m, 'a>(matches: &'m ArgMatches<'a>) -> Option<Request<'m, 'a>>
+    ensures asked { IfSome result (λ request. Asks (asking (codes "lint") matches.now) request) }
+    ensures none { result ≡ None → (request : Request) → ¬ Asks (asking (codes "lint") matches.now) request }
+{
+    Some(Request::Lint {
         table: table_paths(matches)?,
     })
 }

@@ -3,15 +3,16 @@
 //!
 //! A line is written in pieces and takes no memory, so no fault is reported as another.
 
-ghost use Rattle.std.specs.Prelude.{◌≡◌, [], ◌∷◌, ◌++◌, decimal, false};
-ghost use Rattle.sig_command.specs.Faults.{Reports, code_text, expression_code_text, fault_line, file_name, fault_text, line_end, site_of, site_text};
+ghost use Rattle.std.specs.Prelude.{◌≡◌, false};
+ghost use Rattle.sig_command.specs.Faults.{Reports, fault_line, fault_text, line_end, site_text};
 ghost use Rattle.sig_command.specs.Statuses.{status_of};
+ghost use Rattle.sig_lint.specs.Codes.{code_words};
 ghost use Rattle.sig_engines.specs.Writing.{Prints};
 
 use sig_bits::{DeviceFault, Output};
 use sig_engines::{CutShort, RunError, WitnessName, put, put_number, put_path};
-use sig_expr::ExprError;
-use sig_table::{TableError, TableFile};
+use sig_lint::{Code, Site, code_of, file_name, site_of};
+use sig_table::TableError;
 
 /// Why the program gives no answer, but for a fault that `clap` finds in the words.
 #[derive(Clone, Copy, Debug, PartialEq, Eq)]
@@ -34,6 +35,9 @@ pub(crate) enum Fault<'a> {
     CutShort(CutShort),
     /// Some of several files have no lines. Each is told already, so this has no line of its own.
     SomeFiles,
+    /// The table that `lint` is asked of has faults. The output has a line for each, so this has no
+    /// line of its own.
+    FaultyTable,
 }
 
 impl Fault<'_> {
@@ -44,7 +48,7 @@ impl Fault<'_> {
         match self {
             Fault::NotText | Fault::SummaryOfOne | Fault::NotInTable => 2,
             Fault::Table(TableError::Read { .. } | TableError::OutOfMemory) => 3,
-            Fault::Table(_) => 2,
+            Fault::Table(_) | Fault::FaultyTable => 2,
             Fault::CannotOpen(_)
             | Fault::NoFile(..)
             | Fault::Run(_)
@@ -76,7 +80,7 @@ fn line_end(fault: Fault<'_>) -> &'static str
     ensures { result.now ≡ line_end fault.entry }
 {
     match fault {
-        Fault::SomeFiles => "",
+        Fault::SomeFiles | Fault::FaultyTable => "",
         Fault::NotText
         | Fault::SummaryOfOne
         | Fault::CannotOpen(_)
@@ -107,7 +111,7 @@ fn write_text<E: Output>(fault: Fault<'_>, err: &mut E) -> Result<(), DeviceFaul
         }
         Fault::Table(error) => {
             write_site(site_of(error), err)?;
-            write_code(error, err)
+            write_code(code_of(error), err)
         }
         Fault::SummaryOfOne => put(
             err,
@@ -116,37 +120,7 @@ fn write_text<E: Output>(fault: Fault<'_>, err: &mut E) -> Result<(), DeviceFaul
         Fault::NotInTable => put(err, "only: not in the table"),
         Fault::Run(error) => put(err, error.text()),
         Fault::CutShort(error) => put(err, error.text()),
-        Fault::SomeFiles => Ok(()),
-    }
-}
-
-// Where in a table a fault stands.
-#[derive(Clone, Copy)]
-enum Site {
-    Nowhere,
-    File(TableFile),
-    Row(TableFile, usize),
-}
-
-fn site_of(error: TableError) -> Site
-    ensures { result ≡ site_of error }
-{
-    match error {
-        TableError::Read { .. } | TableError::OutOfMemory => Site::Nowhere,
-        TableError::Header { file } => Site::File(file),
-        TableError::Fields { file, row } | TableError::Puid { file, row } => Site::Row(file, row),
-        TableError::SignatureNumber { row }
-        | TableError::Position { row }
-        | TableError::Offset { row }
-        | TableError::Expression { row, .. }
-        | TableError::SignatureOfTwo { row }
-        | TableError::TooManySequences { row }
-        | TableError::TooManySlots { row }
-        | TableError::TooManyFormats { row } => Site::Row(TableFile::Signatures, row),
-        TableError::PriorityUnknown { row }
-        | TableError::PrioritySelf { row }
-        | TableError::PriorityTwice { row }
-        | TableError::PriorityCycle { row } => Site::Row(TableFile::Priorities, row),
+        Fault::SomeFiles | Fault::FaultyTable => Ok(()),
     }
 }
 
@@ -169,68 +143,14 @@ fn write_site<E: Output>(site: Site, err: &mut E) -> Result<(), DeviceFault>
     }
 }
 
-fn file_name(file: TableFile) -> &'static str
-    ensures { result.now ≡ file_name file }
-{
-    match file {
-        TableFile::Signatures => "signatures",
-        TableFile::Priorities => "priorities",
-    }
-}
-
 // What is wrong with a table, by the number of its rule.
-fn write_code<E: Output>(error: TableError, err: &mut E) -> Result<(), DeviceFault>
-    ensures prints { Prints result (code_text error) (E.written err.old) (E.written err.new) (E.failed err.new) }
+fn write_code<E: Output>(code: Code, err: &mut E) -> Result<(), DeviceFault>
+    ensures prints { Prints result (code_words code) (E.written err.old) (E.written err.new) (E.failed err.new) }
     ensures sound { E.failed err.new ≡ false → E.failed err.old ≡ false }
 {
-    match error {
-        TableError::Read { .. } => put(err, "read failed"),
-        TableError::Header { .. } => put(err, "L2 header"),
-        TableError::Fields { .. } => put(err, "L3 fields"),
-        TableError::Puid { .. } => put(err, "L4 puid"),
-        TableError::SignatureNumber { .. } => put(err, "L5 signature number"),
-        TableError::Position { .. } => put(err, "L6 position"),
-        TableError::Offset { .. } => put(err, "L7 offset"),
-        TableError::Expression { row: _, error } => {
-            put(err, "L8 expression ")?;
-            write_expression_code(error, err)
-        }
-        TableError::SignatureOfTwo { .. } => put(err, "L9 signature of two formats"),
-        TableError::TooManySequences { .. } => put(err, "L10 too many sequences"),
-        TableError::TooManySlots { .. } => put(err, "L11 too many slots"),
-        TableError::TooManyFormats { .. } => put(err, "L12 too many formats"),
-        TableError::PriorityUnknown { .. } => put(err, "L13 unknown format"),
-        TableError::PrioritySelf { .. } => put(err, "L14 format over itself"),
-        TableError::PriorityTwice { .. } => put(err, "L15 pair twice"),
-        TableError::PriorityCycle { .. } => put(err, "L17 cycle of priorities"),
-        TableError::OutOfMemory => put(err, "out of memory"),
+    put(err, code.words)?;
+    match code.place {
+        Some(place) => put_number(err, place),
+        None => Ok(()),
     }
-}
-
-// What is wrong with an expression: its rule's number, and its place where it has one.
-fn write_expression_code<E: Output>(error: ExprError, err: &mut E) -> Result<(), DeviceFault>
-    ensures prints { Prints result (expression_code_text error) (E.written err.old) (E.written err.new) (E.failed err.new) }
-    ensures sound { E.failed err.new ≡ false → E.failed err.old ≡ false }
-{
-    match error {
-        ExprError::TooLong => put(err, "E1"),
-        ExprError::Syntax { place } => put_numbered(err, "E2 at ", place),
-        ExprError::GapNumber { place } => put_numbered(err, "E3 at ", place),
-        ExprError::GapEmpty { place } => put_numbered(err, "E4 at ", place),
-        ExprError::GapOrder { place } => put_numbered(err, "E5 at ", place),
-        ExprError::RangeOrder { place } => put_numbered(err, "E6 at ", place),
-        ExprError::ClassEmpty { place } => put_numbered(err, "E7 at ", place),
-        ExprError::OutOfMemory => put(err, "E8"),
-        ExprError::RangeLength { place } => put_numbered(err, "E9 at ", place),
-        ExprError::BracketTooLong { place } => put_numbered(err, "E10 at ", place),
-    }
-}
-
-// A text and a number behind it.
-fn put_numbered<E: Output>(err: &mut E, text: &str, number: usize) -> Result<(), DeviceFault>
-    ensures prints { Prints result (text.now ++ decimal number) (E.written err.old) (E.written err.new) (E.failed err.new) }
-    ensures sound { E.failed err.new ≡ false → E.failed err.old ≡ false }
-{
-    put(err, text)?;
-    put_number(err, number)
 }

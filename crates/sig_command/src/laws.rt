@@ -46,6 +46,8 @@ pub fn accepted_tables_match_each_once()
 pub fn words_are_taken()
     ensures shown { takes program (codes "show" ∷ codes "a" ∷ codes "b" ∷ []) ≡ true }
     ensures shown_no_help { fault_of program (codes "show" ∷ codes "a" ∷ codes "b" ∷ []) ≡ [] }
+    ensures linted { takes program (codes "lint" ∷ codes "a" ∷ codes "b" ∷ []) ≡ true }
+    ensures linted_no_help { fault_of program (codes "lint" ∷ codes "a" ∷ codes "b" ∷ []) ≡ [] }
     ensures matched { takes program (codes "match" ∷ codes "a" ∷ codes "b" ∷ codes "c" ∷ []) ≡ true }
     ensures matched_no_help { fault_of program (codes "match" ∷ codes "a" ∷ codes "b" ∷ codes "c" ∷ []) ≡ [] }
     ensures many { takes program (codes "match" ∷ codes "a" ∷ codes "b" ∷ codes "c" ∷ codes "d" ∷ []) ≡ true }
@@ -76,6 +78,7 @@ pub fn words_are_taken()
 /// words.
 pub fn words_name_files()
     ensures shown_table { AreTableWords (codes "a") (codes "b") (codes "show" ∷ codes "a" ∷ codes "b" ∷ []) }
+    ensures linted_table { AreTableWords (codes "a") (codes "b") (codes "lint" ∷ codes "a" ∷ codes "b" ∷ []) }
     ensures matched_table { AreTableWords (codes "a") (codes "b") (codes "match" ∷ codes "a" ∷ codes "b" ∷ codes "c" ∷ []) }
     ensures matched_file { all_named (codes "FILE") (codes "match" ∷ codes "a" ∷ codes "b" ∷ codes "c" ∷ []) ≡ Some (codes "c" ∷ []) }
     ensures matched_files { all_named (codes "FILE")

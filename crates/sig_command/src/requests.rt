@@ -8,13 +8,14 @@
 //!
 //! A fault's line follows the reports of progress, and comes whole only if none of their writes
 //! failed. With an error output that fails, the status is still that of a fault of what is asked
-//! for. If some of several files have a fault, each has its line and the run none of its own.
+//! for. If some of several files have a fault, each has its line and the run none of its own. So it
+//! is with the faults that `lint` tells on the output: it ends with 2, as for a refused table.
 
 ghost use Rattle.std.specs.Borrow.{Bor};
 ghost use Rattle.std.specs.Prelude.{None, Some, ◌≡◌, ◌≢◌, ◌<◌, ◌⊎◌, false, is_ok, is_some, length, List, true, IfErr, IfOk, OnOk};
 ghost use Rattle.clap.specs.Values.{kind_of};
 ghost use Rattle.clap.specs.Words.{Text};
-ghost use Rattle.sig_command.specs.Requests.{Answers, AnswersWords, AsksPairs, CutsSomeWords, CutsWords, HasFiles, IsFaultOf, IsLoadFault, IsOnly, JoinsBoth, KeepsOrCuts, MakesOut, MakesWords, NamesNone, ShowsAsked, ShowsSomeWords, ShowsWords, TellsOf, file_fault, pairs_fault};
+ghost use Rattle.sig_command.specs.Requests.{Answers, AnswersWords, AsksPairs, CutsSomeWords, CutsWords, HasFiles, IsFaultOf, IsLoadFault, IsOnly, IsReported, JoinsBoth, KeepsOrCuts, ListsIf, ListsSomeWords, ListsWords, MakesOut, MakesWords, NamesNone, ShowsAsked, ShowsSomeWords, ShowsWords, TellsOf, file_fault, pairs_fault};
 ghost use Rattle.sig_command.specs.Faults.{TellsWrite};
 ghost use Rattle.sig_engines.specs.Stores.{IsTableOf, Opens, SomeWriteFailed};
 ghost use Rattle.sig_command.specs.CommandLine.{AreTaken, texts_of};
@@ -28,8 +29,8 @@ use clap::error::ErrorKind;
 use sig_bits::{FromRead, FromWrite, Input, Output};
 use sig_engines::{
     ConflictsAsk, CutShort, FileFault, PairsFault, RunError, Store, SystemFiles, TablePaths,
-    WitnessName, find_dead, format_named, run_check, run_find, run_match, run_match_many, run_show,
-    run_witness, settle,
+    WitnessName, find_dead, format_named, run_check, run_find, run_lint, run_match, run_match_many,
+    run_show, run_witness, settle,
 };
 use sig_scan::BlockCore;
 use sig_table::{FormatId, Puid, Table};
@@ -48,7 +49,7 @@ pub fn run<R: Env + Files + AllocGlobal, W: Output, E: Output>(
 ) -> u8
     ensures known { result < 4 }
     ensures output { KeepsOutput (CutsSomeWords ⟦<FromRead<R::File> as Input>⟧.failed (W.written out.old) (W.written out.new))
-        result (W.failed out.new) out.old out.new }
+        (ListsSomeWords (W.written out.old) (W.written out.new)) result (W.failed out.new) out.old out.new }
     ensures errors { KeepsErrors (ShowsSomeWords ⟦<FromRead<R::File> as Input>⟧.failed)
         result (E.failed err.new) err.old err.new (E.written err.old) (E.written err.new) }
 
@@ -91,7 +92,7 @@ pub fn command<R: Files + AllocGlobal, W: Output, E: Output>(
 ) -> u8
     ensures known { result < 4 }
     ensures output { KeepsOutput (CutsWords ⟦<FromRead<R::File> as Input>⟧.failed None (texts_of words.now) (W.written out.old) (W.written out.new))
-        result (W.failed out.new) out.old out.new }
+        (ListsWords None (texts_of words.now) (W.written out.old) (W.written out.new)) result (W.failed out.new) out.old out.new }
     ensures errors { KeepsErrors (ShowsWords ⟦<FromRead<R::File> as Input>⟧.failed None (texts_of words.now))
         result (E.failed err.new) err.old err.new (E.written err.old) (E.written err.new) }
     ensures answers { AnswersBy None (texts_of words.now) result (W.written out.old) (W.written out.new) }
@@ -107,8 +108,8 @@ pub fn command<R: Files + AllocGlobal, W: Output, E: Output>(
 /// Runs the program on its words, without its name, over the files of a store, and answers the
 /// status.
 ///
-/// The answer and the help go to `out`; a fault is one line on `err`, and a usage fault is the text
-/// of `clap`. With `--progress` a search tells `err` how much of it is done, and of files that are
+/// The answer and the help go to `out`, the faults that `lint` lists too; a fault is one line on
+/// `err`, and a usage fault is the text of `clap`. With `--progress` a search tells `err` how much of it is done, and of files that are
 /// matched by their names each that has a fault is one line there. A failed write to `err` changes
 /// no status.
 pub fn command_over<S: Store, W: Output, E: Output>(
@@ -120,7 +121,7 @@ pub fn command_over<S: Store, W: Output, E: Output>(
 ) -> u8
     ensures known { result < 4 }
     ensures output { KeepsOutput (CutsWords S.Reader.failed (S.held store.now) (texts_of words.now) (W.written out.old) (W.written out.new))
-        result (W.failed out.new) out.old out.new }
+        (ListsWords (S.held store.now) (texts_of words.now) (W.written out.old) (W.written out.new)) result (W.failed out.new) out.old out.new }
     ensures errors { KeepsErrors (ShowsWords S.Reader.failed (S.held store.now) (texts_of words.now))
         result (E.failed err.new) err.old err.new (E.written err.old) (E.written err.new) }
     ensures answers { AnswersBy (S.held store.now) (texts_of words.now) result (W.written out.old) (W.written out.new) }
@@ -167,11 +168,14 @@ fn answer<'m, 'a, S: Store, W: Output, E: Output>(
     ensures faults { IfErr result (λ fault. IsFaultOf S.Reader.failed (S.held store.now) request.entry fault) }
     ensures write { IfErr result (λ fault. TellsWrite fault → SomeWriteFailed S.Writer.failed (W.failed out.new)) }
     ensures untouched { IfErr result (λ fault. fault ≢ Fault.Run RunError.Write → ((e : CutShort) → fault ≢ Fault.CutShort e)
-        → ((folder : Bor Text) (name : WitnessName) → fault ≢ Fault.NoFile folder name) → fault ≢ Fault.SomeFiles → out.new ≡ out.old) }
-    ensures whole { IfErr result (λ fault. KeepsOrCuts S.Reader.failed (S.held store.now) request.entry W.failed W.written out.old out.new) }
+        → ((folder : Bor Text) (name : WitnessName) → fault ≢ Fault.NoFile folder name) → fault ≢ Fault.SomeFiles → fault ≢ Fault.FaultyTable → out.new ≡ out.old) }
+    ensures lists { IfErr result (λ fault. ListsIf (S.held store.now) request.entry fault (W.failed out.new) (W.written out.old) (W.written out.new)) }
+    ensures whole { IfErr result (λ fault. fault ≢ Fault.FaultyTable
+        → KeepsOrCuts S.Reader.failed (S.held store.now) request.entry W.failed W.written out.old out.new) }
 {
     match request {
         Request::Show { table } => show_table(store, alloc, table, out),
+        Request::Lint { table } => lint_table(store, alloc, table, out),
         Request::Match { all, table, file } => match_file(store, alloc, all, table, file, out),
         Request::MatchMany { all, table, files } => {
             match_many(store, alloc, all, table, files, out, err)
@@ -216,6 +220,31 @@ fn show_table<'a, S: Store, W: Output>(
 {
     match run_show(alloc, &load(store, alloc, table)?, out) {
         Ok(()) => Ok(true),
+        Err(error) => Err(Fault::Run(error)),
+    }
+}
+
+// The faults of a table are told on the output, and end with the status of a refused one.
+fn lint_table<'a, S: Store, W: Output>(
+    store: &S,
+    alloc: Global,
+    table: TablePaths<'a>,
+    out: &mut W,
+) -> Result<bool, Fault<'a>>
+    ensures answers { IfOk result (λ is_yes. Answers (S.held store.now) (Request.Lint table.entry) is_yes (W.written out.old) (W.written out.new)) }
+    ensures shown { OnOk result (W.failed out.new ≡ false) }
+    ensures faults { IfErr result (IsFaultOf S.Reader.failed (S.held store.now) (Request.Lint table.entry)) }
+    ensures write { IfErr result (λ fault. TellsWrite fault → W.failed out.new ≡ true) }
+    ensures untouched { IfErr result (λ fault. fault ≢ Fault.Run RunError.Write → fault ≢ Fault.FaultyTable → out.new ≡ out.old) }
+    ensures lists { IfErr result (λ fault. fault ≡ Fault.FaultyTable
+        → (W.failed out.new ≡ false) × IsReported false (S.held store.now) table.entry (W.written out.old) (W.written out.new)) }
+    ensures whole { IfErr result (λ fault. fault ≢ Fault.FaultyTable → W.failed out.new ≡ false → out.new ≡ out.old) }
+{
+    let mut signatures = open(store, table.signatures)?;
+    let mut priorities = open(store, table.priorities)?;
+    match run_lint(alloc, &mut signatures, &mut priorities, out) {
+        Ok(true) => Ok(true),
+        Ok(false) => Err(Fault::FaultyTable),
         Err(error) => Err(Fault::Run(error)),
     }
 }
@@ -501,7 +530,7 @@ fn open<'a, S: Store>(store: &S, name: &'a str) -> Result<S::Reader, Fault<'a>>
 // What `clap` says: help is an answer, and all else a fault of the words, unless memory ran out.
 fn show_usage<W: Output, E: Output>(alloc: Global, error: &Error, out: &mut W, err: &mut E) -> u8
     ensures known { (result ≡ 0) ⊎ ((result ≡ 2) ⊎ (result ≡ 3)) }
-    ensures output { KeepsOutput ⊥ result (W.failed out.new) out.old out.new }
+    ensures output { KeepsOutput ⊥ ⊥ result (W.failed out.new) out.old out.new }
     ensures errors { KeepsErrors (λ is_answered is_failed before after. ⊥) result (E.failed err.new) err.old err.new (E.written err.old) (E.written err.new) }
     ensures memory { kind_of error.now ≡ ErrorKind.OutOfMemory → result ≡ 3 }
     ensures memory_reported { kind_of error.now ≡ ErrorKind.OutOfMemory → E.failed err.new ≡ false → ReportsMemory (E.written err.old) (E.written err.new) }

@@ -7,6 +7,7 @@ pub mod Finding
 pub mod Forced
 pub mod Judged
 pub mod Lines
+pub mod Linted
 pub mod ManyFiles
 pub mod Notes
 pub mod Progress
@@ -21,6 +22,9 @@ pub use Rattle.sig_bits.specs.Device
 pub use Rattle.sig_cert.specs.Deciding
 pub use Rattle.sig_cert.specs.Verdicts
 pub use Rattle.sig_core.specs.Hits
+pub use Rattle.sig_lint.specs.Details
+pub use Rattle.sig_lint.specs.Faults
+pub use Rattle.sig_lint.specs.Reports
 pub use Rattle.sig_table.specs.Canonical
 pub use Rattle.sig_table.specs.Puids
 pub use Rattle.sig_table.specs.Tables

@@ -1,16 +1,16 @@
 //! The engines: what each subcommand reads and writes, over any input, any output and any store of
 //! files. They read no arguments and print no help, so another program can call them.
 //!
-//! `run_match`, `run_match_many`, `run_show`, `run_find`, `run_check` and `run_witness` are
-//! subcommands; `settle` is `conflicts` and `find_dead` is `dead`, and `run_conflicts` and
+//! `run_match`, `run_match_many`, `run_show`, `run_lint`, `run_find`, `run_check` and `run_witness`
+//! are subcommands; `settle` is `conflicts` and `find_dead` is `dead`, and `run_conflicts` and
 //! `run_dead` are the same without reports. But for `run_match_many` and these four, each has its
 //! whole answer before it writes: after a failed read, and where memory runs out, the output is as
 //! it was. A fault says that a read or a write failed only where one did.
 //!
-//! What each adds to an output stands in `specs/`: `Lines`, `ManyFiles`, `Shown`, `Finding`,
-//! `Judged`, `Witnessed`, `Conflicts`, `Fates` and `Progress`. `Asks` says which pairs `conflicts`
-//! is asked for, and `ClassTexts` how their classes are written and counted. `Stores` says what a
-//! store of files holds and makes.
+//! What each adds to an output stands in `specs/`: `Lines`, `ManyFiles`, `Shown`, `Linted`,
+//! `Finding`, `Judged`, `Witnessed`, `Conflicts`, `Fates` and `Progress`. `Asks` says which pairs
+//! `conflicts` is asked for, and `ClassTexts` how their classes are written and counted. `Stores`
+//! says what a store of files holds and makes.
 #![tactic(auto)]
 
 mod ask;
@@ -24,6 +24,7 @@ mod find_engine;
 mod forced;
 mod laws;
 mod lines;
+mod lint_engine;
 mod many_engine;
 mod match_engine;
 mod note;
@@ -44,6 +45,7 @@ pub use dead_engine::{find_dead, run_dead};
 pub use error::{CutShort, FileFault, PairsFault, RunError};
 pub use find_engine::run_find;
 pub use laws::two_lines_are_never_added;
+pub use lint_engine::run_lint;
 pub use many_engine::run_match_many;
 pub use match_engine::run_match;
 pub use progress::Things;

@@ -1,10 +1,8 @@
 -- Pairs without the faulty ones, read once more under other numbers.
-use Rattle.std.proofs.Common.{◌≡◌, ℕ, ◌≤◌, true, nat_eq, List, [], ◌∷◌, ◌++◌, length, refl, inl, inr, Result, Ok, Err, None}
+use Rattle.std.proofs.Common.{◌≡◌, ℕ, ◌≤◌, true, nat_eq, List, [], ◌∷◌, ◌++◌, length, inl, inr, Ok, None}
 use Rattle.std.proofs.lemmas.Bool.{cases_Bool}
-use Rattle.sig_table.specs.declared.error.TableError.{TableError}
 use Rattle.sig_table.specs.declared.error.TableError.TheVariants as error
 use Rattle.sig_table.specs.declared.puid.Puid.{Puid}
-use Rattle.sig_table.specs.Judging.{◌>>=◌}
 use Rattle.sig_table.specs.Loading.{index_in, is_listed, is_priority_header, pair_fault, pair_of, pair_of_two, pair_with, pairs_of, with_pair}
 use Rattle.sig_table.specs.Puids.{puid_of}
 use Rattle.sig_table.specs.Ranking.{is_above}

@@ -37,10 +37,17 @@ impl Fault {
     }
 }
 
-fn put(out: &mut Vec<u8>, text: &str) -> Result<(), AllocError>
+pub(crate) fn put(out: &mut Vec<u8>, text: &str) -> Result<(), AllocError>
     ensures { OnOk result (out.new.items ≡ out.old.items ++ text.now) }
 {
     out.extend_from_slice(text.as_bytes())
+}
+
+pub(crate) fn put_number(alloc: Global, out: &mut Vec<u8>, number: u64) -> Result<(), AllocError>
+    ensures { OnOk result (out.new.items ≡ out.old.items ++ decimal number) }
+{
+    let text = format!(in alloc; "{number}")?;
+    put(out, text.as_str())
 }
 
 fn put_field(

@@ -5,6 +5,7 @@
 //! a table: `lint` says both, and `specs/Faults.antt` what the others are.
 #![tactic(auto)]
 
+mod codes;
 mod cures;
 mod details;
 mod fault;
@@ -14,9 +15,12 @@ mod linter;
 mod names;
 mod priorities;
 mod reading;
+mod reporter;
+mod row_owners;
 mod signatures;
 mod warnings;
 
+pub use codes::{Code, Site, code_of, file_name, site_of};
 pub use cures::Cure;
 pub use fault::Fault;
 pub use fields::Field;
@@ -25,4 +29,6 @@ pub use laws::{
     rows_are_judged_behind_faultless_ones,
 };
 pub use linter::lint;
+pub use reporter::{Report, report_on};
+pub use row_owners::{Owner, rows_of_two_formats};
 pub use warnings::signatures_of_gaps;

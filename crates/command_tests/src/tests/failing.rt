@@ -27,7 +27,13 @@ fn run_unreported(rt: &HostRuntime, folder: &str, words: &[&str]) -> Result<u8, 
 const ONE_WORD: Rows = Rows("fmt/1,1,BOF,0,,4142\n", "");
 
 // Words for which something is written.
-const WRITTEN: &[&[&str]] = &[&["match", S, P, F], &["show", S, P], &["--help"]];
+const WRITTEN: &[&[&str]] = &[
+    &["match", S, P, F],
+    &["show", S, P],
+    &["lint", S, P],
+    &["lint", S, F],
+    &["--help"],
+];
 
 #[test]
 fn reports_an_answer_that_is_not_written(rt: HostRuntime) -> Result<(), Fail> {
@@ -45,6 +51,7 @@ const UNREPORTED: &[(&[&str], u8)] = &[
     (&["look"], 2),
     (&["show", "@/refused.csv", P], 2),
     (&["show", "none.csv", P], 3),
+    (&["lint", "@/refused.csv", P], 2),
 ];
 
 #[test]

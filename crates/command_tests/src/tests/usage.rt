@@ -18,6 +18,10 @@ const TEXTS: &[(&[&str], &str)] = &[
         "Check a table and print it in canonical form\n",
     ),
     (
+        &["lint", "--help"],
+        "List all faults of a table, and how to mend them\n",
+    ),
+    (
         &["match", "--help"],
         "Print the formats that match each file, after priorities\n",
     ),
@@ -35,6 +39,12 @@ const TEXTS: &[(&[&str], &str)] = &[
         "Tell whether two formats are reported for a file\n",
     ),
     (&["--version"], "pronom_sig 0.1.0\n"),
+];
+
+// What the help of `lint` says.
+const OF_LINT: &[&str] = &[
+    "those of the signatures first:\n  FILE line L row N: CODE: FIELD \"TEXT\" at PLACE: expected WHAT; CURE\n",
+    "the first line is `no fault`, and warnings follow.\n\nStatuses:\n  0  no fault\n  2  ",
 ];
 
 // What the help of `match` says.
@@ -105,6 +115,7 @@ const OF_SHOW: &[&str] = &["first the header, then the\nrows in canonical form."
 // The subcommands, and what their help says.
 const HELPS: &[(&str, &[&str])] = &[
     ("show", OF_SHOW),
+    ("lint", OF_LINT),
     ("match", OF_MATCH),
     ("find", OF_FIND),
     ("conflicts", OF_CONFLICTS),

@@ -6,7 +6,7 @@ use crate::tests::{begin, end};
 use fixtures::{OVER_BOTH, Rows, TWO};
 use sig_bits::{FromRead, FromWrite};
 use sig_core::DroidCore;
-use sig_engines::{RunError, run_check, run_match, run_show, run_witness};
+use sig_engines::{RunError, run_check, run_lint, run_match, run_show, run_witness};
 use sig_match::{StreamCore, WholeCore};
 use sig_scan::BlockCore;
 use std::alloc::AllocError;
@@ -225,5 +225,48 @@ fn run_show_lacks_memory_or_is_right(rt: HostRuntime) -> Result<(), Fail> {
     assert!(rt; first.is_or_lacks(&(), &text));
     let again = shown(&rt, false)?;
     assert!(rt; again.is(&(), &text));
+    Ok(())
+}
+
+// Signature rows below their header, and what `lint` answers and writes with no pair.
+const LINTED: &[(&str, bool, &str)] = &[
+    (
+        "puid,signature,position,offset,max_offset,expression\nfmt/1,1,BOF,0,,41 42\nfmt/1,1,BOF,x,,41\n",
+        false,
+        "signatures line 2 row 1: L8 expression E2 at 2: expression \"41 42\" at 2: expected an expression that goes on from the bytes before it; remove blanks and tabs\nsignatures line 3 row 2: L7 offset: offset \"x\": expected a number from 0 to 65535, the greatest offset not below the offset or left out; none at Variable\n",
+    ),
+    (
+        "puid,signature,position,offset,max_offset,expression\nfmt/1,1,BOF,0,,{4}\nfmt/2,2,BOF,0,0,{4-4}\n",
+        true,
+        "no fault\nwarning: signature 1 of fmt/1 has gaps alone\nwarning: signature 2 of fmt/2 has gaps alone\nwarning: signature 2 of fmt/2 has a row of signature 1 of fmt/1\n",
+    ),
+];
+
+// What `lint` answers and writes of these signatures, with growths refused if that is asked.
+fn linted(rt: &HostRuntime, signatures: &str, refuses: bool) -> Result<Told<bool>, Fail> {
+    let mut signatures = FromRead::new(signatures.as_bytes());
+    let mut priorities = FromRead::new(b"higher,lower\n".as_slice());
+    let mut out = room(rt)?;
+    if refuses {
+        begin(rt);
+    }
+    let answer = run_lint(rt.alloc(), &mut signatures, &mut priorities, &mut out);
+    if refuses {
+        end(rt);
+    }
+    Ok(Told {
+        answer,
+        written: out.into_inner(),
+    })
+}
+
+#[test]
+fn run_lint_lacks_memory_or_is_right(rt: HostRuntime) -> Result<(), Fail> {
+    for (signatures, is_faultless, text) in LINTED {
+        let first = linted(&rt, signatures, true)?;
+        assert!(rt; first.is_or_lacks(is_faultless, text));
+        let again = linted(&rt, signatures, false)?;
+        assert!(rt; again.is(is_faultless, text));
+    }
     Ok(())
 }

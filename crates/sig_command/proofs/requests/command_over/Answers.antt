@@ -1,6 +1,6 @@
 use Rattle.std.proofs.Common.{List, Option, subst}
 use Rattle.clap.specs.Words.{Row, Text}
-use Rattle.sig_command.proofs.EndLemmas.{ends_by_fault, fault_is_reported, fault_keeps_errors, help_answers, memory_is_reported, memory_tells}
+use Rattle.sig_command.proofs.EndLemmas.{ends_by_fault, fault_is_reported, fault_keeps_errors, fault_keeps_output, help_answers, memory_is_reported, memory_tells}
 use Rattle.sig_command.specs.CommandLine.{Asks, texts_of}
 use Rattle.sig_command.proofs.requests.command_over.Goals as goal
 
@@ -31,12 +31,19 @@ returns-clause-errors g c =
     fault_keeps_errors g.S.Reader.Input.failed (g.S.Store.held c.args.store.now) (texts_of c.args.words.now) c.in-Some.request c.in-Err-answer.fault _ g.E.Output.failed g.E.Output.written c.args.err.now c.answer.new.err c.report.new.err (g.W.Output.written c.args.out.now) (g.W.Output.written c.answer.new.out)
     asks answered.faults answered.told answered.joined c.report.ensures.status c.report.ensures.sound c.report.ensures.reported
 
+pub returns-clause-output : goal.returns-clause-output
+returns-clause-output g c =
+    let asks = subst (λ (o : Option (Text × List Row)). Asks o c.in-Some.request) c.in-Ok.ensures.found c.in-Some.ensures.asked in
+    let answered = c.in-Err-answer.ensures in
+    fault_keeps_output g.S.Reader.Input.failed (g.S.Store.held c.args.store.now) (texts_of c.args.words.now) c.in-Some.request c.in-Err-answer.fault _ g.W.Output.failed g.W.Output.written c.args.out.now c.answer.new.out
+    asks answered.faults c.report.ensures.status answered.untouched answered.lists answered.whole
+
 pub returns-clause-faults : goal.returns-clause-faults
 returns-clause-faults g c = λ taken high.
     let asks = subst (λ (o : Option (Text × List Row)). Asks o c.in-Some.request) c.in-Ok.ensures.found c.in-Some.ensures.asked in
     let answered = c.in-Err-answer.ensures in (
       c.in-Some.request,
       asks,
-      fault_is_reported g.S.Reader.Input.failed _ (g.S.Store.held c.args.store.now) c.in-Some.request c.in-Err-answer.fault _ g.E.Output.failed g.E.Output.written c.args.err.now c.answer.new.err c.report.new.err (g.W.Output.written c.args.out.now) (g.W.Output.written c.answer.new.out)
-          answered.faults answered.write answered.told answered.joined c.report.ensures.status c.report.ensures.sound c.report.ensures.reported,
+      fault_is_reported g.S.Reader.Input.failed _ (g.S.Store.held c.args.store.now) c.in-Some.request c.in-Err-answer.fault _ g.E.Output.failed g.E.Output.written c.args.err.now c.answer.new.err c.report.new.err (g.W.Output.written c.args.out.now) (g.W.Output.written c.answer.new.out) (g.W.Output.failed c.answer.new.out)
+          answered.faults answered.write answered.lists answered.told answered.joined c.report.ensures.status c.report.ensures.sound c.report.ensures.reported,
     )
