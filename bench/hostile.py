@@ -12,7 +12,9 @@ of a search that differ from those of `plain_load.py`, `plain_check.py`, `page_c
 
 It prints counts. At the first failure it says what failed and where its files are, and ends with 1.
 """
+import csv
 import functools
+import io
 import os
 import random
 import re
@@ -352,6 +354,32 @@ def judged(runs, kind, signatures, priorities, certificate):
         runs.count("verdicts of three checkers that agree", "")
 
 
+def listed(runs, kind, chance, file):
+    """Of files whose names stand in a list, the records are those of each alone, and the others have a message."""
+    odd = 'a,"b"\nc'
+    runs.put("file", file)
+    runs.put(odd, file[1:])
+    names = [chance.choice(["file", odd, "none", "", "\udcff"]) for _ in range(chance.randrange(6))]
+    runs.put("names", "".join(name + "\0" for name in names).encode("utf-8", "surrogateescape"))
+    alone = {name: runs.run("match", *TABLE_FILES, name) for name in ("file", odd)}
+    words = ["match", "--csv", "-0", "--files-from", "names", *TABLE_FILES]
+    done = subprocess.run([runs.program, *words], cwd=runs.folder, capture_output=True, timeout=LONGEST)
+    runs.runs += 1
+    runs.count(kind, f"status {done.returncode}")
+    out, err = (it.decode("utf-8", "surrogateescape") for it in (done.stdout, done.stderr))
+    if alone["file"][0] != 0:
+        wanted = alone["file"]
+    else:
+        rows = [["file", "puid", "signature", "name"]]
+        for name in names:
+            if name in alone:
+                rows += [[name, *line.split(), ""] for line in alone[name][1].splitlines()] or [[name, "", "", ""]]
+        told = "".join(f"cannot open {name}\n" for name in names if name not in alone)
+        out, wanted = list(csv.reader(io.StringIO(out, newline=""))), (3 if told else 0, rows, told)
+    if (done.returncode, out, err) != wanted:
+        raise Failed(f"{words} of {names}: {(done.returncode, out, err)}, and each alone {alone}")
+
+
 def matched(runs, kind, signatures, file, wants_plain=True):
     """`match`, `match --all` and `witness` agree, and with the plain formats left."""
     runs.put("file", file)
@@ -521,12 +549,12 @@ def linted(runs, kind):
 
 def words_case(runs, chance):
     """A command line that is mixed up. A usage fault has some lines, and each other answer its form."""
-    words = [chance.choice(["match", "show", "lint", "check", "witness", "find", "conflicts", "dead", "--all", "--with-names", "--out", "--budget",
+    words = [chance.choice(["match", "show", "lint", "check", "witness", "find", "conflicts", "dead", "--all", "--with-names", "--csv", "--files-from", "-0", "--out", "--budget",
                             "--hex", "--progress", "--class", "--only", "fmt/1", "0", "1", "4294967296", "-1", "--", "-", "", "none", "signatures.csv", "priorities.csv", "certificate",
                             "--al", "match=1", "/", "n\u00e4me", "a\x1bb"]) for _ in range(chance.randrange(7))]
     words = [word.encode() if chance.random() < 0.9 else word.encode() + b"\xff" for word in words]
     runs.clear("out")
-    done = subprocess.run([runs.program, *words], cwd=runs.folder, capture_output=True, timeout=LONGEST)
+    done = subprocess.run([runs.program, *words], cwd=runs.folder, stdin=subprocess.DEVNULL, capture_output=True, timeout=LONGEST)
     runs.runs += 1
     runs.count("command lines", f"status {done.returncode}")
     err = re.sub(rb"\A(\r\d+ of \d+ (products|pairs|formats))+\n", b"", done.stderr) if b"--progress" in words else done.stderr
@@ -603,7 +631,10 @@ class Cases:
     def matching(self):
         seed = self.chance.choice(self.seeds)
         self.runs.put_table(seed.signatures, seed.priorities)
-        matched(self.runs, "files", seed.signatures, self.file())
+        if self.chance.random() < 0.3:
+            listed(self.runs, "lists of names", self.chance, self.file())
+        else:
+            matched(self.runs, "files", seed.signatures, self.file())
 
     def search(self):
         seed = random_seed(self.chance)

@@ -2,6 +2,7 @@ mod conflicting;
 mod failing;
 mod finding;
 mod judging;
+mod linting;
 mod many_files;
 mod worked_rows;
 

@@ -12,6 +12,7 @@ use Rattle.sig_engines.specs.ManyFiles.{err_texts}
 use Rattle.sig_engines.specs.Stores.{Holding}
 use Rattle.sig_engines.specs.declared.error.CutShort.{CutShort as Cut}
 use Rattle.sig_engines.specs.declared.error.CutShort.TheVariants as cut
+use Rattle.sig_engines.specs.declared.error.RunError.{RunError}
 use Rattle.sig_engines.specs.declared.error.RunError.TheVariants as run
 use Rattle.sig_engines.specs.declared.witness_name.WitnessName.{WitnessName}
 use Rattle.sig_table.specs.declared.error.TableError.{TableError}
@@ -19,11 +20,11 @@ use Rattle.sig_table.specs.declared.error.TableError.TheVariants as table
 use Rattle.sig_command.specs.CommandLine.{AreTaken, Asks, HasFaultKind, IsHelpAsked, program}
 use Rattle.sig_command.specs.Endings.{AnswersBy, EndsByFault, KeepsErrors, KeepsOutput, ReportsMemory, TellsBy}
 use Rattle.sig_command.specs.Faults.{Reports, ReportsLine, TellsWrite}
-use Rattle.sig_command.specs.Requests.{Behind, CutsSomeWords, CutsWords, HasFiles, IsCutRequest, IsFaultOf, IsFirstFault, IsLaterFault, Joins, KeepsOrCuts, ListsIf, ListsRequest, ListsSomeWords, ListsWords, ReportsFaultOf, ReportsLineOf, Shows, ShowsBefore, ShowsSomeWords, ShowsWords, TellsOf}
+use Rattle.sig_command.specs.Requests.{Behind, CutsSomeWords, CutsWords, IsCutRequest, IsFaultOf, IsFirstFault, IsLaterFault, Joins, KeepsOrCuts, ListsIf, ListsRequest, ListsSomeWords, ListsWords, ReportsFaultOf, ReportsLineOf, Shows, ShowsBefore, ShowsSomeWords, ShowsWords, TellsOf}
 use Rattle.sig_command.specs.Several.{ReportsFiles}
 use Rattle.sig_command.specs.Statuses.{kind_status, status_of, table_status}
 use Rattle.sig_command.specs.declared.args.Request.{Request}
-use Rattle.sig_command.specs.declared.args.Request.TheVariants.{Check, Conflicts, Dead, Find, Lint, Match, MatchMany, Show, Witness}
+use Rattle.sig_command.specs.declared.args.Request.TheVariants.{Check, Conflicts, Dead, Find, Lint, Match, MatchListed, MatchMany, Show, Witness}
 use Rattle.sig_command.specs.declared.fault.Fault.{Fault}
 use Rattle.sig_command.specs.declared.fault.Fault.TheVariants.{CannotOpen, CutShort, FaultyTable, NoFile, NotInTable, NotText, Run, SomeFiles, SummaryOfOne, Table}
 
@@ -39,24 +40,13 @@ memory_first failed held request before after err = (inl refl, go request)
     go (Show table) = tt
     go (Lint table) = tt
     go (Match all table file) = tt
-    go (MatchMany all table files) = refl
+    go (MatchMany ask table files) = refl
+    go (MatchListed ask table list end) = inl refl
     go (Find table budget out hex progress) = tt
     go (Conflicts table options progress) = tt
     go (Dead table budget hex progress) = tt
     go (Check table certificate) = tt
     go (Witness table file) = tt
-
--- of the several files that words name there are some
-pub has_files : (found : Option (Text × List Row)) (request : Request) → Asks found request → HasFiles request
-has_files found (Show table) asks = tt
-has_files found (Lint table) asks = tt
-has_files found (Match all table file) asks = tt
-has_files found (MatchMany all table files) asks = asks.3.some
-has_files found (Find table budget out hex progress) asks = tt
-has_files found (Conflicts table options progress) asks = tt
-has_files found (Dead table budget hex progress) asks = tt
-has_files found (Check table certificate) asks = tt
-has_files found (Witness table file) asks = tt
 
 -- ---- a fault of two kinds, which tells more than its line
 
@@ -70,8 +60,10 @@ no_such failed held request reason memory two first later (inr (inr (inr is))) =
 -- the faults of a table are no fault of one that loads
 later_faulty : {R : Type 0} (failed : R → Bool) (held : Holding) (request : Request) → IsLaterFault failed held request FaultyTable → ⊥
 later_faulty failed held (Show table) is = let bad : FaultyTable ≡ Run run.Write = is in cc
-later_faulty failed held (MatchMany all table files) (inl is) = let bad : FaultyTable ≡ SomeFiles = is in cc
-later_faulty failed held (MatchMany all table files) (inr is) = let bad : FaultyTable ≡ Run run.Write = is in cc
+later_faulty failed held (MatchMany ask table files) (inl is) = let bad : FaultyTable ≡ SomeFiles = is in cc
+later_faulty failed held (MatchMany ask table files) (inr is) = let bad : FaultyTable ≡ Run run.Write = is in cc
+later_faulty failed held (MatchListed ask table list end) (inl is) = let bad : FaultyTable ≡ SomeFiles = is in cc
+later_faulty failed held (MatchListed ask table list end) (inr is) = is
 later_faulty failed held (Find table budget out hex progress) (inl is) = let bad : FaultyTable ≡ CannotOpen out = is in cc
 later_faulty failed held (Find table budget out hex progress) (inr is) = let bad : FaultyTable ≡ Run run.Write = is in cc
 later_faulty failed held request is = is
@@ -146,8 +138,11 @@ files_are_reported : {R : Type 0} (failed : R → Bool) (held : Holding) (reques
 files_are_reported failed held (Show table) status before after is_failed err_before mid err_after is joins sound reports = absurd (no_files failed held (Show table) (λ same. let bad : SomeFiles ≡ Run run.Write = same in cc) is)
 files_are_reported failed held (Lint table) status before after is_failed err_before mid err_after is joins sound reports = absurd (no_files failed held (Lint table) (λ never. never) is)
 files_are_reported failed held (Match all table file) status before after is_failed err_before mid err_after is joins sound reports = absurd (no_files failed held (Match all table file) (λ never. never) is)
-files_are_reported failed held (MatchMany all table files) status before after is_failed err_before mid err_after is joins sound reports =
+files_are_reported failed held (MatchMany ask table files) status before after is_failed err_before mid err_after is joins sound reports =
     let added = joins.2 in
+    record { files = added.files; is = sym added.is; adds = nothing_behind err_before mid err_after (err_texts added.files) (added.reports sound) reports.adds }
+files_are_reported failed held (MatchListed ask table list end) status before after is_failed err_before mid err_after is joins sound reports =
+    let added = joins.4 in
     record { files = added.files; is = sym added.is; adds = nothing_behind err_before mid err_after (err_texts added.files) (added.reports sound) reports.adds }
 files_are_reported failed held (Find table budget out hex progress) status before after is_failed err_before mid err_after is joins sound reports = absurd (no_files failed held (Find table budget out hex progress) never is)
   where
@@ -214,7 +209,7 @@ fault_keeps_errors failed held words request reason status is_failed written err
 }
 
 -- with 2 the output is as it was, or has the faults of a table; with 3 an answer may be cut short
-pub fault_keeps_output : {R W : Type 0} (failed : R → Bool) (held : Holding) (words : List Text) (request : Request) (reason : Fault) (status : ℕ) (is_failed : W → Bool) (written : W → Option (List ℕ)) (before after : W) → Asks (subcommand_of program words) request → IsFaultOf failed held request reason → status ≡ status_of reason → (reason ≢ Run run.Write → ((e : Cut) → reason ≢ CutShort e) → ((folder : Bor Text) (name : WitnessName) → reason ≢ NoFile folder name) → reason ≢ SomeFiles → reason ≢ FaultyTable → after ≡ before) → ListsIf held request reason (is_failed after) (written before) (written after) → (reason ≢ FaultyTable → KeepsOrCuts failed held request is_failed written before after) → KeepsOutput (CutsWords failed held words (written before) (written after)) (ListsWords held words (written before) (written after)) status (is_failed after) before after
+pub fault_keeps_output : {R W : Type 0} (failed : R → Bool) (held : Holding) (words : List Text) (request : Request) (reason : Fault) (status : ℕ) (is_failed : W → Bool) (written : W → Option (List ℕ)) (before after : W) → Asks (subcommand_of program words) request → IsFaultOf failed held request reason → status ≡ status_of reason → (((e : RunError) → reason ≢ Run e) → ((e : Cut) → reason ≢ CutShort e) → ((folder : Bor Text) (name : WitnessName) → reason ≢ NoFile folder name) → reason ≢ SomeFiles → reason ≢ FaultyTable → after ≡ before) → ListsIf held request reason (is_failed after) (written before) (written after) → (reason ≢ FaultyTable → KeepsOrCuts failed held request is_failed written before after) → KeepsOutput (CutsWords failed held words (written before) (written after)) (ListsWords held words (written before) (written after)) status (is_failed after) before after
 fault_keeps_output failed held words request reason status is_failed written before after asks is ends untouched lists keeps = record {
   shown = λ low. absurd (never_low status reason ends low);
   refused = λ two. refused reason is (sym two ∙ ends) untouched lists;
@@ -222,7 +217,7 @@ fault_keeps_output failed held words request reason status is_failed written bef
 }
   where
     Untouched : Fault → Type 0
-    Untouched reason = reason ≢ Run run.Write → ((e : Cut) → reason ≢ CutShort e) → ((folder : Bor Text) (name : WitnessName) → reason ≢ NoFile folder name) → reason ≢ SomeFiles → reason ≢ FaultyTable → after ≡ before
+    Untouched reason = ((e : RunError) → reason ≢ Run e) → ((e : Cut) → reason ≢ CutShort e) → ((folder : Bor Text) (name : WitnessName) → reason ≢ NoFile folder name) → reason ≢ SomeFiles → reason ≢ FaultyTable → after ≡ before
 
     whole : (after ≡ before) ⊎ IsCutRequest failed held request (written before) (written after) → (after ≡ before) ⊎ CutsWords failed held words (written before) (written after)
     whole (inl same) = inl same
@@ -236,11 +231,11 @@ fault_keeps_output failed held words request reason status is_failed written bef
     refused (Run error) is two untouched lists = absurd (omega (arith, two))
     refused (CutShort error) is two untouched lists = absurd (omega (arith, two))
     refused SomeFiles is two untouched lists = absurd (omega (arith, two))
-    refused NotText is two untouched lists = inl (untouched (λ same. cc) (λ e same. cc) (λ folder name same. cc) (λ same. cc) (λ same. cc))
-    refused (CannotOpen name) is two untouched lists = inl (untouched (λ same. cc) (λ e same. cc) (λ folder name same. cc) (λ same. cc) (λ same. cc))
-    refused (Table error) is two untouched lists = inl (untouched (λ same. cc) (λ e same. cc) (λ folder name same. cc) (λ same. cc) (λ same. cc))
-    refused NotInTable is two untouched lists = inl (untouched (λ same. cc) (λ e same. cc) (λ folder name same. cc) (λ same. cc) (λ same. cc))
-    refused SummaryOfOne is two untouched lists = inl (untouched (λ same. cc) (λ e same. cc) (λ folder name same. cc) (λ same. cc) (λ same. cc))
+    refused NotText is two untouched lists = inl (untouched (λ e same. cc) (λ e same. cc) (λ folder name same. cc) (λ same. cc) (λ same. cc))
+    refused (CannotOpen name) is two untouched lists = inl (untouched (λ e same. cc) (λ e same. cc) (λ folder name same. cc) (λ same. cc) (λ same. cc))
+    refused (Table error) is two untouched lists = inl (untouched (λ e same. cc) (λ e same. cc) (λ folder name same. cc) (λ same. cc) (λ same. cc))
+    refused NotInTable is two untouched lists = inl (untouched (λ e same. cc) (λ e same. cc) (λ folder name same. cc) (λ same. cc) (λ same. cc))
+    refused SummaryOfOne is two untouched lists = inl (untouched (λ e same. cc) (λ e same. cc) (λ folder name same. cc) (λ same. cc) (λ same. cc))
 
 -- nor is want of memory
 pub memory_tells : {E : Type 0} (held : Holding) (words : List Text) (status : ℕ) (out_before out_after : Option (List ℕ)) (is_failed : Bool) (err last : E) (written written_after : Option (List ℕ)) → (AreTaken words → status ≡ 3) → TellsBy held words status out_before out_after is_failed err last written written_after

@@ -1,5 +1,5 @@
 -- What an accepted certificate means for the lines of a match.
-use Rattle.std.proofs.Common.{◌≡◌, ◌∙◌, ◌≤◌, ℕ, Bool, true, false, List, [], ◌∷◌, length, map, Option, Some, Result, Ok, Err, ap, ap₂, subst, sym}
+use Rattle.std.proofs.Common.{◌≡◌, ◌∙◌, ◌≤◌, ℕ, Bool, true, false, List, [], ◌∷◌, ◌++◌, length, map, Option, Some, Result, Ok, Err, ap, ap₂, subst, sym}
 use Rattle.std.specs.Borrow.{Bor}
 use Rattle.std.specs.Prelude.{is_ok}
 use Rattle.std.proofs.lemmas.Option.{same_Some}
@@ -9,8 +9,9 @@ use Rattle.sig_cert.specs.Deciding.{Decided}
 use Rattle.sig_cert.specs.Verdicts.{Verdict}
 use Rattle.sig_cert.specs.declared.error.CheckError.{CheckError}
 use Rattle.sig_command.specs.Requests.{Answers}
-use Rattle.sig_command.specs.Several.{AreTexts, IsOneLineOf}
-use Rattle.sig_command.specs.declared.args.Request.TheVariants.{Check, Match, MatchMany}
+use Rattle.sig_command.specs.Several.{AddsLinesOfEach, AreListedIn, AreTexts, IsOneLineOf}
+use Rattle.sig_command.specs.declared.args.Request.TheVariants.{Check, Match, MatchListed, MatchMany}
+use Rattle.sig_engines.specs.FileTexts.{head_text}
 use Rattle.sig_engines.specs.Lines.{lines_of}
 use Rattle.sig_engines.specs.ManyFiles.{AreLinesOf}
 use Rattle.sig_engines.specs.Stores.{IsTableOf, ReadsAs}
@@ -61,12 +62,20 @@ weaker_texts P Q each [] text are = are
 weaker_texts P Q each (name ∷ names) text are = (are.0, are.1, are.2, each name are.0 are.3, weaker_texts P Q each names are.1 are.4)
 
 -- the lines of several of its files
-pub one_line_each : (files : List ℕ → Option (List ℕ)) (table : TablePaths) (certificate : Bor (List ℕ)) (names : Bor (List (Bor (List ℕ)))) (is_yes : Bool) (checked_before checked_after before after : Option (List ℕ)) → Answers (Some files) (Check table certificate) true checked_before checked_after → Answers (Some files) (MatchMany false table names) is_yes before after → (t : TableView) × (text : List ℕ) × AreTexts (IsOneLineOf t) (map (λ n. n.now) names.now) text × Adds before text after
-one_line_each files table certificate names is_yes checked_before checked_after before after checked matched =
-    let t : TableView = matched.1 in
-    let decided : Decided t = table_is_decided files table certificate checked_before checked_after t checked matched.2 in
-    let added = matched.3 in
-    (t, added.text, weaker_texts (AreLinesOf false t (Some files)) (IsOneLineOf t) (one t decided) (map (λ (n : Bor (List ℕ)). n.now) names.now) added.text added.are_lines, added.adds)
+each_once : (files : List ℕ → Option (List ℕ)) (table : TablePaths) (certificate : Bor (List ℕ)) (csv : Bool) (t : TableView) (names : List (List ℕ)) (checked_before checked_after before after : Option (List ℕ)) → Answers (Some files) (Check table certificate) true checked_before checked_after → IsTableOf (Some files) table t → AddsLinesOfEach (record { all = false; csv = csv }) t (Some files) names before after → (text : List ℕ) × AreTexts (IsOneLineOf csv t) names text × Adds before (head_text csv ++ text) after
+each_once files table certificate csv t names checked_before checked_after before after checked is added =
+    let decided : Decided t = table_is_decided files table certificate checked_before checked_after t checked is in
+    (added.text, weaker_texts (AreLinesOf (record { all = false; csv = csv }) t (Some files)) (IsOneLineOf csv t) (one decided) names added.text added.are_lines, added.adds)
   where
-    one : (t : TableView) → Decided t → (name text : List ℕ) → AreLinesOf false t (Some files) name text → IsOneLineOf t name text
-    one t decided name text lines = (lines.hits, one_is_left t lines.file lines.hits decided lines.bytes lines.are_asked, lines.are_lines)
+    one : Decided t → (name text : List ℕ) → AreLinesOf (record { all = false; csv = csv }) t (Some files) name text → IsOneLineOf csv t name text
+    one decided name text lines = (lines.hits, one_is_left t lines.file lines.hits decided lines.bytes lines.are_asked, lines.are_lines)
+
+pub one_line_each : (files : List ℕ → Option (List ℕ)) (table : TablePaths) (certificate : Bor (List ℕ)) (csv : Bool) (names : Bor (List (Bor (List ℕ)))) (is_yes : Bool) (checked_before checked_after before after : Option (List ℕ)) → Answers (Some files) (Check table certificate) true checked_before checked_after → Answers (Some files) (MatchMany (record { all = false; csv = csv }) table names) is_yes before after → (t : TableView) × (text : List ℕ) × AreTexts (IsOneLineOf csv t) (map (λ n. n.now) names.now) text × Adds before (head_text csv ++ text) after
+one_line_each files table certificate csv names is_yes checked_before checked_after before after checked matched =
+    let once = each_once files table certificate csv matched.1 (map (λ (n : Bor (List ℕ)). n.now) names.now) checked_before checked_after before after checked matched.2 matched.3 in
+    (matched.1, once.0, once.1, once.2)
+
+pub one_line_listed : (files : List ℕ → Option (List ℕ)) (table : TablePaths) (certificate : Bor (List ℕ)) (csv : Bool) (list : Bor (List ℕ)) (end : ℕ) (is_yes : Bool) (checked_before checked_after before after : Option (List ℕ)) → Answers (Some files) (Check table certificate) true checked_before checked_after → Answers (Some files) (MatchListed (record { all = false; csv = csv }) table list end) is_yes before after → (t : TableView) × (names : List (List ℕ)) × AreListedIn (Some files) list.now end names × (text : List ℕ) × AreTexts (IsOneLineOf csv t) names text × Adds before (head_text csv ++ text) after
+one_line_listed files table certificate csv list end is_yes checked_before checked_after before after checked matched =
+    let once = each_once files table certificate csv matched.1 matched.3 checked_before checked_after before after checked matched.2 matched.5 in
+    (matched.1, matched.3, matched.4, once.0, once.1, once.2)

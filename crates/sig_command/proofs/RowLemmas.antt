@@ -1,5 +1,5 @@
 -- The values of an argument, by the rows of a parse.
-use Rattle.std.proofs.Common.{◌≡◌, ◌<◌, ◌≤◌, Bool, true, false, ◌||◌, ◌⊎◌, List, [], ◌∷◌, Option, Some, None, ap, arith, codes, get_or, inl, inr, length, map, refl, subst, sym, ◌∙◌}
+use Rattle.std.proofs.Common.{◌≡◌, ◌<◌, ◌≤◌, Bool, true, false, not, ◌||◌, ◌⊎◌, List, [], ◌∷◌, Option, Some, None, ap, arith, codes, get_or, inl, inr, length, map, refl, subst, sym, ◌∙◌}
 use Rattle.std.specs.Prelude.{IsSomeAnd, find, option_and_then, option_map, slice_get}
 use Rattle.std.specs.Borrow.{Bor}
 use Rattle.std.specs.Str.{bytes_eq}
@@ -85,6 +85,10 @@ flag_is_read found name is_given value other none = record {
   absent = λ h. none (sym (one_of-rows found name) ∙ h);
 }
 
+pub not_true : (b : Bool) → not b ≡ true → b ≡ false
+not_true true is = sym is
+not_true false is = refl
+
 -- an option that has this value
 pub some_of : {T : Type 0} (o : Option T) (x : T) → IsSomeAnd o (λ y. y ≡ x) → o ≡ Some x
 some_of None x is = absurd is
@@ -100,9 +104,10 @@ one_named found [] d some one is = absurd (omega (arith, some))
 one_named found (n ∷ []) d some one is = all_of-rows found (codes "FILE") ∙ sym is
 one_named found (n ∷ m ∷ ns) d some one is = absurd (omega (arith, one))
 
-pub many_named : (found : Found) (names : List (Bor Text)) (is_given : Bool) → 0 < length names → (1 < length names) ⊎ (is_given ≡ true) → HasFlag (codes "with-names") is_given (rows_of found) → Some (map (λ n. n.now) names) ≡ option_map raw_values (matched_of found (codes "FILE")) → NamesMany names (rows_of found)
-many_named found names is_given some several flag is = record { are = all_of-rows found (codes "FILE") ∙ sym is; some = some; named = by several }
+pub many_named : (found : Found) (names : List (Bor Text)) (is_named is_csv : Bool) → 0 < length names → (1 < length names) ⊎ ((is_named ≡ true) ⊎ (is_csv ≡ true)) → HasFlag (codes "with-names") is_named (rows_of found) → HasFlag (codes "csv") is_csv (rows_of found) → Some (map (λ n. n.now) names) ≡ option_map raw_values (matched_of found (codes "FILE")) → first_of (codes "NAMES") (rows_of found) ≡ None → NamesMany names (rows_of found)
+many_named found names is_named is_csv some several flag csv is unlisted = record { are = all_of-rows found (codes "FILE") ∙ sym is; some = some; unlisted = unlisted; named = by several }
   where
-    by : (1 < length names) ⊎ (is_given ≡ true) → (1 < length names) ⊎ HasFlag (codes "with-names") true (rows_of found)
+    by : (1 < length names) ⊎ ((is_named ≡ true) ⊎ (is_csv ≡ true)) → (1 < length names) ⊎ (HasFlag (codes "with-names") true (rows_of found) ⊎ HasFlag (codes "csv") true (rows_of found))
     by (inl many) = inl many
-    by (inr given) = inr (subst (λ b. HasFlag (codes "with-names") b (rows_of found)) given flag)
+    by (inr (inl given)) = inr (inl (subst (λ b. HasFlag (codes "with-names") b (rows_of found)) given flag))
+    by (inr (inr given)) = inr (inr (subst (λ b. HasFlag (codes "csv") b (rows_of found)) given csv))

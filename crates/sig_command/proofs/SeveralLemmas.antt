@@ -1,59 +1,63 @@
 -- What is written of several files.
-use Rattle.std.proofs.Common.{◌≡◌, ℕ, List, [], ◌∷◌, ◌++◌, Bool, Option, Ok, Err, false, true, map, refl, subst, sym, ◌∙◌}
+use Rattle.std.proofs.Common.{◌≡◌, ◌≢◌, ℕ, List, [], ◌∷◌, ◌++◌, Bool, None, Option, Some, Ok, Err, ap, false, inl, inr, true, map, refl, subst, sym, ◌∙◌}
 use Rattle.std.specs.Prelude.{All, is_ok, ◌&&◌}
 use Rattle.std.specs.Borrow.{Bor}
 use Rattle.std.proofs.lemmas.List.{append-nil}
 use Rattle.std.proofs.lemmas.List.Elements.{All-head, All-tail}
 use Rattle.sig_table.specs.Views.{TableView}
-use Rattle.sig_engines.specs.ManyFiles.{AddsFiles, AreLinesOf, CutsFiles, IsPrinted, Printed, PrintedFile, is_whole, names_of, out_text, out_texts}
-use Rattle.sig_engines.specs.Stores.{Holding, IsTableOf}
-use Rattle.sig_engines.specs.declared.error.RunError.TheVariants.{Write}
+use Rattle.sig_engines.specs.FileTexts.{head_text}
+use Rattle.sig_engines.specs.Listed.{AreListed}
+use Rattle.sig_engines.specs.ManyFiles.{AddsFiles, AddsListed, AreLinesOf, CutsFiles, CutsListed, IsPrinted, StopsFiles, StopsListed, Printed, PrintedFile, is_whole, names_of, out_text, out_texts}
+use Rattle.sig_engines.specs.Stores.{Has, Holding, IsTableOf, Opens, SomeFailed}
+use Rattle.sig_engines.specs.declared.ask.MatchAsk.{MatchAsk}
+use Rattle.sig_engines.specs.declared.error.RunError.{RunError}
+use Rattle.sig_engines.specs.declared.error.RunError.TheVariants.{OutOfMemory, Read, Write}
 use Rattle.sig_engines.specs.declared.store.TablePaths.{TablePaths}
-use Rattle.sig_command.specs.Requests.{Answers, IsCutRequest, IsLoadFault, Joins, Shows}
-use Rattle.sig_command.specs.Several.{AreTexts}
-use Rattle.sig_command.specs.declared.args.Request.TheVariants.{MatchMany}
+use Rattle.sig_command.proofs.StoreLemmas.{has_opened, opened}
+use Rattle.sig_command.specs.Requests.{Answers, IsCutRequest, IsFaultOf, IsLoadFault, Joins, Shows}
+use Rattle.sig_command.specs.Several.{AddsLinesOfEach, AreListedIn, AreTexts}
+use Rattle.sig_command.specs.declared.args.Request.TheVariants.{MatchListed, MatchMany}
 use Rattle.sig_command.specs.declared.fault.Fault.{Fault}
 use Rattle.sig_command.specs.declared.fault.Fault.TheVariants.{CannotOpen, CutShort, FaultyTable, NoFile, NotInTable, NotText, Run, SomeFiles, SummaryOfOne, Table}
 
 -- ---- files of which none has a fault
 
 -- the lines of one, and those of the others
-lines_of_first : {R : Type 0} (failed : R → Bool) (all : Bool) (table : TableView) (held : Holding) (name : List ℕ) (printed : Printed) (files : List PrintedFile) → IsPrinted failed all table held name printed → true ≡ (is_ok printed && is_whole files) → (true ≡ is_whole files → AreTexts (AreLinesOf all table held) (names_of files) (out_texts files)) → AreTexts (AreLinesOf all table held) (name ∷ names_of files) (out_text printed ++ out_texts files)
-lines_of_first failed all table held name (Ok lines) files is whole rest = (lines, out_texts files, refl, is, rest whole)
-lines_of_first failed all table held name (Err fault) files is whole rest = let bad : true ≡ false = whole in cc
+lines_of_first : {R : Type 0} (failed : R → Bool) (ask : MatchAsk) (table : TableView) (held : Holding) (name : List ℕ) (printed : Printed) (files : List PrintedFile) → IsPrinted failed ask table held name printed → true ≡ (is_ok printed && is_whole files) → (true ≡ is_whole files → AreTexts (AreLinesOf ask table held) (names_of files) (out_texts files)) → AreTexts (AreLinesOf ask table held) (name ∷ names_of files) (out_text printed ++ out_texts files)
+lines_of_first failed ask table held name (Ok lines) files is whole rest = (lines, out_texts files, refl, is, rest whole)
+lines_of_first failed ask table held name (Err fault) files is whole rest = let bad : true ≡ false = whole in cc
 
-lines_of_all : {R : Type 0} (failed : R → Bool) (all : Bool) (table : TableView) (held : Holding) (files : List PrintedFile) → All (λ (f : PrintedFile). IsPrinted failed all table held f.name f.printed) files → true ≡ is_whole files → AreTexts (AreLinesOf all table held) (names_of files) (out_texts files)
-lines_of_all failed all table held [] each whole = refl
-lines_of_all failed all table held (f ∷ fs) each whole =
-    lines_of_first failed all table held f.name f.printed fs
-    (All-head (λ (f : PrintedFile). IsPrinted failed all table held f.name f.printed) f fs each) whole
-    (λ rest. lines_of_all failed all table held fs (All-tail (λ (f : PrintedFile). IsPrinted failed all table held f.name f.printed) f fs each) rest)
+lines_of_all : {R : Type 0} (failed : R → Bool) (ask : MatchAsk) (table : TableView) (held : Holding) (files : List PrintedFile) → All (λ (f : PrintedFile). IsPrinted failed ask table held f.name f.printed) files → true ≡ is_whole files → AreTexts (AreLinesOf ask table held) (names_of files) (out_texts files)
+lines_of_all failed ask table held [] each whole = refl
+lines_of_all failed ask table held (f ∷ fs) each whole =
+    lines_of_first failed ask table held f.name f.printed fs
+    (All-head (λ (f : PrintedFile). IsPrinted failed ask table held f.name f.printed) f fs each) whole
+    (λ rest. lines_of_all failed ask table held fs (All-tail (λ (f : PrintedFile). IsPrinted failed ask table held f.name f.printed) f fs each) rest)
+
+-- what is written of files of which none has a fault
+each_of : {R : Type 0} (failed : R → Bool) (ask : MatchAsk) (table : TableView) (held : Holding) (names : List (List ℕ)) (before after : Option (List ℕ)) (err_failed : Bool) (err_before err_after : Option (List ℕ)) → AddsFiles (head_text ask.csv) (IsPrinted failed ask table held) names before after err_failed err_before err_after true → AddsLinesOfEach ask table held names before after
+each_of failed ask table held names before after err_failed err_before err_after added = record {
+  text = out_texts added.files;
+  are_lines = subst (λ l. AreTexts (AreLinesOf ask table held) l (out_texts added.files)) added.are (lines_of_all failed ask table held added.files added.each added.is);
+  adds = added.adds;
+}
 
 -- ---- what comes of them, in the words of a request
 
-pub many_answered : {R : Type 0} (failed : R → Bool) (held : Holding) (all : Bool) (paths : TablePaths) (files : Bor (List (Bor (List ℕ)))) (core table : TableView) (before after : Option (List ℕ)) (err_failed : Bool) (err_before err_after : Option (List ℕ)) → core ≡ table → IsTableOf held paths table → AddsFiles (IsPrinted failed all core held) (map (λ n. n.now) files.now) before after err_failed err_before err_after true → Answers held (MatchMany all paths files) true before after
-many_answered failed held all paths files core table before after err_failed err_before err_after same is adds =
+pub many_answered : {R : Type 0} (failed : R → Bool) (held : Holding) (ask : MatchAsk) (paths : TablePaths) (files : Bor (List (Bor (List ℕ)))) (core table : TableView) (before after : Option (List ℕ)) (err_failed : Bool) (err_before err_after : Option (List ℕ)) → core ≡ table → IsTableOf held paths table → AddsFiles (head_text ask.csv) (IsPrinted failed ask core held) (map (λ n. n.now) files.now) before after err_failed err_before err_after true → Answers held (MatchMany ask paths files) true before after
+many_answered failed held ask paths files core table before after err_failed err_before err_after same is adds =
     let names = map (λ (n : Bor (List ℕ)). n.now) files.now in
-    let added = subst (λ t. AddsFiles (IsPrinted failed all t held) names before after err_failed err_before err_after true) same adds in (
-      refl,
-      table,
-      is,
-      record {
-        text = out_texts added.files;
-        are_lines = subst (λ l. AreTexts (AreLinesOf all table held) l (out_texts added.files)) added.are (lines_of_all failed all table held added.files added.each added.is);
-        adds = added.adds;
-      },
-    )
+    (refl, table, is, each_of failed ask table held names before after err_failed err_before err_after (subst (λ t. AddsFiles (head_text ask.csv) (IsPrinted failed ask t held) names before after err_failed err_before err_after true) same adds))
 
-pub many_joined : {R : Type 0} (failed : R → Bool) (held : Holding) (all : Bool) (paths : TablePaths) (files : Bor (List (Bor (List ℕ)))) (core table : TableView) (before after : Option (List ℕ)) (err_failed : Bool) (err_before err_after : Option (List ℕ)) → core ≡ table → IsTableOf held paths table → AddsFiles (IsPrinted failed all core held) (map (λ n. n.now) files.now) before after err_failed err_before err_after false → Joins failed held (MatchMany all paths files) SomeFiles before after err_failed err_before err_after
-many_joined failed held all paths files core table before after err_failed err_before err_after same is adds =
-    (table, is, subst (λ t. AddsFiles (IsPrinted failed all t held) (map (λ (n : Bor (List ℕ)). n.now) files.now) before after err_failed err_before err_after false) same adds)
+pub many_joined : {R : Type 0} (failed : R → Bool) (held : Holding) (ask : MatchAsk) (paths : TablePaths) (files : Bor (List (Bor (List ℕ)))) (core table : TableView) (before after : Option (List ℕ)) (err_failed : Bool) (err_before err_after : Option (List ℕ)) → core ≡ table → IsTableOf held paths table → AddsFiles (head_text ask.csv) (IsPrinted failed ask core held) (map (λ n. n.now) files.now) before after err_failed err_before err_after false → Joins failed held (MatchMany ask paths files) SomeFiles before after err_failed err_before err_after
+many_joined failed held ask paths files core table before after err_failed err_before err_after same is adds =
+    (table, is, subst (λ t. AddsFiles (head_text ask.csv) (IsPrinted failed ask t held) (map (λ (n : Bor (List ℕ)). n.now) files.now) before after err_failed err_before err_after false) same adds)
 
 -- each fault is told
-pub many_told : {R : Type 0} (failed : R → Bool) (held : Holding) (all : Bool) (paths : TablePaths) (files : Bor (List (Bor (List ℕ)))) (core table : TableView) (before after : Option (List ℕ)) (err_failed : Bool) (err_before err_after : Option (List ℕ)) → core ≡ table → IsTableOf held paths table → AddsFiles (IsPrinted failed all core held) (map (λ n. n.now) files.now) before after err_failed err_before err_after false → Shows failed held (MatchMany all paths files) false err_failed err_before err_after
-many_told failed held all paths files core table before after err_failed err_before err_after same is adds =
+pub many_told : {R : Type 0} (failed : R → Bool) (held : Holding) (ask : MatchAsk) (paths : TablePaths) (files : Bor (List (Bor (List ℕ)))) (core table : TableView) (before after : Option (List ℕ)) (err_failed : Bool) (err_before err_after : Option (List ℕ)) → core ≡ table → IsTableOf held paths table → AddsFiles (head_text ask.csv) (IsPrinted failed ask core held) (map (λ n. n.now) files.now) before after err_failed err_before err_after false → Shows failed held (MatchMany ask paths files) false err_failed err_before err_after
+many_told failed held ask paths files core table before after err_failed err_before err_after same is adds =
     let names = map (λ (n : Bor (List ℕ)). n.now) files.now in
-    let added = subst (λ t. AddsFiles (IsPrinted failed all t held) names before after err_failed err_before err_after false) same adds in (
+    let added = subst (λ t. AddsFiles (head_text ask.csv) (IsPrinted failed ask t held) names before after err_failed err_before err_after false) same adds in (
       refl,
       table,
       is,
@@ -67,35 +71,104 @@ many_told failed held all paths files core table before after err_failed err_bef
     )
 
 -- and the lines of the others are all that is written
-pub many_cut : {R : Type 0} (failed : R → Bool) (held : Holding) (all : Bool) (paths : TablePaths) (files : Bor (List (Bor (List ℕ)))) (core table : TableView) (before after : Option (List ℕ)) (err_failed : Bool) (err_before err_after : Option (List ℕ)) → core ≡ table → IsTableOf held paths table → AddsFiles (IsPrinted failed all core held) (map (λ n. n.now) files.now) before after err_failed err_before err_after false → IsCutRequest failed held (MatchMany all paths files) before after
-many_cut failed held all paths files core table before after err_failed err_before err_after same is adds =
+pub many_cut : {R : Type 0} (failed : R → Bool) (held : Holding) (ask : MatchAsk) (paths : TablePaths) (files : Bor (List (Bor (List ℕ)))) (core table : TableView) (before after : Option (List ℕ)) (err_failed : Bool) (err_before err_after : Option (List ℕ)) → core ≡ table → IsTableOf held paths table → AddsFiles (head_text ask.csv) (IsPrinted failed ask core held) (map (λ n. n.now) files.now) before after err_failed err_before err_after false → IsCutRequest failed held (MatchMany ask paths files) before after
+many_cut failed held ask paths files core table before after err_failed err_before err_after same is adds =
     let names = map (λ (n : Bor (List ℕ)). n.now) files.now in
-    let added = subst (λ t. AddsFiles (IsPrinted failed all t held) names before after err_failed err_before err_after false) same adds in
+    let added = subst (λ t. AddsFiles (head_text ask.csv) (IsPrinted failed ask t held) names before after err_failed err_before err_after false) same adds in
     (table, is, record { files = added.files; are = added.are; each = added.each; is = sym added.is; adds = added.adds })
 
 -- ---- a write failed
 
-pub first_joined : {R : Type 0} (failed : R → Bool) (held : Holding) (all : Bool) (paths : TablePaths) (files : Bor (List (Bor (List ℕ)))) (core table : TableView) (before after : Option (List ℕ)) (err_failed : Bool) (err_before err_after : Option (List ℕ)) → core ≡ table → IsTableOf held paths table → CutsFiles (IsPrinted failed all core held) (map (λ n. n.now) files.now) before after err_failed err_before err_after → Joins failed held (MatchMany all paths files) (Run Write) before after err_failed err_before err_after
-first_joined failed held all paths files core table before after err_failed err_before err_after same is cuts =
-    (table, is, subst (λ t. CutsFiles (IsPrinted failed all t held) (map (λ (n : Bor (List ℕ)). n.now) files.now) before after err_failed err_before err_after) same cuts)
+pub first_joined : {R : Type 0} (failed : R → Bool) (held : Holding) (ask : MatchAsk) (paths : TablePaths) (files : Bor (List (Bor (List ℕ)))) (core table : TableView) (before after : Option (List ℕ)) (err_failed : Bool) (err_before err_after : Option (List ℕ)) → core ≡ table → IsTableOf held paths table → CutsFiles (head_text ask.csv) (IsPrinted failed ask core held) (map (λ n. n.now) files.now) before after err_failed err_before err_after → Joins failed held (MatchMany ask paths files) (Run Write) before after err_failed err_before err_after
+first_joined failed held ask paths files core table before after err_failed err_before err_after same is cuts =
+    (table, is, subst (λ t. CutsFiles (head_text ask.csv) (IsPrinted failed ask t held) (map (λ (n : Bor (List ℕ)). n.now) files.now) before after err_failed err_before err_after) same cuts)
 
-pub first_told : {R : Type 0} (failed : R → Bool) (held : Holding) (all : Bool) (paths : TablePaths) (files : Bor (List (Bor (List ℕ)))) (core table : TableView) (before after : Option (List ℕ)) (err_failed : Bool) (err_before err_after : Option (List ℕ)) → core ≡ table → IsTableOf held paths table → CutsFiles (IsPrinted failed all core held) (map (λ n. n.now) files.now) before after err_failed err_before err_after → Shows failed held (MatchMany all paths files) false err_failed err_before err_after
-first_told failed held all paths files core table before after err_failed err_before err_after same is cuts =
+pub first_told : {R : Type 0} (failed : R → Bool) (held : Holding) (ask : MatchAsk) (paths : TablePaths) (files : Bor (List (Bor (List ℕ)))) (core table : TableView) (before after : Option (List ℕ)) (err_failed : Bool) (err_before err_after : Option (List ℕ)) → core ≡ table → IsTableOf held paths table → CutsFiles (head_text ask.csv) (IsPrinted failed ask core held) (map (λ n. n.now) files.now) before after err_failed err_before err_after → Shows failed held (MatchMany ask paths files) false err_failed err_before err_after
+first_told failed held ask paths files core table before after err_failed err_before err_after same is cuts =
     let names = map (λ (n : Bor (List ℕ)). n.now) files.now in
-    let cut = subst (λ t. CutsFiles (IsPrinted failed all t held) names before after err_failed err_before err_after) same cuts in
+    let cut = subst (λ t. CutsFiles (head_text ask.csv) (IsPrinted failed ask t held) names before after err_failed err_before err_after) same cuts in
     (refl, table, is, λ sound. record { files = cut.files; others = cut.others; are_first = cut.are_first; each = cut.each; adds = cut.reports sound })
 
 -- ---- there is no table
 
 -- nothing is told then
-pub load_joined : {R : Type 0} (failed : R → Bool) (held : Holding) (all : Bool) (paths : TablePaths) (files : Bor (List (Bor (List ℕ)))) (fault : Fault) (before after : Option (List ℕ)) (err_failed : Bool) (err : Option (List ℕ)) → IsLoadFault failed held paths fault → Joins failed held (MatchMany all paths files) fault before after err_failed err err
-load_joined failed held all paths files NotText before after err_failed err is = absurd is
-load_joined failed held all paths files (CannotOpen name) before after err_failed err is = refl
-load_joined failed held all paths files (NoFile folder name) before after err_failed err is = absurd is
-load_joined failed held all paths files (Table error) before after err_failed err is = refl
-load_joined failed held all paths files NotInTable before after err_failed err is = absurd is
-load_joined failed held all paths files SummaryOfOne before after err_failed err is = absurd is
-load_joined failed held all paths files (Run error) before after err_failed err is = absurd is
-load_joined failed held all paths files (CutShort error) before after err_failed err is = absurd is
-load_joined failed held all paths files SomeFiles before after err_failed err is = absurd is
-load_joined failed held all paths files FaultyTable before after err_failed err is = absurd is
+pub load_joined : {R : Type 0} (failed : R → Bool) (held : Holding) (ask : MatchAsk) (paths : TablePaths) (files : Bor (List (Bor (List ℕ)))) (fault : Fault) (before after : Option (List ℕ)) (err_failed : Bool) (err : Option (List ℕ)) → IsLoadFault failed held paths fault → Joins failed held (MatchMany ask paths files) fault before after err_failed err err
+load_joined failed held ask paths files NotText before after err_failed err is = absurd is
+load_joined failed held ask paths files (CannotOpen name) before after err_failed err is = refl
+load_joined failed held ask paths files (NoFile folder name) before after err_failed err is = absurd is
+load_joined failed held ask paths files (Table error) before after err_failed err is = refl
+load_joined failed held ask paths files NotInTable before after err_failed err is = absurd is
+load_joined failed held ask paths files SummaryOfOne before after err_failed err is = absurd is
+load_joined failed held ask paths files (Run error) before after err_failed err is = absurd is
+load_joined failed held ask paths files (CutShort error) before after err_failed err is = absurd is
+load_joined failed held ask paths files SomeFiles before after err_failed err is = absurd is
+load_joined failed held ask paths files FaultyTable before after err_failed err is = absurd is
+
+-- ---- files whose names stand in a list
+
+-- the names are those in the file that was opened
+listed_in : (held : Holding) (list : List ℕ) (end : ℕ) (to_come : Option (List ℕ)) (names : List (List ℕ)) → Opens held list (Some to_come) → AreListed end to_come names → AreListedIn held list end names
+listed_in None list end to_come names opens are = tt
+listed_in (Some files) list end to_come names opens are =
+    let o = opened files list to_come opens in
+    (o.bytes, o.has, subst (λ c. AreListed end c names) o.comes are)
+
+pub listed_answered : {R : Type 0} (failed : R → Bool) (held : Holding) (ask : MatchAsk) (paths : TablePaths) (list : Bor (List ℕ)) (end : ℕ) (to_come : Option (List ℕ)) (core table : TableView) (before after : Option (List ℕ)) (err_failed : Bool) (err_before err_after : Option (List ℕ)) → core ≡ table → IsTableOf held paths table → Opens held list.now (Some to_come) → AddsListed (head_text ask.csv) (IsPrinted failed ask core held) end to_come before after err_failed err_before err_after true → Answers held (MatchListed ask paths list end) true before after
+listed_answered failed held ask paths list end to_come core table before after err_failed err_before err_after same is opens adds =
+    let added = subst (λ t. AddsListed (head_text ask.csv) (IsPrinted failed ask t held) end to_come before after err_failed err_before err_after true) same adds in
+    (refl, table, is, added.names, listed_in held list.now end to_come added.names opens added.are_listed, each_of failed ask table held added.names before after err_failed err_before err_after added.are_added)
+
+-- some of them have a fault
+pub listed_joined : {R : Type 0} (failed : R → Bool) (held : Holding) (ask : MatchAsk) (paths : TablePaths) (list : Bor (List ℕ)) (end : ℕ) (to_come : Option (List ℕ)) (core table : TableView) (before after : Option (List ℕ)) (err_failed : Bool) (err_before err_after : Option (List ℕ)) → core ≡ table → IsTableOf held paths table → Opens held list.now (Some to_come) → AddsListed (head_text ask.csv) (IsPrinted failed ask core held) end to_come before after err_failed err_before err_after false → Joins failed held (MatchListed ask paths list end) SomeFiles before after err_failed err_before err_after
+listed_joined failed held ask paths list end to_come core table before after err_failed err_before err_after same is opens adds =
+    let added = subst (λ t. AddsListed (head_text ask.csv) (IsPrinted failed ask t held) end to_come before after err_failed err_before err_after false) same adds in
+    (table, is, added.names, listed_in held list.now end to_come added.names opens added.are_listed, added.are_added)
+
+pub listed_told : {R : Type 0} (failed : R → Bool) (held : Holding) (ask : MatchAsk) (paths : TablePaths) (list : Bor (List ℕ)) (end : ℕ) (to_come : Option (List ℕ)) (core table : TableView) (before after : Option (List ℕ)) (err_failed : Bool) (err_before err_after : Option (List ℕ)) → core ≡ table → IsTableOf held paths table → Opens held list.now (Some to_come) → AddsListed (head_text ask.csv) (IsPrinted failed ask core held) end to_come before after err_failed err_before err_after false → Shows failed held (MatchListed ask paths list end) false err_failed err_before err_after
+listed_told failed held ask paths list end to_come core table before after err_failed err_before err_after same is opens adds =
+    let listed = subst (λ t. AddsListed (head_text ask.csv) (IsPrinted failed ask t held) end to_come before after err_failed err_before err_after false) same adds in
+    let added = listed.are_added in (
+      refl,
+      table,
+      is,
+      listed.names,
+      listed_in held list.now end to_come listed.names opens listed.are_listed,
+      λ sound. record { files = added.files; others = []; are_first = sym added.are ∙ sym (append-nil (names_of added.files)); each = added.each; adds = added.reports sound },
+    )
+
+pub listed_cut : {R : Type 0} (failed : R → Bool) (held : Holding) (ask : MatchAsk) (paths : TablePaths) (list : Bor (List ℕ)) (end : ℕ) (to_come : Option (List ℕ)) (core table : TableView) (before after : Option (List ℕ)) (err_failed : Bool) (err_before err_after : Option (List ℕ)) → core ≡ table → IsTableOf held paths table → Opens held list.now (Some to_come) → AddsListed (head_text ask.csv) (IsPrinted failed ask core held) end to_come before after err_failed err_before err_after false → IsCutRequest failed held (MatchListed ask paths list end) before after
+listed_cut failed held ask paths list end to_come core table before after err_failed err_before err_after same is opens adds =
+    let listed = subst (λ t. AddsListed (head_text ask.csv) (IsPrinted failed ask t held) end to_come before after err_failed err_before err_after false) same adds in
+    let added = listed.are_added in
+    (table, is, listed.names, listed_in held list.now end to_come listed.names opens listed.are_listed, record { files = added.files; others = []; are_first = sym added.are ∙ sym (append-nil (names_of added.files)); each = added.each; adds = added.adds })
+
+-- the run ends before the list does
+pub list_told : {R : Type 0} (failed : R → Bool) (held : Holding) (ask : MatchAsk) (paths : TablePaths) (list : Bor (List ℕ)) (end : ℕ) (to_come : Option (List ℕ)) (core table : TableView) (before after : Option (List ℕ)) (err_failed : Bool) (err_before err_after : Option (List ℕ)) → core ≡ table → IsTableOf held paths table → Opens held list.now (Some to_come) → CutsListed (head_text ask.csv) (IsPrinted failed ask core held) end to_come before after err_failed err_before err_after → Shows failed held (MatchListed ask paths list end) false err_failed err_before err_after
+list_told failed held ask paths list end to_come core table before after err_failed err_before err_after same is opens cuts =
+    let listed = subst (λ t. CutsListed (head_text ask.csv) (IsPrinted failed ask t held) end to_come before after err_failed err_before err_after) same cuts in
+    let cut = listed.are_cut in
+    (refl, table, is, listed.names, listed_in held list.now end to_come listed.names opens listed.are_listed, λ sound. record { files = cut.files; others = cut.others; are_first = cut.are_first; each = cut.each; adds = cut.reports sound })
+
+pub list_joined : {R : Type 0} (failed : R → Bool) (held : Holding) (ask : MatchAsk) (paths : TablePaths) (list : Bor (List ℕ)) (end : ℕ) (to_come : Option (List ℕ)) (core table : TableView) (error : RunError) (before after : Option (List ℕ)) (err_failed : Bool) (err_before err_after : Option (List ℕ)) → core ≡ table → IsTableOf held paths table → Opens held list.now (Some to_come) → CutsListed (head_text ask.csv) (IsPrinted failed ask core held) end to_come before after err_failed err_before err_after → (error ≢ Write → StopsListed (head_text ask.csv) (IsPrinted failed ask core held) end to_come before after err_failed err_before err_after) → Joins failed held (MatchListed ask paths list end) (Run error) before after err_failed err_before err_after
+list_joined failed held ask paths list end to_come core table Write before after err_failed err_before err_after same is opens cuts stops =
+    let listed = subst (λ t. CutsListed (head_text ask.csv) (IsPrinted failed ask t held) end to_come before after err_failed err_before err_after) same cuts in
+    (table, is, listed.names, listed_in held list.now end to_come listed.names opens listed.are_listed, listed.are_cut)
+list_joined failed held ask paths list end to_come core table Read before after err_failed err_before err_after same is opens cuts stops =
+    let listed = subst (λ t. StopsListed (head_text ask.csv) (IsPrinted failed ask t held) end to_come before after err_failed err_before err_after) same (stops (λ same. cc)) in
+    (table, is, listed.names, listed_in held list.now end to_come listed.names opens listed.are_listed, listed.are_stopped)
+list_joined failed held ask paths list end to_come core table OutOfMemory before after err_failed err_before err_after same is opens cuts stops =
+    let listed = subst (λ t. StopsListed (head_text ask.csv) (IsPrinted failed ask t held) end to_come before after err_failed err_before err_after) same (stops (λ same. cc)) in
+    inr (table, is, listed.names, listed_in held list.now end to_come listed.names opens listed.are_listed, listed.are_stopped)
+
+-- where no write failed, the lines of the first files stand
+pub list_cut : {R : Type 0} (failed : R → Bool) (held : Holding) (ask : MatchAsk) (paths : TablePaths) (list : Bor (List ℕ)) (end : ℕ) (to_come : Option (List ℕ)) (core table : TableView) (before after : Option (List ℕ)) (err_failed : Bool) (err_before err_after : Option (List ℕ)) → core ≡ table → IsTableOf held paths table → Opens held list.now (Some to_come) → StopsListed (head_text ask.csv) (IsPrinted failed ask core held) end to_come before after err_failed err_before err_after → IsCutRequest failed held (MatchListed ask paths list end) before after
+list_cut failed held ask paths list end to_come core table before after err_failed err_before err_after same is opens stops =
+    let listed = subst (λ t. StopsListed (head_text ask.csv) (IsPrinted failed ask t held) end to_come before after err_failed err_before err_after) same stops in
+    let stopped = listed.are_stopped in
+    (table, is, listed.names, listed_in held list.now end to_come listed.names opens listed.are_listed, record { files = stopped.files; others = stopped.others; are_first = stopped.are_first; each = stopped.each; adds = stopped.adds })
+
+-- why the run ends
+pub list_fault : {R : Type 0} (failed : R → Bool) (held : Holding) (ask : MatchAsk) (paths : TablePaths) (list : Bor (List ℕ)) (end : ℕ) (to_come : Option (List ℕ)) (table : TableView) (error : RunError) → IsTableOf held paths table → Opens held list.now (Some to_come) → (error ≡ Read → SomeFailed failed) → IsFaultOf failed held (MatchListed ask paths list end) (Run error)
+list_fault failed held ask paths list end to_come table Read is opens unread = inr (inr (inl ((table, is), inr (has_opened held list.now to_come opens, unread refl))))
+list_fault failed held ask paths list end to_come table Write is opens unread = inr (inr (inl ((table, is), inr (has_opened held list.now to_come opens))))
+list_fault failed held ask paths list end to_come table OutOfMemory is opens unread = inr (inl refl)

@@ -32,12 +32,12 @@ use Rattle.sig_command.specs.declared.fault.Fault.TheVariants.{CannotOpen, CutSh
 -- ---- one file
 
 -- a file that is opened has bytes, and they are to come
-record Opened (files : List ℕ → Option (List ℕ)) (name : List ℕ) (to_come : Option (List ℕ)) : Type 0 where
-  bytes : List ℕ
-  has : files name ≡ Some bytes
-  comes : to_come ≡ Some bytes
+pub record Opened (files : List ℕ → Option (List ℕ)) (name : List ℕ) (to_come : Option (List ℕ)) : Type 0 where
+  pub bytes : List ℕ
+  pub has : files name ≡ Some bytes
+  pub comes : to_come ≡ Some bytes
 
-opened : (files : List ℕ → Option (List ℕ)) (name : List ℕ) (to_come : Option (List ℕ)) → Opens (Some files) name (Some to_come) → Opened files name to_come
+pub opened : (files : List ℕ → Option (List ℕ)) (name : List ℕ) (to_come : Option (List ℕ)) → Opens (Some files) name (Some to_come) → Opened files name to_come
 opened files name to_come opens = go (files name) refl opens
   where
     go : (file : Option (List ℕ)) → files name ≡ file → Some to_come ≡ option_map Some file → Opened files name to_come

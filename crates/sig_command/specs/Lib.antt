@@ -9,10 +9,12 @@ pub use Rattle.sig_engines.specs.Asks
 pub use Rattle.sig_engines.specs.ClassTexts
 pub use Rattle.sig_engines.specs.Conflicts
 pub use Rattle.sig_engines.specs.Fates
+pub use Rattle.sig_engines.specs.FileTexts
 pub use Rattle.sig_engines.specs.Finding
 pub use Rattle.sig_engines.specs.Judged
 pub use Rattle.sig_engines.specs.Lines
 pub use Rattle.sig_engines.specs.Linted
+pub use Rattle.sig_engines.specs.Listed
 pub use Rattle.sig_engines.specs.ManyFiles
 pub use Rattle.sig_engines.specs.Progress
 pub use Rattle.sig_engines.specs.Shown

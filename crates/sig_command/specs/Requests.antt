@@ -15,19 +15,21 @@ use Rattle.sig_engines.specs.Asks.{IsFormatNamed}
 use Rattle.sig_engines.specs.Conflicts.{AddsConflicts, AddsFirstPairs, Settles}
 use Rattle.sig_command.specs.Faults.{Reports, TellsWrite}
 use Rattle.sig_command.specs.Statuses.{status_of}
-use Rattle.sig_command.specs.Several.{AddsFaults, AddsLinesOfEach, AddsLinesOfSome}
+use Rattle.sig_command.specs.Several.{AddsFaults, AddsLinesOfEach, AddsLinesOfFirst, AddsLinesOfSome, AreListedIn}
 use Rattle.sig_engines.specs.Fates.{AddsFates, AddsFirstFates}
+use Rattle.sig_engines.specs.FileTexts.{head_text}
 use Rattle.sig_engines.specs.Finding.{AddsFound, KeepsFound, TellsWhy}
 use Rattle.sig_engines.specs.Judged.{AddsVerdict}
 use Rattle.sig_engines.specs.Lines.{AddsLines}
 use Rattle.sig_engines.specs.Linted.{AddsReport}
-use Rattle.sig_engines.specs.ManyFiles.{AddsFiles, CutsFiles, IsPrinted}
+use Rattle.sig_engines.specs.ManyFiles.{AddsFiles, CutsFiles, IsPrinted, StopsFiles}
 use Rattle.sig_engines.specs.Progress.{AddsProgress, ShowsIf}
 use Rattle.sig_engines.specs.Shown.{show_text}
 use Rattle.sig_engines.specs.Stores.{Has, Holding, Holds, IsAny, IsMade, IsTableFault, IsTableOf, Lacks, SomeFailed}
 use Rattle.sig_engines.specs.Witnessed.{AddsWitness}
 use Rattle.sig_engines.specs.Witnesses.{IsWitnessOf}
 use Rattle.sig_engines.specs.declared.ask.ConflictsAsk.{ConflictsAsk}
+use Rattle.sig_engines.specs.declared.ask.MatchAsk.{MatchAsk}
 use Rattle.sig_engines.specs.declared.error.FileFault.{FileFault}
 use Rattle.sig_engines.specs.declared.error.FileFault.TheVariants as file
 use Rattle.sig_engines.specs.declared.error.PairsFault.{PairsFault}
@@ -37,7 +39,7 @@ use Rattle.sig_command.specs.declared.fault.Fault.{Fault}
 use Rattle.sig_command.specs.declared.fault.Fault.TheVariants.{CannotOpen, CutShort, FaultyTable, NoFile, NotInTable, NotText, Run, SomeFiles, SummaryOfOne, Table}
 use Rattle.sig_command.specs.declared.args.ConflictsOptions.{ConflictsOptions}
 use Rattle.sig_command.specs.declared.args.Request.{Request}
-use Rattle.sig_command.specs.declared.args.Request.TheVariants.{Check, Conflicts, Dead, Find, Lint, Match, MatchMany, Show, Witness}
+use Rattle.sig_command.specs.declared.args.Request.TheVariants.{Check, Conflicts, Dead, Find, Lint, Match, MatchListed, MatchMany, Show, Witness}
 use Rattle.sig_engines.specs.declared.store.TablePaths.{TablePaths}
 use Rattle.sig_engines.specs.declared.progress.Things.TheVariants.{Formats, Pairs, Products}
 
@@ -142,7 +144,8 @@ abbrev pub paths_of : Request → TablePaths
 paths_of (Show table) = table
 paths_of (Lint table) = table
 paths_of (Match all table file) = table
-paths_of (MatchMany all table files) = table
+paths_of (MatchMany ask table files) = table
+paths_of (MatchListed ask table list end) = table
 paths_of (Find table budget out hex progress) = table
 paths_of (Conflicts table options progress) = table
 paths_of (Dead table budget hex progress) = table
@@ -158,7 +161,8 @@ abbrev pub IsLaterFault : {R : Type 0} → (R → Bool) → Holding → Request 
 IsLaterFault failed held (Show table) fault = fault ≡ Run Write
 IsLaterFault failed held (Lint table) fault = ⊥
 IsLaterFault failed held (Match all table file) fault = IsFileFault failed held file fault
-IsLaterFault failed held (MatchMany all table files) fault = (fault ≡ SomeFiles) ⊎ (fault ≡ Run Write)
+IsLaterFault failed held (MatchMany ask table files) fault = (fault ≡ SomeFiles) ⊎ (fault ≡ Run Write)
+IsLaterFault failed held (MatchListed ask table list end) fault = (fault ≡ SomeFiles) ⊎ IsFileFault failed held list fault
 IsLaterFault failed held (Find table budget out hex progress) fault = (fault ≡ CannotOpen out) ⊎ (fault ≡ Run Write)
 IsLaterFault failed held (Conflicts table options progress) fault = IsConflictsFault held table options fault
 IsLaterFault failed held (Dead table budget hex progress) fault = IsCutFault fault
@@ -170,7 +174,8 @@ abbrev pub AsksTwo : Request → Type 0
 AsksTwo (Show table) = ⊥
 AsksTwo (Lint table) = ⊥
 AsksTwo (Match all table file) = ⊥
-AsksTwo (MatchMany all table files) = ⊥
+AsksTwo (MatchMany ask table files) = ⊥
+AsksTwo (MatchListed ask table list end) = ⊥
 AsksTwo (Find table budget out hex progress) = ⊥
 AsksTwo (Conflicts table options progress) = (options.summary ≡ true) × (is_some options.only ≡ true)
 AsksTwo (Dead table budget hex progress) = ⊥
@@ -209,7 +214,8 @@ abbrev pub IsFirstFault : {R : Type 0} → (R → Bool) → Holding → Request 
 IsFirstFault failed held (Show table) fault = IsLoadFault failed held table fault
 IsFirstFault failed held (Lint table) fault = IsLintFault failed held table fault
 IsFirstFault failed held (Match all table file) fault = IsLoadFault failed held table fault
-IsFirstFault failed held (MatchMany all table files) fault = IsLoadFault failed held table fault
+IsFirstFault failed held (MatchMany ask table files) fault = IsLoadFault failed held table fault
+IsFirstFault failed held (MatchListed ask table list end) fault = IsLoadFault failed held table fault
 IsFirstFault failed held (Find table budget out hex progress) fault = IsLoadFault failed held table fault
 IsFirstFault failed held (Conflicts table options progress) fault = IsLoadFault failed held table fault
 IsFirstFault failed held (Dead table budget hex progress) fault = IsLoadFault failed held table fault
@@ -226,7 +232,8 @@ abbrev pub Answers : Holding → Request → Bool → Option (List ℕ) → Opti
 Answers held (Show table) is_yes before after = (is_yes ≡ true) × (t : TableView) × IsTableOf held table t × Adds before (show_text t) after
 Answers held (Lint table) is_yes before after = (is_yes ≡ true) × IsReported true held table before after
 Answers held (Match all table name) is_yes before after = (is_yes ≡ true) × (t : TableView) × IsTableOf held table t × (file : List ℕ) × IsBytes file × Holds held name.now file × AddsLines all t file before after
-Answers held (MatchMany all table files) is_yes before after = (is_yes ≡ true) × (t : TableView) × IsTableOf held table t × AddsLinesOfEach all t held (map (λ n. n.now) files.now) before after
+Answers held (MatchMany ask table files) is_yes before after = (is_yes ≡ true) × (t : TableView) × IsTableOf held table t × AddsLinesOfEach ask t held (map (λ n. n.now) files.now) before after
+Answers held (MatchListed ask table list end) is_yes before after = (is_yes ≡ true) × (t : TableView) × IsTableOf held table t × (names : List (List ℕ)) × AreListedIn held list.now end names × AddsLinesOfEach ask t held names before after
 Answers held (Find table budget out hex progress) is_yes before after = (t : TableView) × IsTableOf held table t × AddsFound is_yes hex t budget before after
 Answers held (Conflicts table options progress) is_yes before after = (t : TableView) × IsTableOf held table t × (ask : ConflictsAsk) × AsksPairs options t ask × (refused : List ℕ) × AddsConflicts IsAny is_yes refused ask t before after
 Answers held (Dead table budget hex progress) is_yes before after = (t : TableView) × IsTableOf held table t × AddsFates is_yes hex t budget before after
@@ -242,7 +249,8 @@ abbrev pub MakesOut : {F : Type 0} → (name_of written : F → Option (List ℕ
 MakesOut name_of written failed held (Show table) is_yes before after = ⊤
 MakesOut name_of written failed held (Lint table) is_yes before after = ⊤
 MakesOut name_of written failed held (Match all table path) is_yes before after = ⊤
-MakesOut name_of written failed held (MatchMany all table files) is_yes before after = ⊤
+MakesOut name_of written failed held (MatchMany ask table files) is_yes before after = ⊤
+MakesOut name_of written failed held (MatchListed ask table list end) is_yes before after = ⊤
 MakesOut name_of written failed held (Find table budget out hex progress) is_yes before after = (t : TableView) × IsTableOf held table t × KeepsFound (IsMade name_of written failed held out.now) is_yes hex t budget before after
 MakesOut name_of written failed held (Conflicts table options progress) is_yes before after = (t : TableView) × IsTableOf held table t × (ask : ConflictsAsk) × AsksPairs options t ask × (refused : List ℕ) × AddsConflicts (IsMade name_of written failed held) is_yes refused ask t before after
 MakesOut name_of written failed held (Dead table budget hex progress) is_yes before after = ⊤
@@ -258,7 +266,8 @@ abbrev pub IsCutRequest : {R : Type 0} → (R → Bool) → Holding → Request 
 IsCutRequest failed held (Show table) before after = ⊥
 IsCutRequest failed held (Lint table) before after = ⊥
 IsCutRequest failed held (Match all table path) before after = ⊥
-IsCutRequest failed held (MatchMany all table files) before after = (t : TableView) × IsTableOf held table t × AddsLinesOfSome (IsPrinted failed all t held) (map (λ n. n.now) files.now) before after
+IsCutRequest failed held (MatchMany ask table files) before after = (t : TableView) × IsTableOf held table t × AddsLinesOfSome (head_text ask.csv) (IsPrinted failed ask t held) (map (λ n. n.now) files.now) before after
+IsCutRequest failed held (MatchListed ask table list end) before after = (t : TableView) × IsTableOf held table t × (names : List (List ℕ)) × AreListedIn held list.now end names × AddsLinesOfFirst (head_text ask.csv) (IsPrinted failed ask t held) names before after
 IsCutRequest failed held (Find table budget out hex progress) before after = ⊥
 IsCutRequest failed held (Conflicts table options progress) before after = (t : TableView) × IsTableOf held table t × (ask : ConflictsAsk) × AsksPairs options t ask × AddsFirstPairs ask t before after
 IsCutRequest failed held (Dead table budget hex progress) before after = (t : TableView) × IsTableOf held table t × AddsFirstFates hex t budget before after
@@ -290,7 +299,8 @@ abbrev pub ListsIf : Holding → Request → Fault → Bool → Option (List ℕ
 ListsIf held (Show table) fault is_failed before after = ⊤
 ListsIf held (Lint table) fault is_failed before after = fault ≡ FaultyTable → (is_failed ≡ false) × IsReported false held table before after
 ListsIf held (Match all table file) fault is_failed before after = ⊤
-ListsIf held (MatchMany all table files) fault is_failed before after = ⊤
+ListsIf held (MatchMany ask table files) fault is_failed before after = ⊤
+ListsIf held (MatchListed ask table list end) fault is_failed before after = ⊤
 ListsIf held (Find table budget out hex progress) fault is_failed before after = ⊤
 ListsIf held (Conflicts table options progress) fault is_failed before after = ⊤
 ListsIf held (Dead table budget hex progress) fault is_failed before after = ⊤
@@ -317,7 +327,8 @@ abbrev pub Shows : {R : Type 0} → (R → Bool) → Holding → Request → Boo
 Shows failed held (Show table) is_answered is_failed before after = ⊥
 Shows failed held (Lint table) is_answered is_failed before after = ⊥
 Shows failed held (Match all table path) is_answered is_failed before after = ⊥
-Shows failed held (MatchMany all table files) is_answered is_failed before after = (is_answered ≡ false) × (t : TableView) × IsTableOf held table t × (is_failed ≡ false → AddsFaults (IsPrinted failed all t held) (map (λ n. n.now) files.now) before after)
+Shows failed held (MatchMany ask table files) is_answered is_failed before after = (is_answered ≡ false) × (t : TableView) × IsTableOf held table t × (is_failed ≡ false → AddsFaults (IsPrinted failed ask t held) (map (λ n. n.now) files.now) before after)
+Shows failed held (MatchListed ask table list end) is_answered is_failed before after = (is_answered ≡ false) × (t : TableView) × IsTableOf held table t × (names : List (List ℕ)) × AreListedIn held list.now end names × (is_failed ≡ false → AddsFaults (IsPrinted failed ask t held) names before after)
 Shows failed held (Find table budget out hex progress) is_answered is_failed before after = ((progress ≡ true) × (is_failed ≡ false → AddsProgress Products before after)) ⊎ ((is_answered ≡ true) × (is_failed ≡ false → ShowsReason held table progress hex budget before after))
 Shows failed held (Conflicts table options progress) is_answered is_failed before after = ((progress ≡ true) × (is_failed ≡ false → AddsProgress Pairs before after)) ⊎ ((is_answered ≡ true) × (is_some options.priorities ≡ true) × (is_failed ≡ false → ShowsRefused held table options progress before after))
 Shows failed held (Dead table budget hex progress) is_answered is_failed before after = (progress ≡ true) × (is_failed ≡ false → AddsProgress Formats before after)
@@ -338,26 +349,35 @@ TellsOf failed held request is_answered is_failed written before after =
     (after ≡ before) ⊎ Shows failed held request is_answered (is_failed after) (written before) (written after)
 
 -- where some of several files have a fault, both outputs are of the same files, of all of them in their order; where a write failed, both are of the first ones; and before every other fault nothing is told
-abbrev pub TellsMany : {R : Type 0} → (R → Bool) → Bool → Holding → TablePaths → List (List ℕ) → Fault → (before after : Option (List ℕ)) (err_failed : Bool) (err_before err_after : Option (List ℕ)) → Type 0
-TellsMany failed all held table names SomeFiles before after err_failed err_before err_after = (t : TableView) × IsTableOf held table t × AddsFiles (IsPrinted failed all t held) names before after err_failed err_before err_after false
-TellsMany failed all held table names (Run Write) before after err_failed err_before err_after = (t : TableView) × IsTableOf held table t × CutsFiles (IsPrinted failed all t held) names before after err_failed err_before err_after
-TellsMany failed all held table names (Run Read) before after err_failed err_before err_after = err_after ≡ err_before
-TellsMany failed all held table names (Run OutOfMemory) before after err_failed err_before err_after = err_after ≡ err_before
-TellsMany failed all held table names NotText before after err_failed err_before err_after = err_after ≡ err_before
-TellsMany failed all held table names (CannotOpen name) before after err_failed err_before err_after = err_after ≡ err_before
-TellsMany failed all held table names (NoFile folder witness) before after err_failed err_before err_after = err_after ≡ err_before
-TellsMany failed all held table names (Table error) before after err_failed err_before err_after = err_after ≡ err_before
-TellsMany failed all held table names NotInTable before after err_failed err_before err_after = err_after ≡ err_before
-TellsMany failed all held table names SummaryOfOne before after err_failed err_before err_after = err_after ≡ err_before
-TellsMany failed all held table names (CutShort error) before after err_failed err_before err_after = err_after ≡ err_before
-TellsMany failed all held table names FaultyTable before after err_failed err_before err_after = err_after ≡ err_before
+abbrev pub TellsMany : {R : Type 0} → (R → Bool) → MatchAsk → Holding → TablePaths → List (List ℕ) → Fault → (before after : Option (List ℕ)) (err_failed : Bool) (err_before err_after : Option (List ℕ)) → Type 0
+TellsMany failed ask held table names SomeFiles before after err_failed err_before err_after = (t : TableView) × IsTableOf held table t × AddsFiles (head_text ask.csv) (IsPrinted failed ask t held) names before after err_failed err_before err_after false
+TellsMany failed ask held table names (Run Write) before after err_failed err_before err_after = (t : TableView) × IsTableOf held table t × CutsFiles (head_text ask.csv) (IsPrinted failed ask t held) names before after err_failed err_before err_after
+TellsMany failed ask held table names (Run Read) before after err_failed err_before err_after = err_after ≡ err_before
+TellsMany failed ask held table names (Run OutOfMemory) before after err_failed err_before err_after = err_after ≡ err_before
+TellsMany failed ask held table names NotText before after err_failed err_before err_after = err_after ≡ err_before
+TellsMany failed ask held table names (CannotOpen name) before after err_failed err_before err_after = err_after ≡ err_before
+TellsMany failed ask held table names (NoFile folder witness) before after err_failed err_before err_after = err_after ≡ err_before
+TellsMany failed ask held table names (Table error) before after err_failed err_before err_after = err_after ≡ err_before
+TellsMany failed ask held table names NotInTable before after err_failed err_before err_after = err_after ≡ err_before
+TellsMany failed ask held table names SummaryOfOne before after err_failed err_before err_after = err_after ≡ err_before
+TellsMany failed ask held table names (CutShort error) before after err_failed err_before err_after = err_after ≡ err_before
+TellsMany failed ask held table names FaultyTable before after err_failed err_before err_after = err_after ≡ err_before
+
+-- of files whose names stand in a list the same; and where the list is not read to its end, or memory runs out, both outputs are of the first files
+abbrev pub TellsListed : {R : Type 0} → (R → Bool) → MatchAsk → Holding → TablePaths → List ℕ → ℕ → Fault → (before after : Option (List ℕ)) (err_failed : Bool) (err_before err_after : Option (List ℕ)) → Type 0
+TellsListed failed ask held table list end SomeFiles before after err_failed err_before err_after = (t : TableView) × IsTableOf held table t × (names : List (List ℕ)) × AreListedIn held list end names × AddsFiles (head_text ask.csv) (IsPrinted failed ask t held) names before after err_failed err_before err_after false
+TellsListed failed ask held table list end (Run Write) before after err_failed err_before err_after = (t : TableView) × IsTableOf held table t × (names : List (List ℕ)) × AreListedIn held list end names × CutsFiles (head_text ask.csv) (IsPrinted failed ask t held) names before after err_failed err_before err_after
+TellsListed failed ask held table list end (Run Read) before after err_failed err_before err_after = (t : TableView) × IsTableOf held table t × (names : List (List ℕ)) × AreListedIn held list end names × StopsFiles (head_text ask.csv) (IsPrinted failed ask t held) names before after err_failed err_before err_after
+TellsListed failed ask held table list end (Run OutOfMemory) before after err_failed err_before err_after = (err_after ≡ err_before) ⊎ ((t : TableView) × IsTableOf held table t × (names : List (List ℕ)) × AreListedIn held list end names × StopsFiles (head_text ask.csv) (IsPrinted failed ask t held) names before after err_failed err_before err_after)
+TellsListed failed ask held table list end _ before after err_failed err_before err_after = err_after ≡ err_before
 
 -- what both outputs are of before the line of a fault: where there are several files, of the same ones
 abbrev pub Joins : {R : Type 0} → (R → Bool) → Holding → Request → Fault → (before after : Option (List ℕ)) (err_failed : Bool) (err_before err_after : Option (List ℕ)) → Type 0
 Joins failed held (Show table) fault before after err_failed err_before err_after = ⊤
 Joins failed held (Lint table) fault before after err_failed err_before err_after = ⊤
 Joins failed held (Match all table path) fault before after err_failed err_before err_after = ⊤
-Joins failed held (MatchMany all table files) fault before after err_failed err_before err_after = TellsMany failed all held table (map (λ n. n.now) files.now) fault before after err_failed err_before err_after
+Joins failed held (MatchMany ask table files) fault before after err_failed err_before err_after = TellsMany failed ask held table (map (λ n. n.now) files.now) fault before after err_failed err_before err_after
+Joins failed held (MatchListed ask table list end) fault before after err_failed err_before err_after = TellsListed failed ask held table list.now end fault before after err_failed err_before err_after
 Joins failed held (Find table budget out hex progress) fault before after err_failed err_before err_after = ⊤
 Joins failed held (Conflicts table options progress) fault before after err_failed err_before err_after = ⊤
 Joins failed held (Dead table budget hex progress) fault before after err_failed err_before err_after = ⊤
@@ -383,7 +403,7 @@ ShowsBefore failed held request fault before after err_before err_after = ((err_
 abbrev pub ReportsLineOf : {R : Type 0} → (R → Bool) → Holding → Request → Fault → ℕ → (before after err_before err_after : Option (List ℕ)) → Type 0
 ReportsLineOf failed held request reason status before after err_before err_after = (mid : Option (List ℕ)) × ShowsBefore failed held request reason before after err_before mid × Reports reason status mid err_after
 
--- the status is that of a fault of the request, a failed write is told only where one failed, faults of a table are told where the reason are they, and the line of the fault is reported, unless a write to the error output failed
+-- the status is that of a fault of the request, a failed write is told only where one failed, the faults of a table are told where they are the reason, and the line of the fault is reported, unless a write to the error output failed
 pub record ReportsFaultOf {R : Type 0} (failed : R → Bool) (WriteFailed : Type 0) (held : Holding) (request : Request) (status : ℕ) (before after : Option (List ℕ)) (err_failed : Bool) (err_before err_after : Option (List ℕ)) : Type 0 where
   pub reason : Fault
   pub is : IsFaultOf failed held request reason
@@ -401,7 +421,8 @@ abbrev pub ShowsAsked : {E : Type 0} → Holding → Request → Bool → (out_b
 ShowsAsked held (Show table) is_yes out_before out_after is_failed before after written written_after = after ≡ before
 ShowsAsked held (Lint table) is_yes out_before out_after is_failed before after written written_after = after ≡ before
 ShowsAsked held (Match all table path) is_yes out_before out_after is_failed before after written written_after = after ≡ before
-ShowsAsked held (MatchMany all table files) is_yes out_before out_after is_failed before after written written_after = after ≡ before
+ShowsAsked held (MatchMany ask table files) is_yes out_before out_after is_failed before after written written_after = after ≡ before
+ShowsAsked held (MatchListed ask table list end) is_yes out_before out_after is_failed before after written written_after = after ≡ before
 ShowsAsked held (Find table budget out hex progress) true out_before out_after is_failed before after written written_after = ShowsIf progress Products is_failed before after written written_after
 ShowsAsked held (Find table budget out hex progress) false out_before out_after is_failed before after written written_after =
     is_failed ≡ false → (t : TableView) × IsTableOf held table t × TellsWhy progress hex t budget out_before out_after written written_after
@@ -416,15 +437,3 @@ ShowsAsked held (Witness table path) is_yes out_before out_after is_failed befor
 abbrev pub ShowsAskedWords : {E : Type 0} → Holding → List Text → Bool → (out_before out_after : Option (List ℕ)) → Bool → (before after : E) → Option (List ℕ) → Option (List ℕ) → Type 0
 ShowsAskedWords held words is_yes out_before out_after is_failed before after written written_after =
     (request : Request) × Asks (subcommand_of program words) request × ShowsAsked held request is_yes out_before out_after is_failed before after written written_after
-
--- the files that are matched by their names are some
-abbrev pub HasFiles : Request → Type 0
-HasFiles (Show table) = ⊤
-HasFiles (Lint table) = ⊤
-HasFiles (Match all table path) = ⊤
-HasFiles (MatchMany all table files) = 0 < length files.now
-HasFiles (Find table budget out hex progress) = ⊤
-HasFiles (Conflicts table options progress) = ⊤
-HasFiles (Dead table budget hex progress) = ⊤
-HasFiles (Check table path) = ⊤
-HasFiles (Witness table path) = ⊤

@@ -1,21 +1,22 @@
 //! What the words of the command line ask for, as `clap` reads them.
 //!
 //! `match a b c` asks for `Match`, of the table in `a` and `b` and of the file `c`; `match a b c d`
-//! and `match --with-names a b c` ask for `MatchMany`. The names of several files are the list that
-//! `clap` keeps, so they take no memory here. That is why `ArgMatches` outlives the request.
+//! and `match --with-names a b c` ask for `MatchMany`, and `match --files-from d a b` for
+//! `MatchListed`. The names of several files are the list that `clap` keeps, so they take no memory
+//! here. That is why `ArgMatches` outlives the request.
 //!
 //! No file is opened, and whether a table has the format of `--only` is not looked at.
 
-ghost use Rattle.std.specs.Prelude.{◌≡◌, ◌⊎◌, [], codes, false, IfErr, IfOk, IfSome, Some, true};
+ghost use Rattle.std.specs.Prelude.{◌≡◌, ◌≢◌, ◌⊎◌, [], codes, false, IfErr, IfOk, IfSome, None, Some, true};
 ghost use Rattle.clap.specs.Values.{kind_of};
 ghost use Rattle.clap.specs.Matches.{found_of};
 ghost use Rattle.clap.specs.declared.Command.TheViews.{out-Command as fields_of};
-ghost use Rattle.clap.specs.Words.{app_of, fault_of, one_of, rows_of, rule_of, subcommand_of, subcommand_rows_of};
-ghost use Rattle.sig_command.specs.CommandLine.{AreTaken, Asks, HasFaultKind, HasFlag, IsHelpAsked, IsLine, NamesOptions, NamesTable, asking, budget_rule, check_command, conflicts_command, dead_command, find_command, given, lint_command, match_command, named, of_table, out_rule, program, show_command, texts_of, wanted, witness_command};
+ghost use Rattle.clap.specs.Words.{all_of, app_of, fault_of, first_of, new_rule, one_of, rows_of, rule_of, subcommand_of, subcommand_rows_of};
+ghost use Rattle.sig_command.specs.CommandLine.{AreTaken, Asks, HasFaultKind, HasFlag, HasNoFiles, IsHelpAsked, IsLine, NamesAsk, NamesOptions, NamesTable, asking, budget_rule, check_command, conflicts_command, dead_command, find_command, given, lint_command, list_path, match_command, name_end, named, null_rule, of_table, out_rule, program, several, show_command, texts_of, wanted, witness_command};
 
 use clap::error::ErrorKind;
 use clap::{Arg, ArgAction, ArgMatches, Command, Error, value_parser};
-use sig_engines::TablePaths;
+use sig_engines::{MatchAsk, TablePaths};
 use std::alloc::Global;
 
 const SHOW_HELP: &str = "\
@@ -57,12 +58,20 @@ file's name and a tab. If no format matches a file, its line is the name, a
 tab and a hyphen. A file with a fault has a line on standard error instead,
 and the other files are still identified.
 
+With --files-from the names of the files stand in NAMES, one a line, or with
+-0 each ended by a NUL. They may be any number: each file is identified before
+the next name is read.
+
+With --csv there are records of CSV in place of lines. The first one names the
+fields: file,puid,signature,name. The name is left empty. A file that no
+format matches has one record, with its name alone.
+
 Statuses:
   0  each file was read to its end and its answer was printed, even if that is
      no line
   2  usage error, or the table is refused
   3  a file can't be opened, a read or a write failed, or memory ran out. With
-     more than one FILE the lines that were printed are valid";
+     more than one file the lines that were printed are valid";
 
 const FIND_HELP: &str = "\
 Run `conflicts` and `dead` first, and `find` last: they show all that is to be
@@ -234,11 +243,19 @@ pub(crate) enum Request<'m, 'a> {
         table: TablePaths<'a>,
         file: &'a str,
     },
-    /// The same for each of several files, or of one with `--with-names`, after the file's name.
+    /// The same for each of several files, or of one with `--with-names` or `--csv`, after the
+    /// file's name.
     MatchMany {
-        all: bool,
+        ask: MatchAsk,
         table: TablePaths<'a>,
         files: &'m [&'a str],
+    },
+    /// The same for files whose names stand in the file `list`, each ended by this byte.
+    MatchListed {
+        ask: MatchAsk,
+        table: TablePaths<'a>,
+        list: &'a str,
+        end: u8,
     },
     /// Whether a table is decided: a certificate of it, or a file that leaves two formats.
     Find {
@@ -287,9 +304,19 @@ pub(crate) fn read_args<'a>(alloc: Global, words: &'a [String]) -> Result<ArgMat
     let mut command = command_line(alloc)?;
     let matches = command.try_get_matches_from_mut(words)?;
     if request_of(&matches).is_none() {
-        return Err(command.error(ErrorKind::MissingSubcommand, "a word is missing")?);
+        return Err(command.error(ErrorKind::MissingRequiredArgument, missing(&matches))?);
     }
     Ok(matches)
+}
+
+// What is wrong with words that `clap` takes and that ask for nothing.
+fn missing(matches: &ArgMatches<'_>) -> &'static str {
+    match matches.subcommand_matches("match") {
+        Some(listed) if listed.get_str("NAMES").is_some() => {
+            "the argument '--files-from <NAMES>' cannot be used with '[FILE]...'"
+        }
+        _ => "the following required arguments were not provided:\n  <FILE>...",
+    }
 }
 
 // All subcommands and their words.
@@ -336,7 +363,7 @@ fn lint_line<'a>(alloc: Global) -> Result<Command<'a>, Error>
     Ok(line)
 }
 
-// `match [--all] [--with-names] SIGS PRIOS FILE..`
+// `match [--all] [--with-names] [--csv] [--files-from NAMES [-0]] SIGS PRIOS [FILE..]`
 fn match_line<'a>(alloc: Global) -> Result<Command<'a>, Error>
     ensures line { IfOk result (IsLine match_command) }
     ensures memory { IfErr result (λ e. kind_of e ≡ ErrorKind.OutOfMemory) }
@@ -344,15 +371,16 @@ fn match_line<'a>(alloc: Global) -> Result<Command<'a>, Error>
     let line = with_table_args(alloc, Command::new(alloc, "match"))?
         .about("Print the formats that match each file, after priorities")
         .after_help(MATCH_HELP)
-        .arg(
-            required(alloc, "FILE")
-                .num_args(1..)
-                .help("The files to identify"),
-        )?
+        .arg(several(alloc, "FILE").help("The files to identify"))?
         .arg(flag(alloc, "all").help("Print all formats that match a file, before priorities"))?
         .arg(flag(alloc, "with-names").help(
             "Print the file's name also if there is only one FILE",
-        ))?;
+        ))?
+        .arg(flag(alloc, "csv").help("Print records of CSV, with the files' names"))?
+        .arg(option(alloc, "files-from", "NAMES").help(
+            "Read the names of the files from this file, or from - for standard input",
+        ))?
+        .arg(null(alloc).help("The names in NAMES are ended by NUL"))?;
     Ok(line)
 }
 
@@ -450,11 +478,34 @@ fn required<'a>(alloc: Global, name: &'a str) -> Arg<'a>
     Arg::new(alloc, name).required(true)
 }
 
+// An argument of one value or more, which may be left out.
+fn several<'a>(alloc: Global, name: &'a str) -> Arg<'a>
+    ensures rule { rule_of result ≡ several name.entry.now }
+    ensures local { result.global ≡ false }
+{
+    optional(alloc, name).num_args(1..)
+}
+
+fn optional<'a>(alloc: Global, name: &'a str) -> Arg<'a>
+    ensures rule { rule_of result ≡ new_rule name.entry.now }
+    ensures local { result.global ≡ false }
+{
+    Arg::new(alloc, name)
+}
+
 fn flag<'a>(alloc: Global, name: &'a str) -> Arg<'a>
     ensures rule { rule_of result ≡ given name.entry.now }
     ensures local { result.global ≡ false }
 {
     Arg::new(alloc, name).long(name).action(ArgAction::SetTrue)
+}
+
+// `--null`, or `-0`
+fn null<'a>(alloc: Global) -> Arg<'a>
+    ensures rule { rule_of result ≡ null_rule }
+    ensures local { result.global ≡ false }
+{
+    flag(alloc, "null").short('0')
 }
 
 // An option, with the name of its value.
@@ -534,18 +585,80 @@ fn match_request<'m, 'a>(matches: &'m ArgMatches<'a>) -> Option<Request<'m, 'a>>
     ensures asked { IfSome result (λ request. Asks (asking (codes "match") matches.now) request) }
     ensures none { result ≡ None → (request : Request) → ¬ Asks (asking (codes "match") matches.now) request }
 {
-    let all = matches.get_flag("all");
-    let with_names = matches.get_flag("with-names");
     let table = table_paths(matches)?;
+    match matches.get_str("NAMES") {
+        Some(word) => list_request(matches, table, word),
+        None => files_request(matches, table),
+    }
+}
+
+// Of the files that the words name.
+fn files_request<'m, 'a>(
+    matches: &'m ArgMatches<'a>,
+    table: TablePaths<'a>,
+) -> Option<Request<'m, 'a>>
+    requires named { NamesTable table (rows_of (found_of matches.now)) }
+    requires unlisted { first_of (codes "NAMES") (rows_of (found_of matches.now)) ≡ None }
+    ensures asked { IfSome result (λ request. Asks (asking (codes "match") matches.now) request) }
+    ensures none { result ≡ None → HasNoFiles (rows_of (found_of matches.now)) }
+{
+    let ask = match_ask(matches);
+    let with_names = matches.get_flag("with-names");
     match matches.get_strs("FILE")? {
         [] => None,
-        [file] if !with_names => Some(Request::Match {
-            all,
+        [file] if !with_names && !ask.csv => Some(Request::Match {
+            all: ask.all,
             table,
             file: *file,
         }),
-        files => Some(Request::MatchMany { all, table, files }),
+        files => Some(Request::MatchMany { ask, table, files }),
     }
+}
+
+// Of the files whose names stand in the list of this name.
+fn list_request<'m, 'a>(
+    matches: &'m ArgMatches<'a>,
+    table: TablePaths<'a>,
+    word: &'a str,
+) -> Option<Request<'m, 'a>>
+    requires named { NamesTable table (rows_of (found_of matches.now)) }
+    requires listed { first_of (codes "NAMES") (rows_of (found_of matches.now)) ≡ Some word.now }
+    ensures asked { IfSome result (λ request. Asks (asking (codes "match") matches.now) request) }
+    ensures none { result ≡ None → all_of (codes "FILE") (rows_of (found_of matches.now)) ≢ None }
+{
+    match matches.get_strs("FILE") {
+        Some(_) => None,
+        None => Some(Request::MatchListed {
+            ask: match_ask(matches),
+            table,
+            list: list_path(word),
+            end: name_end(matches.get_flag("null")),
+        }),
+    }
+}
+
+// The byte that ends a name in a list.
+fn name_end(is_null: bool) -> u8
+    ensures { result ≡ name_end is_null }
+{
+    if is_null { 0 } else { b'\n' }
+}
+
+// What is asked of each file.
+fn match_ask(matches: &ArgMatches<'_>) -> MatchAsk
+    ensures { NamesAsk result (rows_of (found_of matches.now)) }
+{
+    MatchAsk {
+        all: matches.get_flag("all"),
+        csv: matches.get_flag("csv"),
+    }
+}
+
+// The file with the names of the files.
+fn list_path(word: &str) -> &str
+    ensures { result.now ≡ list_path word.now }
+{
+    if word == "-" { "/dev/stdin" } else { word }
 }
 
 fn find_request<'m, 'a>(matches: &'m ArgMatches<'a>) -> Option<Request<'m, 'a>>

@@ -6,13 +6,14 @@
 //! are taken, and which of them names which file.
 
 ghost use Rattle.std.specs.Borrow.{Bor};
-ghost use Rattle.std.specs.Prelude.{◌≡◌, ◌≤◌, ℕ, Bool, List, None, Option, Some, false, true, [], ◌∷◌, codes, length, map};
+ghost use Rattle.std.specs.Prelude.{◌≡◌, ◌≤◌, ℕ, Bool, List, None, Option, Some, false, true, [], ◌∷◌, ◌++◌, codes, length, map};
 ghost use Rattle.clap.specs.Words.{fault_of, takes};
 ghost use Rattle.sig_bits.specs.Device.{Adds};
 ghost use Rattle.sig_command.specs.CommandLine.{AreTableWords, all_named, first_named, one_named, program};
 ghost use Rattle.sig_command.specs.Requests.{Answers};
-ghost use Rattle.sig_command.specs.Several.{AreTexts, IsOneLineOf};
-ghost use Rattle.sig_command.specs.declared.args.Request.TheVariants.{Check, Match, MatchMany};
+ghost use Rattle.sig_command.specs.Several.{AreListedIn, AreTexts, IsOneLineOf};
+ghost use Rattle.sig_command.specs.declared.args.Request.TheVariants.{Check, Match, MatchListed, MatchMany};
+ghost use Rattle.sig_engines.specs.FileTexts.{head_text};
 ghost use Rattle.sig_engines.specs.Lines.{lines_of};
 ghost use Rattle.sig_engines.specs.declared.store.TablePaths.{TablePaths};
 ghost use Rattle.sig_core.specs.declared.results.Hit.{Hit};
@@ -31,14 +32,20 @@ pub fn accepted_tables_match_once()
         → (t : TableView) × (hits : List Hit) × (length hits ≤ 1) × Adds before (lines_of t hits) after }
 {}
 
-/// The same of each of several files, and of one with `--with-names`: each has one line, of a
-/// format or a hyphen.
+/// The same of each of many files, whether words or a list name them: each has one line or record,
+/// of a format or of none.
 pub fn accepted_tables_match_each_once()
-    ensures { (files : List ℕ → Option (List ℕ)) (table : TablePaths) (certificate : Bor (List ℕ)) (names : Bor (List (Bor (List ℕ)))) (is_yes : Bool)
+    ensures named { (files : List ℕ → Option (List ℕ)) (table : TablePaths) (certificate : Bor (List ℕ)) (csv : Bool) (names : Bor (List (Bor (List ℕ)))) (is_yes : Bool)
         (checked_before checked_after before after : Option (List ℕ))
         → Answers (Some files) (Check table certificate) true checked_before checked_after
-        → Answers (Some files) (MatchMany false table names) is_yes before after
-        → (t : TableView) × (text : List ℕ) × AreTexts (IsOneLineOf t) (map (λ n. n.now) names.now) text × Adds before text after }
+        → Answers (Some files) (MatchMany (record { all = false; csv = csv }) table names) is_yes before after
+        → (t : TableView) × (text : List ℕ) × AreTexts (IsOneLineOf csv t) (map (λ n. n.now) names.now) text × Adds before (head_text csv ++ text) after }
+    ensures listed { (files : List ℕ → Option (List ℕ)) (table : TablePaths) (certificate : Bor (List ℕ)) (csv : Bool) (list : Bor (List ℕ)) (end : ℕ) (is_yes : Bool)
+        (checked_before checked_after before after : Option (List ℕ))
+        → Answers (Some files) (Check table certificate) true checked_before checked_after
+        → Answers (Some files) (MatchListed (record { all = false; csv = csv }) table list end) is_yes before after
+        → (t : TableView) × (names : List (List ℕ)) × AreListedIn (Some files) list.now end names
+        × (text : List ℕ) × AreTexts (IsOneLineOf csv t) names text × Adds before (head_text csv ++ text) after }
 {}
 
 /// Words that name all files are taken, also where `match` has several, and they ask for no help.
@@ -53,6 +60,7 @@ pub fn words_are_taken()
     ensures many { takes program (codes "match" ∷ codes "a" ∷ codes "b" ∷ codes "c" ∷ codes "d" ∷ []) ≡ true }
     ensures many_no_help { fault_of program (codes "match" ∷ codes "a" ∷ codes "b" ∷ codes "c" ∷ codes "d" ∷ []) ≡ [] }
     ensures all { takes program (codes "match" ∷ codes "--all" ∷ codes "a" ∷ codes "b" ∷ codes "c" ∷ []) ≡ true }
+    ensures listed { takes program (codes "match" ∷ codes "--csv" ∷ codes "-0" ∷ codes "--files-from" ∷ codes "-" ∷ codes "a" ∷ codes "b" ∷ []) ≡ true }
     ensures named { takes program (codes "match" ∷ codes "--with-names" ∷ codes "a" ∷ codes "b" ∷ codes "c" ∷ []) ≡ true }
     ensures found { takes program (codes "find" ∷ codes "--budget" ∷ codes "100000" ∷ codes "--out" ∷ codes "a" ∷ codes "b" ∷ codes "c" ∷ []) ≡ true }
     ensures found_shown { takes program (codes "find" ∷ codes "--progress" ∷ codes "--budget" ∷ codes "100000" ∷
@@ -92,6 +100,14 @@ pub fn words_name_files()
         (codes "match" ∷ codes "--with-names" ∷ codes "a" ∷ codes "b" ∷ codes "c" ∷ []) ≡ Some (codes "c" ∷ []) }
     ensures matched_not_named { one_named (codes "with-names")
         (codes "match" ∷ codes "--all" ∷ codes "a" ∷ codes "b" ∷ codes "c" ∷ []) ≡ Some (codes "false") }
+    ensures matched_list { first_named (codes "NAMES")
+        (codes "match" ∷ codes "--files-from" ∷ codes "c" ∷ codes "a" ∷ codes "b" ∷ []) ≡ Some (codes "c") }
+    ensures matched_no_file { all_named (codes "FILE")
+        (codes "match" ∷ codes "--files-from" ∷ codes "c" ∷ codes "a" ∷ codes "b" ∷ []) ≡ None }
+    ensures matched_csv { one_named (codes "csv")
+        (codes "match" ∷ codes "--csv" ∷ codes "a" ∷ codes "b" ∷ codes "c" ∷ []) ≡ Some (codes "true") }
+    ensures matched_null { one_named (codes "null")
+        (codes "match" ∷ codes "-0" ∷ codes "--files-from" ∷ codes "c" ∷ codes "a" ∷ codes "b" ∷ []) ≡ Some (codes "true") }
     ensures found_table { AreTableWords (codes "b") (codes "c")
         (codes "find" ∷ codes "--budget" ∷ codes "100000" ∷ codes "--out" ∷ codes "a" ∷ codes "b" ∷ codes "c" ∷ []) }
     ensures found_out { first_named (codes "OUT")

@@ -15,7 +15,7 @@ ghost use Rattle.std.specs.Borrow.{Bor};
 ghost use Rattle.std.specs.Prelude.{None, Some, ◌≡◌, ◌≢◌, ◌<◌, ◌⊎◌, false, is_ok, is_some, length, List, true, IfErr, IfOk, OnOk};
 ghost use Rattle.clap.specs.Values.{kind_of};
 ghost use Rattle.clap.specs.Words.{Text};
-ghost use Rattle.sig_command.specs.Requests.{Answers, AnswersWords, AsksPairs, CutsSomeWords, CutsWords, HasFiles, IsFaultOf, IsLoadFault, IsOnly, IsReported, JoinsBoth, KeepsOrCuts, ListsIf, ListsSomeWords, ListsWords, MakesOut, MakesWords, NamesNone, ShowsAsked, ShowsSomeWords, ShowsWords, TellsOf, file_fault, pairs_fault};
+ghost use Rattle.sig_command.specs.Requests.{Answers, AnswersWords, AsksPairs, CutsSomeWords, CutsWords, IsFaultOf, IsLoadFault, IsOnly, IsReported, JoinsBoth, KeepsOrCuts, ListsIf, ListsSomeWords, ListsWords, MakesOut, MakesWords, NamesNone, ShowsAsked, ShowsSomeWords, ShowsWords, TellsOf, file_fault, pairs_fault};
 ghost use Rattle.sig_command.specs.Faults.{TellsWrite};
 ghost use Rattle.sig_engines.specs.Stores.{IsTableOf, Opens, SomeWriteFailed};
 ghost use Rattle.sig_command.specs.CommandLine.{AreTaken, texts_of};
@@ -28,9 +28,9 @@ use clap::Error;
 use clap::error::ErrorKind;
 use sig_bits::{FromRead, FromWrite, Input, Output};
 use sig_engines::{
-    ConflictsAsk, CutShort, FileFault, PairsFault, RunError, Store, SystemFiles, TablePaths,
-    WitnessName, find_dead, format_named, run_check, run_find, run_lint, run_match, run_match_many,
-    run_show, run_witness, settle,
+    ConflictsAsk, CutShort, FileFault, MatchAsk, NameReader, PairsFault, RunError, Store,
+    SystemFiles, TablePaths, WitnessName, find_dead, format_named, run_check, run_find, run_lint,
+    run_match, run_match_listed, run_match_many, run_show, run_witness, settle,
 };
 use sig_scan::BlockCore;
 use sig_table::{FormatId, Puid, Table};
@@ -109,9 +109,9 @@ pub fn command<R: Files + AllocGlobal, W: Output, E: Output>(
 /// status.
 ///
 /// The answer and the help go to `out`, the faults that `lint` lists too; a fault is one line on
-/// `err`, and a usage fault is the text of `clap`. With `--progress` a search tells `err` how much of it is done, and of files that are
-/// matched by their names each that has a fault is one line there. A failed write to `err` changes
-/// no status.
+/// `err`, and a usage fault is the text of `clap`. With `--progress` a search tells `err` how much
+/// of it is done, and of files that are matched by their names each that has a fault is one line
+/// there. A failed write to `err` changes no status.
 pub fn command_over<S: Store, W: Output, E: Output>(
     store: &S,
     alloc: Global,
@@ -159,7 +159,7 @@ fn answer<'m, 'a, S: Store, W: Output, E: Output>(
 ) -> Result<bool, Fault<'a>>
     ensures told { TellsOf S.Reader.failed (S.held store.now) request.entry (is_ok result) E.failed E.written err.old err.new }
     ensures joined { IfErr result (JoinsBoth S.Reader.failed (S.held store.now) request.entry W.written out.old out.new E.failed E.written err.old err.new) }
-    ensures shown { OnOk result (HasFiles request.entry → W.failed out.new ≡ false) }
+    ensures shown { OnOk result (W.failed out.new ≡ false) }
     ensures answers { IfOk result (λ is_yes. Answers (S.held store.now) request.entry is_yes (W.written out.old) (W.written out.new)) }
     ensures made { IfOk result (λ is_yes. MakesOut S.name_of S.Writer.written S.Writer.failed (S.held store.now)
         request.entry is_yes (W.written out.old) (W.written out.new)) }
@@ -167,7 +167,7 @@ fn answer<'m, 'a, S: Store, W: Output, E: Output>(
         (E.failed err.new) err.old err.new (E.written err.old) (E.written err.new)) }
     ensures faults { IfErr result (λ fault. IsFaultOf S.Reader.failed (S.held store.now) request.entry fault) }
     ensures write { IfErr result (λ fault. TellsWrite fault → SomeWriteFailed S.Writer.failed (W.failed out.new)) }
-    ensures untouched { IfErr result (λ fault. fault ≢ Fault.Run RunError.Write → ((e : CutShort) → fault ≢ Fault.CutShort e)
+    ensures untouched { IfErr result (λ fault. ((e : RunError) → fault ≢ Fault.Run e) → ((e : CutShort) → fault ≢ Fault.CutShort e)
         → ((folder : Bor Text) (name : WitnessName) → fault ≢ Fault.NoFile folder name) → fault ≢ Fault.SomeFiles → fault ≢ Fault.FaultyTable → out.new ≡ out.old) }
     ensures lists { IfErr result (λ fault. ListsIf (S.held store.now) request.entry fault (W.failed out.new) (W.written out.old) (W.written out.new)) }
     ensures whole { IfErr result (λ fault. fault ≢ Fault.FaultyTable
@@ -177,9 +177,15 @@ fn answer<'m, 'a, S: Store, W: Output, E: Output>(
         Request::Show { table } => show_table(store, alloc, table, out),
         Request::Lint { table } => lint_table(store, alloc, table, out),
         Request::Match { all, table, file } => match_file(store, alloc, all, table, file, out),
-        Request::MatchMany { all, table, files } => {
-            match_many(store, alloc, all, table, files, out, err)
+        Request::MatchMany { ask, table, files } => {
+            match_many(store, alloc, ask, table, files, out, err)
         }
+        Request::MatchListed {
+            ask,
+            table,
+            list,
+            end,
+        } => match_listed(store, alloc, ask, table, list, end, out, err),
         Request::Find {
             table,
             budget,
@@ -272,31 +278,67 @@ fn match_file<'a, S: Store, W: Output>(
     }
 }
 
-// Of files by their names: the lines of each, or of some and the faults of the others.
+// Of files by their names: what is asked of each, or of some and the faults of the others.
 fn match_many<'m, 'a, S: Store, W: Output, E: Output>(
     store: &S,
     alloc: Global,
-    all: bool,
+    ask: MatchAsk,
     table: TablePaths<'a>,
     files: &'m [&'a str],
     out: &mut W,
     err: &mut E,
 ) -> Result<bool, Fault<'a>>
-    ensures told { TellsOf S.Reader.failed (S.held store.now) (Request.MatchMany all table.entry files.entry) (is_ok result) E.failed E.written err.old err.new }
+    ensures told { TellsOf S.Reader.failed (S.held store.now) (Request.MatchMany ask table.entry files.entry) (is_ok result) E.failed E.written err.old err.new }
     ensures joined { IfErr result (JoinsBoth S.Reader.failed (S.held store.now)
-        (Request.MatchMany all table.entry files.entry) W.written out.old out.new E.failed E.written err.old err.new) }
-    ensures shown { OnOk result (0 < length files.now → W.failed out.new ≡ false) }
-    ensures answers { IfOk result (λ is_yes. Answers (S.held store.now) (Request.MatchMany all table.entry files.entry) is_yes (W.written out.old) (W.written out.new)) }
+        (Request.MatchMany ask table.entry files.entry) W.written out.old out.new E.failed E.written err.old err.new) }
+    ensures shown { OnOk result (W.failed out.new ≡ false) }
+    ensures answers { IfOk result (λ is_yes. Answers (S.held store.now) (Request.MatchMany ask table.entry files.entry) is_yes (W.written out.old) (W.written out.new)) }
     ensures quiet { OnOk result (err.new ≡ err.old) }
-    ensures faults { IfErr result (λ fault. IsFaultOf S.Reader.failed (S.held store.now) (Request.MatchMany all table.entry files.entry) fault) }
+    ensures faults { IfErr result (λ fault. IsFaultOf S.Reader.failed (S.held store.now) (Request.MatchMany ask table.entry files.entry) fault) }
     ensures write { IfErr result (λ fault. TellsWrite fault → W.failed out.new ≡ true) }
     ensures untouched { IfErr result (λ fault. fault ≢ Fault.Run RunError.Write → fault ≢ Fault.SomeFiles → out.new ≡ out.old) }
     ensures whole { IfErr result (λ fault. KeepsOrCuts S.Reader.failed (S.held store.now)
-        (Request.MatchMany all table.entry files.entry) W.failed W.written out.old out.new) }
+        (Request.MatchMany ask table.entry files.entry) W.failed W.written out.old out.new) }
 {
     let table = load(store, alloc, table)?;
     let core = BlockCore::prepared(alloc, table);
-    match run_match_many(alloc, store, &core, all, files, out, err) {
+    match run_match_many(alloc, store, &core, ask, files, out, err) {
+        Ok(true) => Ok(true),
+        Ok(false) => Err(Fault::SomeFiles),
+        Err(error) => Err(Fault::Run(error)),
+    }
+}
+
+// The same of files whose names stand in a list.
+fn match_listed<'a, S: Store, W: Output, E: Output>(
+    store: &S,
+    alloc: Global,
+    ask: MatchAsk,
+    table: TablePaths<'a>,
+    list: &'a str,
+    end: u8,
+    out: &mut W,
+    err: &mut E,
+) -> Result<bool, Fault<'a>>
+    ensures told { TellsOf S.Reader.failed (S.held store.now) (Request.MatchListed ask table.entry list.entry end) (is_ok result) E.failed E.written err.old err.new }
+    ensures joined { IfErr result (JoinsBoth S.Reader.failed (S.held store.now)
+        (Request.MatchListed ask table.entry list.entry end) W.written out.old out.new E.failed E.written err.old err.new) }
+    ensures shown { OnOk result (W.failed out.new ≡ false) }
+    ensures answers { IfOk result (λ is_yes. Answers (S.held store.now) (Request.MatchListed ask table.entry list.entry end) is_yes (W.written out.old) (W.written out.new)) }
+    ensures quiet { OnOk result (err.new ≡ err.old) }
+    ensures faults { IfErr result (λ fault. IsFaultOf S.Reader.failed (S.held store.now) (Request.MatchListed ask table.entry list.entry end) fault) }
+    ensures write { IfErr result (λ fault. TellsWrite fault → W.failed out.new ≡ true) }
+    ensures untouched { IfErr result (λ fault. ((e : RunError) → fault ≢ Fault.Run e) → fault ≢ Fault.SomeFiles → out.new ≡ out.old) }
+    ensures whole { IfErr result (λ fault. KeepsOrCuts S.Reader.failed (S.held store.now)
+        (Request.MatchListed ask table.entry list.entry end) W.failed W.written out.old out.new) }
+{
+    let table = load(store, alloc, table)?;
+    let file = open(store, list)?;
+    let core = BlockCore::prepared(alloc, table);
+    let Ok(mut names) = NameReader::new(alloc, file, end) else {
+        return Err(Fault::Run(RunError::OutOfMemory));
+    };
+    match run_match_listed(alloc, store, &core, ask, &mut names, out, err) {
         Ok(true) => Ok(true),
         Ok(false) => Err(Fault::SomeFiles),
         Err(error) => Err(Fault::Run(error)),

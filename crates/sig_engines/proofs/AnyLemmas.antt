@@ -1,6 +1,6 @@
 -- What is said of the pairs of formats of a table, where nothing is said of the files that are made.
 use Rattle.std.specs.Borrow.{Bor}
-use Rattle.std.proofs.Common.{ℕ, All, Bool, List, None, Option, Some}
+use Rattle.std.proofs.Common.{ℕ, Bool, List, None, Option, Some}
 use Rattle.std.proofs.lemmas.List.Elements.{All-weaker}
 use Rattle.sig_find.specs.declared.pair.PairDecision.{PairDecision}
 use Rattle.sig_find.specs.declared.pair.PairDecision.TheVariants.{Ambiguous, Decided, Tried, Unknown}

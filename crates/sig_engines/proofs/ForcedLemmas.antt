@@ -1,7 +1,6 @@
 -- The forced pairs are tried one after another, and no format loses its last file by those that are added.
 use Rattle.std.specs.Borrow.{Bor}
-use Rattle.std.proofs.Common.{◌≡◌, ◌∙◌, ℕ, ◌+◌, ◌<◌, Bool, List, [], ◌∷◌, ◌++◌, All, None, Option, Some, ap, append_assoc, arith, false, get_or, length, map, refl, string_bytes, subst, sym, take}
-use Rattle.std.specs.Prelude.{flat_map}
+use Rattle.std.proofs.Common.{◌≡◌, ◌∙◌, ℕ, ◌+◌, ◌<◌, Bool, List, [], ◌∷◌, ◌++◌, None, Option, Some, ap, append_assoc, false, get_or, length, refl, subst, sym, take}
 use Rattle.std.proofs.lemmas.Grind.{flat_map-append}
 use Rattle.std.proofs.lemmas.List.{append-nil, map-append, take_more}
 use Rattle.sig_find.specs.Additions.{IsAddition}

@@ -1,5 +1,5 @@
 -- The lines of formats are written one after another.
-use Rattle.std.proofs.Common.{◌≡◌, ◌∙◌, ℕ, ◌+◌, ◌-◌, ◌≤◌, ◌<◌, suc, Bool, List, [], ◌∷◌, ◌++◌, ap, append_assoc, arith, false, length, map, refl, sym, true}
+use Rattle.std.proofs.Common.{◌≡◌, ◌∙◌, ℕ, ◌+◌, ◌-◌, ◌<◌, suc, Bool, List, [], ◌∷◌, ◌++◌, ap, append_assoc, arith, false, length, map, refl, sym, true}
 use Rattle.std.specs.Prelude.{cond, filter, flat_map}
 use Rattle.std.specs.List.{range_with_len}
 use Rattle.std.proofs.lemmas.List.{append-nil, map-id}

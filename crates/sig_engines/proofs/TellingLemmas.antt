@@ -1,7 +1,7 @@
 -- The pairs of formats are settled one after another, and their lines are written.
 use Rattle.std.specs.Borrow.{Bor}
-use Rattle.std.proofs.Common.{◌≡◌, ℕ, ◌+◌, ◌<◌, ◌≤◌, List, [], ◌∷◌, ◌++◌, Bool, Option, None, Some, Result, Ok, Err, false, not, true, ◌*◌, ◌-◌, ◌/◌, append_assoc, arith, ap, inl, inr, length, length-append, refl, subst, sym, take, ◌∙◌}
-use Rattle.std.specs.Prelude.{All, OnOk, ◌&&◌, cond, filter}
+use Rattle.std.proofs.Common.{◌≡◌, ℕ, ◌+◌, ◌<◌, ◌≤◌, List, [], ◌∷◌, ◌++◌, Bool, Option, None, Some, false, not, true, ◌*◌, ◌-◌, ◌/◌, append_assoc, arith, ap, inl, inr, length, length-append, refl, subst, sym, take, ◌∙◌}
+use Rattle.std.specs.Prelude.{All, ◌&&◌, cond, filter}
 use Rattle.std.proofs.Math.Nat.{mul-le-mul}
 use Rattle.std.proofs.Math.Seq.{take-append-add}
 use Rattle.std.proofs.lemmas.Grind.{flat_map-append}

@@ -1,6 +1,6 @@
 -- The forced pairs, tried one after another: which of them stand in the priority file that is made, and what is said of the others.
 use Rattle.std.specs.Borrow.{Bor}
-use Rattle.std.specs.Prelude.{◌≡◌, ℕ, ⊤, Bool, List, [], ◌∷◌, ◌++◌, codes, flat_map, map, Option, None, Some, Ok}
+use Rattle.std.specs.Prelude.{◌≡◌, ℕ, ⊤, List, [], ◌∷◌, ◌++◌, codes, flat_map, map, Option, None, Some, Ok}
 use Rattle.sig_find.specs.Additions.{IsAddition}
 use Rattle.sig_find.specs.Leaving.{IsSometimesLeft}
 use Rattle.sig_find.specs.declared.addition.Addition.{Addition}

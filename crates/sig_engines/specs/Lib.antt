@@ -3,11 +3,13 @@ pub mod Asks
 pub mod ClassTexts
 pub mod Conflicts
 pub mod Fates
+pub mod FileTexts
 pub mod Finding
 pub mod Forced
 pub mod Judged
 pub mod Lines
 pub mod Linted
+pub mod Listed
 pub mod ManyFiles
 pub mod Notes
 pub mod Progress

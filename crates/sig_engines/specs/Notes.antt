@@ -1,5 +1,5 @@
 -- What is kept of the pairs that have a line, and what comes of it: which pairs are forced, and in how many lines each format is.
-use Rattle.std.specs.Prelude.{◌≡◌, ◌==◌, ◌||◌, ◌&&◌, ℕ, zero, suc, Bool, List, [], ◌∷◌, ◌++◌, codes, filter, flat_map, if◌then◌else◌, length, Option, None, Some, is_none, option_map}
+use Rattle.std.specs.Prelude.{◌==◌, ◌||◌, ◌&&◌, ℕ, zero, suc, Bool, List, [], ◌∷◌, ◌++◌, codes, filter, flat_map, if◌then◌else◌, length, Option, None, Some, is_none, option_map}
 use Rattle.std.specs.Fmt.{decimal}
 use Rattle.std.specs.List.{range_with_len}
 use Rattle.sig_find.specs.Classes.{mirror_of}

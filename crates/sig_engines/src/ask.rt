@@ -1,9 +1,18 @@
-//! What `conflicts` is asked for.
+//! What `match` of many files and `conflicts` are asked for.
 
 ghost use Rattle.std.specs.Prelude.{◌≡◌};
 ghost use Rattle.sig_engines.specs.Asks.{IsFormatNamed, is_asked, needs_class, shows_class};
 
 use sig_table::{FormatId, Puid, Table};
+
+/// What `match` is asked for of each of many files.
+#[derive(Clone, Copy, Debug, PartialEq, Eq)]
+pub struct MatchAsk {
+    /// Each format that a file hits, before priorities.
+    pub all: bool,
+    /// Records of CSV, behind the names of their fields, in place of lines.
+    pub csv: bool,
+}
 
 /// What `conflicts` is asked for.
 #[derive(Clone, Copy, Debug, PartialEq, Eq)]

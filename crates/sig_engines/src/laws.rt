@@ -1,8 +1,11 @@
 //! Laws of what the engines write.
 
-ghost use Rattle.std.specs.Prelude.{◌≡◌, ◌≤◌, ℕ, false, List, Option, length};
+ghost use Rattle.std.specs.Prelude.{◌≡◌, ◌≤◌, ◌++◌, ◌∷◌, ℕ, false, flat_map, List, Option, length, true};
+ghost use Rattle.csv.specs.Reading.{AreRecords, default_config, strip_bom};
+ghost use Rattle.csv.specs.declared.parser.State.TheVariants as st;
 ghost use Rattle.sig_bits.specs.Device.{Adds};
 ghost use Rattle.sig_cert.specs.Deciding.{Decided};
+ghost use Rattle.sig_engines.specs.FileTexts.{file_text, head_record, head_text, records_of_file};
 ghost use Rattle.sig_engines.specs.Lines.{AddsLinesOfSome, AreLinesOfSome, file_lines, lines_of};
 ghost use Rattle.sig_core.specs.declared.results.Hit.{Hit};
 ghost use Rattle.sig_table.specs.Views.{TableView};
@@ -14,4 +17,12 @@ pub fn two_lines_are_never_added()
         → (hits : List Hit) × (length hits ≤ 1) × Adds before (lines_of table hits) after }
     ensures named { (table : TableView) (name to_come : Option (List ℕ)) (lines : List ℕ) → Decided table → AreLinesOfSome false table name to_come lines
         → (hits : List Hit) × (length hits ≤ 1) × (lines ≡ file_lines name table hits) }
+{}
+
+/// What is written of files with `--csv`, read by `csv`, is the names of the fields and then the
+/// records of each file, whatever bytes their names have.
+pub fn records_are_read_back()
+    ensures { (table : TableView) (files : List (List ℕ × List Hit))
+        → AreRecords default_config st.StartRecord (strip_bom (head_text true ++ flat_map (λ f. file_text true f.0 table f.1) files))
+        (head_record ∷ flat_map (λ f. records_of_file f.0 table f.1) files) }
 {}

@@ -1,22 +1,29 @@
 //! `match` of many files, over any store, any core and any outputs.
 //!
 //! The files are matched one after another, and what is written of one stands when the next is
-//! opened. A file with a fault is told on the error output, and the others go on.
+//! opened. A file with a fault is told on the error output, and the others go on. Their names are
+//! given, or they stand in a list that is read as the files are matched, so it may have any number.
 
-ghost use Rattle.std.specs.Prelude.{◌≡◌, ◌<◌, ◌∷◌, [], false, IfErr, IfOk, length, OnOk, string_bytes, true};
+ghost use Rattle.std.specs.Prelude.{◌≡◌, ◌≢◌, ◌∷◌, [], false, IfErr, IfOk, IsErrOf, OnOk, true};
+ghost use Rattle.sig_bits.specs.Device.{Adds, AddsFront};
+ghost use Rattle.sig_engines.specs.FileTexts.{head_text};
+ghost use Rattle.sig_engines.specs.Listed.{end_of, has_failed, unread_of};
 ghost use Rattle.sig_engines.specs.Writing.{Prints};
-ghost use Rattle.sig_engines.specs.ManyFiles.{AddsPrinted, CutsPrinted, IsPrinted, file_fault_line};
+ghost use Rattle.sig_engines.specs.ManyFiles.{AddsFiles, AddsListed, AddsPrinted, CutsFiles, CutsListed, CutsPrinted, IsPrinted, StopsListed, file_fault_line};
 
+use crate::ask::MatchAsk;
 use crate::error::{FileFault, RunError};
-use crate::match_engine::lines_of_match;
+use crate::match_engine::text_of_match;
+use crate::name_reader::NameReader;
 use crate::store::Store;
 use crate::writing::put;
-use sig_bits::{DeviceFault, Output};
+use sig_bits::{DeviceFault, Input, Output};
 use sig_core::DroidCore;
 use std::alloc::Global;
+use std::str;
 
-/// Writes the lines of each file, in the order of their names, and tells of each file with a fault.
-/// Answers whether there is none.
+/// Writes the lines or the records of each file, in the order of their names, and tells of each file
+/// with a fault. Answers whether there is none.
 ///
 /// A failed write to `err` is not told, and one to `out` ends the run.
 #[inline(never)]
@@ -24,42 +31,136 @@ pub fn run_match_many<S: Store, K: DroidCore, W: Output, E: Output>(
     alloc: Global,
     store: &S,
     core: &K,
-    all: bool,
+    ask: MatchAsk,
     names: &[&str],
     out: &mut W,
     err: &mut E,
 ) -> Result<bool, RunError>
-    ensures answers { IfOk result (AddsPrinted S.Reader.failed all (K.lists core.now) (S.held store.now) names.now
+    ensures answers { IfOk result (AddsPrinted S.Reader.failed ask (K.lists core.now) (S.held store.now) names.now
         W.written out.old out.new E.failed E.written err.old err.new) }
     ensures quiet { result ≡ Ok true → err.new ≡ err.old }
-    ensures writes { OnOk result (W.failed out.old ≡ false → W.failed out.new ≡ false) }
-    ensures shown { result ≡ Ok true → 0 < length names.now → W.failed out.new ≡ false }
+    ensures sound { OnOk result (W.failed out.new ≡ false) }
 
     // The one refusal, and when.
     ensures write { IfErr result (λ e. e ≡ RunError.Write) }
     ensures failed { IfErr result (λ e. W.failed out.new ≡ true) }
-    ensures cut { IfErr result (λ e. CutsPrinted S.Reader.failed all (K.lists core.now) (S.held store.now) names.now
+    ensures cut { IfErr result (λ e. CutsPrinted S.Reader.failed ask (K.lists core.now) (S.held store.now) names.now
         W.written out.old out.new E.failed E.written err.old err.new) }
 {
+    write_head(ask, out)?;
     let mut is_whole = true;
     for name in names {
-        is_whole &= match_file(alloc, store, core, all, name, out, err)?;
+        is_whole &= match_file(alloc, store, core, ask, name, out, err)?;
     }
     Ok(is_whole)
 }
 
-// Writes the lines of one file, or tells its fault. Answers whether it has none.
+/// The same of files whose names stand in a list. Each file is answered before the next name is
+/// read.
+///
+/// A name that is no text can't be opened. A read of the list that fails ends the run, and so does
+/// a name that memory has no room for.
+#[inline(never)]
+pub fn run_match_listed<S: Store, K: DroidCore, I: Input + Drop, W: Output, E: Output>(
+    alloc: Global,
+    store: &S,
+    core: &K,
+    ask: MatchAsk,
+    list: &mut NameReader<I>,
+    out: &mut W,
+    err: &mut E,
+) -> Result<bool, RunError>
+    ensures answers { IfOk result (AddsListed (head_text ask.csv) (IsPrinted S.Reader.failed ask (K.lists core.now) (S.held store.now))
+        (end_of list.old) (unread_of I.to_come list.old) (W.written out.old) (W.written out.new) (E.failed err.new) (E.written err.old) (E.written err.new)) }
+    ensures quiet { result ≡ Ok true → err.new ≡ err.old }
+    ensures sound { OnOk result (W.failed out.new ≡ false) }
+
+    // Each refusal, and when.
+    ensures write { IsErrOf result RunError.Write → W.failed out.new ≡ true }
+    ensures read { IsErrOf result RunError.Read → has_failed I.failed list.new ≡ true }
+    ensures stopped { IfErr result (λ e. e ≢ RunError.Write → StopsListed (head_text ask.csv) (IsPrinted S.Reader.failed ask (K.lists core.now) (S.held store.now))
+        (end_of list.old) (unread_of I.to_come list.old) (W.written out.old) (W.written out.new) (E.failed err.new) (E.written err.old) (E.written err.new)) }
+    ensures cut { IfErr result (λ e. CutsListed (head_text ask.csv) (IsPrinted S.Reader.failed ask (K.lists core.now) (S.held store.now))
+        (end_of list.old) (unread_of I.to_come list.old) (W.written out.old) (W.written out.new) (E.failed err.new) (E.written err.old) (E.written err.new)) }
+{
+    write_head(ask, out)?;
+    let mut name = Vec::new(alloc);
+    let mut is_whole = true;
+    'names: while list.next(&mut name)? {
+        is_whole &= match_listed(alloc, store, core, ask, &name, out, err)?;
+    }
+    Ok(is_whole)
+}
+
+// Writes the names of the fields, where records are asked for, and else nothing, which an output that
+// has failed refuses, too.
+fn write_head<W: Output>(ask: MatchAsk, out: &mut W) -> Result<(), RunError>
+    ensures adds { OnOk result (Adds (W.written out.old) (head_text ask.csv) (W.written out.new)) }
+    ensures sound { OnOk result (W.failed out.new ≡ false) }
+    ensures write { IfErr result (λ e. e ≡ RunError.Write) }
+    ensures failed { IfErr result (λ e. W.failed out.new ≡ true) }
+    ensures cut { IfErr result (λ e. AddsFront (W.written out.old) (head_text ask.csv) (W.written out.new)) }
+{
+    match out.write_all(head(ask).as_bytes()) {
+        Ok(()) => Ok(()),
+        Err(_) => Err(RunError::Write),
+    }
+}
+
+// What stands before all files.
+fn head(ask: MatchAsk) -> &'static str
+    ensures { result.now ≡ head_text ask.csv }
+{
+    if ask.csv {
+        "file,puid,signature,name\n"
+    } else {
+        ""
+    }
+}
+
+// Writes what is asked of the file of a name that stands in a list, or tells its fault. Answers
+// whether it has none.
+fn match_listed<S: Store, K: DroidCore, W: Output, E: Output>(
+    alloc: Global,
+    store: &S,
+    core: &K,
+    ask: MatchAsk,
+    name: &[u8],
+    out: &mut W,
+    err: &mut E,
+) -> Result<bool, RunError>
+    ensures answers { IfOk result (AddsFiles [] (IsPrinted S.Reader.failed ask (K.lists core.now) (S.held store.now)) (name.now ∷ [])
+        (W.written out.old) (W.written out.new) (E.failed err.new) (E.written err.old) (E.written err.new)) }
+    ensures quiet { result ≡ Ok true → err.new ≡ err.old }
+    ensures writes { OnOk result (W.failed out.old ≡ false → W.failed out.new ≡ false) }
+    ensures stays_failed { OnOk result (E.failed err.new ≡ false → E.failed err.old ≡ false) }
+
+    // The one refusal, and when.
+    ensures write { IfErr result (λ e. e ≡ RunError.Write) }
+    ensures failed { IfErr result (λ e. W.failed out.new ≡ true) }
+    ensures cut { IfErr result (λ e. CutsFiles [] (IsPrinted S.Reader.failed ask (K.lists core.now) (S.held store.now)) (name.now ∷ [])
+        (W.written out.old) (W.written out.new) (E.failed err.new) (E.written err.old) (E.written err.new)) }
+    ensures untouched { IfErr result (λ e. err.new ≡ err.old) }
+{
+    let Ok(text) = str::from_utf8(name) else {
+        let _ = tell_unopened(name, err);
+        return Ok(false);
+    };
+    match_file(alloc, store, core, ask, text, out, err)
+}
+
+// Writes what is asked of one file, or tells its fault. Answers whether it has none.
 fn match_file<S: Store, K: DroidCore, W: Output, E: Output>(
     alloc: Global,
     store: &S,
     core: &K,
-    all: bool,
+    ask: MatchAsk,
     name: &str,
     out: &mut W,
     err: &mut E,
 ) -> Result<bool, RunError>
-    ensures answers { IfOk result (AddsPrinted S.Reader.failed all (K.lists core.now) (S.held store.now) (name.entry ∷ [])
-        W.written out.old out.new E.failed E.written err.old err.new) }
+    ensures answers { IfOk result (AddsFiles [] (IsPrinted S.Reader.failed ask (K.lists core.now) (S.held store.now)) (name.now ∷ [])
+        (W.written out.old) (W.written out.new) (E.failed err.new) (E.written err.old) (E.written err.new)) }
     ensures quiet { result ≡ Ok true → err.new ≡ err.old }
     ensures writes { OnOk result (W.failed out.old ≡ false → W.failed out.new ≡ false) }
     ensures shown { result ≡ Ok true → W.failed out.new ≡ false }
@@ -68,12 +169,12 @@ fn match_file<S: Store, K: DroidCore, W: Output, E: Output>(
     // The one refusal, and when.
     ensures write { IfErr result (λ e. e ≡ RunError.Write) }
     ensures failed { IfErr result (λ e. W.failed out.new ≡ true) }
-    ensures cut { IfErr result (λ e. CutsPrinted S.Reader.failed all (K.lists core.now) (S.held store.now) (name.entry ∷ [])
-        W.written out.old out.new E.failed E.written err.old err.new) }
+    ensures cut { IfErr result (λ e. CutsFiles [] (IsPrinted S.Reader.failed ask (K.lists core.now) (S.held store.now)) (name.now ∷ [])
+        (W.written out.old) (W.written out.new) (E.failed err.new) (E.written err.old) (E.written err.new)) }
     ensures untouched { IfErr result (λ e. err.new ≡ err.old) }
 {
-    match lines_of_name(alloc, store, core, all, name) {
-        Ok(lines) => match out.write_all(lines.as_bytes()) {
+    match text_of_name(alloc, store, core, ask, name) {
+        Ok(text) => match out.write_all(&text) {
             Ok(()) => Ok(true),
             Err(_) => Err(RunError::Write),
         },
@@ -84,22 +185,22 @@ fn match_file<S: Store, K: DroidCore, W: Output, E: Output>(
     }
 }
 
-// The lines of the file of this name.
-fn lines_of_name<S: Store, K: DroidCore>(
+// What is written of the file of this name.
+fn text_of_name<S: Store, K: DroidCore>(
     alloc: Global,
     store: &S,
     core: &K,
-    all: bool,
+    ask: MatchAsk,
     name: &str,
-) -> Result<String, FileFault>
-    ensures lines { IfOk result (λ lines. IsPrinted S.Reader.failed all (K.lists core.now) (S.held store.now) name.now (Ok (string_bytes lines))) }
-    ensures fault { IfErr result (λ fault. IsPrinted S.Reader.failed all (K.lists core.now) (S.held store.now) name.now (Err fault)) }
+) -> Result<Vec<u8>, FileFault>
+    ensures text { IfOk result (λ text. IsPrinted S.Reader.failed ask (K.lists core.now) (S.held store.now) name.now (Ok text.items)) }
+    ensures fault { IfErr result (λ fault. IsPrinted S.Reader.failed ask (K.lists core.now) (S.held store.now) name.now (Err fault)) }
 {
     let Some(mut file) = store.open(name) else {
         return Err(FileFault::CannotOpen);
     };
-    match lines_of_match(alloc, core, all, Some(name), &mut file) {
-        Ok(lines) => Ok(lines),
+    match text_of_match(alloc, core, ask, name, &mut file) {
+        Ok(text) => Ok(text),
         Err(error) => Err(FileFault::Run(error)),
     }
 }
@@ -110,17 +211,17 @@ fn tell<E: Output>(name: &str, fault: FileFault, err: &mut E) -> Result<(), Devi
     ensures sound { E.failed err.new ≡ false → E.failed err.old ≡ false }
 {
     match fault {
-        FileFault::CannotOpen => tell_unopened(name, err),
+        FileFault::CannotOpen => tell_unopened(name.as_bytes(), err),
         FileFault::Run(error) => tell_unmatched(name, error, err),
     }
 }
 
-fn tell_unopened<E: Output>(name: &str, err: &mut E) -> Result<(), DeviceFault>
+fn tell_unopened<E: Output>(name: &[u8], err: &mut E) -> Result<(), DeviceFault>
     ensures prints { Prints result (file_fault_line name.now FileFault.CannotOpen) (E.written err.old) (E.written err.new) (E.failed err.new) }
     ensures sound { E.failed err.new ≡ false → E.failed err.old ≡ false }
 {
     put(err, "cannot open ")?;
-    put(err, name)?;
+    err.write_all(name)?;
     put(err, "\n")
 }
 

@@ -2,11 +2,14 @@
 //!
 //! Its whole answer is made before a byte of it is written.
 
-ghost use Rattle.std.specs.Prelude.{◌≡◌, ◌≢◌, false, true, IfOk, IsErrOf, OnOk, option_map, string_bytes};
+ghost use Rattle.std.specs.Prelude.{◌≡◌, ◌≢◌, None, false, true, IfOk, IsErrOf, OnOk, string_bytes};
 ghost use Rattle.sig_bits.specs.Device.{IsAtEnd};
+ghost use Rattle.sig_engines.specs.FileTexts.{IsTextOfSome};
 ghost use Rattle.sig_engines.specs.Lines.{AddsLinesOfSome, AreAskedOfSome, AreLinesOfSome};
 
+use crate::ask::MatchAsk;
 use crate::error::RunError;
+use crate::file_text::text_of_file;
 use crate::lines::lines_of_file;
 use sig_bits::{Input, Output};
 use sig_core::{CoreError, DroidCore, Results};
@@ -39,20 +42,18 @@ pub fn run_match<K: DroidCore, R: Input, W: Output>(
     ensures read_stays { IsErrOf result RunError.Read → out.new ≡ out.old }
     ensures memory_stays { IsErrOf result RunError.OutOfMemory → out.new ≡ out.old }
 {
-    let lines = lines_of_match(alloc, core, all, None, file)?;
+    let lines = lines_of_match(alloc, core, all, file)?;
     out.write_all(lines.as_bytes()).map_err(|_| RunError::Write)
 }
 
-/// The lines that are written of a file, of this name where it is one of several.
-pub(crate) fn lines_of_match<K: DroidCore, R: Input>(
+// The lines that are written of a file.
+fn lines_of_match<K: DroidCore, R: Input>(
     alloc: Global,
     core: &K,
     all: bool,
-    name: Option<&str>,
     file: &mut R,
 ) -> Result<String, RunError>
-    ensures lines { IfOk result (λ lines. let name = option_map (λ n. n.now) name.entry in
-        AreLinesOfSome all (K.lists core.now) name (R.to_come file.old) (string_bytes lines)) }
+    ensures lines { IfOk result (λ lines. AreLinesOfSome all (K.lists core.now) None (R.to_come file.old) (string_bytes lines)) }
     ensures at_end { OnOk result (IsAtEnd (R.to_come file.new)) }
 
     // Each refusal, and when.
@@ -62,7 +63,27 @@ pub(crate) fn lines_of_match<K: DroidCore, R: Input>(
     ensures never_write { ¬ IsErrOf result RunError.Write }
 {
     let results = asked_hits(core, all, file)?;
-    lines_of_file(alloc, core.table(), name, results.hits()).map_err(|_| RunError::OutOfMemory)
+    lines_of_file(alloc, core.table(), None, results.hits()).map_err(|_| RunError::OutOfMemory)
+}
+
+/// What is written of a file of this name.
+pub(crate) fn text_of_match<K: DroidCore, R: Input>(
+    alloc: Global,
+    core: &K,
+    ask: MatchAsk,
+    name: &str,
+    file: &mut R,
+) -> Result<Vec<u8>, RunError>
+    ensures text { IfOk result (λ text. IsTextOfSome ask (K.lists core.now) name.now (R.to_come file.old) text.items) }
+
+    // Each refusal, and when.
+    ensures read { IsErrOf result RunError.Read → R.failed file.new ≡ true }
+    ensures never_write { ¬ IsErrOf result RunError.Write }
+{
+    let results = asked_hits(core, ask.all, file)?;
+    text_of_file(alloc, core.table(), ask.csv, name, results.hits()).map_err(
+        |_| RunError::OutOfMemory,
+    )
 }
 
 // The hits of the file, or what is left of them.

@@ -1,6 +1,8 @@
 //! `lint` through the program.
 
-use crate::tests::{Fault, P, S, first_untold, is_answer, make, make_with, put, put_table, remove, run_in};
+use crate::tests::{
+    Fault, P, S, first_untold, is_answer, make, make_with, put, put_table, remove, run_in,
+};
 use fixtures::{NONE, SIGNATURES};
 use std::test::Fail;
 
@@ -185,7 +187,10 @@ fn warns_behind_no_fault(rt: HostRuntime) -> Result<(), Fail> {
     for (rows, warnings) in WARNINGS {
         put_table(&rt, folder, rows, "")?;
         let out = format!(in rt.alloc(); "no fault\n{warnings}")?;
-        assert!(rt; is_answer(&rt, folder, &["lint", S, P], &out)?, "{warnings}");
+        assert!(rt;
+            is_answer(&rt, folder, &["lint", S, P], &out)?,
+            "{warnings}"
+        );
     }
     remove(&rt, folder)
 }

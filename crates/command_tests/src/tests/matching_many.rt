@@ -144,6 +144,120 @@ fn prints_the_name_of_one_file_where_it_is_asked_for(rt: HostRuntime) -> Result<
     remove(&rt, folder)
 }
 
+// Records, behind the names of their fields: of each file, also of one alone.
+const RECORDS: &[Answered] = &[
+    Answered(
+        &["match", "--csv", S, P, "@/both.bin", "@/none.bin"],
+        0,
+        "file,puid,signature,name\n@/both.bin,fmt/2,2,\n@/none.bin,,,\n",
+        "",
+    ),
+    Answered(
+        &["match", "--csv", "--all", S, P, "@/both.bin"],
+        0,
+        "file,puid,signature,name\n@/both.bin,fmt/1,1,\n@/both.bin,fmt/2,2,\n",
+        "",
+    ),
+    Answered(
+        &["match", S, P, "@/comma,\"quote\".bin", "--csv"],
+        0,
+        "file,puid,signature,name\n\"@/comma,\"\"quote\"\".bin\",fmt/1,1,\n",
+        "",
+    ),
+    Answered(
+        &["match", "--csv", S, P, "@/missing.bin", "@/one.bin"],
+        3,
+        "file,puid,signature,name\n@/one.bin,fmt/1,1,\n",
+        "cannot open @/missing.bin\n",
+    ),
+];
+
+#[test]
+fn prints_records_where_they_are_asked_for(rt: HostRuntime) -> Result<(), Fail> {
+    let folder = "records";
+    make_with(&rt, folder, BELOW)?;
+    put_many(&rt, folder)?;
+    put(&rt, folder, "comma,\"quote\".bin", b"A")?;
+    for row in RECORDS {
+        assert!(rt; is_answered(&rt, folder, row)?, "{:?}", row.0);
+    }
+    remove(&rt, folder)
+}
+
+const L: &str = "@/names";
+
+// The names of the files stand in a list: one a line, or each ended by NUL.
+const LISTED: &[Answered] = &[
+    Answered(
+        &["match", "--files-from", L, S, P],
+        0,
+        "@/both.bin\tfmt/2 2\n@/none.bin\t-\n@/one.bin\tfmt/1 1\n",
+        "",
+    ),
+    Answered(
+        &["match", "--csv", "--all", S, P, "--files-from", L],
+        0,
+        "file,puid,signature,name\n@/both.bin,fmt/1,1,\n@/both.bin,fmt/2,2,\n@/none.bin,,,\n@/one.bin,fmt/1,1,\n",
+        "",
+    ),
+    Answered(
+        &["match", "-0", "--files-from", "@/ended", S, P],
+        3,
+        "@/one.bin\tfmt/1 1\n@/both.bin\tfmt/2 2\n",
+        "cannot open @/missing.bin\n",
+    ),
+    Answered(
+        &["match", "--null", "--files-from", "@/ended", S, P],
+        3,
+        "@/one.bin\tfmt/1 1\n@/both.bin\tfmt/2 2\n",
+        "cannot open @/missing.bin\n",
+    ),
+    Answered(&["match", "--files-from", "/dev/null", S, P], 0, "", ""),
+    Answered(
+        &["match", "--csv", "--files-from", "/dev/null", S, P],
+        0,
+        "file,puid,signature,name\n",
+        "",
+    ),
+    Answered(
+        &["match", "--files-from", "@/missing", S, P],
+        3,
+        "",
+        "cannot open @/missing\n",
+    ),
+    Answered(
+        &["match", "--csv", "--files-from", "@", S, P],
+        3,
+        "file,puid,signature,name\n",
+        "read failed\n",
+    ),
+    Answered(
+        &["match", "--files-from", "@/missing", S, "none.csv"],
+        3,
+        "",
+        "cannot open none.csv\n",
+    ),
+];
+
+// Puts the text into the folder, with its path in the place of each `@`.
+fn put_text(rt: &HostRuntime, folder: &str, name: &str, text: &str) -> Result<(), Fail> {
+    let text = text_in(rt, folder, text)?;
+    put(rt, folder, name, text.as_bytes())
+}
+
+#[test]
+fn takes_the_names_of_the_files_from_a_list(rt: HostRuntime) -> Result<(), Fail> {
+    let folder = "listed";
+    make_with(&rt, folder, BELOW)?;
+    put_many(&rt, folder)?;
+    put_text(&rt, folder, "names", "@/both.bin\n@/none.bin\n@/one.bin")?;
+    put_text(&rt, folder, "ended", "@/one.bin\0@/missing.bin\0@/both.bin\0")?;
+    for row in LISTED {
+        assert!(rt; is_answered(&rt, folder, row)?, "{:?}", row.0);
+    }
+    remove(&rt, folder)
+}
+
 const GOING_ON: &Answered = &Answered(
     &[
         "match",

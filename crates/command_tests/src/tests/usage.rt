@@ -44,7 +44,8 @@ const TEXTS: &[(&[&str], &str)] = &[
 // What the help of `lint` says.
 const OF_LINT: &[&str] = &[
     "those of the signatures first:\n  FILE line L row N: CODE: FIELD \"TEXT\" at PLACE: expected WHAT; CURE\n",
-    "the first line is `no fault`, and warnings follow.\n\nStatuses:\n  0  no fault\n  2  ",
+    "the first line is `no fault`. Then come warnings, which\nchange no status: of a signature",
+    "\n\nStatuses:\n  0  no fault\n  2  usage error, or a fault of the two files\n",
 ];
 
 // What the help of `match` says.
@@ -53,8 +54,11 @@ const OF_MATCH: &[&str] = &[
     "the file is ambiguous.\n\nWith more than one FILE, or with --with-names, each line begins with",
     "other files are still identified.\n\nStatuses:\n  0  ",
     "  2  usage error, or the table is refused\n",
-    "Usage: pronom_sig match [OPTIONS] <SIGS> <PRIOS> <FILE>...\n",
-    "  --with-names  Print the file's name also if there is only one FILE\n",
+    "Usage: pronom_sig match [OPTIONS] <SIGS> <PRIOS> [FILE]...\n",
+    "stand in NAMES, one a line, or with\n-0 each ended by a NUL.",
+    "file,puid,signature,name. The name is left empty. A file that no\nformat matches has one record",
+    "Print the file's name also if there is only one FILE\n",
+    "Print records of CSV, with the files' names\n",
 ];
 
 // What the help of `find` says.
@@ -199,6 +203,10 @@ const WRONG: &[(&[&str], &str)] = &[
     (
         &["check", "a", "b", "c", "d"],
         "error: unexpected argument 'd' found",
+    ),
+    (
+        &["match", "--files-from", "c", "a", "b", "d"],
+        "error: the argument '--files-from <NAMES>' cannot be used with '[FILE]...'",
     ),
     (
         &["match", "--most", "a", "b", "c"],

@@ -1,10 +1,10 @@
 //! Many files, out of a store in memory and out of one with a file whose reads fail.
 
 use crate::tests::table_of;
-use fixtures::{Broken, Failing, Memory, Named, Rows};
-use sig_bits::FromWrite;
+use fixtures::{Broken, Failing, Memory, Named, Pieces, Room, Rows};
+use sig_bits::{FromRead, FromWrite, Input};
 use sig_core::DroidCore;
-use sig_engines::{RunError, Store, run_match_many};
+use sig_engines::{MatchAsk, NameReader, RunError, Store, run_match_listed, run_match_many};
 use sig_match::{StreamCore, WholeCore};
 use std::test::Fail;
 
@@ -26,49 +26,85 @@ const BAD: Named = Named {
     bytes: b"AB",
 };
 
+// What is left of each file, what each file hits, and both as records.
+const LEFT: MatchAsk = MatchAsk {
+    all: false,
+    csv: false,
+};
+
+const HIT: MatchAsk = MatchAsk {
+    all: true,
+    csv: false,
+};
+
+const LEFT_RECORDS: MatchAsk = MatchAsk {
+    all: false,
+    csv: true,
+};
+
+const HIT_RECORDS: MatchAsk = MatchAsk {
+    all: true,
+    csv: true,
+};
+
 const FAILING: &Failing = &Failing {
     first: GOOD,
     second: ODD,
     third: BAD,
 };
 
-// The names of files, whether all hits are asked for, whether no file has a fault, the lines, and
-// the lines of the faults.
+// The names of files, what is asked of them, whether no file has a fault, what is written, and the
+// lines of the faults.
 #[derive(Clone, Copy)]
 struct Printed(
     &'static [&'static str],
-    bool,
+    MatchAsk,
     bool,
     &'static str,
     &'static str,
 );
 
 const PRINTED: &[Printed] = &[
-    Printed(&["good"], false, true, "good\tfmt/2 2\n", ""),
-    Printed(&["good"], true, true, "good\tfmt/1 1\ngood\tfmt/2 2\n", ""),
+    Printed(&["good"], LEFT, true, "good\tfmt/2 2\n", ""),
+    Printed(&["good"], HIT, true, "good\tfmt/1 1\ngood\tfmt/2 2\n", ""),
     Printed(
         &["o\td\n", "good", "good"],
-        false,
+        LEFT,
         true,
         "o\td\n\t-\ngood\tfmt/2 2\ngood\tfmt/2 2\n",
         "",
     ),
     Printed(
         &["none", "o\td\n", "", "good"],
-        true,
+        HIT,
         false,
         "o\td\n\t-\ngood\tfmt/1 1\ngood\tfmt/2 2\n",
         "cannot open none\ncannot open \n",
     ),
-    Printed(&[], false, true, "", ""),
+    Printed(&[], LEFT, true, "", ""),
+    Printed(
+        &["good", "none", "o\td\n"],
+        HIT_RECORDS,
+        false,
+        "file,puid,signature,name\ngood,fmt/1,1,\ngood,fmt/2,2,\n\"o\td\n\",,,\n",
+        "cannot open none\n",
+    ),
+    Printed(
+        &["good"],
+        LEFT_RECORDS,
+        true,
+        "file,puid,signature,name\ngood,fmt/2,2,\n",
+        "",
+    ),
+    Printed(&[], LEFT_RECORDS, true, "file,puid,signature,name\n", ""),
 ];
 
 // Whether this is answered for files, and these are the lines and the faults that are written.
 fn is_run<S: Store, K: DroidCore>(rt: &HostRuntime, store: &S, core: &K, row: &Printed) -> bool {
-    let Printed(names, all, is_whole, lines, faults) = *row;
+    let Printed(names, ask, is_whole, lines, faults) = *row;
     let mut out = FromWrite::new(Vec::new(rt.alloc()));
     let mut err = FromWrite::new(Vec::new(rt.alloc()));
-    let answer = run_match_many(rt.alloc(), store, core, all, names, &mut out, &mut err);
+    let answer = run_match_many(rt.alloc(), store, core, ask, names, &mut out, &mut err);
     let (out, err) = (out.into_inner(), err.into_inner());
     answer == Ok(is_whole)
         && out.as_slice() == lines.as_bytes()
@@ -112,7 +148,7 @@ fn a_core_that_streams_prints_the_same(rt: HostRuntime) -> Result<(), Fail> {
 // What is printed where the reads of the second file fail.
 const GOING_ON: &Printed = &Printed(
     &["good", "bad", "good"],
-    false,
+    LEFT,
     false,
     "good\tfmt/2 2\ngood\tfmt/2 2\n",
     "bad: read failed\n",
@@ -129,9 +165,9 @@ const NAMES: &[&str] = &["bad", "good", "none"];
 
 // Whether a failed write ends the run, with these faults told before it.
 fn ends_at_a_write(rt: &HostRuntime, core: &WholeCore, faults: &[u8]) -> bool {
-    let mut out = Broken::new();
+    let mut out = Room::of(0);
     let mut err = FromWrite::new(Vec::new(rt.alloc()));
-    let answer = run_match_many(rt.alloc(), FAILING, core, false, NAMES, &mut out, &mut err);
+    let answer = run_match_many(rt.alloc(), FAILING, core, LEFT, NAMES, &mut out, &mut err);
     let told = err.into_inner();
     answer == Err(RunError::Write) && told.as_slice() == faults
 }
@@ -147,7 +183,7 @@ fn a_failed_write_ends_the_run(rt: HostRuntime) -> Result<(), Fail> {
 fn goes_on_untold(rt: &HostRuntime, core: &WholeCore, lines: &[u8]) -> bool {
     let mut out = FromWrite::new(Vec::new(rt.alloc()));
     let mut err = Broken::new();
-    let answer = run_match_many(rt.alloc(), FAILING, core, false, NAMES, &mut out, &mut err);
+    let answer = run_match_many(rt.alloc(), FAILING, core, LEFT, NAMES, &mut out, &mut err);
     let written = out.into_inner();
     answer == Ok(false) && written.as_slice() == lines
 }
@@ -156,5 +192,162 @@ fn goes_on_untold(rt: &HostRuntime, core: &WholeCore, lines: &[u8]) -> bool {
 fn a_fault_that_is_not_told_ends_nothing(rt: HostRuntime) -> Result<(), Fail> {
     let core = core_below(&rt)?;
     assert!(rt; goes_on_untold(&rt, &core, b"good\tfmt/2 2\n"));
+    Ok(())
+}
+
+#[test]
+fn a_name_with_commas_and_quotes_is_one_field(rt: HostRuntime) -> Result<(), Fail> {
+    let core = core_below(&rt)?;
+    let store = Memory {
+        alloc: rt.alloc(),
+        first: Named {
+            name: "a,\"b\".bin",
+            bytes: b"A",
+        },
+        second: ODD,
+        third: BAD,
+    };
+    let row = Printed(
+        &["a,\"b\".bin"],
+        LEFT_RECORDS,
+        true,
+        "file,puid,signature,name\n\"a,\"\"b\"\".bin\",fmt/1,1,\n",
+        "",
+    );
+    assert!(rt; is_run(&rt, &store, &core, &row));
+    Ok(())
+}
+
+// A list of names, what ends a name, what is asked, what is answered, what is written, and the
+// lines of the faults.
+#[derive(Clone, Copy)]
+struct Listed(
+    &'static [u8],
+    u8,
+    MatchAsk,
+    Result<bool, RunError>,
+    &'static str,
+    &'static [u8],
+);
+
+const LISTED: &[Listed] = &[
+    Listed(b"", b'\n', LEFT, Ok(true), "", b""),
+    Listed(b"good\n", b'\n', LEFT, Ok(true), "good\tfmt/2 2\n", b""),
+    Listed(
+        b"good\nbad",
+        b'\n',
+        HIT,
+        Ok(true),
+        "good\tfmt/1 1\ngood\tfmt/2 2\nbad\tfmt/1 1\nbad\tfmt/2 2\n",
+        b"",
+    ),
+    Listed(
+        b"good\0o\td\n\0",
+        0,
+        LEFT,
+        Ok(true),
+        "good\tfmt/2 2\no\td\n\t-\n",
+        b"",
+    ),
+    Listed(
+        b"good\n\n\xff\xfe\nnone\r\nbad\n",
+        b'\n',
+        LEFT,
+        Ok(false),
+        "good\tfmt/2 2\nbad\tfmt/2 2\n",
+        b"cannot open \ncannot open \xff\xfe\ncannot open none\r\n",
+    ),
+    Listed(
+        b"\0\0",
+        0,
+        LEFT_RECORDS,
+        Ok(false),
+        "file,puid,signature,name\n",
+        b"cannot open \ncannot open \n",
+    ),
+];
+
+// Whether this is answered for the names in a list, and these are the lines and the faults.
+fn is_listed<I: Input + Drop>(
+    rt: &HostRuntime,
+    core: &WholeCore,
+    input: I,
+    row: &Listed,
+) -> Result<bool, Fail> {
+    let Listed(_, end, ask, answers, lines, faults) = *row;
+    let store = Memory {
+        alloc: rt.alloc(),
+        first: GOOD,
+        second: ODD,
+        third: BAD,
+    };
+    let mut list = NameReader::new(rt.alloc(), input, end)?;
+    let mut out = FromWrite::new(Vec::new(rt.alloc()));
+    let mut err = FromWrite::new(Vec::new(rt.alloc()));
+    let answer = run_match_listed(
+        rt.alloc(),
+        &store,
+        core,
+        ask,
+        &mut list,
+        &mut out,
+        &mut err,
+    );
+    let (out, err) = (out.into_inner(), err.into_inner());
+    Ok(answer == answers && out.as_slice() == lines.as_bytes() && err.as_slice() == faults)
+}
+
+#[test]
+fn the_names_of_files_stand_in_a_list(rt: HostRuntime) -> Result<(), Fail> {
+    let core = core_below(&rt)?;
+    for row in LISTED {
+        assert!(rt; is_listed(&rt, &core, FromRead::new(row.0), row)?, "{}", row.4);
+        assert!(rt; is_listed(&rt, &core, Pieces::of(row.0), row)?, "{}", row.4);
+    }
+    Ok(())
+}
+
+// A list that fails where its second name ends.
+const LIST_FAILS: &Listed = &Listed(
+    b"good\nbad",
+    b'\n',
+    LEFT,
+    Err(RunError::Read),
+    "good\tfmt/2 2\n",
+    b"",
+);
+
+#[test]
+fn a_list_that_is_not_read_ends_the_run(rt: HostRuntime) -> Result<(), Fail> {
+    let core = core_below(&rt)?;
+    assert!(rt; is_listed(&rt, &core, Pieces::failing(LIST_FAILS.0), LIST_FAILS)?);
+    Ok(())
+}
+
+// So many names of five bytes: some end within a read of the list, and some do not.
+const MANY: usize = 10_000;
+
+#[test]
+fn a_list_may_be_longer_than_a_read(rt: HostRuntime) -> Result<(), Fail> {
+    let mut names = Vec::new(rt.alloc());
+    for _ in 0..MANY {
+        names.extend_from_slice(b"good\n")?;
+    }
+    let core = core_below(&rt)?;
+    let mut list = NameReader::new(rt.alloc(), FromRead::new(names.as_slice()), b'\n')?;
+    let mut out = FromWrite::new(Vec::new(rt.alloc()));
+    let mut err = FromWrite::new(Vec::new(rt.alloc()));
+    let answer = run_match_listed(
+        rt.alloc(),
+        FAILING,
+        &core,
+        LEFT,
+        &mut list,
+        &mut out,
+        &mut err,
+    );
+    assert!(rt; answer == Ok(true));
+    assert!(rt; out.into_inner().len() == MANY * b"good\tfmt/2 2\n".len());
+    assert!(rt; err.into_inner().is_empty());
     Ok(())
 }

@@ -36,9 +36,6 @@ const EQUAL_ROWS: &str =
 fn equal_rows_of_two_formats_are_found(rt: HostRuntime) -> Result<(), Fail> {
     let table = load(rt.alloc(), EQUAL_ROWS)?;
     let found = rows_of_two_formats(rt.alloc(), &table)?;
-    assert_eq!(rt;
-        found.as_slice(),
-        [(3, 0), (4, 3)].as_slice()
-    );
+    assert_eq!(rt; found.as_slice(), [(3, 0), (4, 3)].as_slice());
     Ok(())
 }

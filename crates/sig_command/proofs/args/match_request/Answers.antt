@@ -1,45 +1,31 @@
-use Rattle.std.proofs.Common.{◌≡◌, ◌⊎◌, ◌<◌, ◌∙◌, ◌∷◌, arith, codes, length, refl, rules, subst, sym, true, None, Some}
+use Rattle.std.proofs.Common.{◌≡◌, ◌∙◌, codes, refl, sym, None, Some}
 use Rattle.clap.specs.Matches.{found_of}
 use Rattle.clap.specs.Words.{rows_of}
-use Rattle.sig_command.specs.CommandLine.{HasFlag}
 use Rattle.sig_command.proofs.RequestLemmas.{no_match}
-use Rattle.sig_command.proofs.RowLemmas.{all_of-rows, flag_is_read, many_named, none_named, one_named}
+use Rattle.sig_command.proofs.RowLemmas.{first_of-rows}
 use Rattle.sig_command.proofs.args.match_request.Goals as goal
 
 pub returns-in_err-table-clause-none : goal.returns-in_err-table-clause-none
 returns-in_err-table-clause-none c = λ is.
-    no_match (rows_of (found_of c.args.matches.now)) (λ table text texts named are. c.in_err-table.ensures.none refl table named)
+    no_match (rows_of (found_of c.args.matches.now)) (λ table text texts named unlisted are. c.in_err-table.ensures.none refl table named) (λ table word named listed alone. c.in_err-table.ensures.none refl table named)
 
-pub returns-in_err-files-clause-none : goal.returns-in_err-files-clause-none
-returns-in_err-files-clause-none c = λ is.
-    no_match (rows_of (found_of c.args.matches.now)) (λ table text texts named are.
-    let none : None ≡ Some (text ∷ texts) = c.in_err-files.ensures ∙ sym (all_of-rows (found_of c.args.matches.now) (codes "FILE")) ∙ are in
+pub list_request-requires-clause-listed : goal.list_request-requires-clause-listed
+list_request-requires-clause-listed c = first_of-rows (found_of c.args.matches.now) (codes "NAMES") ∙ sym c.in-Some.ensures
+
+pub files_request-requires-clause-unlisted : goal.files_request-requires-clause-unlisted
+files_request-requires-clause-unlisted c = first_of-rows (found_of c.args.matches.now) (codes "NAMES") ∙ sym c.in-None.ensures
+
+pub returns-in-Some-clause-none : goal.returns-in-Some-clause-none
+returns-in-Some-clause-none c = λ is.
+    no_match (rows_of (found_of c.args.matches.now))
+    (λ table text texts named unlisted are.
+    let bad : Some c.in-Some.word.now ≡ None = c.in-Some.ensures ∙ sym (first_of-rows (found_of c.args.matches.now) (codes "NAMES")) ∙ unlisted in
     cc)
+    (λ table word named listed alone. c.list_request.ensures.none is alone)
 
-pub returns-in-empty-clause-none : goal.returns-in-empty-clause-none
-returns-in-empty-clause-none c = λ is.
-    no_match (rows_of (found_of c.args.matches.now)) (λ table text texts named are.
-    none_named (found_of c.args.matches.now) _ c.in-empty.len_below c.in_ok-files.ensures text texts are)
-
-pub returns-in-len1-clause-asked : goal.returns-in-len1-clause-asked
-returns-in-len1-clause-asked c = (
-  rows_of (found_of c.args.matches.now),
-  refl,
-  c.in_ok-table.ensures.named,
-  one_named (found_of c.args.matches.now) c.in_ok-files.files.now _ c.in-len1.len_at_least c.in-len1.len_below c.in_ok-files.ensures,
-  flag_is_read (found_of c.args.matches.now) (codes "all") _ c.get_flag-all.ensures.value c.get_flag-all.ensures.other c.get_flag-all.ensures.none,
-  subst (λ b. HasFlag (codes "with-names") b (rows_of (found_of c.args.matches.now))) c.if-not-with_names.true
-      (flag_is_read (found_of c.args.matches.now) (codes "with-names") _ c.get_flag-with_names.ensures.value c.get_flag-with_names.ensures.other c.get_flag-with_names.ensures.none),
-)
-
-pub returns-in_default-clause-asked : goal.returns-in_default-clause-asked
-returns-in_default-clause-asked c =
-    let some : 0 < length c.in_ok-files.files.now = grind arith in
-    let several : (1 < length c.in_ok-files.files.now) ⊎ (c.get_flag-with_names.result ≡ true) = search rules in (
-      rows_of (found_of c.args.matches.now),
-      refl,
-      c.in_ok-table.ensures.named,
-      many_named (found_of c.args.matches.now) c.in_ok-files.files.now _ some several
-          (flag_is_read (found_of c.args.matches.now) (codes "with-names") _ c.get_flag-with_names.ensures.value c.get_flag-with_names.ensures.other c.get_flag-with_names.ensures.none) c.in_ok-files.ensures,
-      flag_is_read (found_of c.args.matches.now) (codes "all") _ c.get_flag-all.ensures.value c.get_flag-all.ensures.other c.get_flag-all.ensures.none,
-    )
+pub returns-in-None-clause-none : goal.returns-in-None-clause-none
+returns-in-None-clause-none c = λ is.
+    no_match (rows_of (found_of c.args.matches.now)) (λ table text texts named unlisted are. c.files_request.ensures.none is text texts are)
+    (λ table word named listed alone.
+    let bad : None ≡ Some word = c.in-None.ensures ∙ sym (first_of-rows (found_of c.args.matches.now) (codes "NAMES")) ∙ listed in
+    cc)

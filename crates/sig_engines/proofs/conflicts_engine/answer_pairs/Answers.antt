@@ -1,6 +1,5 @@
 use Rattle.std.proofs.Common.{◌≡◌, ◌++◌, subst, string_bytes, ◌∙◌}
 use Rattle.std.proofs.lemmas.Result.{err_from_is_err_and}
-use Rattle.sig_bits.specs.Device.{Adds}
 use Rattle.sig_engines.specs.Asks.{shows_class}
 use Rattle.sig_engines.specs.Conflicts.{AddsConflicts, counts_line}
 use Rattle.sig_engines.specs.Forced.{Forces}

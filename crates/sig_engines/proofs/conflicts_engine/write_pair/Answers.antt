@@ -1,11 +1,11 @@
-use Rattle.std.proofs.Common.{None, Some, append-nil, refl, sym, ◌∙◌}
+use Rattle.std.proofs.Common.{None, Some, append-nil, sym, ◌∙◌}
 use Rattle.std.proofs.lemmas.Bool.{false≢true}
 use Rattle.std.proofs.lemmas.Result.{err_from_is_err_and}
 use Rattle.sig_cert.specs.Pairs.{AreRelated}
 use Rattle.sig_find.proofs.Exports.{related_pairs_leave_none}
 use Rattle.sig_engines.specs.Conflicts.{IsSettled}
 use Rattle.sig_engines.specs.Stores.{IsMade}
-use Rattle.sig_engines.proofs.TellingLemmas.{adds_nothing, file_is_cut, line_is_cut, no_file, none_counted, none_is_classed, pair_is_told}
+use Rattle.sig_engines.proofs.TellingLemmas.{adds_nothing, line_is_cut, no_file, none_counted, none_is_classed, pair_is_told}
 use Rattle.sig_engines.proofs.conflicts_engine.write_pair.Goals as goal
 
 pub returns-then-are_related-clause-told : goal.returns-then-are_related-clause-told

@@ -1,4 +1,4 @@
-use Rattle.std.proofs.Common.{Ok, Err, string_bytes, subst}
+use Rattle.std.proofs.Common.{Ok, Err, subst}
 use Rattle.sig_bits.specs.Device.{Adds, AddsFront}
 use Rattle.sig_engines.proofs.WriteLemmas.{printed}
 use Rattle.sig_engines.proofs.ManyLemmas.{one_cut, one_printed}
@@ -10,16 +10,16 @@ returns-in-Ok-write_all-clause-answers g c =
     let before = g.W.Output.written c.args.out.now in
     let after = g.W.Output.written c.write_all.new.self in
     let err = g.E.Output.written c.args.err.now in
-    one_printed _ c.args.name.now (Ok (string_bytes c.in-Ok.lines)) before after (g.E.Output.failed c.args.err.now) err err c.in-Ok.ensures.lines
-    (subst (λ l. Adds before l after) c.as_bytes.ensures.value c.in-Ok-write_all.ensures.adds) (λ sound. adds_nothing err)
+    one_printed _ c.args.name.now (Ok c.in-Ok.text.items) before after (g.E.Output.failed c.args.err.now) err err c.in-Ok.ensures.text
+    (subst (λ l. Adds before l after) c.deref.ensures.value c.in-Ok-write_all.ensures.adds) (λ sound. adds_nothing err)
 
 pub returns-in-Ok-clause-cut : goal.returns-in-Ok-clause-cut
 returns-in-Ok-clause-cut g c =
     let before = g.W.Output.written c.args.out.now in
     let after = g.W.Output.written c.write_all.new.self in
     let err = g.E.Output.written c.args.err.now in
-    one_cut _ c.args.name.now (string_bytes c.in-Ok.lines) before after (g.E.Output.failed c.args.err.now) err c.in-Ok.ensures.lines
-    (subst (λ l. AddsFront before l after) c.as_bytes.ensures.value c.in-Err-write_all.ensures.front)
+    one_cut _ c.args.name.now c.in-Ok.text.items before after (g.E.Output.failed c.args.err.now) err c.in-Ok.ensures.text
+    (subst (λ l. AddsFront before l after) c.deref.ensures.value c.in-Err-write_all.ensures.front)
 
 pub returns-clause-answers : goal.returns-clause-answers
 returns-clause-answers g c =

@@ -1,4 +1,4 @@
-use Rattle.std.proofs.Common.{◌≡◌, ◌++◌, length, string_bytes}
+use Rattle.std.proofs.Common.{◌≡◌, ◌++◌, string_bytes}
 use Rattle.std.specs.Prelude.{flat_map}
 use Rattle.std.specs.List.{filter, range_with_len}
 use Rattle.sig_engines.specs.Notes.{lines_in, summary_line}

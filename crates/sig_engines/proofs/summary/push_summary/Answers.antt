@@ -1,4 +1,4 @@
-use Rattle.std.proofs.Common.{arith, length, string_bytes}
+use Rattle.std.proofs.Common.{length, string_bytes}
 use Rattle.sig_engines.proofs.SummaryLemmas.{fewer_written}
 use Rattle.sig_engines.proofs.summary.push_summary.Goals as goal
 

@@ -1,0 +1,40 @@
+use Rattle.std.proofs.Common.{◌≡◌, ◌⊎◌, ◌<◌, ◌∙◌, ◌∷◌, arith, codes, length, refl, rules, subst, sym, true, None, Some}
+use Rattle.clap.specs.Matches.{found_of}
+use Rattle.clap.specs.Words.{rows_of}
+use Rattle.sig_command.specs.CommandLine.{HasFlag}
+use Rattle.sig_command.proofs.RowLemmas.{all_of-rows, flag_is_read, many_named, none_named, not_true, one_named}
+use Rattle.sig_command.proofs.args.files_request.Goals as goal
+
+pub returns-in_err-files-clause-none : goal.returns-in_err-files-clause-none
+returns-in_err-files-clause-none c = λ is text texts are.
+    let none : None ≡ Some (text ∷ texts) = c.in_err-files.ensures ∙ sym (all_of-rows (found_of c.args.matches.now) (codes "FILE")) ∙ are in
+    cc
+
+pub returns-in-empty-clause-none : goal.returns-in-empty-clause-none
+returns-in-empty-clause-none c = λ is text texts are. none_named (found_of c.args.matches.now) _ c.in-empty.len_below c.in_ok-files.ensures text texts are
+
+pub returns-in-len1-clause-asked : goal.returns-in-len1-clause-asked
+returns-in-len1-clause-asked c = (
+  rows_of (found_of c.args.matches.now),
+  refl,
+  c.requires.named,
+  one_named (found_of c.args.matches.now) c.in_ok-files.files.now _ c.in-len1.len_at_least c.in-len1.len_below c.in_ok-files.ensures,
+  c.requires.unlisted,
+  c.match_ask-ask.ensures.all,
+  subst (λ b. HasFlag (codes "with-names") b (rows_of (found_of c.args.matches.now))) c.if-not-with_names.true
+      (flag_is_read (found_of c.args.matches.now) (codes "with-names") _ c.get_flag-with_names.ensures.value c.get_flag-with_names.ensures.other c.get_flag-with_names.ensures.none),
+  subst (λ b. HasFlag (codes "csv") b (rows_of (found_of c.args.matches.now))) (not_true c.match_ask-ask.result.csv c.if-not-ask.true) c.match_ask-ask.ensures.csv,
+)
+
+pub returns-in_default-clause-asked : goal.returns-in_default-clause-asked
+returns-in_default-clause-asked c =
+    let some : 0 < length c.in_ok-files.files.now = grind arith in
+    let several : (1 < length c.in_ok-files.files.now) ⊎ ((c.get_flag-with_names.result ≡ true) ⊎ (c.match_ask-ask.result.csv ≡ true)) = search rules in (
+      rows_of (found_of c.args.matches.now),
+      refl,
+      c.requires.named,
+      many_named (found_of c.args.matches.now) c.in_ok-files.files.now _ _ some several
+          (flag_is_read (found_of c.args.matches.now) (codes "with-names") _ c.get_flag-with_names.ensures.value c.get_flag-with_names.ensures.other c.get_flag-with_names.ensures.none)
+          c.match_ask-ask.ensures.csv c.in_ok-files.ensures c.requires.unlisted,
+      c.match_ask-ask.ensures,
+    )
