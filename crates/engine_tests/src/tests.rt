@@ -4,6 +4,7 @@ mod finding;
 mod judging;
 mod linting;
 mod many_files;
+mod reading;
 mod worked_rows;
 
 use fixtures::{PRIORITIES, SIGNATURES};

@@ -3,6 +3,7 @@ mod blocks;
 mod cuts;
 mod hits;
 mod items;
+mod limits;
 mod long_gaps;
 mod offsets;
 mod random;

@@ -66,6 +66,29 @@ impl Write for NeverFlushed {
     }
 }
 
+// Takes all of each write, and fails to see the first one through, and no later one. It counts its
+// writes and its flushes.
+#[derive(Drop)]
+struct FlushedLater {
+    writes: u8,
+    flushes: u8,
+}
+
+impl Write for FlushedLater {
+    fn write(&mut self, buf: &[u8]) -> IoResult<usize> {
+        self.writes = self.writes.saturating_add(1);
+        Ok(buf.len())
+    }
+
+    fn flush(&mut self) -> IoResult<()> {
+        self.flushes = self.flushes.saturating_add(1);
+        if self.flushes == 1 {
+            return Err(Error::from(ErrorKind::Other));
+        }
+        Ok(())
+    }
+}
+
 // Is interrupted once, and then takes all of each write.
 #[derive(Drop)]
 struct InterruptedOnce {
@@ -117,6 +140,47 @@ impl Read for Failing<'_> {
     }
 }
 
+// Gives all of a file that there is room for. It counts its reads, and those behind the last byte.
+#[derive(Drop)]
+struct Counted<'a> {
+    rest: &'a [u8],
+    reads: &'a mut u32,
+    ends: &'a mut u32,
+}
+
+impl Read for Counted<'_> {
+    fn read(&mut self, buf: &mut [u8]) -> IoResult<usize> {
+        let count = self.rest.len().min(buf.len());
+        *self.reads = (*self.reads).saturating_add(1);
+        if count == 0 {
+            *self.ends = (*self.ends).saturating_add(1);
+        }
+        buf[..count].copy_from_slice(&self.rest[..count]);
+        self.rest = &self.rest[count..];
+        Ok(count)
+    }
+}
+
+// Gives the byte 0x41, and fails the second read alone. It counts its reads.
+#[derive(Drop)]
+struct FailingOnce<'a> {
+    reads: &'a mut u8,
+}
+
+impl Read for FailingOnce<'_> {
+    fn read(&mut self, buf: &mut [u8]) -> IoResult<usize> {
+        *self.reads = (*self.reads).saturating_add(1);
+        if *self.reads == 2 {
+            return Err(Error::from(ErrorKind::Other));
+        }
+        if buf.is_empty() || *self.reads > 2 {
+            return Ok(0);
+        }
+        buf[0] = 0x41;
+        Ok(1)
+    }
+}
+
 // Whether each of three reads of the input fails.
 fn fails_thrice<R: Read>(input: &mut FromRead<R>) -> bool {
     let mut buf = [0u8; 3];
@@ -138,6 +202,41 @@ fn a_failed_reader_is_not_read_again(rt: HostRuntime) {
         assert!(rt; refused == Some(ReadWholeError::Read));
     }
     assert!(rt; reads == 1);
+}
+
+#[test]
+fn a_read_that_fails_once_is_not_tried_again(rt: HostRuntime) {
+    let mut reads = 0;
+    {
+        let mut input = FromRead::new(FailingOnce { reads: &mut reads });
+        let refused = read_whole(rt.alloc(), &mut input).err();
+        assert!(rt; refused == Some(ReadWholeError::Read));
+        assert!(rt; fails_thrice(&mut input));
+    }
+    assert_eq!(rt; reads, 2, "one byte, and the fault");
+}
+
+// Lengths of files, below, at and above those for which more room is made.
+const LENGTHS: [u32; 8] = [0, 1, 4096, 16_383, 16_384, 16_385, 131_072, 200_000];
+
+#[test]
+fn a_reader_is_read_once_behind_its_last_byte(rt: HostRuntime) -> Result<(), Fail> {
+    for len in LENGTHS {
+        let file = vec![in rt.alloc(); 0x42; len as usize]?;
+        let (mut reads, mut ends) = (0, 0);
+        {
+            let mut input = FromRead::new(Counted {
+                rest: &file,
+                reads: &mut reads,
+                ends: &mut ends,
+            });
+            let whole = read_whole(rt.alloc(), &mut input)?;
+            assert!(rt; whole == file);
+        }
+        assert_eq!(rt; ends, 1, "{len}");
+        assert!(rt; reads <= len / 4096 + 2, "{len} bytes in {reads} reads");
+    }
+    Ok(())
 }
 
 #[test]
@@ -252,6 +351,38 @@ fn a_short_write_goes_on_and_a_failed_one_is_final(rt: HostRuntime) {
 fn a_failed_flush_is_a_failed_write(rt: HostRuntime) {
     let mut output = FromWrite::new(NeverFlushed);
     assert!(rt; output.write_all(b"ab") == Err(DeviceFault));
+}
+
+#[test]
+fn a_flush_that_fails_once_is_not_tried_again(rt: HostRuntime) {
+    let mut output = FromWrite::new(FlushedLater {
+        writes: 0,
+        flushes: 0,
+    });
+    assert!(rt; output.write_all(b"ab") == Err(DeviceFault));
+    assert!(rt; output.write_all(b"cd") == Err(DeviceFault));
+    let writer = output.into_inner();
+    assert_eq!(rt; (writer.writes, writer.flushes), (1, 1));
+}
+
+#[test]
+fn a_write_of_nothing_is_seen_through(rt: HostRuntime) {
+    let mut output = FromWrite::new(FlushedLater {
+        writes: 0,
+        flushes: 0,
+    });
+    assert!(rt; output.write_all(b"") == Err(DeviceFault));
+    let writer = output.into_inner();
+    assert_eq!(rt; (writer.writes, writer.flushes), (0, 1));
+}
+
+#[test]
+fn a_write_may_have_some_mebibytes(rt: HostRuntime) -> Result<(), Fail> {
+    let long = vec![in rt.alloc(); 0x42; 5 << 20]?;
+    let mut output = FromWrite::new(Vec::new(rt.alloc()));
+    assert!(rt; output.write_all(&long) == Ok(()));
+    assert!(rt; output.into_inner() == long);
+    Ok(())
 }
 
 #[test]

@@ -62,6 +62,36 @@ fn first_faults_are_named(rt: HostRuntime) {
     }
 }
 
+// Texts that are refused, and the words that tell why.
+const TOLD: &[(&str, &str)] = &[
+    ("4", "no expression goes on so at 1"),
+    ("41{65536}", "gap number over 65535 at 2"),
+    ("4142{0}", "empty gap at 4"),
+    ("{5-2}", "gap out of order at 0"),
+    ("41[42:41]", "range out of order at 2"),
+    ("41[!00:FF]", "empty class at 2"),
+    ("[41:4142]", "range of two lengths at 0"),
+    ("[!010203040506070809]", "bracket over eight bytes at 0"),
+];
+
+// Whether the refusal of the text is told in these words.
+fn is_told(alloc: Global, text: &[u8], words: &str) -> Result<bool, Fail> {
+    match parse(alloc, text) {
+        Ok(_) => Ok(false),
+        Err(refusal) => Ok(refusal.to_string(alloc)?.as_str() == words),
+    }
+}
+
+#[test]
+fn a_refusal_is_told_with_its_place(rt: HostRuntime) -> Result<(), Fail> {
+    for (text, words) in TOLD {
+        assert!(rt; is_told(rt.alloc(), text.as_bytes(), words)?, "{text}");
+    }
+    let long = vec![in rt.alloc(); b'*'; 8193]?;
+    assert!(rt; is_told(rt.alloc(), &long, "the text is too long")?);
+    Ok(())
+}
+
 // How many items the text has, if it is an expression.
 fn item_count(alloc: Global, text: &[u8]) -> Option<usize> {
     match parse(alloc, text) {

@@ -711,3 +711,61 @@ fn a_failed_write_is_named(rt: HostRuntime) -> Result<(), Fail> {
     assert!(rt; told.as_str() == "write failed");
     Ok(())
 }
+
+// Rows of both files, and the words that tell why they are no table.
+const TOLD: &[(&str, &str, &str)] = &[
+    ("fmt/1\n", "", "fields of row 1"),
+    ("fmt/0,1,BOF,0,,41\n", "", "PUID in row 1"),
+    ("fmt/1,0,BOF,0,,41\n", "", "signature number in row 1"),
+    ("fmt/1,1,bof,0,,41\n", "", "position in row 1"),
+    ("fmt/1,1,BOF,,,41\n", "", "offset in row 1"),
+    (
+        "fmt/1,1,BOF,0,,4\n",
+        "",
+        "expression in row 1: no expression goes on so at 1",
+    ),
+    (
+        "fmt/1,1,BOF,0,,41\nfmt/2,1,BOF,0,,41\n",
+        "",
+        "signature of two formats in row 2",
+    ),
+    ("fmt/1,1,BOF,65535,,41\n", "", "too many slots in row 1"),
+    ("", "fmt/1\n", "fields of row 1"),
+    ("", "fmt/1,fmt/2\n", "unknown format in row 1"),
+    (
+        "fmt/1,1,BOF,0,,41\n",
+        "fmt/1,fmt/1\n",
+        "format over itself in row 1",
+    ),
+    (
+        "fmt/1,1,BOF,0,,41\nfmt/2,2,BOF,0,,42\n",
+        "fmt/1,fmt/2\nfmt/1,fmt/2\n",
+        "pair twice in row 2",
+    ),
+    (
+        "fmt/1,1,BOF,0,,41\nfmt/2,2,BOF,0,,42\n",
+        "fmt/1,fmt/2\nfmt/2,fmt/1\n",
+        "cycle in row 2",
+    ),
+];
+
+// The words that tell why rows are no table. There are none of a table.
+fn told_of(alloc: Global, rows: &str, pairs: &str) -> Result<String, Fail> {
+    let mut signatures = HEADER.to_vec(alloc)?;
+    signatures.extend_from_slice(rows.as_bytes())?;
+    let mut priorities = b"higher,lower\n".to_vec(alloc)?;
+    priorities.extend_from_slice(pairs.as_bytes())?;
+    match loaded(alloc, signatures.as_slice(), priorities.as_slice()) {
+        Ok(_) => Ok(String::new(alloc)),
+        Err(fault) => Ok(fault.to_string(alloc)?),
+    }
+}
+
+#[test]
+fn a_fault_is_told_with_its_row(rt: HostRuntime) -> Result<(), Fail> {
+    for (rows, pairs, words) in TOLD {
+        let told = told_of(rt.alloc(), rows, pairs)?;
+        assert!(rt; told.as_str() == *words, "{words}");
+    }
+    Ok(())
+}
