@@ -2,7 +2,7 @@
 use Rattle.std.proofs.Common.{◌≡◌, ◌≢◌, ◌⊎◌, ℕ, ◌<◌, ◌≤◌, Bool, List, [], None, Option, Some, ap, arith, false, inl, inr, refl, subst, sym, true, ◌∙◌}
 use Rattle.std.proofs.lemmas.List.{append-nil}
 use Rattle.std.specs.Borrow.{Bor}
-use Rattle.clap.specs.Words.{HasKind, IsAmong, Row, Text, fault_of, kind_of, subcommand_of}
+use Rattle.clap.specs.Words.{HasKind, IsAmong, Text, fault_of, kind_of, subcommand_of}
 use Rattle.clap.specs.declared.error.Error.{Error}
 use Rattle.clap.specs.declared.error.kind.ErrorKind.{ErrorKind}
 use Rattle.clap.specs.declared.error.kind.ErrorKind.TheVariants as kind
@@ -14,19 +14,21 @@ use Rattle.sig_engines.specs.declared.error.CutShort.{CutShort as Cut}
 use Rattle.sig_engines.specs.declared.error.CutShort.TheVariants as cut
 use Rattle.sig_engines.specs.declared.error.RunError.{RunError}
 use Rattle.sig_engines.specs.declared.error.RunError.TheVariants as run
+use Rattle.sig_engines.specs.declared.format_names.NamesError.{NamesError}
+use Rattle.sig_engines.specs.declared.format_names.NamesError.TheVariants as names
 use Rattle.sig_engines.specs.declared.witness_name.WitnessName.{WitnessName}
 use Rattle.sig_table.specs.declared.error.TableError.{TableError}
 use Rattle.sig_table.specs.declared.error.TableError.TheVariants as table
 use Rattle.sig_command.specs.CommandLine.{AreTaken, Asks, HasFaultKind, IsHelpAsked, program}
 use Rattle.sig_command.specs.Endings.{AnswersBy, EndsByFault, KeepsErrors, KeepsOutput, ReportsMemory, TellsBy}
 use Rattle.sig_command.specs.Faults.{Reports, ReportsLine, TellsWrite}
-use Rattle.sig_command.specs.Requests.{Behind, CutsSomeWords, CutsWords, IsCutRequest, IsFaultOf, IsFirstFault, IsLaterFault, Joins, KeepsOrCuts, ListsIf, ListsRequest, ListsSomeWords, ListsWords, ReportsFaultOf, ReportsLineOf, Shows, ShowsBefore, ShowsSomeWords, ShowsWords, TellsOf}
+use Rattle.sig_command.specs.Requests.{Behind, CutsSomeWords, CutsWords, IsCutRequest, IsFaultOf, IsFirstFault, IsLaterFault, IsNamesFaultOf, Joins, KeepsOrCuts, ListsIf, ListsRequest, ListsSomeWords, ListsWords, ReportsFaultOf, ReportsLineOf, Shows, ShowsBefore, ShowsSomeWords, ShowsWords, TellsOf}
 use Rattle.sig_command.specs.Several.{ReportsFiles}
-use Rattle.sig_command.specs.Statuses.{kind_status, status_of, table_status}
+use Rattle.sig_command.specs.Statuses.{kind_status, names_status, status_of, table_status}
 use Rattle.sig_command.specs.declared.args.Request.{Request}
 use Rattle.sig_command.specs.declared.args.Request.TheVariants.{Check, Conflicts, Dead, Find, Lint, Match, MatchListed, MatchMany, Show, Witness}
 use Rattle.sig_command.specs.declared.fault.Fault.{Fault}
-use Rattle.sig_command.specs.declared.fault.Fault.TheVariants.{CannotOpen, CutShort, FaultyTable, NoFile, NotInTable, NotText, Run, SomeFiles, SummaryOfOne, Table}
+use Rattle.sig_command.specs.declared.fault.Fault.TheVariants.{CannotOpen, CutShort, FaultyTable, Names, NoFile, NotInTable, NotText, Run, SomeFiles, SummaryOfOne, Table}
 
 -- memory can run out for whatever is asked
 pub memory_of : {R : Type 0} (failed : R → Bool) (held : Holding) (request : Request) → IsFaultOf failed held request (Run run.OutOfMemory)
@@ -40,8 +42,8 @@ memory_first failed held request before after err = (inl refl, go request)
     go (Show table) = tt
     go (Lint table) = tt
     go (Match all table file) = tt
-    go (MatchMany ask table files) = refl
-    go (MatchListed ask table list end) = inl refl
+    go (MatchMany options table files) = refl
+    go (MatchListed options table list end) = inl refl
     go (Find table budget out hex progress) = tt
     go (Conflicts table options progress) = tt
     go (Dead table budget hex progress) = tt
@@ -57,13 +59,21 @@ no_such failed held request reason memory two first later (inr (inl is)) = memor
 no_such failed held request reason memory two first later (inr (inr (inl is))) = later is.1
 no_such failed held request reason memory two first later (inr (inr (inr is))) = two is.0
 
+-- names of formats have faults of two kinds
+no_names : {R : Type 0} (failed : R → Bool) (held : Holding) (path : Option (Bor Text)) (reason : Fault) → ((name : Bor Text) → reason ≢ CannotOpen name) → ((error : NamesError) → reason ≢ Names error) → IsNamesFaultOf failed held path reason → ⊥
+no_names failed held None reason unopened names is = is
+no_names failed held (Some path) reason unopened names (inl is) = unopened path is.0
+no_names failed held (Some path) reason unopened names (inr is) = names is.0 is.1
+
 -- the faults of a table are no fault of one that loads
 later_faulty : {R : Type 0} (failed : R → Bool) (held : Holding) (request : Request) → IsLaterFault failed held request FaultyTable → ⊥
 later_faulty failed held (Show table) is = let bad : FaultyTable ≡ Run run.Write = is in cc
-later_faulty failed held (MatchMany ask table files) (inl is) = let bad : FaultyTable ≡ SomeFiles = is in cc
-later_faulty failed held (MatchMany ask table files) (inr is) = let bad : FaultyTable ≡ Run run.Write = is in cc
-later_faulty failed held (MatchListed ask table list end) (inl is) = let bad : FaultyTable ≡ SomeFiles = is in cc
-later_faulty failed held (MatchListed ask table list end) (inr is) = is
+later_faulty failed held (MatchMany options table files) (inl is) = let bad : FaultyTable ≡ SomeFiles = is in cc
+later_faulty failed held (MatchMany options table files) (inr (inl is)) = let bad : FaultyTable ≡ Run run.Write = is in cc
+later_faulty failed held (MatchMany options table files) (inr (inr is)) = no_names failed held options.names FaultyTable (λ name same. cc) (λ error same. cc) is
+later_faulty failed held (MatchListed options table list end) (inl is) = let bad : FaultyTable ≡ SomeFiles = is in cc
+later_faulty failed held (MatchListed options table list end) (inr (inl is)) = is
+later_faulty failed held (MatchListed options table list end) (inr (inr is)) = no_names failed held options.names FaultyTable (λ name same. cc) (λ error same. cc) is
 later_faulty failed held (Find table budget out hex progress) (inl is) = let bad : FaultyTable ≡ CannotOpen out = is in cc
 later_faulty failed held (Find table budget out hex progress) (inr is) = let bad : FaultyTable ≡ Run run.Write = is in cc
 later_faulty failed held request is = is
@@ -138,11 +148,11 @@ files_are_reported : {R : Type 0} (failed : R → Bool) (held : Holding) (reques
 files_are_reported failed held (Show table) status before after is_failed err_before mid err_after is joins sound reports = absurd (no_files failed held (Show table) (λ same. let bad : SomeFiles ≡ Run run.Write = same in cc) is)
 files_are_reported failed held (Lint table) status before after is_failed err_before mid err_after is joins sound reports = absurd (no_files failed held (Lint table) (λ never. never) is)
 files_are_reported failed held (Match all table file) status before after is_failed err_before mid err_after is joins sound reports = absurd (no_files failed held (Match all table file) (λ never. never) is)
-files_are_reported failed held (MatchMany ask table files) status before after is_failed err_before mid err_after is joins sound reports =
-    let added = joins.2 in
-    record { files = added.files; is = sym added.is; adds = nothing_behind err_before mid err_after (err_texts added.files) (added.reports sound) reports.adds }
-files_are_reported failed held (MatchListed ask table list end) status before after is_failed err_before mid err_after is joins sound reports =
+files_are_reported failed held (MatchMany options table files) status before after is_failed err_before mid err_after is joins sound reports =
     let added = joins.4 in
+    record { files = added.files; is = sym added.is; adds = nothing_behind err_before mid err_after (err_texts added.files) (added.reports sound) reports.adds }
+files_are_reported failed held (MatchListed options table list end) status before after is_failed err_before mid err_after is joins sound reports =
+    let added = joins.6 in
     record { files = added.files; is = sym added.is; adds = nothing_behind err_before mid err_after (err_texts added.files) (added.reports sound) reports.adds }
 files_are_reported failed held (Find table budget out hex progress) status before after is_failed err_before mid err_after is joins sound reports = absurd (no_files failed held (Find table budget out hex progress) never is)
   where
@@ -178,12 +188,18 @@ some_line failed held words request reason status is_failed written err mid befo
     go (Run error) is joins reports = one (Run error) (λ same. let bad : Run error ≡ SomeFiles = same in cc) joins reports
     go (CutShort error) is joins reports = one (CutShort error) (λ same. let bad : CutShort error ≡ SomeFiles = same in cc) joins reports
     go FaultyTable is joins reports = one FaultyTable (λ same. let bad : FaultyTable ≡ SomeFiles = same in cc) joins reports
+    go (Names error) is joins reports = one (Names error) (λ same. let bad : Names error ≡ SomeFiles = same in cc) joins reports
 
 -- a fault is no answer
 high_table : (error : TableError) → 2 ≤ table_status error
 high_table (table.Read file) = omega arith
 high_table table.OutOfMemory = omega arith
 high_table _ = omega arith
+
+high_names : (error : NamesError) → 2 ≤ names_status error
+high_names names.Read = omega arith
+high_names names.OutOfMemory = omega arith
+high_names _ = omega arith
 
 high_status : (reason : Fault) → 2 ≤ status_of reason
 high_status NotText = omega arith
@@ -196,6 +212,7 @@ high_status (Run error) = omega arith
 high_status (CutShort error) = omega arith
 high_status SomeFiles = omega arith
 high_status FaultyTable = omega arith
+high_status (Names error) = high_names error
 
 never_low : (status : ℕ) (reason : Fault) → status ≡ status_of reason → status < 2 → ⊥
 never_low status reason ends low = let high = high_status reason in omega (arith, low, high, ends)
@@ -207,6 +224,25 @@ fault_keeps_errors failed held words request reason status is_failed written err
       subst (λ (s : ℕ). Behind (ShowsWords failed held words false false) (ReportsLine s) (written err) (written last) ⊎ ReportsFiles (written err) (written last)) three
       (some_line failed held words request reason status is_failed written err mid before after (written last) asks is told joins (sound whole) (reports whole));
 }
+
+-- where nothing is shown, whatever may be shown
+pub nothing_is_shown : {E : Type 0} (Shown : Bool → Bool → Option (List ℕ) → Option (List ℕ) → Type 0) (status : ℕ) (is_failed : Bool) (before after : E) (written written_after : Option (List ℕ)) → KeepsErrors (λ is_answered fails first last. ⊥) status is_failed before after written written_after → KeepsErrors Shown status is_failed before after written written_after
+nothing_is_shown Shown status is_failed before after written written_after keeps = record {
+  quiet = λ low. inl (same (keeps.quiet low));
+  reported = λ three whole. behind (keeps.reported three whole);
+}
+  where
+    same : (after ≡ before) ⊎ ⊥ → after ≡ before
+    same (inl is) = is
+    same (inr never) = absurd never
+
+    behind : Behind (λ first last. ⊥) (ReportsLine 3) written written_after ⊎ ReportsFiles written written_after → Behind (Shown false false) (ReportsLine 3) written written_after ⊎ ReportsFiles written written_after
+    behind (inl b) = inl record { mid = b.mid; shown = first b.shown; rest = b.rest }
+      where
+        first : {m : Option (List ℕ)} → (m ≡ written) ⊎ ⊥ → (m ≡ written) ⊎ Shown false false written m
+        first (inl is) = inl is
+        first (inr never) = absurd never
+    behind (inr files) = inr files
 
 -- with 2 the output is as it was, or has the faults of a table; with 3 an answer may be cut short
 pub fault_keeps_output : {R W : Type 0} (failed : R → Bool) (held : Holding) (words : List Text) (request : Request) (reason : Fault) (status : ℕ) (is_failed : W → Bool) (written : W → Option (List ℕ)) (before after : W) → Asks (subcommand_of program words) request → IsFaultOf failed held request reason → status ≡ status_of reason → (((e : RunError) → reason ≢ Run e) → ((e : Cut) → reason ≢ CutShort e) → ((folder : Bor Text) (name : WitnessName) → reason ≢ NoFile folder name) → reason ≢ SomeFiles → reason ≢ FaultyTable → after ≡ before) → ListsIf held request reason (is_failed after) (written before) (written after) → (reason ≢ FaultyTable → KeepsOrCuts failed held request is_failed written before after) → KeepsOutput (CutsWords failed held words (written before) (written after)) (ListsWords held words (written before) (written after)) status (is_failed after) before after
@@ -235,6 +271,7 @@ fault_keeps_output failed held words request reason status is_failed written bef
     refused (CannotOpen name) is two untouched lists = inl (untouched (λ e same. cc) (λ e same. cc) (λ folder name same. cc) (λ same. cc) (λ same. cc))
     refused (Table error) is two untouched lists = inl (untouched (λ e same. cc) (λ e same. cc) (λ folder name same. cc) (λ same. cc) (λ same. cc))
     refused NotInTable is two untouched lists = inl (untouched (λ e same. cc) (λ e same. cc) (λ folder name same. cc) (λ same. cc) (λ same. cc))
+    refused (Names error) is two untouched lists = inl (untouched (λ e same. cc) (λ e same. cc) (λ folder name same. cc) (λ same. cc) (λ same. cc))
     refused SummaryOfOne is two untouched lists = inl (untouched (λ e same. cc) (λ e same. cc) (λ folder name same. cc) (λ same. cc) (λ same. cc))
 
 -- nor is want of memory

@@ -8,11 +8,13 @@ use Rattle.sig_cert.proofs.Exports.{accepted_is_closed, closed_decides, one_is_l
 use Rattle.sig_cert.specs.Deciding.{Decided}
 use Rattle.sig_cert.specs.Verdicts.{Verdict}
 use Rattle.sig_cert.specs.declared.error.CheckError.{CheckError}
-use Rattle.sig_command.specs.Requests.{Answers}
+use Rattle.sig_command.specs.Requests.{Answers, AsksEach}
+use Rattle.sig_command.specs.declared.args.MatchOptions.{MatchOptions}
 use Rattle.sig_command.specs.Several.{AddsLinesOfEach, AreListedIn, AreTexts, IsOneLineOf}
 use Rattle.sig_command.specs.declared.args.Request.TheVariants.{Check, Match, MatchListed, MatchMany}
 use Rattle.sig_engines.specs.FileTexts.{head_text}
-use Rattle.sig_engines.specs.Lines.{lines_of}
+use Rattle.sig_engines.specs.Lines.{AreAsked, lines_of}
+use Rattle.sig_engines.specs.declared.ask.MatchAsk.{MatchAsk}
 use Rattle.sig_engines.specs.ManyFiles.{AreLinesOf}
 use Rattle.sig_engines.specs.Stores.{IsTableOf, ReadsAs}
 use Rattle.sig_engines.specs.declared.store.TablePaths.{TablePaths}
@@ -62,20 +64,20 @@ weaker_texts P Q each [] text are = are
 weaker_texts P Q each (name ∷ names) text are = (are.0, are.1, are.2, each name are.0 are.3, weaker_texts P Q each names are.1 are.4)
 
 -- the lines of several of its files
-each_once : (files : List ℕ → Option (List ℕ)) (table : TablePaths) (certificate : Bor (List ℕ)) (csv : Bool) (t : TableView) (names : List (List ℕ)) (checked_before checked_after before after : Option (List ℕ)) → Answers (Some files) (Check table certificate) true checked_before checked_after → IsTableOf (Some files) table t → AddsLinesOfEach (record { all = false; csv = csv }) t (Some files) names before after → (text : List ℕ) × AreTexts (IsOneLineOf csv t) names text × Adds before (head_text csv ++ text) after
-each_once files table certificate csv t names checked_before checked_after before after checked is added =
+each_once : (files : List ℕ → Option (List ℕ)) (table : TablePaths) (certificate : Bor (List ℕ)) (ask : MatchAsk) (t : TableView) (names : List (List ℕ)) (checked_before checked_after before after : Option (List ℕ)) → ask.all ≡ false → Answers (Some files) (Check table certificate) true checked_before checked_after → IsTableOf (Some files) table t → AddsLinesOfEach ask t (Some files) names before after → (text : List ℕ) × AreTexts (IsOneLineOf ask t) names text × Adds before (head_text ask.csv ++ text) after
+each_once files table certificate ask t names checked_before checked_after before after left checked is added =
     let decided : Decided t = table_is_decided files table certificate checked_before checked_after t checked is in
-    (added.text, weaker_texts (AreLinesOf (record { all = false; csv = csv }) t (Some files)) (IsOneLineOf csv t) (one decided) names added.text added.are_lines, added.adds)
+    (added.text, weaker_texts (AreLinesOf ask t (Some files)) (IsOneLineOf ask t) (one decided) names added.text added.are_lines, added.adds)
   where
-    one : Decided t → (name text : List ℕ) → AreLinesOf (record { all = false; csv = csv }) t (Some files) name text → IsOneLineOf csv t name text
-    one decided name text lines = (lines.hits, one_is_left t lines.file lines.hits decided lines.bytes lines.are_asked, lines.are_lines)
+    one : Decided t → (name text : List ℕ) → AreLinesOf ask t (Some files) name text → IsOneLineOf ask t name text
+    one decided name text lines = (lines.hits, one_is_left t lines.file lines.hits decided lines.bytes (subst (λ b. AreAsked b t lines.file lines.hits) left lines.are_asked), lines.are_lines)
 
-pub one_line_each : (files : List ℕ → Option (List ℕ)) (table : TablePaths) (certificate : Bor (List ℕ)) (csv : Bool) (names : Bor (List (Bor (List ℕ)))) (is_yes : Bool) (checked_before checked_after before after : Option (List ℕ)) → Answers (Some files) (Check table certificate) true checked_before checked_after → Answers (Some files) (MatchMany (record { all = false; csv = csv }) table names) is_yes before after → (t : TableView) × (text : List ℕ) × AreTexts (IsOneLineOf csv t) (map (λ n. n.now) names.now) text × Adds before (head_text csv ++ text) after
-one_line_each files table certificate csv names is_yes checked_before checked_after before after checked matched =
-    let once = each_once files table certificate csv matched.1 (map (λ (n : Bor (List ℕ)). n.now) names.now) checked_before checked_after before after checked matched.2 matched.3 in
-    (matched.1, once.0, once.1, once.2)
-
-pub one_line_listed : (files : List ℕ → Option (List ℕ)) (table : TablePaths) (certificate : Bor (List ℕ)) (csv : Bool) (list : Bor (List ℕ)) (end : ℕ) (is_yes : Bool) (checked_before checked_after before after : Option (List ℕ)) → Answers (Some files) (Check table certificate) true checked_before checked_after → Answers (Some files) (MatchListed (record { all = false; csv = csv }) table list end) is_yes before after → (t : TableView) × (names : List (List ℕ)) × AreListedIn (Some files) list.now end names × (text : List ℕ) × AreTexts (IsOneLineOf csv t) names text × Adds before (head_text csv ++ text) after
-one_line_listed files table certificate csv list end is_yes checked_before checked_after before after checked matched =
-    let once = each_once files table certificate csv matched.1 matched.3 checked_before checked_after before after checked matched.2 matched.5 in
+pub one_line_each : (files : List ℕ → Option (List ℕ)) (table : TablePaths) (certificate : Bor (List ℕ)) (options : MatchOptions) (names : Bor (List (Bor (List ℕ)))) (is_yes : Bool) (checked_before checked_after before after : Option (List ℕ)) → options.all ≡ false → Answers (Some files) (Check table certificate) true checked_before checked_after → Answers (Some files) (MatchMany options table names) is_yes before after → (t : TableView) × (ask : MatchAsk) × AsksEach (Some files) options ask × (text : List ℕ) × AreTexts (IsOneLineOf ask t) (map (λ n. n.now) names.now) text × Adds before (head_text ask.csv ++ text) after
+one_line_each files table certificate options names is_yes checked_before checked_after before after left checked matched =
+    let once = each_once files table certificate matched.3 matched.1 (map (λ (n : Bor (List ℕ)). n.now) names.now) checked_before checked_after before after (matched.4.all ∙ left) checked matched.2 matched.5 in
     (matched.1, matched.3, matched.4, once.0, once.1, once.2)
+
+pub one_line_listed : (files : List ℕ → Option (List ℕ)) (table : TablePaths) (certificate : Bor (List ℕ)) (options : MatchOptions) (list : Bor (List ℕ)) (end : ℕ) (is_yes : Bool) (checked_before checked_after before after : Option (List ℕ)) → options.all ≡ false → Answers (Some files) (Check table certificate) true checked_before checked_after → Answers (Some files) (MatchListed options table list end) is_yes before after → (t : TableView) × (ask : MatchAsk) × AsksEach (Some files) options ask × (names : List (List ℕ)) × AreListedIn (Some files) list.now end names × (text : List ℕ) × AreTexts (IsOneLineOf ask t) names text × Adds before (head_text ask.csv ++ text) after
+one_line_listed files table certificate options list end is_yes checked_before checked_after before after left checked matched =
+    let once = each_once files table certificate matched.3 matched.1 matched.5 checked_before checked_after before after (matched.4.all ∙ left) checked matched.2 matched.7 in
+    (matched.1, matched.3, matched.4, matched.5, matched.6, once.0, once.1, once.2)

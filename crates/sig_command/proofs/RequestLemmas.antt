@@ -31,8 +31,8 @@ abbrev name_of : Request → Text
 name_of (Show table) = codes "show"
 name_of (Lint table) = codes "lint"
 name_of (Match all table file) = codes "match"
-name_of (MatchMany ask table files) = codes "match"
-name_of (MatchListed ask table list end) = codes "match"
+name_of (MatchMany options table files) = codes "match"
+name_of (MatchListed options table list end) = codes "match"
 name_of (Find table budget out hex progress) = codes "find"
 name_of (Conflicts table options progress) = codes "conflicts"
 name_of (Dead table budget hex progress) = codes "dead"
@@ -71,11 +71,11 @@ pub no_match : (rows : List Row) → ((table : TablePaths) (text : Text) (texts 
 no_match rows missing unlisted (Match all table file) asks =
     let same : asks.0 ≡ rows = rows_of_found (codes "match") rows asks.0 asks.1 in
     missing table file.now [] (subst (NamesTable table) same asks.2) (subst (λ (r : List Row). first_of (codes "NAMES") r ≡ None) same asks.4) (subst (λ (r : List Row). all_of (codes "FILE") r ≡ Some (file.now ∷ [])) same asks.3)
-no_match rows missing unlisted (MatchMany ask table files) asks =
+no_match rows missing unlisted (MatchMany options table files) asks =
     let same : asks.0 ≡ rows = rows_of_found (codes "match") rows asks.0 asks.1 in
     let named : NamesMany files.now rows = subst (NamesMany files.now) same asks.3 in
     many_named files.now rows named (λ text texts is. missing table text texts (subst (NamesTable table) same asks.2) named.unlisted is)
-no_match rows missing unlisted (MatchListed ask table list end) asks =
+no_match rows missing unlisted (MatchListed options table list end) asks =
     let same : asks.0 ≡ rows = rows_of_found (codes "match") rows asks.0 asks.1 in
     let named : NamesList list end rows = subst (NamesList list end) same asks.3 in
     unlisted table named.word (subst (NamesTable table) same asks.2) named.given named.alone

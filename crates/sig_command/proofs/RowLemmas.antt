@@ -1,6 +1,6 @@
 -- The values of an argument, by the rows of a parse.
 use Rattle.std.proofs.Common.{◌≡◌, ◌<◌, ◌≤◌, Bool, true, false, not, ◌||◌, ◌⊎◌, List, [], ◌∷◌, Option, Some, None, ap, arith, codes, get_or, inl, inr, length, map, refl, subst, sym, ◌∙◌}
-use Rattle.std.specs.Prelude.{IsSomeAnd, find, option_and_then, option_map, slice_get}
+use Rattle.std.specs.Prelude.{IsSomeAnd, find, is_some, option_and_then, option_map, slice_get}
 use Rattle.std.specs.Borrow.{Bor}
 use Rattle.std.specs.Str.{bytes_eq}
 use Rattle.clap.specs.Facts.{Entry}
@@ -104,10 +104,25 @@ one_named found [] d some one is = absurd (omega (arith, some))
 one_named found (n ∷ []) d some one is = all_of-rows found (codes "FILE") ∙ sym is
 one_named found (n ∷ m ∷ ns) d some one is = absurd (omega (arith, one))
 
-pub many_named : (found : Found) (names : List (Bor Text)) (is_named is_csv : Bool) → 0 < length names → (1 < length names) ⊎ ((is_named ≡ true) ⊎ (is_csv ≡ true)) → HasFlag (codes "with-names") is_named (rows_of found) → HasFlag (codes "csv") is_csv (rows_of found) → Some (map (λ n. n.now) names) ≡ option_map raw_values (matched_of found (codes "FILE")) → first_of (codes "NAMES") (rows_of found) ≡ None → NamesMany names (rows_of found)
-many_named found names is_named is_csv some several flag csv is unlisted = record { are = all_of-rows found (codes "FILE") ∙ sym is; some = some; unlisted = unlisted; named = by several }
+pub many_named : (found : Found) (names : List (Bor Text)) (is_named is_csv : Bool) (formats : Option (Bor Text)) → 0 < length names → (1 < length names) ⊎ ((is_named ≡ true) ⊎ ((is_csv || is_some formats) ≡ true)) → HasFlag (codes "with-names") is_named (rows_of found) → HasFlag (codes "csv") is_csv (rows_of found) → first_of (codes "FORMATS") (rows_of found) ≡ option_map (λ w. w.now) formats → Some (map (λ n. n.now) names) ≡ option_map raw_values (matched_of found (codes "FILE")) → first_of (codes "NAMES") (rows_of found) ≡ None → NamesMany names (rows_of found)
+many_named found names is_named is_csv formats some several flag csv given is unlisted = record { are = all_of-rows found (codes "FILE") ∙ sym is; some = some; unlisted = unlisted; named = by several }
   where
-    by : (1 < length names) ⊎ ((is_named ≡ true) ⊎ (is_csv ≡ true)) → (1 < length names) ⊎ (HasFlag (codes "with-names") true (rows_of found) ⊎ HasFlag (codes "csv") true (rows_of found))
+    form : (b : Bool) (o : Option (Bor Text)) → (b || is_some o) ≡ true → HasFlag (codes "csv") b (rows_of found) → first_of (codes "FORMATS") (rows_of found) ≡ option_map (λ w. w.now) o → HasFlag (codes "csv") true (rows_of found) ⊎ (is_some (first_of (codes "FORMATS") (rows_of found)) ≡ true)
+    form true o has csv given = inl csv
+    form false None has csv given = let bad : false ≡ true = has in cc
+    form false (Some w) has csv given = inr (ap is_some given)
+
+    by : (1 < length names) ⊎ ((is_named ≡ true) ⊎ ((is_csv || is_some formats) ≡ true)) → (1 < length names) ⊎ (HasFlag (codes "with-names") true (rows_of found) ⊎ (HasFlag (codes "csv") true (rows_of found) ⊎ (is_some (first_of (codes "FORMATS") (rows_of found)) ≡ true)))
     by (inl many) = inl many
     by (inr (inl given)) = inr (inl (subst (λ b. HasFlag (codes "with-names") b (rows_of found)) given flag))
-    by (inr (inr given)) = inr (inr (subst (λ b. HasFlag (codes "csv") b (rows_of found)) given csv))
+    by (inr (inr has)) = inr (inr (form is_csv formats has csv given))
+
+-- neither of two is so
+pub neither_first : (a b : Bool) → (a || b) ≡ false → a ≡ false
+neither_first false b is = refl
+neither_first true b is = let bad : true ≡ false = is in cc
+
+pub neither_none : (a : Bool) (o : Option (Bor Text)) → (a || is_some o) ≡ false → option_map (λ w. w.now) o ≡ None
+neither_none false None is = refl
+neither_none false (Some w) is = let bad : true ≡ false = is in cc
+neither_none true o is = let bad : true ≡ false = is in cc

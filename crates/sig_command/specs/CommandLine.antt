@@ -1,5 +1,5 @@
 -- The command line in clap's words, and what its words ask for.
-use Rattle.std.specs.Prelude.{◌≡◌, ◌≢◌, ◌⊎◌, ◌<◌, ◌^◌, ℕ, pos, Bool, true, false, List, [], ◌∷◌, Option, None, Some, String, codes, length, map, option_and_then, option_map, string_bytes, if◌then◌else◌}
+use Rattle.std.specs.Prelude.{◌≡◌, ◌≢◌, ◌⊎◌, ◌<◌, ◌^◌, ℕ, pos, Bool, true, false, List, [], ◌∷◌, Option, None, Some, String, codes, length, map, option_and_then, option_map, string_bytes, if◌then◌else◌, is_some}
 use Rattle.std.specs.Str.{bytes_eq}
 use Rattle.std.specs.Borrow.{Bor}
 use Rattle.std.specs.Str.Parse.{IsNumeral, digits_value, without_leading_plus}
@@ -14,9 +14,9 @@ use Rattle.clap.specs.declared.builder.value_parser.ValueParser.TheVariants.{Sig
 use Rattle.clap.specs.declared.error.Error.{Error}
 use Rattle.clap.specs.declared.error.kind.ErrorKind.TheVariants.{DisplayHelp, DisplayVersion}
 use Rattle.sig_command.specs.declared.args.ConflictsOptions.{ConflictsOptions}
+use Rattle.sig_command.specs.declared.args.MatchOptions.{MatchOptions}
 use Rattle.sig_command.specs.declared.args.Request.{Request}
 use Rattle.sig_command.specs.declared.args.Request.TheVariants.{Check, Conflicts, Dead, Find, Lint, Match, MatchListed, MatchMany, Show, Witness}
-use Rattle.sig_engines.specs.declared.ask.MatchAsk.{MatchAsk}
 use Rattle.sig_engines.specs.declared.store.TablePaths.{TablePaths}
 
 -- the texts of the words
@@ -60,11 +60,11 @@ named name value = record (new_rule value) { long = Some name }
 abbrev pub null_rule : Rule
 null_rule = record (given (codes "null")) { short = Some 48 }
 
--- `match [--all] [--with-names] [--csv] [--files-from NAMES [-0]] SIGS PRIOS [FILE..]`
+-- `match [--all] [--with-names] [--csv] [--names FORMATS] [--files-from NAMES [-0]] SIGS PRIOS [FILE..]`
 abbrev pub match_command : App
 match_command =
     let of_files = with_rule (with_rule (with_rule (with_rule (of_table (new_app (codes "match"))) (several (codes "FILE"))) (given (codes "all"))) (given (codes "with-names"))) (given (codes "csv")) in
-    with_rule (with_rule of_files (named (codes "files-from") (codes "NAMES"))) null_rule
+    with_rule (with_rule (with_rule of_files (named (codes "names") (codes "FORMATS"))) (named (codes "files-from") (codes "NAMES"))) null_rule
 
 -- `--budget N`, of a number from 1 to 4,294,967,295, and of 100,000 where it is left out
 abbrev pub budget_rule : Rule
@@ -135,12 +135,12 @@ pub record NamesOptions (options : ConflictsOptions) (rows : List Row) : Type 0 
   pub files : first_of (codes "DIR") rows ≡ option_map (λ w. w.now) options.files
   pub priorities : first_of (codes "FILE") rows ≡ option_map (λ w. w.now) options.priorities
 
--- the files are the values of their argument, in their order, and no list has their names: two at least, or one with `--with-names` or `--csv`
+-- the files are the values of their argument, in their order, and no list has their names: two at least, or one with `--with-names`, `--csv` or `--names`
 pub record NamesMany (files : List (Bor Text)) (rows : List Row) : Type 0 where
   pub are : all_of (codes "FILE") rows ≡ Some (map (λ f. f.now) files)
   pub some : 0 < length files
   pub unlisted : first_of (codes "NAMES") rows ≡ None
-  pub named : (1 < length files) ⊎ (HasFlag (codes "with-names") true rows ⊎ HasFlag (codes "csv") true rows)
+  pub named : (1 < length files) ⊎ (HasFlag (codes "with-names") true rows ⊎ (HasFlag (codes "csv") true rows ⊎ (is_some (first_of (codes "FORMATS") rows) ≡ true)))
 
 -- no word names a file
 abbrev pub HasNoFiles : List Row → Type 0
@@ -165,17 +165,18 @@ pub record NamesList (list : Bor Text) (end : ℕ) (rows : List Row) : Type 0 wh
   pub alone : all_of (codes "FILE") rows ≡ None
 
 -- what is asked of each of many files
-pub record NamesAsk (ask : MatchAsk) (rows : List Row) : Type 0 where
-  pub all : HasFlag (codes "all") ask.all rows
-  pub csv : HasFlag (codes "csv") ask.csv rows
+pub record NamesEach (options : MatchOptions) (rows : List Row) : Type 0 where
+  pub all : HasFlag (codes "all") options.all rows
+  pub csv : HasFlag (codes "csv") options.csv rows
+  pub names : first_of (codes "FORMATS") rows ≡ option_map (λ w. w.now) options.names
 
 -- the subcommand and its arguments ask for this
 abbrev pub Asks : Option (Text × List Row) → Request → Type 0
 Asks found (Show table) = (rows : List Row) × (found ≡ Some (codes "show", rows)) × NamesTable table rows
 Asks found (Lint table) = (rows : List Row) × (found ≡ Some (codes "lint", rows)) × NamesTable table rows
-Asks found (Match all table file) = (rows : List Row) × (found ≡ Some (codes "match", rows)) × NamesTable table rows × (all_of (codes "FILE") rows ≡ Some (file.now ∷ [])) × (first_of (codes "NAMES") rows ≡ None) × HasFlag (codes "all") all rows × HasFlag (codes "with-names") false rows × HasFlag (codes "csv") false rows
-Asks found (MatchMany ask table files) = (rows : List Row) × (found ≡ Some (codes "match", rows)) × NamesTable table rows × NamesMany files.now rows × NamesAsk ask rows
-Asks found (MatchListed ask table list end) = (rows : List Row) × (found ≡ Some (codes "match", rows)) × NamesTable table rows × NamesList list end rows × NamesAsk ask rows
+Asks found (Match all table file) = (rows : List Row) × (found ≡ Some (codes "match", rows)) × NamesTable table rows × (all_of (codes "FILE") rows ≡ Some (file.now ∷ [])) × (first_of (codes "NAMES") rows ≡ None) × HasFlag (codes "all") all rows × HasFlag (codes "with-names") false rows × HasFlag (codes "csv") false rows × (first_of (codes "FORMATS") rows ≡ None)
+Asks found (MatchMany options table files) = (rows : List Row) × (found ≡ Some (codes "match", rows)) × NamesTable table rows × NamesMany files.now rows × NamesEach options rows
+Asks found (MatchListed options table list end) = (rows : List Row) × (found ≡ Some (codes "match", rows)) × NamesTable table rows × NamesList list end rows × NamesEach options rows
 Asks found (Find table budget out hex progress) = (rows : List Row) × (found ≡ Some (codes "find", rows)) × NamesTable table rows × NamesBudget budget rows × (first_of (codes "OUT") rows ≡ Some out.now) × HasFlag (codes "hex") hex rows × HasFlag (codes "progress") progress rows
 Asks found (Conflicts table options progress) = (rows : List Row) × (found ≡ Some (codes "conflicts", rows)) × NamesTable table rows × NamesOptions options rows × HasFlag (codes "progress") progress rows
 Asks found (Dead table budget hex progress) = (rows : List Row) × (found ≡ Some (codes "dead", rows)) × NamesTable table rows × NamesBudget budget rows × HasFlag (codes "hex") hex rows × HasFlag (codes "progress") progress rows

@@ -9,6 +9,8 @@ use Rattle.sig_engines.specs.Witnesses.{path_text}
 use Rattle.sig_engines.specs.Writing.{cut_text, run_text}
 use Rattle.sig_engines.specs.declared.error.CutShort.TheVariants as cut
 use Rattle.sig_engines.specs.declared.error.RunError.TheVariants as run
+use Rattle.sig_engines.specs.declared.format_names.NamesError.{NamesError}
+use Rattle.sig_engines.specs.declared.format_names.NamesError.TheVariants as names
 use Rattle.sig_lint.specs.Codes.{code_text, file_name, site_of}
 use Rattle.sig_lint.specs.declared.codes.Site.{Site}
 use Rattle.sig_lint.specs.declared.codes.Site.TheVariants.{Nowhere, File, Row}
@@ -18,6 +20,19 @@ abbrev pub site_text : Site → List ℕ
 site_text Nowhere = []
 site_text (File file) = file_name file ++ codes ": "
 site_text (Row file row_number) = file_name file ++ codes " row " ++ decimal row_number ++ codes ": "
+
+-- a row of the names of formats
+abbrev pub names_row : ℕ → List ℕ
+names_row row = codes "names row " ++ decimal row
+
+-- why there are no names of formats
+abbrev pub names_text : NamesError → List ℕ
+names_text names.Read = codes "read failed"
+names_text names.OutOfMemory = codes "out of memory"
+names_text names.Header = codes "names: header"
+names_text (names.Fields row) = names_row row ++ codes ": fields"
+names_text (names.Puid row) = names_row row ++ codes ": puid"
+names_text (names.Twice row) = names_row row ++ codes ": pair twice"
 
 -- the text of a fault
 abbrev pub fault_text : Fault → List ℕ
@@ -31,6 +46,7 @@ fault_text (fault.Run error) = run_text error
 fault_text (fault.CutShort error) = cut_text error
 fault_text fault.SomeFiles = []
 fault_text fault.FaultyTable = []
+fault_text (fault.Names error) = names_text error
 
 -- what ends its line: nothing where there is none, since each fault is told already
 abbrev pub line_end : Fault → List ℕ
@@ -44,6 +60,7 @@ line_end (fault.Run error) = 10 ∷ []
 line_end (fault.CutShort error) = 10 ∷ []
 line_end fault.SomeFiles = []
 line_end fault.FaultyTable = []
+line_end (fault.Names error) = 10 ∷ []
 
 -- its line
 abbrev pub fault_line : Fault → List ℕ

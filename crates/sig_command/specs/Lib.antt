@@ -11,6 +11,7 @@ pub use Rattle.sig_engines.specs.Conflicts
 pub use Rattle.sig_engines.specs.Fates
 pub use Rattle.sig_engines.specs.FileTexts
 pub use Rattle.sig_engines.specs.Finding
+pub use Rattle.sig_engines.specs.FormatNames
 pub use Rattle.sig_engines.specs.Judged
 pub use Rattle.sig_engines.specs.Lines
 pub use Rattle.sig_engines.specs.Linted

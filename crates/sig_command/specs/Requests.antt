@@ -1,6 +1,6 @@
 -- What comes of what the words ask for: its answers, and its faults.
 use Rattle.std.specs.Borrow.{Bor}
-use Rattle.std.specs.Prelude.{◌≡◌, ℕ, ◌⊎◌, Bool, false, true, List, Option, None, Some, Err, ⊤, ◌<◌, is_some, length, map}
+use Rattle.std.specs.Prelude.{◌≡◌, ℕ, ◌⊎◌, Bool, false, true, List, Option, None, Some, Err, ⊤, is_some, map, Ok, option_map}
 use Rattle.clap.specs.Words.{Text, subcommand_of}
 use Rattle.sig_bits.specs.Bytes.{IsBytes}
 use Rattle.sig_bits.specs.Device.{Adds}
@@ -19,6 +19,7 @@ use Rattle.sig_command.specs.Several.{AddsFaults, AddsLinesOfEach, AddsLinesOfFi
 use Rattle.sig_engines.specs.Fates.{AddsFates, AddsFirstFates}
 use Rattle.sig_engines.specs.FileTexts.{head_text}
 use Rattle.sig_engines.specs.Finding.{AddsFound, KeepsFound, TellsWhy}
+use Rattle.sig_engines.specs.FormatNames.{NameList, is_judged, names_of}
 use Rattle.sig_engines.specs.Judged.{AddsVerdict}
 use Rattle.sig_engines.specs.Lines.{AddsLines}
 use Rattle.sig_engines.specs.Linted.{AddsReport}
@@ -33,11 +34,13 @@ use Rattle.sig_engines.specs.declared.ask.MatchAsk.{MatchAsk}
 use Rattle.sig_engines.specs.declared.error.FileFault.{FileFault}
 use Rattle.sig_engines.specs.declared.error.FileFault.TheVariants as file
 use Rattle.sig_engines.specs.declared.error.PairsFault.{PairsFault}
+use Rattle.sig_engines.specs.declared.format_names.NamesError.{NamesError}
 use Rattle.sig_engines.specs.declared.error.PairsFault.TheVariants as pairs
 use Rattle.sig_engines.specs.declared.error.RunError.TheVariants.{OutOfMemory, Read, Write}
 use Rattle.sig_command.specs.declared.fault.Fault.{Fault}
-use Rattle.sig_command.specs.declared.fault.Fault.TheVariants.{CannotOpen, CutShort, FaultyTable, NoFile, NotInTable, NotText, Run, SomeFiles, SummaryOfOne, Table}
+use Rattle.sig_command.specs.declared.fault.Fault.TheVariants.{CannotOpen, CutShort, FaultyTable, Names, NoFile, NotInTable, NotText, Run, SomeFiles, SummaryOfOne, Table}
 use Rattle.sig_command.specs.declared.args.ConflictsOptions.{ConflictsOptions}
+use Rattle.sig_command.specs.declared.args.MatchOptions.{MatchOptions}
 use Rattle.sig_command.specs.declared.args.Request.{Request}
 use Rattle.sig_command.specs.declared.args.Request.TheVariants.{Check, Conflicts, Dead, Find, Lint, Match, MatchListed, MatchMany, Show, Witness}
 use Rattle.sig_engines.specs.declared.store.TablePaths.{TablePaths}
@@ -59,6 +62,7 @@ IsLoadFault failed held paths (Run error) = ⊥
 IsLoadFault failed held paths (CutShort error) = ⊥
 IsLoadFault failed held paths SomeFiles = ⊥
 IsLoadFault failed held paths FaultyTable = ⊥
+IsLoadFault failed held paths (Names error) = ⊥
 
 -- there is no file of this name, or an engine gives no answer of it: a read failed only where a reader has
 abbrev pub IsFileFault : {R : Type 0} → (R → Bool) → Holding → Bor (List ℕ) → Fault → Type 0
@@ -74,6 +78,7 @@ IsFileFault failed held name (Run OutOfMemory) = ⊤
 IsFileFault failed held name (CutShort error) = ⊥
 IsFileFault failed held name SomeFiles = ⊥
 IsFileFault failed held name FaultyTable = ⊥
+IsFileFault failed held name (Names error) = ⊥
 
 -- why there is no answer of the file of this name
 abbrev pub file_fault : Bor (List ℕ) → FileFault → Fault
@@ -85,6 +90,34 @@ abbrev pub pairs_fault : PairsFault → Fault
 pairs_fault (pairs.CannotOpen name) = CannotOpen name
 pairs_fault (pairs.NoFile folder name) = NoFile folder name
 pairs_fault (pairs.Cut error) = CutShort error
+
+-- these are the names in the file of this name, where it is known what the files hold
+abbrev pub AreNamesIn : Holding → List ℕ → NameList → Type 0
+AreNamesIn None path names = ⊤
+AreNamesIn (Some files) path names = (bytes : List ℕ) × (files path ≡ Some bytes) × (names_of (records_of bytes) ≡ Ok names)
+
+-- the file of this name is no file of names, where it is known what the files hold; or a read failed
+abbrev pub IsNamesError : {R : Type 0} → (R → Bool) → Holding → List ℕ → NamesError → Type 0
+IsNamesError failed None path error = is_judged error ≡ false → SomeFailed failed
+IsNamesError failed (Some files) path error = (is_judged error ≡ false → SomeFailed failed) × (is_judged error ≡ true → (bytes : List ℕ) × (files path ≡ Some bytes) × (names_of (records_of bytes) ≡ Err error))
+
+-- the names of formats that these options ask for
+abbrev pub AreNamesOf : Holding → Option (Bor Text) → Option NameList → Type 0
+AreNamesOf held None None = ⊤
+AreNamesOf held None (Some names) = ⊥
+AreNamesOf held (Some path) None = ⊥
+AreNamesOf held (Some path) (Some names) = AreNamesIn held path.now names
+
+-- these options ask this of each of many files
+pub record AsksEach (held : Holding) (options : MatchOptions) (ask : MatchAsk) : Type 0 where
+  pub all : ask.all ≡ options.all
+  pub csv : ask.csv ≡ options.csv
+  pub names : AreNamesOf held options.names (option_map (λ n. n.now) ask.names)
+
+-- the file with the names of formats can't be opened, or it is none
+abbrev pub IsNamesFaultOf : {R : Type 0} → (R → Bool) → Holding → Option (Bor Text) → Fault → Type 0
+IsNamesFaultOf failed held None fault = ⊥
+IsNamesFaultOf failed held (Some path) fault = ((fault ≡ CannotOpen path) × Lacks held path.now) ⊎ ((error : NamesError) × (fault ≡ Names error) × IsNamesError failed held path.now error)
 
 -- an engine stopped before its last line
 abbrev pub IsCutFault : Fault → Type 0
@@ -98,6 +131,7 @@ IsCutFault (Run error) = ⊥
 IsCutFault (CutShort error) = ⊤
 IsCutFault SomeFiles = ⊥
 IsCutFault FaultyTable = ⊥
+IsCutFault (Names error) = ⊥
 
 -- the word of `--only` is the PUID of this format; and where it is left out there is none
 abbrev pub IsOnly : TableView → Option (Bor Text) → Option FormatId → Type 0
@@ -138,14 +172,15 @@ IsConflictsFault held paths options (Run error) = ⊥
 IsConflictsFault held paths options (CutShort error) = (t : TableView) × IsTableOf held paths t × (ask : ConflictsAsk) × AsksPairs options t ask
 IsConflictsFault held paths options SomeFiles = ⊥
 IsConflictsFault held paths options FaultyTable = ⊥
+IsConflictsFault held paths options (Names error) = ⊥
 
 -- the two files of the table that is asked of
 abbrev pub paths_of : Request → TablePaths
 paths_of (Show table) = table
 paths_of (Lint table) = table
 paths_of (Match all table file) = table
-paths_of (MatchMany ask table files) = table
-paths_of (MatchListed ask table list end) = table
+paths_of (MatchMany options table files) = table
+paths_of (MatchListed options table list end) = table
 paths_of (Find table budget out hex progress) = table
 paths_of (Conflicts table options progress) = table
 paths_of (Dead table budget hex progress) = table
@@ -161,8 +196,8 @@ abbrev pub IsLaterFault : {R : Type 0} → (R → Bool) → Holding → Request 
 IsLaterFault failed held (Show table) fault = fault ≡ Run Write
 IsLaterFault failed held (Lint table) fault = ⊥
 IsLaterFault failed held (Match all table file) fault = IsFileFault failed held file fault
-IsLaterFault failed held (MatchMany ask table files) fault = (fault ≡ SomeFiles) ⊎ (fault ≡ Run Write)
-IsLaterFault failed held (MatchListed ask table list end) fault = (fault ≡ SomeFiles) ⊎ IsFileFault failed held list fault
+IsLaterFault failed held (MatchMany options table files) fault = (fault ≡ SomeFiles) ⊎ ((fault ≡ Run Write) ⊎ IsNamesFaultOf failed held options.names fault)
+IsLaterFault failed held (MatchListed options table list end) fault = (fault ≡ SomeFiles) ⊎ (IsFileFault failed held list fault ⊎ IsNamesFaultOf failed held options.names fault)
 IsLaterFault failed held (Find table budget out hex progress) fault = (fault ≡ CannotOpen out) ⊎ (fault ≡ Run Write)
 IsLaterFault failed held (Conflicts table options progress) fault = IsConflictsFault held table options fault
 IsLaterFault failed held (Dead table budget hex progress) fault = IsCutFault fault
@@ -174,8 +209,8 @@ abbrev pub AsksTwo : Request → Type 0
 AsksTwo (Show table) = ⊥
 AsksTwo (Lint table) = ⊥
 AsksTwo (Match all table file) = ⊥
-AsksTwo (MatchMany ask table files) = ⊥
-AsksTwo (MatchListed ask table list end) = ⊥
+AsksTwo (MatchMany options table files) = ⊥
+AsksTwo (MatchListed options table list end) = ⊥
 AsksTwo (Find table budget out hex progress) = ⊥
 AsksTwo (Conflicts table options progress) = (options.summary ≡ true) × (is_some options.only ≡ true)
 AsksTwo (Dead table budget hex progress) = ⊥
@@ -208,14 +243,15 @@ IsLintFault failed held paths (Run OutOfMemory) = ⊤
 IsLintFault failed held paths (CutShort error) = ⊥
 IsLintFault failed held paths SomeFiles = ⊥
 IsLintFault failed held paths FaultyTable = IsRefused held paths
+IsLintFault failed held paths (Names error) = ⊥
 
 -- the faults of the files of the table: all but `lint` load it
 abbrev pub IsFirstFault : {R : Type 0} → (R → Bool) → Holding → Request → Fault → Type 0
 IsFirstFault failed held (Show table) fault = IsLoadFault failed held table fault
 IsFirstFault failed held (Lint table) fault = IsLintFault failed held table fault
 IsFirstFault failed held (Match all table file) fault = IsLoadFault failed held table fault
-IsFirstFault failed held (MatchMany ask table files) fault = IsLoadFault failed held table fault
-IsFirstFault failed held (MatchListed ask table list end) fault = IsLoadFault failed held table fault
+IsFirstFault failed held (MatchMany options table files) fault = IsLoadFault failed held table fault
+IsFirstFault failed held (MatchListed options table list end) fault = IsLoadFault failed held table fault
 IsFirstFault failed held (Find table budget out hex progress) fault = IsLoadFault failed held table fault
 IsFirstFault failed held (Conflicts table options progress) fault = IsLoadFault failed held table fault
 IsFirstFault failed held (Dead table budget hex progress) fault = IsLoadFault failed held table fault
@@ -232,8 +268,8 @@ abbrev pub Answers : Holding → Request → Bool → Option (List ℕ) → Opti
 Answers held (Show table) is_yes before after = (is_yes ≡ true) × (t : TableView) × IsTableOf held table t × Adds before (show_text t) after
 Answers held (Lint table) is_yes before after = (is_yes ≡ true) × IsReported true held table before after
 Answers held (Match all table name) is_yes before after = (is_yes ≡ true) × (t : TableView) × IsTableOf held table t × (file : List ℕ) × IsBytes file × Holds held name.now file × AddsLines all t file before after
-Answers held (MatchMany ask table files) is_yes before after = (is_yes ≡ true) × (t : TableView) × IsTableOf held table t × AddsLinesOfEach ask t held (map (λ n. n.now) files.now) before after
-Answers held (MatchListed ask table list end) is_yes before after = (is_yes ≡ true) × (t : TableView) × IsTableOf held table t × (names : List (List ℕ)) × AreListedIn held list.now end names × AddsLinesOfEach ask t held names before after
+Answers held (MatchMany options table files) is_yes before after = (is_yes ≡ true) × (t : TableView) × IsTableOf held table t × (ask : MatchAsk) × AsksEach held options ask × AddsLinesOfEach ask t held (map (λ n. n.now) files.now) before after
+Answers held (MatchListed options table list end) is_yes before after = (is_yes ≡ true) × (t : TableView) × IsTableOf held table t × (ask : MatchAsk) × AsksEach held options ask × (names : List (List ℕ)) × AreListedIn held list.now end names × AddsLinesOfEach ask t held names before after
 Answers held (Find table budget out hex progress) is_yes before after = (t : TableView) × IsTableOf held table t × AddsFound is_yes hex t budget before after
 Answers held (Conflicts table options progress) is_yes before after = (t : TableView) × IsTableOf held table t × (ask : ConflictsAsk) × AsksPairs options t ask × (refused : List ℕ) × AddsConflicts IsAny is_yes refused ask t before after
 Answers held (Dead table budget hex progress) is_yes before after = (t : TableView) × IsTableOf held table t × AddsFates is_yes hex t budget before after
@@ -249,8 +285,8 @@ abbrev pub MakesOut : {F : Type 0} → (name_of written : F → Option (List ℕ
 MakesOut name_of written failed held (Show table) is_yes before after = ⊤
 MakesOut name_of written failed held (Lint table) is_yes before after = ⊤
 MakesOut name_of written failed held (Match all table path) is_yes before after = ⊤
-MakesOut name_of written failed held (MatchMany ask table files) is_yes before after = ⊤
-MakesOut name_of written failed held (MatchListed ask table list end) is_yes before after = ⊤
+MakesOut name_of written failed held (MatchMany options table files) is_yes before after = ⊤
+MakesOut name_of written failed held (MatchListed options table list end) is_yes before after = ⊤
 MakesOut name_of written failed held (Find table budget out hex progress) is_yes before after = (t : TableView) × IsTableOf held table t × KeepsFound (IsMade name_of written failed held out.now) is_yes hex t budget before after
 MakesOut name_of written failed held (Conflicts table options progress) is_yes before after = (t : TableView) × IsTableOf held table t × (ask : ConflictsAsk) × AsksPairs options t ask × (refused : List ℕ) × AddsConflicts (IsMade name_of written failed held) is_yes refused ask t before after
 MakesOut name_of written failed held (Dead table budget hex progress) is_yes before after = ⊤
@@ -266,8 +302,8 @@ abbrev pub IsCutRequest : {R : Type 0} → (R → Bool) → Holding → Request 
 IsCutRequest failed held (Show table) before after = ⊥
 IsCutRequest failed held (Lint table) before after = ⊥
 IsCutRequest failed held (Match all table path) before after = ⊥
-IsCutRequest failed held (MatchMany ask table files) before after = (t : TableView) × IsTableOf held table t × AddsLinesOfSome (head_text ask.csv) (IsPrinted failed ask t held) (map (λ n. n.now) files.now) before after
-IsCutRequest failed held (MatchListed ask table list end) before after = (t : TableView) × IsTableOf held table t × (names : List (List ℕ)) × AreListedIn held list.now end names × AddsLinesOfFirst (head_text ask.csv) (IsPrinted failed ask t held) names before after
+IsCutRequest failed held (MatchMany options table files) before after = (t : TableView) × IsTableOf held table t × (ask : MatchAsk) × AsksEach held options ask × AddsLinesOfSome (head_text ask.csv) (IsPrinted failed ask t held) (map (λ n. n.now) files.now) before after
+IsCutRequest failed held (MatchListed options table list end) before after = (t : TableView) × IsTableOf held table t × (ask : MatchAsk) × AsksEach held options ask × (names : List (List ℕ)) × AreListedIn held list.now end names × AddsLinesOfFirst (head_text ask.csv) (IsPrinted failed ask t held) names before after
 IsCutRequest failed held (Find table budget out hex progress) before after = ⊥
 IsCutRequest failed held (Conflicts table options progress) before after = (t : TableView) × IsTableOf held table t × (ask : ConflictsAsk) × AsksPairs options t ask × AddsFirstPairs ask t before after
 IsCutRequest failed held (Dead table budget hex progress) before after = (t : TableView) × IsTableOf held table t × AddsFirstFates hex t budget before after
@@ -299,8 +335,8 @@ abbrev pub ListsIf : Holding → Request → Fault → Bool → Option (List ℕ
 ListsIf held (Show table) fault is_failed before after = ⊤
 ListsIf held (Lint table) fault is_failed before after = fault ≡ FaultyTable → (is_failed ≡ false) × IsReported false held table before after
 ListsIf held (Match all table file) fault is_failed before after = ⊤
-ListsIf held (MatchMany ask table files) fault is_failed before after = ⊤
-ListsIf held (MatchListed ask table list end) fault is_failed before after = ⊤
+ListsIf held (MatchMany options table files) fault is_failed before after = ⊤
+ListsIf held (MatchListed options table list end) fault is_failed before after = ⊤
 ListsIf held (Find table budget out hex progress) fault is_failed before after = ⊤
 ListsIf held (Conflicts table options progress) fault is_failed before after = ⊤
 ListsIf held (Dead table budget hex progress) fault is_failed before after = ⊤
@@ -327,8 +363,8 @@ abbrev pub Shows : {R : Type 0} → (R → Bool) → Holding → Request → Boo
 Shows failed held (Show table) is_answered is_failed before after = ⊥
 Shows failed held (Lint table) is_answered is_failed before after = ⊥
 Shows failed held (Match all table path) is_answered is_failed before after = ⊥
-Shows failed held (MatchMany ask table files) is_answered is_failed before after = (is_answered ≡ false) × (t : TableView) × IsTableOf held table t × (is_failed ≡ false → AddsFaults (IsPrinted failed ask t held) (map (λ n. n.now) files.now) before after)
-Shows failed held (MatchListed ask table list end) is_answered is_failed before after = (is_answered ≡ false) × (t : TableView) × IsTableOf held table t × (names : List (List ℕ)) × AreListedIn held list.now end names × (is_failed ≡ false → AddsFaults (IsPrinted failed ask t held) names before after)
+Shows failed held (MatchMany options table files) is_answered is_failed before after = (is_answered ≡ false) × (t : TableView) × IsTableOf held table t × (ask : MatchAsk) × AsksEach held options ask × (is_failed ≡ false → AddsFaults (IsPrinted failed ask t held) (map (λ n. n.now) files.now) before after)
+Shows failed held (MatchListed options table list end) is_answered is_failed before after = (is_answered ≡ false) × (t : TableView) × IsTableOf held table t × (ask : MatchAsk) × AsksEach held options ask × (names : List (List ℕ)) × AreListedIn held list.now end names × (is_failed ≡ false → AddsFaults (IsPrinted failed ask t held) names before after)
 Shows failed held (Find table budget out hex progress) is_answered is_failed before after = ((progress ≡ true) × (is_failed ≡ false → AddsProgress Products before after)) ⊎ ((is_answered ≡ true) × (is_failed ≡ false → ShowsReason held table progress hex budget before after))
 Shows failed held (Conflicts table options progress) is_answered is_failed before after = ((progress ≡ true) × (is_failed ≡ false → AddsProgress Pairs before after)) ⊎ ((is_answered ≡ true) × (is_some options.priorities ≡ true) × (is_failed ≡ false → ShowsRefused held table options progress before after))
 Shows failed held (Dead table budget hex progress) is_answered is_failed before after = (progress ≡ true) × (is_failed ≡ false → AddsProgress Formats before after)
@@ -349,35 +385,36 @@ TellsOf failed held request is_answered is_failed written before after =
     (after ≡ before) ⊎ Shows failed held request is_answered (is_failed after) (written before) (written after)
 
 -- where some of several files have a fault, both outputs are of the same files, of all of them in their order; where a write failed, both are of the first ones; and before every other fault nothing is told
-abbrev pub TellsMany : {R : Type 0} → (R → Bool) → MatchAsk → Holding → TablePaths → List (List ℕ) → Fault → (before after : Option (List ℕ)) (err_failed : Bool) (err_before err_after : Option (List ℕ)) → Type 0
-TellsMany failed ask held table names SomeFiles before after err_failed err_before err_after = (t : TableView) × IsTableOf held table t × AddsFiles (head_text ask.csv) (IsPrinted failed ask t held) names before after err_failed err_before err_after false
-TellsMany failed ask held table names (Run Write) before after err_failed err_before err_after = (t : TableView) × IsTableOf held table t × CutsFiles (head_text ask.csv) (IsPrinted failed ask t held) names before after err_failed err_before err_after
-TellsMany failed ask held table names (Run Read) before after err_failed err_before err_after = err_after ≡ err_before
-TellsMany failed ask held table names (Run OutOfMemory) before after err_failed err_before err_after = err_after ≡ err_before
-TellsMany failed ask held table names NotText before after err_failed err_before err_after = err_after ≡ err_before
-TellsMany failed ask held table names (CannotOpen name) before after err_failed err_before err_after = err_after ≡ err_before
-TellsMany failed ask held table names (NoFile folder witness) before after err_failed err_before err_after = err_after ≡ err_before
-TellsMany failed ask held table names (Table error) before after err_failed err_before err_after = err_after ≡ err_before
-TellsMany failed ask held table names NotInTable before after err_failed err_before err_after = err_after ≡ err_before
-TellsMany failed ask held table names SummaryOfOne before after err_failed err_before err_after = err_after ≡ err_before
-TellsMany failed ask held table names (CutShort error) before after err_failed err_before err_after = err_after ≡ err_before
-TellsMany failed ask held table names FaultyTable before after err_failed err_before err_after = err_after ≡ err_before
+abbrev pub TellsMany : {R : Type 0} → (R → Bool) → MatchOptions → Holding → TablePaths → List (List ℕ) → Fault → (before after : Option (List ℕ)) (err_failed : Bool) (err_before err_after : Option (List ℕ)) → Type 0
+TellsMany failed options held table names SomeFiles before after err_failed err_before err_after = (t : TableView) × IsTableOf held table t × (ask : MatchAsk) × AsksEach held options ask × AddsFiles (head_text ask.csv) (IsPrinted failed ask t held) names before after err_failed err_before err_after false
+TellsMany failed options held table names (Run Write) before after err_failed err_before err_after = (t : TableView) × IsTableOf held table t × (ask : MatchAsk) × AsksEach held options ask × CutsFiles (head_text ask.csv) (IsPrinted failed ask t held) names before after err_failed err_before err_after
+TellsMany failed options held table names (Run Read) before after err_failed err_before err_after = err_after ≡ err_before
+TellsMany failed options held table names (Run OutOfMemory) before after err_failed err_before err_after = err_after ≡ err_before
+TellsMany failed options held table names NotText before after err_failed err_before err_after = err_after ≡ err_before
+TellsMany failed options held table names (CannotOpen name) before after err_failed err_before err_after = err_after ≡ err_before
+TellsMany failed options held table names (NoFile folder witness) before after err_failed err_before err_after = err_after ≡ err_before
+TellsMany failed options held table names (Table error) before after err_failed err_before err_after = err_after ≡ err_before
+TellsMany failed options held table names NotInTable before after err_failed err_before err_after = err_after ≡ err_before
+TellsMany failed options held table names SummaryOfOne before after err_failed err_before err_after = err_after ≡ err_before
+TellsMany failed options held table names (CutShort error) before after err_failed err_before err_after = err_after ≡ err_before
+TellsMany failed options held table names FaultyTable before after err_failed err_before err_after = err_after ≡ err_before
+TellsMany failed options held table names (Names error) before after err_failed err_before err_after = err_after ≡ err_before
 
 -- of files whose names stand in a list the same; and where the list is not read to its end, or memory runs out, both outputs are of the first files
-abbrev pub TellsListed : {R : Type 0} → (R → Bool) → MatchAsk → Holding → TablePaths → List ℕ → ℕ → Fault → (before after : Option (List ℕ)) (err_failed : Bool) (err_before err_after : Option (List ℕ)) → Type 0
-TellsListed failed ask held table list end SomeFiles before after err_failed err_before err_after = (t : TableView) × IsTableOf held table t × (names : List (List ℕ)) × AreListedIn held list end names × AddsFiles (head_text ask.csv) (IsPrinted failed ask t held) names before after err_failed err_before err_after false
-TellsListed failed ask held table list end (Run Write) before after err_failed err_before err_after = (t : TableView) × IsTableOf held table t × (names : List (List ℕ)) × AreListedIn held list end names × CutsFiles (head_text ask.csv) (IsPrinted failed ask t held) names before after err_failed err_before err_after
-TellsListed failed ask held table list end (Run Read) before after err_failed err_before err_after = (t : TableView) × IsTableOf held table t × (names : List (List ℕ)) × AreListedIn held list end names × StopsFiles (head_text ask.csv) (IsPrinted failed ask t held) names before after err_failed err_before err_after
-TellsListed failed ask held table list end (Run OutOfMemory) before after err_failed err_before err_after = (err_after ≡ err_before) ⊎ ((t : TableView) × IsTableOf held table t × (names : List (List ℕ)) × AreListedIn held list end names × StopsFiles (head_text ask.csv) (IsPrinted failed ask t held) names before after err_failed err_before err_after)
-TellsListed failed ask held table list end _ before after err_failed err_before err_after = err_after ≡ err_before
+abbrev pub TellsListed : {R : Type 0} → (R → Bool) → MatchOptions → Holding → TablePaths → List ℕ → ℕ → Fault → (before after : Option (List ℕ)) (err_failed : Bool) (err_before err_after : Option (List ℕ)) → Type 0
+TellsListed failed options held table list end SomeFiles before after err_failed err_before err_after = (t : TableView) × IsTableOf held table t × (ask : MatchAsk) × AsksEach held options ask × (names : List (List ℕ)) × AreListedIn held list end names × AddsFiles (head_text ask.csv) (IsPrinted failed ask t held) names before after err_failed err_before err_after false
+TellsListed failed options held table list end (Run Write) before after err_failed err_before err_after = (t : TableView) × IsTableOf held table t × (ask : MatchAsk) × AsksEach held options ask × (names : List (List ℕ)) × AreListedIn held list end names × CutsFiles (head_text ask.csv) (IsPrinted failed ask t held) names before after err_failed err_before err_after
+TellsListed failed options held table list end (Run Read) before after err_failed err_before err_after = (t : TableView) × IsTableOf held table t × (ask : MatchAsk) × AsksEach held options ask × (names : List (List ℕ)) × AreListedIn held list end names × StopsFiles (head_text ask.csv) (IsPrinted failed ask t held) names before after err_failed err_before err_after
+TellsListed failed options held table list end (Run OutOfMemory) before after err_failed err_before err_after = (err_after ≡ err_before) ⊎ ((t : TableView) × IsTableOf held table t × (ask : MatchAsk) × AsksEach held options ask × (names : List (List ℕ)) × AreListedIn held list end names × StopsFiles (head_text ask.csv) (IsPrinted failed ask t held) names before after err_failed err_before err_after)
+TellsListed failed options held table list end _ before after err_failed err_before err_after = err_after ≡ err_before
 
 -- what both outputs are of before the line of a fault: where there are several files, of the same ones
 abbrev pub Joins : {R : Type 0} → (R → Bool) → Holding → Request → Fault → (before after : Option (List ℕ)) (err_failed : Bool) (err_before err_after : Option (List ℕ)) → Type 0
 Joins failed held (Show table) fault before after err_failed err_before err_after = ⊤
 Joins failed held (Lint table) fault before after err_failed err_before err_after = ⊤
 Joins failed held (Match all table path) fault before after err_failed err_before err_after = ⊤
-Joins failed held (MatchMany ask table files) fault before after err_failed err_before err_after = TellsMany failed ask held table (map (λ n. n.now) files.now) fault before after err_failed err_before err_after
-Joins failed held (MatchListed ask table list end) fault before after err_failed err_before err_after = TellsListed failed ask held table list.now end fault before after err_failed err_before err_after
+Joins failed held (MatchMany options table files) fault before after err_failed err_before err_after = TellsMany failed options held table (map (λ n. n.now) files.now) fault before after err_failed err_before err_after
+Joins failed held (MatchListed options table list end) fault before after err_failed err_before err_after = TellsListed failed options held table list.now end fault before after err_failed err_before err_after
 Joins failed held (Find table budget out hex progress) fault before after err_failed err_before err_after = ⊤
 Joins failed held (Conflicts table options progress) fault before after err_failed err_before err_after = ⊤
 Joins failed held (Dead table budget hex progress) fault before after err_failed err_before err_after = ⊤
@@ -421,8 +458,8 @@ abbrev pub ShowsAsked : {E : Type 0} → Holding → Request → Bool → (out_b
 ShowsAsked held (Show table) is_yes out_before out_after is_failed before after written written_after = after ≡ before
 ShowsAsked held (Lint table) is_yes out_before out_after is_failed before after written written_after = after ≡ before
 ShowsAsked held (Match all table path) is_yes out_before out_after is_failed before after written written_after = after ≡ before
-ShowsAsked held (MatchMany ask table files) is_yes out_before out_after is_failed before after written written_after = after ≡ before
-ShowsAsked held (MatchListed ask table list end) is_yes out_before out_after is_failed before after written written_after = after ≡ before
+ShowsAsked held (MatchMany options table files) is_yes out_before out_after is_failed before after written written_after = after ≡ before
+ShowsAsked held (MatchListed options table list end) is_yes out_before out_after is_failed before after written written_after = after ≡ before
 ShowsAsked held (Find table budget out hex progress) true out_before out_after is_failed before after written written_after = ShowsIf progress Products is_failed before after written written_after
 ShowsAsked held (Find table budget out hex progress) false out_before out_after is_failed before after written written_after =
     is_failed ≡ false → (t : TableView) × IsTableOf held table t × TellsWhy progress hex t budget out_before out_after written written_after

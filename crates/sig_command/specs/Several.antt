@@ -1,5 +1,5 @@
 -- What is written of files by their names: of several, or of one with `--with-names`.
-use Rattle.std.specs.Prelude.{◌≡◌, ◌≤◌, ℕ, false, List, [], ◌++◌, ◌∷◌, All, Bool, None, Option, Some, length, ⊤}
+use Rattle.std.specs.Prelude.{◌≡◌, ◌≤◌, ℕ, false, List, [], ◌++◌, ◌∷◌, All, None, Option, Some, length, ⊤}
 use Rattle.sig_bits.specs.Device.{Adds}
 use Rattle.sig_table.specs.Views.{TableView}
 use Rattle.sig_core.specs.declared.results.Hit.{Hit}
@@ -15,8 +15,8 @@ AreTexts IsOf [] text = text ≡ []
 AreTexts IsOf (name ∷ names) text = (first : List ℕ) × (rest : List ℕ) × (text ≡ first ++ rest) × IsOf name first × AreTexts IsOf names rest
 
 -- the text is one line or one record of the file of this name: of one hit, or of none
-abbrev pub IsOneLineOf : Bool → TableView → List ℕ → List ℕ → Type 0
-IsOneLineOf csv table name text = (hits : List Hit) × (length hits ≤ 1) × (text ≡ file_text csv name table hits)
+abbrev pub IsOneLineOf : MatchAsk → TableView → List ℕ → List ℕ → Type 0
+IsOneLineOf ask table name text = (hits : List Hit) × (length hits ≤ 1) × (text ≡ file_text ask.csv ask.names name table hits)
 
 -- what is written grows by the lines or the records of each file, in the order of their names
 pub record AddsLinesOfEach (ask : MatchAsk) (table : TableView) (held : Holding) (names : List (List ℕ)) (before after : Option (List ℕ)) : Type 0 where

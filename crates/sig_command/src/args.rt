@@ -7,16 +7,16 @@
 //!
 //! No file is opened, and whether a table has the format of `--only` is not looked at.
 
-ghost use Rattle.std.specs.Prelude.{◌≡◌, ◌≢◌, ◌⊎◌, [], codes, false, IfErr, IfOk, IfSome, None, Some, true};
+ghost use Rattle.std.specs.Prelude.{◌≡◌, ◌≢◌, ◌⊎◌, ◌||◌, [], codes, false, is_some, IfErr, IfOk, IfSome, None, Some, true};
 ghost use Rattle.clap.specs.Values.{kind_of};
 ghost use Rattle.clap.specs.Matches.{found_of};
 ghost use Rattle.clap.specs.declared.Command.TheViews.{out-Command as fields_of};
 ghost use Rattle.clap.specs.Words.{all_of, app_of, fault_of, first_of, new_rule, one_of, rows_of, rule_of, subcommand_of, subcommand_rows_of};
-ghost use Rattle.sig_command.specs.CommandLine.{AreTaken, Asks, HasFaultKind, HasFlag, HasNoFiles, IsHelpAsked, IsLine, NamesAsk, NamesOptions, NamesTable, asking, budget_rule, check_command, conflicts_command, dead_command, find_command, given, lint_command, list_path, match_command, name_end, named, null_rule, of_table, out_rule, program, several, show_command, texts_of, wanted, witness_command};
+ghost use Rattle.sig_command.specs.CommandLine.{AreTaken, Asks, HasFaultKind, HasFlag, HasNoFiles, IsHelpAsked, IsLine, NamesEach, NamesOptions, NamesTable, asking, budget_rule, check_command, conflicts_command, dead_command, find_command, given, lint_command, list_path, match_command, name_end, named, null_rule, of_table, out_rule, program, several, show_command, texts_of, wanted, witness_command};
 
 use clap::error::ErrorKind;
 use clap::{Arg, ArgAction, ArgMatches, Command, Error, value_parser};
-use sig_engines::{MatchAsk, TablePaths};
+use sig_engines::TablePaths;
 use std::alloc::Global;
 
 const SHOW_HELP: &str = "\
@@ -59,17 +59,22 @@ tab and a hyphen. A file with a fault has a line on standard error instead,
 and the other files are still identified.
 
 With --files-from the names of the files stand in NAMES, one a line, or with
--0 each ended by a NUL. They may be any number: each file is identified before
-the next name is read.
+-0 each ended by a NUL. NAMES may be -, standard input. There may be any
+number of names: each file is identified before the next name is read.
 
 With --csv there are records of CSV in place of lines. The first one names the
-fields: file,puid,signature,name. The name is left empty. A file that no
-format matches has one record, with its name alone.
+fields: file,puid,signature,name. A file that no format matches has one
+record, with its name alone.
+
+With --names each line ends in a tab and the name of its format, and each
+record in that name. FORMATS is a CSV file with the header puid,name.
+
+With these two the file's name is printed also if there is only one FILE.
 
 Statuses:
   0  each file was read to its end and its answer was printed, even if that is
      no line
-  2  usage error, or the table is refused
+  2  usage error, or the table or FORMATS is refused
   3  a file can't be opened, a read or a write failed, or memory ran out. With
      more than one file the lines that were printed are valid";
 
@@ -226,6 +231,23 @@ pub(crate) struct ConflictsOptions<'a> {
     pub(crate) priorities: Option<&'a str>,
 }
 
+/// What the words ask of each of many files.
+#[derive(Clone, Copy, Debug, PartialEq, Eq)]
+pub(crate) struct MatchOptions<'a> {
+    pub(crate) all: bool,
+    pub(crate) csv: bool,
+    pub(crate) names: Option<&'a str>,
+}
+
+impl MatchOptions<'_> {
+    // Whether the names of the files are printed, whatever their number.
+    fn is_named(self) -> bool
+        ensures { result ≡ self.entry.csv || is_some self.entry.names }
+    {
+        self.csv || self.names.is_some()
+    }
+}
+
 /// What the words ask for.
 #[derive(Clone, Copy, Debug, PartialEq, Eq)]
 pub(crate) enum Request<'m, 'a> {
@@ -243,16 +265,16 @@ pub(crate) enum Request<'m, 'a> {
         table: TablePaths<'a>,
         file: &'a str,
     },
-    /// The same for each of several files, or of one with `--with-names` or `--csv`, after the
-    /// file's name.
+    /// The same for each of several files, or of one with `--with-names`, `--csv` or `--names`,
+    /// after the file's name.
     MatchMany {
-        ask: MatchAsk,
+        options: MatchOptions<'a>,
         table: TablePaths<'a>,
         files: &'m [&'a str],
     },
     /// The same for files whose names stand in the file `list`, each ended by this byte.
     MatchListed {
-        ask: MatchAsk,
+        options: MatchOptions<'a>,
         table: TablePaths<'a>,
         list: &'a str,
         end: u8,
@@ -363,7 +385,8 @@ fn lint_line<'a>(alloc: Global) -> Result<Command<'a>, Error>
     Ok(line)
 }
 
-// `match [--all] [--with-names] [--csv] [--files-from NAMES [-0]] SIGS PRIOS [FILE..]`
+// `match [--all] [--with-names] [--csv] [--names FORMATS] [--files-from NAMES [-0]] SIGS PRIOS
+// [FILE..]`
 fn match_line<'a>(alloc: Global) -> Result<Command<'a>, Error>
     ensures line { IfOk result (IsLine match_command) }
     ensures memory { IfErr result (λ e. kind_of e ≡ ErrorKind.OutOfMemory) }
@@ -372,13 +395,14 @@ fn match_line<'a>(alloc: Global) -> Result<Command<'a>, Error>
         .about("Print the formats that match each file, after priorities")
         .after_help(MATCH_HELP)
         .arg(several(alloc, "FILE").help("The files to identify"))?
-        .arg(flag(alloc, "all").help("Print all formats that match a file, before priorities"))?
-        .arg(flag(alloc, "with-names").help(
-            "Print the file's name also if there is only one FILE",
-        ))?
+        .arg(flag(alloc, "all").help("Print all formats that match, before priorities"))?
+        .arg(flag(alloc, "with-names").help("Print the file's name also for one FILE"))?
         .arg(flag(alloc, "csv").help("Print records of CSV, with the files' names"))?
+        .arg(option(alloc, "names", "FORMATS").help(
+            "Print the names of formats from this CSV file",
+        ))?
         .arg(option(alloc, "files-from", "NAMES").help(
-            "Read the names of the files from this file, or from - for standard input",
+            "Read the names of the files from this file",
         ))?
         .arg(null(alloc).help("The names in NAMES are ended by NUL"))?;
     Ok(line)
@@ -602,16 +626,20 @@ fn files_request<'m, 'a>(
     ensures asked { IfSome result (λ request. Asks (asking (codes "match") matches.now) request) }
     ensures none { result ≡ None → HasNoFiles (rows_of (found_of matches.now)) }
 {
-    let ask = match_ask(matches);
+    let options = match_options(matches);
     let with_names = matches.get_flag("with-names");
     match matches.get_strs("FILE")? {
         [] => None,
-        [file] if !with_names && !ask.csv => Some(Request::Match {
-            all: ask.all,
+        [file] if !with_names && !options.is_named() => Some(Request::Match {
+            all: options.all,
             table,
             file: *file,
         }),
-        files => Some(Request::MatchMany { ask, table, files }),
+        files => Some(Request::MatchMany {
+            options,
+            table,
+            files,
+        }),
     }
 }
 
@@ -629,7 +657,7 @@ fn list_request<'m, 'a>(
     match matches.get_strs("FILE") {
         Some(_) => None,
         None => Some(Request::MatchListed {
-            ask: match_ask(matches),
+            options: match_options(matches),
             table,
             list: list_path(word),
             end: name_end(matches.get_flag("null")),
@@ -645,12 +673,13 @@ fn name_end(is_null: bool) -> u8
 }
 
 // What is asked of each file.
-fn match_ask(matches: &ArgMatches<'_>) -> MatchAsk
-    ensures { NamesAsk result (rows_of (found_of matches.now)) }
+fn match_options<'a>(matches: &ArgMatches<'a>) -> MatchOptions<'a>
+    ensures { NamesEach result (rows_of (found_of matches.now)) }
 {
-    MatchAsk {
+    MatchOptions {
         all: matches.get_flag("all"),
         csv: matches.get_flag("csv"),
+        names: matches.get_str("FORMATS"),
     }
 }
 

@@ -3,14 +3,14 @@
 //!
 //! A line is written in pieces and takes no memory, so no fault is reported as another.
 
-ghost use Rattle.std.specs.Prelude.{◌≡◌, false};
-ghost use Rattle.sig_command.specs.Faults.{Reports, fault_line, fault_text, line_end, site_text};
+ghost use Rattle.std.specs.Prelude.{◌++◌, ◌≡◌, false};
+ghost use Rattle.sig_command.specs.Faults.{Reports, fault_line, fault_text, line_end, names_row, names_text, site_text};
 ghost use Rattle.sig_command.specs.Statuses.{status_of};
 ghost use Rattle.sig_lint.specs.Codes.{code_words};
 ghost use Rattle.sig_engines.specs.Writing.{Prints};
 
 use sig_bits::{DeviceFault, Output};
-use sig_engines::{CutShort, RunError, WitnessName, put, put_number, put_path};
+use sig_engines::{CutShort, NamesError, RunError, WitnessName, put, put_number, put_path};
 use sig_lint::{Code, Site, code_of, file_name, site_of};
 use sig_table::TableError;
 
@@ -38,17 +38,21 @@ pub(crate) enum Fault<'a> {
     /// The table that `lint` is asked of has faults. The output has a line for each, so this has no
     /// line of its own.
     FaultyTable,
+    /// The file with the names of formats is refused, or was not read.
+    Names(NamesError),
 }
 
 impl Fault<'_> {
-    /// The status that the program ends with: 2 for its words and for a refused table, else 3.
+    /// The status that the program ends with: 2 for its words, and for a table or names of formats
+    /// that are refused, else 3.
     pub(crate) fn status(self) -> u8
         ensures { result ≡ status_of self.entry }
     {
         match self {
             Fault::NotText | Fault::SummaryOfOne | Fault::NotInTable => 2,
             Fault::Table(TableError::Read { .. } | TableError::OutOfMemory) => 3,
-            Fault::Table(_) | Fault::FaultyTable => 2,
+            Fault::Names(NamesError::Read | NamesError::OutOfMemory) => 3,
+            Fault::Table(_) | Fault::FaultyTable | Fault::Names(_) => 2,
             Fault::CannotOpen(_)
             | Fault::NoFile(..)
             | Fault::Run(_)
@@ -88,7 +92,8 @@ fn line_end(fault: Fault<'_>) -> &'static str
         | Fault::Table(_)
         | Fault::NotInTable
         | Fault::Run(_)
-        | Fault::CutShort(_) => "\n",
+        | Fault::CutShort(_)
+        | Fault::Names(_) => "\n",
     }
 }
 
@@ -121,7 +126,32 @@ fn write_text<E: Output>(fault: Fault<'_>, err: &mut E) -> Result<(), DeviceFaul
         Fault::Run(error) => put(err, error.text()),
         Fault::CutShort(error) => put(err, error.text()),
         Fault::SomeFiles | Fault::FaultyTable => Ok(()),
+        Fault::Names(error) => write_names(error, err),
     }
+}
+
+// Why there are no names of formats.
+fn write_names<E: Output>(error: NamesError, err: &mut E) -> Result<(), DeviceFault>
+    ensures prints { Prints result (names_text error) (E.written err.old) (E.written err.new) (E.failed err.new) }
+    ensures sound { E.failed err.new ≡ false → E.failed err.old ≡ false }
+{
+    match error {
+        NamesError::Read => put(err, "read failed"),
+        NamesError::OutOfMemory => put(err, "out of memory"),
+        NamesError::Header => put(err, "names: header"),
+        NamesError::Fields { row } => write_row(row, ": fields", err),
+        NamesError::Puid { row } => write_row(row, ": puid", err),
+        NamesError::Twice { row } => write_row(row, ": pair twice", err),
+    }
+}
+
+fn write_row<E: Output>(row: usize, words: &str, err: &mut E) -> Result<(), DeviceFault>
+    ensures prints { Prints result (names_row row ++ words.now) (E.written err.old) (E.written err.new) (E.failed err.new) }
+    ensures sound { E.failed err.new ≡ false → E.failed err.old ≡ false }
+{
+    put(err, "names row ")?;
+    put_number(err, row)?;
+    put(err, words)
 }
 
 fn write_site<E: Output>(site: Site, err: &mut E) -> Result<(), DeviceFault>

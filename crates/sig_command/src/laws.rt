@@ -10,10 +10,12 @@ ghost use Rattle.std.specs.Prelude.{◌≡◌, ◌≤◌, ℕ, Bool, List, None,
 ghost use Rattle.clap.specs.Words.{fault_of, takes};
 ghost use Rattle.sig_bits.specs.Device.{Adds};
 ghost use Rattle.sig_command.specs.CommandLine.{AreTableWords, all_named, first_named, one_named, program};
-ghost use Rattle.sig_command.specs.Requests.{Answers};
+ghost use Rattle.sig_command.specs.Requests.{Answers, AsksEach};
 ghost use Rattle.sig_command.specs.Several.{AreListedIn, AreTexts, IsOneLineOf};
+ghost use Rattle.sig_command.specs.declared.args.MatchOptions.{MatchOptions};
 ghost use Rattle.sig_command.specs.declared.args.Request.TheVariants.{Check, Match, MatchListed, MatchMany};
 ghost use Rattle.sig_engines.specs.FileTexts.{head_text};
+ghost use Rattle.sig_engines.specs.declared.ask.MatchAsk.{MatchAsk};
 ghost use Rattle.sig_engines.specs.Lines.{lines_of};
 ghost use Rattle.sig_engines.specs.declared.store.TablePaths.{TablePaths};
 ghost use Rattle.sig_core.specs.declared.results.Hit.{Hit};
@@ -35,17 +37,18 @@ pub fn accepted_tables_match_once()
 /// The same of each of many files, whether words or a list name them: each has one line or record,
 /// of a format or of none.
 pub fn accepted_tables_match_each_once()
-    ensures named { (files : List ℕ → Option (List ℕ)) (table : TablePaths) (certificate : Bor (List ℕ)) (csv : Bool) (names : Bor (List (Bor (List ℕ)))) (is_yes : Bool)
-        (checked_before checked_after before after : Option (List ℕ))
+    ensures named { (files : List ℕ → Option (List ℕ)) (table : TablePaths) (certificate : Bor (List ℕ)) (options : MatchOptions) (names : Bor (List (Bor (List ℕ)))) (is_yes : Bool)
+        (checked_before checked_after before after : Option (List ℕ)) → options.all ≡ false
         → Answers (Some files) (Check table certificate) true checked_before checked_after
-        → Answers (Some files) (MatchMany (record { all = false; csv = csv }) table names) is_yes before after
-        → (t : TableView) × (text : List ℕ) × AreTexts (IsOneLineOf csv t) (map (λ n. n.now) names.now) text × Adds before (head_text csv ++ text) after }
-    ensures listed { (files : List ℕ → Option (List ℕ)) (table : TablePaths) (certificate : Bor (List ℕ)) (csv : Bool) (list : Bor (List ℕ)) (end : ℕ) (is_yes : Bool)
-        (checked_before checked_after before after : Option (List ℕ))
+        → Answers (Some files) (MatchMany options table names) is_yes before after
+        → (t : TableView) × (ask : MatchAsk) × AsksEach (Some files) options ask
+        × (text : List ℕ) × AreTexts (IsOneLineOf ask t) (map (λ n. n.now) names.now) text × Adds before (head_text ask.csv ++ text) after }
+    ensures listed { (files : List ℕ → Option (List ℕ)) (table : TablePaths) (certificate : Bor (List ℕ)) (options : MatchOptions) (list : Bor (List ℕ)) (end : ℕ) (is_yes : Bool)
+        (checked_before checked_after before after : Option (List ℕ)) → options.all ≡ false
         → Answers (Some files) (Check table certificate) true checked_before checked_after
-        → Answers (Some files) (MatchListed (record { all = false; csv = csv }) table list end) is_yes before after
-        → (t : TableView) × (names : List (List ℕ)) × AreListedIn (Some files) list.now end names
-        × (text : List ℕ) × AreTexts (IsOneLineOf csv t) names text × Adds before (head_text csv ++ text) after }
+        → Answers (Some files) (MatchListed options table list end) is_yes before after
+        → (t : TableView) × (ask : MatchAsk) × AsksEach (Some files) options ask × (names : List (List ℕ)) × AreListedIn (Some files) list.now end names
+        × (text : List ℕ) × AreTexts (IsOneLineOf ask t) names text × Adds before (head_text ask.csv ++ text) after }
 {}
 
 /// Words that name all files are taken, also where `match` has several, and they ask for no help.
@@ -104,6 +107,8 @@ pub fn words_name_files()
         (codes "match" ∷ codes "--files-from" ∷ codes "c" ∷ codes "a" ∷ codes "b" ∷ []) ≡ Some (codes "c") }
     ensures matched_no_file { all_named (codes "FILE")
         (codes "match" ∷ codes "--files-from" ∷ codes "c" ∷ codes "a" ∷ codes "b" ∷ []) ≡ None }
+    ensures matched_formats { first_named (codes "FORMATS")
+        (codes "match" ∷ codes "--names" ∷ codes "d" ∷ codes "a" ∷ codes "b" ∷ codes "c" ∷ []) ≡ Some (codes "d") }
     ensures matched_csv { one_named (codes "csv")
         (codes "match" ∷ codes "--csv" ∷ codes "a" ∷ codes "b" ∷ codes "c" ∷ []) ≡ Some (codes "true") }
     ensures matched_null { one_named (codes "null")

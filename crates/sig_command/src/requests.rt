@@ -12,25 +12,25 @@
 //! is with the faults that `lint` tells on the output: it ends with 2, as for a refused table.
 
 ghost use Rattle.std.specs.Borrow.{Bor};
-ghost use Rattle.std.specs.Prelude.{None, Some, ◌≡◌, ◌≢◌, ◌<◌, ◌⊎◌, false, is_ok, is_some, length, List, true, IfErr, IfOk, OnOk};
+ghost use Rattle.std.specs.Prelude.{None, Some, ◌≡◌, ◌≢◌, ◌<◌, ◌⊎◌, false, is_ok, is_some, length, List, option_map, true, IfErr, IfOk, OnOk};
 ghost use Rattle.clap.specs.Values.{kind_of};
 ghost use Rattle.clap.specs.Words.{Text};
-ghost use Rattle.sig_command.specs.Requests.{Answers, AnswersWords, AsksPairs, CutsSomeWords, CutsWords, IsFaultOf, IsLoadFault, IsOnly, IsReported, JoinsBoth, KeepsOrCuts, ListsIf, ListsSomeWords, ListsWords, MakesOut, MakesWords, NamesNone, ShowsAsked, ShowsSomeWords, ShowsWords, TellsOf, file_fault, pairs_fault};
+ghost use Rattle.sig_command.specs.Requests.{Answers, AnswersWords, AreNamesOf, AsksPairs, CutsSomeWords, CutsWords, IsFaultOf, IsLoadFault, IsNamesFaultOf, IsOnly, IsReported, JoinsBoth, KeepsOrCuts, ListsIf, ListsSomeWords, ListsWords, MakesOut, MakesWords, NamesNone, ShowsAsked, ShowsSomeWords, ShowsWords, TellsOf, file_fault, pairs_fault};
 ghost use Rattle.sig_command.specs.Faults.{TellsWrite};
 ghost use Rattle.sig_engines.specs.Stores.{IsTableOf, Opens, SomeWriteFailed};
 ghost use Rattle.sig_command.specs.CommandLine.{AreTaken, texts_of};
 ghost use Rattle.sig_command.specs.Endings.{AnswersBy, EndsByFault, KeepsErrors, KeepsOutput, ReportsBy, ReportsMemory, TellsBy};
 ghost use Rattle.sig_table.specs.Tables.{IsTable};
 
-use crate::args::{ConflictsOptions, Request, read_args, request_of};
+use crate::args::{ConflictsOptions, MatchOptions, Request, read_args, request_of};
 use crate::fault::Fault;
 use clap::Error;
 use clap::error::ErrorKind;
 use sig_bits::{FromRead, FromWrite, Input, Output};
 use sig_engines::{
-    ConflictsAsk, CutShort, FileFault, MatchAsk, NameReader, PairsFault, RunError, Store,
-    SystemFiles, TablePaths, WitnessName, find_dead, format_named, run_check, run_find, run_lint,
-    run_match, run_match_listed, run_match_many, run_show, run_witness, settle,
+    ConflictsAsk, CutShort, FileFault, FormatNames, MatchAsk, NameReader, NamesError, PairsFault,
+    RunError, Store, SystemFiles, TablePaths, WitnessName, find_dead, format_named, run_check,
+    run_find, run_lint, run_match, run_match_listed, run_match_many, run_show, run_witness, settle,
 };
 use sig_scan::BlockCore;
 use sig_table::{FormatId, Puid, Table};
@@ -177,15 +177,17 @@ fn answer<'m, 'a, S: Store, W: Output, E: Output>(
         Request::Show { table } => show_table(store, alloc, table, out),
         Request::Lint { table } => lint_table(store, alloc, table, out),
         Request::Match { all, table, file } => match_file(store, alloc, all, table, file, out),
-        Request::MatchMany { ask, table, files } => {
-            match_many(store, alloc, ask, table, files, out, err)
-        }
+        Request::MatchMany {
+            options,
+            table,
+            files,
+        } => match_many(store, alloc, options, table, files, out, err),
         Request::MatchListed {
-            ask,
+            options,
             table,
             list,
             end,
-        } => match_listed(store, alloc, ask, table, list, end, out, err),
+        } => match_listed(store, alloc, options, table, list, end, out, err),
         Request::Find {
             table,
             budget,
@@ -282,26 +284,28 @@ fn match_file<'a, S: Store, W: Output>(
 fn match_many<'m, 'a, S: Store, W: Output, E: Output>(
     store: &S,
     alloc: Global,
-    ask: MatchAsk,
+    options: MatchOptions<'a>,
     table: TablePaths<'a>,
     files: &'m [&'a str],
     out: &mut W,
     err: &mut E,
 ) -> Result<bool, Fault<'a>>
-    ensures told { TellsOf S.Reader.failed (S.held store.now) (Request.MatchMany ask table.entry files.entry) (is_ok result) E.failed E.written err.old err.new }
+    ensures told { TellsOf S.Reader.failed (S.held store.now) (Request.MatchMany options.entry table.entry files.entry) (is_ok result) E.failed E.written err.old err.new }
     ensures joined { IfErr result (JoinsBoth S.Reader.failed (S.held store.now)
-        (Request.MatchMany ask table.entry files.entry) W.written out.old out.new E.failed E.written err.old err.new) }
+        (Request.MatchMany options.entry table.entry files.entry) W.written out.old out.new E.failed E.written err.old err.new) }
     ensures shown { OnOk result (W.failed out.new ≡ false) }
-    ensures answers { IfOk result (λ is_yes. Answers (S.held store.now) (Request.MatchMany ask table.entry files.entry) is_yes (W.written out.old) (W.written out.new)) }
+    ensures answers { IfOk result (λ is_yes. Answers (S.held store.now) (Request.MatchMany options.entry table.entry files.entry) is_yes (W.written out.old) (W.written out.new)) }
     ensures quiet { OnOk result (err.new ≡ err.old) }
-    ensures faults { IfErr result (λ fault. IsFaultOf S.Reader.failed (S.held store.now) (Request.MatchMany ask table.entry files.entry) fault) }
+    ensures faults { IfErr result (λ fault. IsFaultOf S.Reader.failed (S.held store.now) (Request.MatchMany options.entry table.entry files.entry) fault) }
     ensures write { IfErr result (λ fault. TellsWrite fault → W.failed out.new ≡ true) }
     ensures untouched { IfErr result (λ fault. fault ≢ Fault.Run RunError.Write → fault ≢ Fault.SomeFiles → out.new ≡ out.old) }
     ensures whole { IfErr result (λ fault. KeepsOrCuts S.Reader.failed (S.held store.now)
-        (Request.MatchMany ask table.entry files.entry) W.failed W.written out.old out.new) }
+        (Request.MatchMany options.entry table.entry files.entry) W.failed W.written out.old out.new) }
 {
     let table = load(store, alloc, table)?;
+    let names = format_names(store, alloc, options.names)?;
     let core = BlockCore::prepared(alloc, table);
+    let ask = match_ask(options, &names);
     match run_match_many(alloc, store, &core, ask, files, out, err) {
         Ok(true) => Ok(true),
         Ok(false) => Err(Fault::SomeFiles),
@@ -313,35 +317,70 @@ fn match_many<'m, 'a, S: Store, W: Output, E: Output>(
 fn match_listed<'a, S: Store, W: Output, E: Output>(
     store: &S,
     alloc: Global,
-    ask: MatchAsk,
+    options: MatchOptions<'a>,
     table: TablePaths<'a>,
     list: &'a str,
     end: u8,
     out: &mut W,
     err: &mut E,
 ) -> Result<bool, Fault<'a>>
-    ensures told { TellsOf S.Reader.failed (S.held store.now) (Request.MatchListed ask table.entry list.entry end) (is_ok result) E.failed E.written err.old err.new }
+    ensures told { TellsOf S.Reader.failed (S.held store.now) (Request.MatchListed options.entry table.entry list.entry end) (is_ok result) E.failed E.written err.old err.new }
     ensures joined { IfErr result (JoinsBoth S.Reader.failed (S.held store.now)
-        (Request.MatchListed ask table.entry list.entry end) W.written out.old out.new E.failed E.written err.old err.new) }
+        (Request.MatchListed options.entry table.entry list.entry end) W.written out.old out.new E.failed E.written err.old err.new) }
     ensures shown { OnOk result (W.failed out.new ≡ false) }
-    ensures answers { IfOk result (λ is_yes. Answers (S.held store.now) (Request.MatchListed ask table.entry list.entry end) is_yes (W.written out.old) (W.written out.new)) }
+    ensures answers { IfOk result (λ is_yes. Answers (S.held store.now) (Request.MatchListed options.entry table.entry list.entry end) is_yes (W.written out.old) (W.written out.new)) }
     ensures quiet { OnOk result (err.new ≡ err.old) }
-    ensures faults { IfErr result (λ fault. IsFaultOf S.Reader.failed (S.held store.now) (Request.MatchListed ask table.entry list.entry end) fault) }
+    ensures faults { IfErr result (λ fault. IsFaultOf S.Reader.failed (S.held store.now) (Request.MatchListed options.entry table.entry list.entry end) fault) }
     ensures write { IfErr result (λ fault. TellsWrite fault → W.failed out.new ≡ true) }
     ensures untouched { IfErr result (λ fault. ((e : RunError) → fault ≢ Fault.Run e) → fault ≢ Fault.SomeFiles → out.new ≡ out.old) }
     ensures whole { IfErr result (λ fault. KeepsOrCuts S.Reader.failed (S.held store.now)
-        (Request.MatchListed ask table.entry list.entry end) W.failed W.written out.old out.new) }
+        (Request.MatchListed options.entry table.entry list.entry end) W.failed W.written out.old out.new) }
 {
     let table = load(store, alloc, table)?;
+    let names = format_names(store, alloc, options.names)?;
     let file = open(store, list)?;
     let core = BlockCore::prepared(alloc, table);
-    let Ok(mut names) = NameReader::new(alloc, file, end) else {
+    let Ok(mut list) = NameReader::new(alloc, file, end) else {
         return Err(Fault::Run(RunError::OutOfMemory));
     };
-    match run_match_listed(alloc, store, &core, ask, &mut names, out, err) {
+    let ask = match_ask(options, &names);
+    match run_match_listed(alloc, store, &core, ask, &mut list, out, err) {
         Ok(true) => Ok(true),
         Ok(false) => Err(Fault::SomeFiles),
         Err(error) => Err(Fault::Run(error)),
+    }
+}
+
+// The names of formats in the file of this name, if there is one.
+fn format_names<'a, S: Store>(
+    store: &S,
+    alloc: Global,
+    path: Option<&'a str>,
+) -> Result<Option<FormatNames>, Fault<'a>>
+    ensures names { IfOk result (λ names. AreNamesOf (S.held store.now) path.entry names) }
+    ensures fault { IfErr result (λ fault. (fault ≡ Fault.Run RunError.OutOfMemory) ⊎ IsNamesFaultOf S.Reader.failed (S.held store.now) path.entry fault) }
+{
+    let Some(path) = path else {
+        return Ok(None);
+    };
+    let mut file = open(store, path)?;
+    match FormatNames::load(alloc, &mut file) {
+        Ok(names) => Ok(Some(names)),
+        Err(NamesError::OutOfMemory) => Err(Fault::Run(RunError::OutOfMemory)),
+        Err(error) => Err(Fault::Names(error)),
+    }
+}
+
+// What is asked of each file.
+fn match_ask<'n>(options: MatchOptions<'_>, names: &'n Option<FormatNames>) -> MatchAsk<'n>
+    ensures all { result.all ≡ options.entry.all }
+    ensures csv { result.csv ≡ options.entry.csv }
+    ensures names { option_map (λ n. n.now) result.names ≡ names.now }
+{
+    MatchAsk {
+        all: options.all,
+        csv: options.csv,
+        names: names.as_ref(),
     }
 }
 

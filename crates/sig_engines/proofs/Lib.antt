@@ -4,6 +4,7 @@ mod CsvLemmas
 pub mod Exports
 mod FateLemmas
 mod ForcedLemmas
+mod FormatNameLemmas
 mod FoundLemmas
 mod HitLemmas
 mod JudgedLemmas

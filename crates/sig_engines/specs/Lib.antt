@@ -6,6 +6,7 @@ pub mod Fates
 pub mod FileTexts
 pub mod Finding
 pub mod Forced
+pub mod FormatNames
 pub mod Judged
 pub mod Lines
 pub mod Linted

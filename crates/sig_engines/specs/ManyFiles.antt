@@ -30,7 +30,7 @@ pub record AreLinesOf (ask : MatchAsk) (table : TableView) (held : Holding) (nam
   pub holds : Holds held name file
   pub hits : List Hit
   pub are_asked : AreAsked ask.all table file hits
-  pub are_lines : lines ≡ file_text ask.csv name table hits
+  pub are_lines : lines ≡ file_text ask.csv ask.names name table hits
 
 -- this is printed of the file of this name: its lines; or there is no such file or the name is no text, some reader of the store failed, or memory ran out
 abbrev pub IsPrinted : {R : Type 0} → (R → Bool) → MatchAsk → TableView → Holding → List ℕ → Printed → Type 0

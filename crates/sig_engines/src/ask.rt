@@ -3,15 +3,18 @@
 ghost use Rattle.std.specs.Prelude.{◌≡◌};
 ghost use Rattle.sig_engines.specs.Asks.{IsFormatNamed, is_asked, needs_class, shows_class};
 
+use crate::format_names::FormatNames;
 use sig_table::{FormatId, Puid, Table};
 
 /// What `match` is asked for of each of many files.
-#[derive(Clone, Copy, Debug, PartialEq, Eq)]
-pub struct MatchAsk {
+#[derive(Clone, Copy)]
+pub struct MatchAsk<'n> {
     /// Each format that a file hits, before priorities.
     pub all: bool,
     /// Records of CSV, behind the names of their fields, in place of lines.
     pub csv: bool,
+    /// The names of formats, which stand behind each line, or in the last field of a record.
+    pub names: Option<&'n FormatNames>,
 }
 
 /// What `conflicts` is asked for.

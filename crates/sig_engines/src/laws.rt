@@ -1,11 +1,13 @@
 //! Laws of what the engines write.
 
 ghost use Rattle.std.specs.Prelude.{◌≡◌, ◌≤◌, ◌++◌, ◌∷◌, ℕ, false, flat_map, List, Option, length, true};
+ghost use Rattle.std.specs.Borrow.{Bor};
 ghost use Rattle.csv.specs.Reading.{AreRecords, default_config, strip_bom};
 ghost use Rattle.csv.specs.declared.parser.State.TheVariants as st;
 ghost use Rattle.sig_bits.specs.Device.{Adds};
 ghost use Rattle.sig_cert.specs.Deciding.{Decided};
 ghost use Rattle.sig_engines.specs.FileTexts.{file_text, head_record, head_text, records_of_file};
+ghost use Rattle.sig_engines.specs.FormatNames.{NameList};
 ghost use Rattle.sig_engines.specs.Lines.{AddsLinesOfSome, AreLinesOfSome, file_lines, lines_of};
 ghost use Rattle.sig_core.specs.declared.results.Hit.{Hit};
 ghost use Rattle.sig_table.specs.Views.{TableView};
@@ -20,9 +22,9 @@ pub fn two_lines_are_never_added()
 {}
 
 /// What is written of files with `--csv`, read by `csv`, is the names of the fields and then the
-/// records of each file, whatever bytes their names have.
+/// records of each file, whatever bytes the names have.
 pub fn records_are_read_back()
-    ensures { (table : TableView) (files : List (List ℕ × List Hit))
-        → AreRecords default_config st.StartRecord (strip_bom (head_text true ++ flat_map (λ f. file_text true f.0 table f.1) files))
-        (head_record ∷ flat_map (λ f. records_of_file f.0 table f.1) files) }
+    ensures { (names : Option (Bor NameList)) (table : TableView) (files : List (List ℕ × List Hit))
+        → AreRecords default_config st.StartRecord (strip_bom (head_text true ++ flat_map (λ f. file_text true names f.0 table f.1) files))
+        (head_record ∷ flat_map (λ f. records_of_file names f.0 table f.1) files) }
 {}

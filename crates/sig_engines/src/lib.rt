@@ -8,8 +8,8 @@
 //! after a failed read, and where memory runs out, the output is as it was. A fault says that a read
 //! or a write failed only where one did.
 //!
-//! What each adds to an output stands in `specs/`: `Lines`, `FileTexts`, `Listed`, `ManyFiles`,
-//! `Shown`, `Linted`, `Finding`, `Judged`, `Witnessed`, `Conflicts`, `Fates` and `Progress`. `Asks`
+//! What each adds to an output stands in `specs/`: `Lines`, `FormatNames`, `FileTexts`, `Listed`,
+//! `ManyFiles`, `Shown`, `Linted`, `Finding`, `Judged`, `Witnessed`, `Conflicts`, `Fates` and `Progress`. `Asks`
 //! says which pairs `conflicts` is asked for, and `ClassTexts` how their classes are written and
 //! counted. `Stores` says what a store of files holds and makes.
 #![tactic(auto)]
@@ -24,6 +24,7 @@ mod fate_lines;
 mod file_text;
 mod find_engine;
 mod forced;
+mod format_names;
 mod laws;
 mod lines;
 mod lint_engine;
@@ -48,6 +49,7 @@ pub use conflicts_engine::{PairsAnswer, run_conflicts};
 pub use dead_engine::{find_dead, run_dead};
 pub use error::{CutShort, FileFault, PairsFault, RunError};
 pub use find_engine::run_find;
+pub use format_names::{FormatNames, NamesError};
 pub use laws::{records_are_read_back, two_lines_are_never_added};
 pub use lint_engine::run_lint;
 pub use many_engine::{run_match_listed, run_match_many};

@@ -31,12 +31,12 @@ pub fn run_match_many<S: Store, K: DroidCore, W: Output, E: Output>(
     alloc: Global,
     store: &S,
     core: &K,
-    ask: MatchAsk,
+    ask: MatchAsk<'_>,
     names: &[&str],
     out: &mut W,
     err: &mut E,
 ) -> Result<bool, RunError>
-    ensures answers { IfOk result (AddsPrinted S.Reader.failed ask (K.lists core.now) (S.held store.now) names.now
+    ensures answers { IfOk result (AddsPrinted S.Reader.failed ask.entry (K.lists core.now) (S.held store.now) names.now
         W.written out.old out.new E.failed E.written err.old err.new) }
     ensures quiet { result ≡ Ok true → err.new ≡ err.old }
     ensures sound { OnOk result (W.failed out.new ≡ false) }
@@ -44,7 +44,7 @@ pub fn run_match_many<S: Store, K: DroidCore, W: Output, E: Output>(
     // The one refusal, and when.
     ensures write { IfErr result (λ e. e ≡ RunError.Write) }
     ensures failed { IfErr result (λ e. W.failed out.new ≡ true) }
-    ensures cut { IfErr result (λ e. CutsPrinted S.Reader.failed ask (K.lists core.now) (S.held store.now) names.now
+    ensures cut { IfErr result (λ e. CutsPrinted S.Reader.failed ask.entry (K.lists core.now) (S.held store.now) names.now
         W.written out.old out.new E.failed E.written err.old err.new) }
 {
     write_head(ask, out)?;
@@ -65,12 +65,12 @@ pub fn run_match_listed<S: Store, K: DroidCore, I: Input + Drop, W: Output, E: O
     alloc: Global,
     store: &S,
     core: &K,
-    ask: MatchAsk,
+    ask: MatchAsk<'_>,
     list: &mut NameReader<I>,
     out: &mut W,
     err: &mut E,
 ) -> Result<bool, RunError>
-    ensures answers { IfOk result (AddsListed (head_text ask.csv) (IsPrinted S.Reader.failed ask (K.lists core.now) (S.held store.now))
+    ensures answers { IfOk result (AddsListed (head_text ask.entry.csv) (IsPrinted S.Reader.failed ask.entry (K.lists core.now) (S.held store.now))
         (end_of list.old) (unread_of I.to_come list.old) (W.written out.old) (W.written out.new) (E.failed err.new) (E.written err.old) (E.written err.new)) }
     ensures quiet { result ≡ Ok true → err.new ≡ err.old }
     ensures sound { OnOk result (W.failed out.new ≡ false) }
@@ -78,9 +78,9 @@ pub fn run_match_listed<S: Store, K: DroidCore, I: Input + Drop, W: Output, E: O
     // Each refusal, and when.
     ensures write { IsErrOf result RunError.Write → W.failed out.new ≡ true }
     ensures read { IsErrOf result RunError.Read → has_failed I.failed list.new ≡ true }
-    ensures stopped { IfErr result (λ e. e ≢ RunError.Write → StopsListed (head_text ask.csv) (IsPrinted S.Reader.failed ask (K.lists core.now) (S.held store.now))
+    ensures stopped { IfErr result (λ e. e ≢ RunError.Write → StopsListed (head_text ask.entry.csv) (IsPrinted S.Reader.failed ask.entry (K.lists core.now) (S.held store.now))
         (end_of list.old) (unread_of I.to_come list.old) (W.written out.old) (W.written out.new) (E.failed err.new) (E.written err.old) (E.written err.new)) }
-    ensures cut { IfErr result (λ e. CutsListed (head_text ask.csv) (IsPrinted S.Reader.failed ask (K.lists core.now) (S.held store.now))
+    ensures cut { IfErr result (λ e. CutsListed (head_text ask.entry.csv) (IsPrinted S.Reader.failed ask.entry (K.lists core.now) (S.held store.now))
         (end_of list.old) (unread_of I.to_come list.old) (W.written out.old) (W.written out.new) (E.failed err.new) (E.written err.old) (E.written err.new)) }
 {
     write_head(ask, out)?;
@@ -94,12 +94,12 @@ pub fn run_match_listed<S: Store, K: DroidCore, I: Input + Drop, W: Output, E: O
 
 // Writes the names of the fields, where records are asked for, and else nothing, which an output that
 // has failed refuses, too.
-fn write_head<W: Output>(ask: MatchAsk, out: &mut W) -> Result<(), RunError>
-    ensures adds { OnOk result (Adds (W.written out.old) (head_text ask.csv) (W.written out.new)) }
+fn write_head<W: Output>(ask: MatchAsk<'_>, out: &mut W) -> Result<(), RunError>
+    ensures adds { OnOk result (Adds (W.written out.old) (head_text ask.entry.csv) (W.written out.new)) }
     ensures sound { OnOk result (W.failed out.new ≡ false) }
     ensures write { IfErr result (λ e. e ≡ RunError.Write) }
     ensures failed { IfErr result (λ e. W.failed out.new ≡ true) }
-    ensures cut { IfErr result (λ e. AddsFront (W.written out.old) (head_text ask.csv) (W.written out.new)) }
+    ensures cut { IfErr result (λ e. AddsFront (W.written out.old) (head_text ask.entry.csv) (W.written out.new)) }
 {
     match out.write_all(head(ask).as_bytes()) {
         Ok(()) => Ok(()),
@@ -108,8 +108,8 @@ fn write_head<W: Output>(ask: MatchAsk, out: &mut W) -> Result<(), RunError>
 }
 
 // What stands before all files.
-fn head(ask: MatchAsk) -> &'static str
-    ensures { result.now ≡ head_text ask.csv }
+fn head(ask: MatchAsk<'_>) -> &'static str
+    ensures { result.now ≡ head_text ask.entry.csv }
 {
     if ask.csv {
         "file,puid,signature,name\n"
@@ -124,12 +124,12 @@ fn match_listed<S: Store, K: DroidCore, W: Output, E: Output>(
     alloc: Global,
     store: &S,
     core: &K,
-    ask: MatchAsk,
+    ask: MatchAsk<'_>,
     name: &[u8],
     out: &mut W,
     err: &mut E,
 ) -> Result<bool, RunError>
-    ensures answers { IfOk result (AddsFiles [] (IsPrinted S.Reader.failed ask (K.lists core.now) (S.held store.now)) (name.now ∷ [])
+    ensures answers { IfOk result (AddsFiles [] (IsPrinted S.Reader.failed ask.entry (K.lists core.now) (S.held store.now)) (name.now ∷ [])
         (W.written out.old) (W.written out.new) (E.failed err.new) (E.written err.old) (E.written err.new)) }
     ensures quiet { result ≡ Ok true → err.new ≡ err.old }
     ensures writes { OnOk result (W.failed out.old ≡ false → W.failed out.new ≡ false) }
@@ -138,7 +138,7 @@ fn match_listed<S: Store, K: DroidCore, W: Output, E: Output>(
     // The one refusal, and when.
     ensures write { IfErr result (λ e. e ≡ RunError.Write) }
     ensures failed { IfErr result (λ e. W.failed out.new ≡ true) }
-    ensures cut { IfErr result (λ e. CutsFiles [] (IsPrinted S.Reader.failed ask (K.lists core.now) (S.held store.now)) (name.now ∷ [])
+    ensures cut { IfErr result (λ e. CutsFiles [] (IsPrinted S.Reader.failed ask.entry (K.lists core.now) (S.held store.now)) (name.now ∷ [])
         (W.written out.old) (W.written out.new) (E.failed err.new) (E.written err.old) (E.written err.new)) }
     ensures untouched { IfErr result (λ e. err.new ≡ err.old) }
 {
@@ -154,12 +154,12 @@ fn match_file<S: Store, K: DroidCore, W: Output, E: Output>(
     alloc: Global,
     store: &S,
     core: &K,
-    ask: MatchAsk,
+    ask: MatchAsk<'_>,
     name: &str,
     out: &mut W,
     err: &mut E,
 ) -> Result<bool, RunError>
-    ensures answers { IfOk result (AddsFiles [] (IsPrinted S.Reader.failed ask (K.lists core.now) (S.held store.now)) (name.now ∷ [])
+    ensures answers { IfOk result (AddsFiles [] (IsPrinted S.Reader.failed ask.entry (K.lists core.now) (S.held store.now)) (name.now ∷ [])
         (W.written out.old) (W.written out.new) (E.failed err.new) (E.written err.old) (E.written err.new)) }
     ensures quiet { result ≡ Ok true → err.new ≡ err.old }
     ensures writes { OnOk result (W.failed out.old ≡ false → W.failed out.new ≡ false) }
@@ -169,7 +169,7 @@ fn match_file<S: Store, K: DroidCore, W: Output, E: Output>(
     // The one refusal, and when.
     ensures write { IfErr result (λ e. e ≡ RunError.Write) }
     ensures failed { IfErr result (λ e. W.failed out.new ≡ true) }
-    ensures cut { IfErr result (λ e. CutsFiles [] (IsPrinted S.Reader.failed ask (K.lists core.now) (S.held store.now)) (name.now ∷ [])
+    ensures cut { IfErr result (λ e. CutsFiles [] (IsPrinted S.Reader.failed ask.entry (K.lists core.now) (S.held store.now)) (name.now ∷ [])
         (W.written out.old) (W.written out.new) (E.failed err.new) (E.written err.old) (E.written err.new)) }
     ensures untouched { IfErr result (λ e. err.new ≡ err.old) }
 {
@@ -190,11 +190,11 @@ fn text_of_name<S: Store, K: DroidCore>(
     alloc: Global,
     store: &S,
     core: &K,
-    ask: MatchAsk,
+    ask: MatchAsk<'_>,
     name: &str,
 ) -> Result<Vec<u8>, FileFault>
-    ensures text { IfOk result (λ text. IsPrinted S.Reader.failed ask (K.lists core.now) (S.held store.now) name.now (Ok text.items)) }
-    ensures fault { IfErr result (λ fault. IsPrinted S.Reader.failed ask (K.lists core.now) (S.held store.now) name.now (Err fault)) }
+    ensures text { IfOk result (λ text. IsPrinted S.Reader.failed ask.entry (K.lists core.now) (S.held store.now) name.now (Ok text.items)) }
+    ensures fault { IfErr result (λ fault. IsPrinted S.Reader.failed ask.entry (K.lists core.now) (S.held store.now) name.now (Err fault)) }
 {
     let Some(mut file) = store.open(name) else {
         return Err(FileFault::CannotOpen);

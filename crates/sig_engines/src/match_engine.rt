@@ -70,20 +70,18 @@ fn lines_of_match<K: DroidCore, R: Input>(
 pub(crate) fn text_of_match<K: DroidCore, R: Input>(
     alloc: Global,
     core: &K,
-    ask: MatchAsk,
+    ask: MatchAsk<'_>,
     name: &str,
     file: &mut R,
 ) -> Result<Vec<u8>, RunError>
-    ensures text { IfOk result (λ text. IsTextOfSome ask (K.lists core.now) name.now (R.to_come file.old) text.items) }
+    ensures text { IfOk result (λ text. IsTextOfSome ask.entry (K.lists core.now) name.now (R.to_come file.old) text.items) }
 
     // Each refusal, and when.
     ensures read { IsErrOf result RunError.Read → R.failed file.new ≡ true }
     ensures never_write { ¬ IsErrOf result RunError.Write }
 {
     let results = asked_hits(core, ask.all, file)?;
-    text_of_file(alloc, core.table(), ask.csv, name, results.hits()).map_err(
-        |_| RunError::OutOfMemory,
-    )
+    text_of_file(alloc, core.table(), ask, name, results.hits()).map_err(|_| RunError::OutOfMemory)
 }
 
 // The hits of the file, or what is left of them.

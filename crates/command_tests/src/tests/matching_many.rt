@@ -2,7 +2,7 @@
 //! file's name, files with faults among others, a refused table and a failed write.
 
 use crate::tests::{Fault, P, S, first_untold, make_with, path_of, put, remove, run_in, words_in};
-use fixtures::{Broken, Rows};
+use fixtures::{Room, Rows};
 use sig_bits::FromWrite;
 use sig_command::command;
 use std::test::Fail;
@@ -184,6 +184,85 @@ fn prints_records_where_they_are_asked_for(rt: HostRuntime) -> Result<(), Fail> 
     remove(&rt, folder)
 }
 
+// The names of formats: behind each line, or in the last field of each record.
+const NAMED: &[Answered] = &[
+    Answered(
+        &["match", "--names", "@/formats.csv", S, P, "@/both.bin"],
+        0,
+        "@/both.bin\tfmt/2 2\tTwo, or more\n",
+        "",
+    ),
+    Answered(
+        &["match", "--names", "@/formats.csv", "--all", S, P, "@/both.bin", "@/none.bin"],
+        0,
+        "@/both.bin\tfmt/1 1\t\n@/both.bin\tfmt/2 2\tTwo, or more\n@/none.bin\t-\n",
+        "",
+    ),
+    Answered(
+        &["match", "--csv", "--names", "@/formats.csv", S, P, "@/both.bin", "@/one.bin"],
+        0,
+        "file,puid,signature,name\n@/both.bin,fmt/2,2,\"Two, or more\"\n@/one.bin,fmt/1,1,\n",
+        "",
+    ),
+    Answered(
+        &["match", "--csv", "--names", "@/missing.csv", S, P, "@/both.bin"],
+        3,
+        "",
+        "cannot open @/missing.csv\n",
+    ),
+    Answered(
+        &["match", "--names", S, S, P, "@/both.bin"],
+        2,
+        "",
+        "names: header\n",
+    ),
+    Answered(
+        &["match", "--names", "@/wide.csv", S, P, "@/both.bin"],
+        2,
+        "",
+        "names row 2: fields\n",
+    ),
+    Answered(
+        &["match", "--csv", "--names", "@/odd.csv", "--files-from", "@/missing", S, P],
+        2,
+        "",
+        "names row 1: puid\n",
+    ),
+    Answered(
+        &["match", "--names", "@/twice.csv", S, P, "@/both.bin"],
+        2,
+        "",
+        "names row 3: pair twice\n",
+    ),
+    Answered(
+        &["match", "--names", "@", S, P, "@/both.bin"],
+        3,
+        "",
+        "read failed\n",
+    ),
+    Answered(
+        &["match", "--names", "@/missing.csv", P, P, "@/both.bin"],
+        2,
+        "",
+        "signatures: L2 header\n",
+    ),
+];
+
+#[test]
+fn prints_the_names_of_formats_where_they_are_asked_for(rt: HostRuntime) -> Result<(), Fail> {
+    let folder = "formats";
+    make_with(&rt, folder, BELOW)?;
+    put_many(&rt, folder)?;
+    put(&rt, folder, "formats.csv", b"puid,name\nx-fmt/7,Seven\nfmt/2,\"Two, or more\"\n")?;
+    put(&rt, folder, "wide.csv", b"puid,name\nfmt/1,One\nfmt/2,Two,2\n")?;
+    put(&rt, folder, "odd.csv", b"puid,name\nfmt-1,One\n")?;
+    put(&rt, folder, "twice.csv", b"puid,name\nfmt/1,One\nfmt/2,Two\nfmt/1,One\n")?;
+    for row in NAMED {
+        assert!(rt; is_answered(&rt, folder, row)?, "{:?}", row.0);
+    }
+    remove(&rt, folder)
+}
+
 const L: &str = "@/names";
 
 // The names of the files stand in a list: one a line, or each ended by NUL.
@@ -305,7 +384,7 @@ fn a_refused_table_comes_before_any_line(rt: HostRuntime) -> Result<(), Fail> {
     remove(&rt, folder)
 }
 
-// Whether the program, run with a broken output, ends with this status and reports this.
+// Whether the program, with an output that takes no byte, ends with this status and reports this.
 fn is_unwritten(
     rt: &HostRuntime,
     folder: &str,
@@ -313,7 +392,7 @@ fn is_unwritten(
     faults: &str,
 ) -> Result<bool, Fail> {
     let words = words_in(rt, folder, words)?;
-    let mut out = Broken::new();
+    let mut out = Room::of(0);
     let mut err = FromWrite::new(Vec::new(rt.alloc()));
     let status = command(rt, words.as_slice(), &mut out, &mut err);
     let told = err.into_inner();

@@ -52,12 +52,14 @@ const OF_LINT: &[&str] = &[
 const OF_MATCH: &[&str] = &[
     "No line means that no format of the table\nmatches.",
     "the file is ambiguous.\n\nWith more than one FILE, or with --with-names, each line begins with",
-    "other files are still identified.\n\nStatuses:\n  0  ",
-    "  2  usage error, or the table is refused\n",
+    "other files are still identified.\n\nWith --files-from ",
+    "also if there is only one FILE.\n\nStatuses:\n  0  ",
+    "  2  usage error, or the table or FORMATS is refused\n",
     "Usage: pronom_sig match [OPTIONS] <SIGS> <PRIOS> [FILE]...\n",
     "stand in NAMES, one a line, or with\n-0 each ended by a NUL.",
-    "file,puid,signature,name. The name is left empty. A file that no\nformat matches has one record",
-    "Print the file's name also if there is only one FILE\n",
+    "file,puid,signature,name. A file that no format matches has one\nrecord, with its name alone.",
+    "FORMATS is a CSV file with the header puid,name.\n",
+    "Print the file's name also for one FILE\n",
     "Print records of CSV, with the files' names\n",
 ];
 

@@ -4,7 +4,10 @@ use crate::tests::table_of;
 use fixtures::{Broken, Failing, Memory, Named, Pieces, Room, Rows};
 use sig_bits::{FromRead, FromWrite, Input};
 use sig_core::DroidCore;
-use sig_engines::{MatchAsk, NameReader, RunError, Store, run_match_listed, run_match_many};
+use sig_engines::{
+    FormatNames, MatchAsk, NameReader, NamesError, RunError, Store, run_match_listed,
+    run_match_many,
+};
 use sig_match::{StreamCore, WholeCore};
 use std::test::Fail;
 
@@ -26,23 +29,40 @@ const BAD: Named = Named {
     bytes: b"AB",
 };
 
+// What is asked where the formats have no names.
+#[derive(Clone, Copy)]
+struct Nameless {
+    all: bool,
+    csv: bool,
+}
+
+impl Nameless {
+    fn ask(self) -> MatchAsk<'static> {
+        MatchAsk {
+            all: self.all,
+            csv: self.csv,
+            names: None,
+        }
+    }
+}
+
 // What is left of each file, what each file hits, and both as records.
-const LEFT: MatchAsk = MatchAsk {
+const LEFT: Nameless = Nameless {
     all: false,
     csv: false,
 };
 
-const HIT: MatchAsk = MatchAsk {
+const HIT: Nameless = Nameless {
     all: true,
     csv: false,
 };
 
-const LEFT_RECORDS: MatchAsk = MatchAsk {
+const LEFT_RECORDS: Nameless = Nameless {
     all: false,
     csv: true,
 };
 
-const HIT_RECORDS: MatchAsk = MatchAsk {
+const HIT_RECORDS: Nameless = Nameless {
     all: true,
     csv: true,
 };
@@ -58,7 +78,7 @@ const FAILING: &Failing = &Failing {
 #[derive(Clone, Copy)]
 struct Printed(
     &'static [&'static str],
-    MatchAsk,
+    Nameless,
     bool,
     &'static str,
     &'static str,
@@ -101,10 +121,10 @@ const PRINTED: &[Printed] = &[
 
 // Whether this is answered for files, and these are the lines and the faults that are written.
 fn is_run<S: Store, K: DroidCore>(rt: &HostRuntime, store: &S, core: &K, row: &Printed) -> bool {
-    let Printed(names, ask, is_whole, lines, faults) = *row;
+    let Printed(names, asked, is_whole, lines, faults) = *row;
     let mut out = FromWrite::new(Vec::new(rt.alloc()));
     let mut err = FromWrite::new(Vec::new(rt.alloc()));
-    let answer = run_match_many(rt.alloc(), store, core, ask, names, &mut out, &mut err);
+    let answer = run_match_many(rt.alloc(), store, core, asked.ask(), names, &mut out, &mut err);
     let (out, err) = (out.into_inner(), err.into_inner());
     answer == Ok(is_whole)
         && out.as_slice() == lines.as_bytes()
@@ -167,7 +187,7 @@ const NAMES: &[&str] = &["bad", "good", "none"];
 fn ends_at_a_write(rt: &HostRuntime, core: &WholeCore, faults: &[u8]) -> bool {
     let mut out = Room::of(0);
     let mut err = FromWrite::new(Vec::new(rt.alloc()));
-    let answer = run_match_many(rt.alloc(), FAILING, core, LEFT, NAMES, &mut out, &mut err);
+    let answer = run_match_many(rt.alloc(), FAILING, core, LEFT.ask(), NAMES, &mut out, &mut err);
     let told = err.into_inner();
     answer == Err(RunError::Write) && told.as_slice() == faults
 }
@@ -183,7 +203,7 @@ fn a_failed_write_ends_the_run(rt: HostRuntime) -> Result<(), Fail> {
 fn goes_on_untold(rt: &HostRuntime, core: &WholeCore, lines: &[u8]) -> bool {
     let mut out = FromWrite::new(Vec::new(rt.alloc()));
     let mut err = Broken::new();
-    let answer = run_match_many(rt.alloc(), FAILING, core, LEFT, NAMES, &mut out, &mut err);
+    let answer = run_match_many(rt.alloc(), FAILING, core, LEFT.ask(), NAMES, &mut out, &mut err);
     let written = out.into_inner();
     answer == Ok(false) && written.as_slice() == lines
 }
@@ -224,7 +244,7 @@ fn a_name_with_commas_and_quotes_is_one_field(rt: HostRuntime) -> Result<(), Fai
 struct Listed(
     &'static [u8],
     u8,
-    MatchAsk,
+    Nameless,
     Result<bool, RunError>,
     &'static str,
     &'static [u8],
@@ -274,7 +294,7 @@ fn is_listed<I: Input + Drop>(
     input: I,
     row: &Listed,
 ) -> Result<bool, Fail> {
-    let Listed(_, end, ask, answers, lines, faults) = *row;
+    let Listed(_, end, asked, answers, lines, faults) = *row;
     let store = Memory {
         alloc: rt.alloc(),
         first: GOOD,
@@ -288,7 +308,7 @@ fn is_listed<I: Input + Drop>(
         rt.alloc(),
         &store,
         core,
-        ask,
+        asked.ask(),
         &mut list,
         &mut out,
         &mut err,
@@ -341,7 +361,7 @@ fn a_list_may_be_longer_than_a_read(rt: HostRuntime) -> Result<(), Fail> {
         rt.alloc(),
         FAILING,
         &core,
-        LEFT,
+        LEFT.ask(),
         &mut list,
         &mut out,
         &mut err,
@@ -349,5 +369,65 @@ fn a_list_may_be_longer_than_a_read(rt: HostRuntime) -> Result<(), Fail> {
     assert!(rt; answer == Ok(true));
     assert!(rt; out.into_inner().len() == MANY * b"good\tfmt/2 2\n".len());
     assert!(rt; err.into_inner().is_empty());
+    Ok(())
+}
+
+// The names of formats, one of which no table has.
+const NAMED: &[u8] = b"puid,name\r\nfmt/2,\"Two, with \"\"quotes\"\"\"\r\nfmt/9,Nine\r\n";
+
+// Whether this is written with those names of formats.
+fn is_named(rt: &HostRuntime, csv: bool, names: &[&str], text: &str) -> Result<bool, Fail> {
+    let core = core_below(rt)?;
+    let formats = FormatNames::load(rt.alloc(), &mut FromRead::new(NAMED));
+    let ask = MatchAsk {
+        all: true,
+        csv,
+        names: formats.as_ref().ok(),
+    };
+    let mut out = FromWrite::new(Vec::new(rt.alloc()));
+    let mut err = FromWrite::new(Vec::new(rt.alloc()));
+    let answer = run_match_many(rt.alloc(), FAILING, &core, ask, names, &mut out, &mut err);
+    let written = out.into_inner();
+    Ok(answer == Ok(true) && written.as_slice() == text.as_bytes())
+}
+
+#[test]
+fn the_names_of_formats_stand_behind_their_lines(rt: HostRuntime) -> Result<(), Fail> {
+    assert!(rt; is_named(
+        &rt,
+        false,
+        &["good", "o\td\n"],
+        "good\tfmt/1 1\t\ngood\tfmt/2 2\tTwo, with \"quotes\"\no\td\n\t-\n",
+    )?);
+    assert!(rt; is_named(
+        &rt,
+        true,
+        &["good", "o\td\n"],
+        "file,puid,signature,name\ngood,fmt/1,1,\ngood,fmt/2,2,\"Two, with \"\"quotes\"\"\"\n\"o\td\n\",,,\n",
+    )?);
+    Ok(())
+}
+
+// A file of names that is refused, and why.
+const REFUSED: &[(&[u8], NamesError)] = &[
+    (b"", NamesError::Header),
+    (b"fmt/1,One\n", NamesError::Header),
+    (b"puid,name,more\n", NamesError::Header),
+    (b"puid\n", NamesError::Header),
+    (b"puid,name\nfmt/1\n", NamesError::Fields { row: 1 }),
+    (b"puid,name\nfmt/1,One\nfmt/2,Two,2\n", NamesError::Fields { row: 2 }),
+    (b"puid,name\nfmt/01,One\n", NamesError::Puid { row: 1 }),
+    (b"puid,name\n,One\n", NamesError::Puid { row: 1 }),
+    (b"puid,name\nfmt/1,One\nx-fmt/1,\nfmt/1,One\n", NamesError::Twice { row: 3 }),
+];
+
+#[test]
+fn refuses_names_of_formats_by_their_rows(rt: HostRuntime) -> Result<(), Fail> {
+    for (text, fault) in REFUSED {
+        let names = FormatNames::load(rt.alloc(), &mut FromRead::new(*text));
+        assert!(rt; names.err() == Some(*fault), "{fault:?}");
+    }
+    let names = FormatNames::load(rt.alloc(), &mut Pieces::failing(NAMED));
+    assert!(rt; names.err() == Some(NamesError::Read));
     Ok(())
 }

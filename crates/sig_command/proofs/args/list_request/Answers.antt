@@ -24,5 +24,5 @@ returns-in-None-clause-asked c = (
     ends = c.name_end.ensures;
     alone = all_of-rows (found_of c.args.matches.now) (codes "FILE") ∙ sym c.in-None.ensures;
   },
-  c.match_ask.ensures,
+  c.match_options.ensures,
 )

@@ -18,25 +18,29 @@ returns-clause-line c =
     let with_names_local : c.help-3.result.global ≡ false = rw c.help-3.ensures c.flag-2.ensures.local in
     let csv : rule_of c.help-4.result ≡ given (codes "csv") = rw c.help-4.ensures c.flag-3.ensures.rule in
     let csv_local : c.help-4.result.global ≡ false = rw c.help-4.ensures c.flag-3.ensures.local in
-    let list : rule_of c.help-5.result ≡ named (codes "files-from") (codes "NAMES") = rw c.help-5.ensures c.option.ensures.rule in
-    let list_local : c.help-5.result.global ≡ false = rw c.help-5.ensures c.option.ensures.local in
-    let nul : rule_of c.help-6.result ≡ null_rule = rw c.help-6.ensures c.null.ensures.rule in
-    let nul_local : c.help-6.result.global ≡ false = rw c.help-6.ensures c.null.ensures.local in
+    let names : rule_of c.help-5.result ≡ named (codes "names") (codes "FORMATS") = rw c.help-5.ensures c.option.ensures.rule in
+    let names_local : c.help-5.result.global ≡ false = rw c.help-5.ensures c.option.ensures.local in
+    let list : rule_of c.help-6.result ≡ named (codes "files-from") (codes "NAMES") = rw c.help-6.ensures c.option-2.ensures.rule in
+    let list_local : c.help-6.result.global ≡ false = rw c.help-6.ensures c.option-2.ensures.local in
+    let nul : rule_of c.help-7.result ≡ null_rule = rw c.help-7.ensures c.null.ensures.rule in
+    let nul_local : c.help-7.result.global ≡ false = rw c.help-7.ensures c.null.ensures.local in
     record {
       is_app =
           c.in_ok-line.ensures.shape nul_local ∙ ap₂ with_rule (
-            c.in_ok-arg-5.ensures.shape list_local ∙ ap₂ with_rule (
-              c.in_ok-arg-4.ensures.shape csv_local ∙ ap₂ with_rule (
-                c.in_ok-arg-3.ensures.shape with_names_local ∙ ap₂ with_rule (
-                  c.in_ok-arg-2.ensures.shape all_local ∙ ap₂ with_rule (
-                    c.in_ok-arg.ensures.shape file_local ∙ ap₂ with_rule table file
-                  ) all
-                ) with_names
-              ) csv
-            ) list
+          c.in_ok-arg-6.ensures.shape list_local ∙ ap₂ with_rule (
+          c.in_ok-arg-5.ensures.shape names_local ∙ ap₂ with_rule (
+          c.in_ok-arg-4.ensures.shape csv_local ∙ ap₂ with_rule (
+          c.in_ok-arg-3.ensures.shape with_names_local ∙ ap₂ with_rule (
+          c.in_ok-arg-2.ensures.shape all_local ∙ ap₂ with_rule (
+          c.in_ok-arg.ensures.shape file_local ∙ ap₂ with_rule table file
+          ) all
+          ) with_names
+          ) csv
+          ) names
+          ) list
           ) nul;
       has_no_globals =
-          c.in_ok-line.ensures.globals ∙ or_false _ _ nul_local ∙ c.in_ok-arg-5.ensures.globals ∙ or_false _ _ list_local
+          c.in_ok-line.ensures.globals ∙ or_false _ _ nul_local ∙ c.in_ok-arg-6.ensures.globals ∙ or_false _ _ list_local ∙ c.in_ok-arg-5.ensures.globals ∙ or_false _ _ names_local
           ∙ c.in_ok-arg-4.ensures.globals ∙ or_false _ _ csv_local ∙ c.in_ok-arg-3.ensures.globals ∙ or_false _ _ with_names_local
           ∙ c.in_ok-arg-2.ensures.globals ∙ or_false _ _ all_local ∙ c.in_ok-arg.ensures.globals ∙ or_false _ _ file_local ∙ table_local;
     }

@@ -1,7 +1,8 @@
 use Rattle.std.proofs.Common.{List, Option, subst}
 use Rattle.clap.specs.Words.{Row, Text}
-use Rattle.sig_command.proofs.EndLemmas.{ends_by_fault, fault_is_reported, fault_keeps_errors, fault_keeps_output, help_answers, memory_is_reported, memory_tells}
+use Rattle.sig_command.proofs.EndLemmas.{ends_by_fault, fault_is_reported, fault_keeps_errors, fault_keeps_output, help_answers, memory_is_reported, memory_tells, nothing_is_shown}
 use Rattle.sig_command.specs.CommandLine.{Asks, texts_of}
+use Rattle.sig_command.specs.Requests.{ShowsWords}
 use Rattle.sig_command.proofs.requests.command_over.Goals as goal
 
 pub returns-in-Err-clause-faults : goal.returns-in-Err-clause-faults
@@ -47,3 +48,7 @@ returns-clause-faults g c = λ taken high.
       fault_is_reported g.S.Reader.Input.failed _ (g.S.Store.held c.args.store.now) c.in-Some.request c.in-Err-answer.fault _ g.E.Output.failed g.E.Output.written c.args.err.now c.answer.new.err c.report.new.err (g.W.Output.written c.args.out.now) (g.W.Output.written c.answer.new.out) (g.W.Output.failed c.answer.new.out)
           answered.faults answered.write answered.lists answered.told answered.joined c.report.ensures.status c.report.ensures.sound c.report.ensures.reported,
     )
+
+pub returns-in-Err-clause-errors : goal.returns-in-Err-clause-errors
+returns-in-Err-clause-errors g c =
+    nothing_is_shown (ShowsWords g.S.Reader.Input.failed (g.S.Store.held c.args.store.now) (texts_of c.args.words.now)) _ _ _ _ _ _ c.show_usage.ensures.errors

@@ -6,4 +6,4 @@ use Rattle.sig_engines.proofs.file_text.records_of_file.Given as goal
 
 -- the records of the hits so far
 abbrev pub invariant-loop-hit : goal.invariant-loop-hit
-invariant-loop-hit l = l.text.items ≡ flat_map (λ hit. row_text default_writer (hit_record l.name l.table hit)) (take l.hit-index l.hits)
+invariant-loop-hit l = l.text.items ≡ flat_map (λ hit. row_text default_writer (hit_record l.names l.name l.table hit)) (take l.hit-index l.hits)

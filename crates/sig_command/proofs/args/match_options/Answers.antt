@@ -1,10 +1,11 @@
-use Rattle.std.proofs.Common.{codes}
+use Rattle.std.proofs.Common.{codes, sym, ◌∙◌}
 use Rattle.clap.specs.Matches.{found_of}
-use Rattle.sig_command.proofs.RowLemmas.{flag_is_read}
-use Rattle.sig_command.proofs.args.match_ask.Goals as goal
+use Rattle.sig_command.proofs.RowLemmas.{first_of-rows, flag_is_read}
+use Rattle.sig_command.proofs.args.match_options.Goals as goal
 
 pub returns : goal.returns
 returns c = record {
   all = flag_is_read (found_of c.args.matches.now) (codes "all") _ c.get_flag.ensures.value c.get_flag.ensures.other c.get_flag.ensures.none;
   csv = flag_is_read (found_of c.args.matches.now) (codes "csv") _ c.get_flag-2.ensures.value c.get_flag-2.ensures.other c.get_flag-2.ensures.none;
+  names = first_of-rows (found_of c.args.matches.now) (codes "FORMATS") ∙ sym c.get_str.ensures;
 }
