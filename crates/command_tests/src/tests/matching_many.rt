@@ -193,19 +193,45 @@ const NAMED: &[Answered] = &[
         "",
     ),
     Answered(
-        &["match", "--names", "@/formats.csv", "--all", S, P, "@/both.bin", "@/none.bin"],
+        &[
+            "match",
+            "--names",
+            "@/formats.csv",
+            "--all",
+            S,
+            P,
+            "@/both.bin",
+            "@/none.bin",
+        ],
         0,
         "@/both.bin\tfmt/1 1\t\n@/both.bin\tfmt/2 2\tTwo, or more\n@/none.bin\t-\n",
         "",
     ),
     Answered(
-        &["match", "--csv", "--names", "@/formats.csv", S, P, "@/both.bin", "@/one.bin"],
+        &[
+            "match",
+            "--csv",
+            "--names",
+            "@/formats.csv",
+            S,
+            P,
+            "@/both.bin",
+            "@/one.bin",
+        ],
         0,
         "file,puid,signature,name\n@/both.bin,fmt/2,2,\"Two, or more\"\n@/one.bin,fmt/1,1,\n",
         "",
     ),
     Answered(
-        &["match", "--csv", "--names", "@/missing.csv", S, P, "@/both.bin"],
+        &[
+            "match",
+            "--csv",
+            "--names",
+            "@/missing.csv",
+            S,
+            P,
+            "@/both.bin",
+        ],
         3,
         "",
         "cannot open @/missing.csv\n",
@@ -223,7 +249,16 @@ const NAMED: &[Answered] = &[
         "names row 2: fields\n",
     ),
     Answered(
-        &["match", "--csv", "--names", "@/odd.csv", "--files-from", "@/missing", S, P],
+        &[
+            "match",
+            "--csv",
+            "--names",
+            "@/odd.csv",
+            "--files-from",
+            "@/missing",
+            S,
+            P,
+        ],
         2,
         "",
         "names row 1: puid\n",
@@ -253,10 +288,25 @@ fn prints_the_names_of_formats_where_they_are_asked_for(rt: HostRuntime) -> Resu
     let folder = "formats";
     make_with(&rt, folder, BELOW)?;
     put_many(&rt, folder)?;
-    put(&rt, folder, "formats.csv", b"puid,name\nx-fmt/7,Seven\nfmt/2,\"Two, or more\"\n")?;
-    put(&rt, folder, "wide.csv", b"puid,name\nfmt/1,One\nfmt/2,Two,2\n")?;
+    put(
+        &rt,
+        folder,
+        "formats.csv",
+        b"puid,name\nx-fmt/7,Seven\nfmt/2,\"Two, or more\"\n",
+    )?;
+    put(
+        &rt,
+        folder,
+        "wide.csv",
+        b"puid,name\nfmt/1,One\nfmt/2,Two,2\n",
+    )?;
     put(&rt, folder, "odd.csv", b"puid,name\nfmt-1,One\n")?;
-    put(&rt, folder, "twice.csv", b"puid,name\nfmt/1,One\nfmt/2,Two\nfmt/1,One\n")?;
+    put(
+        &rt,
+        folder,
+        "twice.csv",
+        b"puid,name\nfmt/1,One\nfmt/2,Two\nfmt/1,One\n",
+    )?;
     for row in NAMED {
         assert!(rt; is_answered(&rt, folder, row)?, "{:?}", row.0);
     }
@@ -330,7 +380,12 @@ fn takes_the_names_of_the_files_from_a_list(rt: HostRuntime) -> Result<(), Fail>
     make_with(&rt, folder, BELOW)?;
     put_many(&rt, folder)?;
     put_text(&rt, folder, "names", "@/both.bin\n@/none.bin\n@/one.bin")?;
-    put_text(&rt, folder, "ended", "@/one.bin\0@/missing.bin\0@/both.bin\0")?;
+    put_text(
+        &rt,
+        folder,
+        "ended",
+        "@/one.bin\0@/missing.bin\0@/both.bin\0",
+    )?;
     for row in LISTED {
         assert!(rt; is_answered(&rt, folder, row)?, "{:?}", row.0);
     }

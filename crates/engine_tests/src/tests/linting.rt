@@ -33,7 +33,8 @@ fn answer(
 fn lint_reads_both_files_byte_by_byte(rt: HostRuntime) -> Result<(), Fail> {
     let whole = answer(&rt, (SIGNATURES, false), (PRIORITIES, false), "no fault\n");
     assert!(rt; whole == (Ok(true), true));
-    let line = "priorities line 1: L2 header: record \"higher;lower\": expected the header higher,lower; separate the fields by commas\n";
+    let line =
+        "priorities line 1: L2 header: record \"higher;lower\": expected the header higher,lower; separate the fields by commas\n";
     let faulty = answer(&rt, (SIGNATURES, false), ("higher;lower\n", false), line);
     assert!(rt; faulty == (Ok(false), true));
     Ok(())

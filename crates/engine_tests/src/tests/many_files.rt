@@ -124,7 +124,15 @@ fn is_run<S: Store, K: DroidCore>(rt: &HostRuntime, store: &S, core: &K, row: &P
     let Printed(names, asked, is_whole, lines, faults) = *row;
     let mut out = FromWrite::new(Vec::new(rt.alloc()));
     let mut err = FromWrite::new(Vec::new(rt.alloc()));
-    let answer = run_match_many(rt.alloc(), store, core, asked.ask(), names, &mut out, &mut err);
+    let answer = run_match_many(
+        rt.alloc(),
+        store,
+        core,
+        asked.ask(),
+        names,
+        &mut out,
+        &mut err,
+    );
     let (out, err) = (out.into_inner(), err.into_inner());
     answer == Ok(is_whole)
         && out.as_slice() == lines.as_bytes()
@@ -187,7 +195,15 @@ const NAMES: &[&str] = &["bad", "good", "none"];
 fn ends_at_a_write(rt: &HostRuntime, core: &WholeCore, faults: &[u8]) -> bool {
     let mut out = Room::of(0);
     let mut err = FromWrite::new(Vec::new(rt.alloc()));
-    let answer = run_match_many(rt.alloc(), FAILING, core, LEFT.ask(), NAMES, &mut out, &mut err);
+    let answer = run_match_many(
+        rt.alloc(),
+        FAILING,
+        core,
+        LEFT.ask(),
+        NAMES,
+        &mut out,
+        &mut err,
+    );
     let told = err.into_inner();
     answer == Err(RunError::Write) && told.as_slice() == faults
 }
@@ -203,7 +219,15 @@ fn a_failed_write_ends_the_run(rt: HostRuntime) -> Result<(), Fail> {
 fn goes_on_untold(rt: &HostRuntime, core: &WholeCore, lines: &[u8]) -> bool {
     let mut out = FromWrite::new(Vec::new(rt.alloc()));
     let mut err = Broken::new();
-    let answer = run_match_many(rt.alloc(), FAILING, core, LEFT.ask(), NAMES, &mut out, &mut err);
+    let answer = run_match_many(
+        rt.alloc(),
+        FAILING,
+        core,
+        LEFT.ask(),
+        NAMES,
+        &mut out,
+        &mut err,
+    );
     let written = out.into_inner();
     answer == Ok(false) && written.as_slice() == lines
 }
@@ -321,7 +345,11 @@ fn is_listed<I: Input + Drop>(
 fn the_names_of_files_stand_in_a_list(rt: HostRuntime) -> Result<(), Fail> {
     let core = core_below(&rt)?;
     for row in LISTED {
-        assert!(rt; is_listed(&rt, &core, FromRead::new(row.0), row)?, "{}", row.4);
+        assert!(rt;
+            is_listed(&rt, &core, FromRead::new(row.0), row)?,
+            "{}",
+            row.4
+        );
         assert!(rt; is_listed(&rt, &core, Pieces::of(row.0), row)?, "{}", row.4);
     }
     Ok(())
@@ -393,18 +421,22 @@ fn is_named(rt: &HostRuntime, csv: bool, names: &[&str], text: &str) -> Result<b
 
 #[test]
 fn the_names_of_formats_stand_behind_their_lines(rt: HostRuntime) -> Result<(), Fail> {
-    assert!(rt; is_named(
-        &rt,
-        false,
-        &["good", "o\td\n"],
-        "good\tfmt/1 1\t\ngood\tfmt/2 2\tTwo, with \"quotes\"\no\td\n\t-\n",
-    )?);
-    assert!(rt; is_named(
-        &rt,
-        true,
-        &["good", "o\td\n"],
-        "file,puid,signature,name\ngood,fmt/1,1,\ngood,fmt/2,2,\"Two, with \"\"quotes\"\"\"\n\"o\td\n\",,,\n",
-    )?);
+    assert!(rt;
+        is_named(
+            &rt,
+            false,
+            &["good", "o\td\n"],
+            "good\tfmt/1 1\t\ngood\tfmt/2 2\tTwo, with \"quotes\"\no\td\n\t-\n",
+        )?
+    );
+    assert!(rt;
+        is_named(
+            &rt,
+            true,
+            &["good", "o\td\n"],
+            "file,puid,signature,name\ngood,fmt/1,1,\ngood,fmt/2,2,\"Two, with \"\"quotes\"\"\"\n\"o\td\n\",,,\n",
+        )?
+    );
     Ok(())
 }
 
@@ -415,10 +447,16 @@ const REFUSED: &[(&[u8], NamesError)] = &[
     (b"puid,name,more\n", NamesError::Header),
     (b"puid\n", NamesError::Header),
     (b"puid,name\nfmt/1\n", NamesError::Fields { row: 1 }),
-    (b"puid,name\nfmt/1,One\nfmt/2,Two,2\n", NamesError::Fields { row: 2 }),
+    (
+        b"puid,name\nfmt/1,One\nfmt/2,Two,2\n",
+        NamesError::Fields { row: 2 },
+    ),
     (b"puid,name\nfmt/01,One\n", NamesError::Puid { row: 1 }),
     (b"puid,name\n,One\n", NamesError::Puid { row: 1 }),
-    (b"puid,name\nfmt/1,One\nx-fmt/1,\nfmt/1,One\n", NamesError::Twice { row: 3 }),
+    (
+        b"puid,name\nfmt/1,One\nx-fmt/1,\nfmt/1,One\n",
+        NamesError::Twice { row: 3 },
+    ),
 ];
 
 #[test]
