@@ -12,8 +12,8 @@ random bytes, words of text and zeros in turn, with the beginnings of some signa
 Of each table and file the best of three runs counts. A line has the milliseconds of a run on an empty
 file, which are those of the start and of the table, and for each file the MB/s without them. The last
 lines are one run that names 2,000 files of 16 KiB, and one that names 200 files of 512 KiB, for each of
-which a scan begins, with the table of 1,500 signatures. With `--keep`
-tables and files stay in that folder. The same seed makes the same ones anywhere.
+which a scan begins, with the table of 1,500 signatures, and one over a folder of 10,000 files of 1 KiB,
+on one processor. With `--keep` tables and files stay in that folder. The same seed makes the same ones anywhere.
 
 Where `yara` and `yarac` are installed, a second line has their MB/s, measured in the same way over the
 same files, with compiled rules that say what the table says. The few signatures with a range are left
@@ -182,6 +182,13 @@ def measure(program, seed, large, folder):
         print_many("", files, kib, count, seconds(program, folder, count, *many))
         if rules:
             print_many(" YARA", files, kib, count, best_of_three(["yara", "-p", "1", "-C", "--scan-list", rules, listed]))
+    small = os.path.join(folder, "small")
+    os.makedirs(small, exist_ok=True)
+    for number in range(10000):
+        write_file(rng, os.path.join(small, f"{number:05}"), 1 << 10, fronts)
+    os.sched_setaffinity(0, {min(os.sched_getaffinity(0))})
+    spent = seconds(program, folder, count, "--recursive", small)
+    print(f"a folder of 10,000 files of 1 KiB, {count} signatures: {spent:.2f} s, {10000 / spent:,.0f} files a second")
 
 
 def print_line(name, run, empty, paths):

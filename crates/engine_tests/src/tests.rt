@@ -1,6 +1,7 @@
 mod conflicting;
 mod failing;
 mod finding;
+mod folders;
 mod judging;
 mod linting;
 mod many_files;

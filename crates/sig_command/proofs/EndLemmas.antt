@@ -22,13 +22,13 @@ use Rattle.sig_table.specs.declared.error.TableError.TheVariants as table
 use Rattle.sig_command.specs.CommandLine.{AreTaken, Asks, HasFaultKind, IsHelpAsked, program}
 use Rattle.sig_command.specs.Endings.{AnswersBy, EndsByFault, KeepsErrors, KeepsOutput, ReportsMemory, TellsBy}
 use Rattle.sig_command.specs.Faults.{Reports, ReportsLine, TellsWrite}
-use Rattle.sig_command.specs.Requests.{Behind, CutsSomeWords, CutsWords, IsCutRequest, IsFaultOf, IsFirstFault, IsLaterFault, IsNamesFaultOf, Joins, KeepsOrCuts, ListsIf, ListsRequest, ListsSomeWords, ListsWords, ReportsFaultOf, ReportsLineOf, Shows, ShowsBefore, ShowsSomeWords, ShowsWords, TellsOf}
+use Rattle.sig_command.specs.Requests.{Behind, CutsSomeWords, CutsWords, IsCutRequest, IsFaultOf, IsFirstFault, IsFolderFault, IsLaterFault, IsNamesFaultOf, Joins, KeepsOrCuts, ListsIf, ListsRequest, ListsSomeWords, ListsWords, ReportsFaultOf, ReportsLineOf, Shows, ShowsBefore, ShowsSomeWords, ShowsWords, TellsOf}
 use Rattle.sig_command.specs.Several.{ReportsFiles}
 use Rattle.sig_command.specs.Statuses.{kind_status, names_status, status_of, table_status}
 use Rattle.sig_command.specs.declared.args.Request.{Request}
 use Rattle.sig_command.specs.declared.args.Request.TheVariants.{Check, Conflicts, Dead, Find, Lint, Match, MatchListed, MatchMany, Show, Witness}
 use Rattle.sig_command.specs.declared.fault.Fault.{Fault}
-use Rattle.sig_command.specs.declared.fault.Fault.TheVariants.{CannotOpen, CutShort, FaultyTable, Names, NoFile, NotInTable, NotText, Run, SomeFiles, SummaryOfOne, Table}
+use Rattle.sig_command.specs.declared.fault.Fault.TheVariants.{CannotOpen, CutShort, FaultyTable, IsFolder, Names, NoFile, NotInTable, NotText, Run, SomeFiles, SummaryOfOne, Table}
 
 -- memory can run out for whatever is asked
 pub memory_of : {R : Type 0} (failed : R → Bool) (held : Holding) (request : Request) → IsFaultOf failed held request (Run run.OutOfMemory)
@@ -68,11 +68,14 @@ no_names failed held (Some path) reason unopened names (inr is) = names is.0 is.
 -- the faults of a table are no fault of one that loads
 later_faulty : {R : Type 0} (failed : R → Bool) (held : Holding) (request : Request) → IsLaterFault failed held request FaultyTable → ⊥
 later_faulty failed held (Show table) is = let bad : FaultyTable ≡ Run run.Write = is in cc
+later_faulty failed held (Match all table file) (inl is) = is
+later_faulty failed held (Match all table file) (inr is) = let bad : FaultyTable ≡ IsFolder file = is.0 in cc
 later_faulty failed held (MatchMany options table files) (inl is) = let bad : FaultyTable ≡ SomeFiles = is in cc
 later_faulty failed held (MatchMany options table files) (inr (inl is)) = let bad : FaultyTable ≡ Run run.Write = is in cc
 later_faulty failed held (MatchMany options table files) (inr (inr is)) = no_names failed held options.names FaultyTable (λ name same. cc) (λ error same. cc) is
 later_faulty failed held (MatchListed options table list end) (inl is) = let bad : FaultyTable ≡ SomeFiles = is in cc
-later_faulty failed held (MatchListed options table list end) (inr (inl is)) = is
+later_faulty failed held (MatchListed options table list end) (inr (inl (inl is))) = is
+later_faulty failed held (MatchListed options table list end) (inr (inl (inr is))) = let bad : FaultyTable ≡ IsFolder list = is.0 in cc
 later_faulty failed held (MatchListed options table list end) (inr (inr is)) = no_names failed held options.names FaultyTable (λ name same. cc) (λ error same. cc) is
 later_faulty failed held (Find table budget out hex progress) (inl is) = let bad : FaultyTable ≡ CannotOpen out = is in cc
 later_faulty failed held (Find table budget out hex progress) (inr is) = let bad : FaultyTable ≡ Run run.Write = is in cc
@@ -147,7 +150,11 @@ no_files failed held request never is =
 files_are_reported : {R : Type 0} (failed : R → Bool) (held : Holding) (request : Request) (status : ℕ) (before after : Option (List ℕ)) (is_failed : Bool) (err_before mid err_after : Option (List ℕ)) → IsFaultOf failed held request SomeFiles → Joins failed held request SomeFiles before after is_failed err_before mid → is_failed ≡ false → Reports SomeFiles status mid err_after → ReportsFiles err_before err_after
 files_are_reported failed held (Show table) status before after is_failed err_before mid err_after is joins sound reports = absurd (no_files failed held (Show table) (λ same. let bad : SomeFiles ≡ Run run.Write = same in cc) is)
 files_are_reported failed held (Lint table) status before after is_failed err_before mid err_after is joins sound reports = absurd (no_files failed held (Lint table) (λ never. never) is)
-files_are_reported failed held (Match all table file) status before after is_failed err_before mid err_after is joins sound reports = absurd (no_files failed held (Match all table file) (λ never. never) is)
+files_are_reported failed held (Match all table file) status before after is_failed err_before mid err_after is joins sound reports = absurd (no_files failed held (Match all table file) never is)
+  where
+    never : ⊥ ⊎ IsFolderFault held file SomeFiles → ⊥
+    never (inl is) = is
+    never (inr is) = let bad : SomeFiles ≡ IsFolder file = is.0 in cc
 files_are_reported failed held (MatchMany options table files) status before after is_failed err_before mid err_after is joins sound reports =
     let added = joins.4 in
     record { files = added.files; is = sym added.is; adds = nothing_behind err_before mid err_after (err_texts added.files) (added.reports sound) reports.adds }
@@ -181,6 +188,7 @@ some_line failed held words request reason status is_failed written err mid befo
     go SomeFiles is joins reports = inr (files_are_reported failed held request status before after (is_failed mid) (written err) (written mid) err_after is joins sound reports)
     go NotText is joins reports = one NotText (λ same. let bad : NotText ≡ SomeFiles = same in cc) joins reports
     go (CannotOpen name) is joins reports = one (CannotOpen name) (λ same. let bad : CannotOpen name ≡ SomeFiles = same in cc) joins reports
+    go (IsFolder name) is joins reports = one (IsFolder name) (λ same. let bad : IsFolder name ≡ SomeFiles = same in cc) joins reports
     go (NoFile folder name) is joins reports = one (NoFile folder name) (λ same. let bad : NoFile folder name ≡ SomeFiles = same in cc) joins reports
     go (Table error) is joins reports = one (Table error) (λ same. let bad : Table error ≡ SomeFiles = same in cc) joins reports
     go NotInTable is joins reports = one NotInTable (λ same. let bad : NotInTable ≡ SomeFiles = same in cc) joins reports
@@ -204,6 +212,7 @@ high_names _ = omega arith
 high_status : (reason : Fault) → 2 ≤ status_of reason
 high_status NotText = omega arith
 high_status (CannotOpen name) = omega arith
+high_status (IsFolder name) = omega arith
 high_status (NoFile folder name) = omega arith
 high_status (Table error) = high_table error
 high_status NotInTable = omega arith
@@ -263,6 +272,7 @@ fault_keeps_output failed held words request reason status is_failed written bef
     refused FaultyTable is two untouched lists =
         let told = faults_are_listed failed held request (is_failed after) (written before) (written after) is lists in
         inr (told.0, (request, asks, told.1))
+    refused (IsFolder name) is two untouched lists = absurd (omega (arith, two))
     refused (NoFile folder name) is two untouched lists = absurd (omega (arith, two))
     refused (Run error) is two untouched lists = absurd (omega (arith, two))
     refused (CutShort error) is two untouched lists = absurd (omega (arith, two))

@@ -10,13 +10,12 @@ use Rattle.sig_cert.specs.Verdicts.{Verdict}
 use Rattle.sig_cert.specs.declared.error.CheckError.{CheckError}
 use Rattle.sig_command.specs.Requests.{Answers, AsksEach}
 use Rattle.sig_command.specs.declared.args.MatchOptions.{MatchOptions}
-use Rattle.sig_command.specs.Several.{AddsLinesOfEach, AreListedIn, AreTexts, IsOneLineOf}
+use Rattle.sig_command.specs.Several.{AddsLinesOfEach, AddsOneLineOfEach, AreLinesAt, AreListedIn, AreTexts, IsOneLineOf}
 use Rattle.sig_command.specs.declared.args.Request.TheVariants.{Check, Match, MatchListed, MatchMany}
-use Rattle.sig_engines.specs.FileTexts.{head_text}
 use Rattle.sig_engines.specs.Lines.{AreAsked, lines_of}
 use Rattle.sig_engines.specs.declared.ask.MatchAsk.{MatchAsk}
-use Rattle.sig_engines.specs.ManyFiles.{AreLinesOf}
-use Rattle.sig_engines.specs.Stores.{IsTableOf, ReadsAs}
+use Rattle.sig_engines.specs.Stores.{Files, IsTableOf, ReadsAs}
+use Rattle.sig_engines.specs.Visits.{AreVisits, Visit}
 use Rattle.sig_engines.specs.declared.store.TablePaths.{TablePaths}
 use Rattle.sig_core.specs.declared.results.Hit.{Hit}
 use Rattle.sig_table.specs.Loading.{records_of, table_of}
@@ -28,7 +27,7 @@ table_or other (Ok table) = table
 table_or other (Err error) = other
 
 -- two files hold one table
-same_table : (files : List ℕ → Option (List ℕ)) (paths : TablePaths) (one other : TableView) → ReadsAs (Some files) paths (Ok one) → ReadsAs (Some files) paths (Ok other) → one ≡ other
+same_table : (files : Files) (paths : TablePaths) (one other : TableView) → ReadsAs (Some files) paths (Ok one) → ReadsAs (Some files) paths (Ok other) → one ≡ other
 same_table files paths one other r q =
     let signatures : r.0 ≡ q.0 = same_Some r.0 q.0 (sym r.2 ∙ q.2) in
     let priorities : r.1 ≡ q.1 = same_Some r.1 q.1 (sym r.3 ∙ q.3) in
@@ -41,7 +40,7 @@ accepts table certificate (Ok accepted) is agreed = is
 accepts table certificate (Err fault) is agreed = cc
 
 -- the table of an accepted certificate is decided, also where it is read for a match
-table_is_decided : (files : List ℕ → Option (List ℕ)) (table : TablePaths) (certificate : Bor (List ℕ)) (checked_before checked_after : Option (List ℕ)) (t : TableView) → Answers (Some files) (Check table certificate) true checked_before checked_after → IsTableOf (Some files) table t → Decided t
+table_is_decided : (files : Files) (table : TablePaths) (certificate : Bor (List ℕ)) (checked_before checked_after : Option (List ℕ)) (t : TableView) → Answers (Some files) (Check table certificate) true checked_before checked_after → IsTableOf (Some files) table t → Decided t
 table_is_decided files table certificate checked_before checked_after t checked is =
     let of : TableView = checked.0 in
     let cert : List ℕ = checked.2 in
@@ -51,33 +50,39 @@ table_is_decided files table certificate checked_before checked_after t checked 
     subst Decided (same_table files table of t checked.1.read is.read) decided
 
 -- the line of a decided table's file
-pub one_line : (files : List ℕ → Option (List ℕ)) (table : TablePaths) (certificate name : Bor (List ℕ)) (is_yes : Bool) (checked_before checked_after before after : Option (List ℕ)) → Answers (Some files) (Check table certificate) true checked_before checked_after → Answers (Some files) (Match false table name) is_yes before after → (t : TableView) × (hits : List Hit) × (length hits ≤ 1) × Adds before (lines_of t hits) after
+pub one_line : (files : Files) (table : TablePaths) (certificate name : Bor (List ℕ)) (is_yes : Bool) (checked_before checked_after before after : Option (List ℕ)) → Answers (Some files) (Check table certificate) true checked_before checked_after → Answers (Some files) (Match false table name) is_yes before after → (t : TableView) × (hits : List Hit) × (length hits ≤ 1) × Adds before (lines_of t hits) after
 one_line files table certificate name is_yes checked_before checked_after before after checked matched =
     let t : TableView = matched.1 in
     let decided : Decided t = table_is_decided files table certificate checked_before checked_after t checked matched.2 in
     let lines = matched.6 in
     (t, lines.hits, one_is_left t matched.3 lines.hits decided matched.4 lines.are_asked, lines.adds)
 
--- a text of each name is one of another kind, if each of the first kind is
-weaker_texts : (P Q : List ℕ → List ℕ → Type 0) → ((name text : List ℕ) → P name text → Q name text) → (names : List (List ℕ)) (text : List ℕ) → AreTexts P names text → AreTexts Q names text
+-- a text of each visit is one of another kind, if each of the first kind is
+weaker_texts : (P Q : Visit → List ℕ → Type 0) → ((visit : Visit) (text : List ℕ) → P visit text → Q visit text) → (visits : List Visit) (text : List ℕ) → AreTexts P visits text → AreTexts Q visits text
 weaker_texts P Q each [] text are = are
-weaker_texts P Q each (name ∷ names) text are = (are.0, are.1, are.2, each name are.0 are.3, weaker_texts P Q each names are.1 are.4)
+weaker_texts P Q each (visit ∷ visits) text are = (are.0, are.1, are.2, each visit are.0 are.3, weaker_texts P Q each visits are.1 are.4)
 
 -- the lines of several of its files
-each_once : (files : List ℕ → Option (List ℕ)) (table : TablePaths) (certificate : Bor (List ℕ)) (ask : MatchAsk) (t : TableView) (names : List (List ℕ)) (checked_before checked_after before after : Option (List ℕ)) → ask.all ≡ false → Answers (Some files) (Check table certificate) true checked_before checked_after → IsTableOf (Some files) table t → AddsLinesOfEach ask t (Some files) names before after → (text : List ℕ) × AreTexts (IsOneLineOf ask t) names text × Adds before (head_text ask.csv ++ text) after
-each_once files table certificate ask t names checked_before checked_after before after left checked is added =
+each_once : (files : Files) (table : TablePaths) (certificate : Bor (List ℕ)) (ask : MatchAsk) (t : TableView) (Are : List Visit → Type 0) (checked_before checked_after before after : Option (List ℕ)) → ask.all ≡ false → Answers (Some files) (Check table certificate) true checked_before checked_after → IsTableOf (Some files) table t → AddsLinesOfEach ask t (Some files) Are before after → AddsOneLineOfEach ask t Are before after
+each_once files table certificate ask t Are checked_before checked_after before after left checked is added =
     let decided : Decided t = table_is_decided files table certificate checked_before checked_after t checked is in
-    (added.text, weaker_texts (AreLinesOf ask t (Some files)) (IsOneLineOf ask t) (one decided) names added.text added.are_lines, added.adds)
+    record {
+      visits = added.visits;
+      are = added.are;
+      text = added.text;
+      are_lines = weaker_texts (AreLinesAt ask t (Some files)) (IsOneLineOf ask t) (one decided) added.visits added.text added.are_lines;
+      adds = added.adds;
+    }
   where
-    one : Decided t → (name text : List ℕ) → AreLinesOf ask t (Some files) name text → IsOneLineOf ask t name text
-    one decided name text lines = (lines.hits, one_is_left t lines.file lines.hits decided lines.bytes (subst (λ b. AreAsked b t lines.file lines.hits) left lines.are_asked), lines.are_lines)
+    one : Decided t → (visit : Visit) (text : List ℕ) → AreLinesAt ask t (Some files) visit text → IsOneLineOf ask t visit text
+    one decided visit text is =
+        let lines = is.1 in
+        (lines.hits, one_is_left t lines.file lines.hits decided lines.bytes (subst (λ b. AreAsked b t lines.file lines.hits) left lines.are_asked), lines.are_lines)
 
-pub one_line_each : (files : List ℕ → Option (List ℕ)) (table : TablePaths) (certificate : Bor (List ℕ)) (options : MatchOptions) (names : Bor (List (Bor (List ℕ)))) (is_yes : Bool) (checked_before checked_after before after : Option (List ℕ)) → options.all ≡ false → Answers (Some files) (Check table certificate) true checked_before checked_after → Answers (Some files) (MatchMany options table names) is_yes before after → (t : TableView) × (ask : MatchAsk) × AsksEach (Some files) options ask × (text : List ℕ) × AreTexts (IsOneLineOf ask t) (map (λ n. n.now) names.now) text × Adds before (head_text ask.csv ++ text) after
+pub one_line_each : (files : Files) (table : TablePaths) (certificate : Bor (List ℕ)) (options : MatchOptions) (names : Bor (List (Bor (List ℕ)))) (is_yes : Bool) (checked_before checked_after before after : Option (List ℕ)) → options.all ≡ false → Answers (Some files) (Check table certificate) true checked_before checked_after → Answers (Some files) (MatchMany options table names) is_yes before after → (t : TableView) × (ask : MatchAsk) × AsksEach (Some files) options ask × AddsOneLineOfEach ask t (AreVisits ask.recursive (Some files) (map (λ n. n.now) names.now)) before after
 one_line_each files table certificate options names is_yes checked_before checked_after before after left checked matched =
-    let once = each_once files table certificate matched.3 matched.1 (map (λ (n : Bor (List ℕ)). n.now) names.now) checked_before checked_after before after (matched.4.all ∙ left) checked matched.2 matched.5 in
-    (matched.1, matched.3, matched.4, once.0, once.1, once.2)
+    (matched.1, matched.3, matched.4, each_once files table certificate matched.3 matched.1 (AreVisits matched.3.recursive (Some files) (map (λ (n : Bor (List ℕ)). n.now) names.now)) checked_before checked_after before after (matched.4.all ∙ left) checked matched.2 matched.5)
 
-pub one_line_listed : (files : List ℕ → Option (List ℕ)) (table : TablePaths) (certificate : Bor (List ℕ)) (options : MatchOptions) (list : Bor (List ℕ)) (end : ℕ) (is_yes : Bool) (checked_before checked_after before after : Option (List ℕ)) → options.all ≡ false → Answers (Some files) (Check table certificate) true checked_before checked_after → Answers (Some files) (MatchListed options table list end) is_yes before after → (t : TableView) × (ask : MatchAsk) × AsksEach (Some files) options ask × (names : List (List ℕ)) × AreListedIn (Some files) list.now end names × (text : List ℕ) × AreTexts (IsOneLineOf ask t) names text × Adds before (head_text ask.csv ++ text) after
+pub one_line_listed : (files : Files) (table : TablePaths) (certificate : Bor (List ℕ)) (options : MatchOptions) (list : Bor (List ℕ)) (end : ℕ) (is_yes : Bool) (checked_before checked_after before after : Option (List ℕ)) → options.all ≡ false → Answers (Some files) (Check table certificate) true checked_before checked_after → Answers (Some files) (MatchListed options table list end) is_yes before after → (t : TableView) × (ask : MatchAsk) × AsksEach (Some files) options ask × (names : List (List ℕ)) × AreListedIn (Some files) list.now end names × AddsOneLineOfEach ask t (AreVisits ask.recursive (Some files) names) before after
 one_line_listed files table certificate options list end is_yes checked_before checked_after before after left checked matched =
-    let once = each_once files table certificate matched.3 matched.1 matched.5 checked_before checked_after before after (matched.4.all ∙ left) checked matched.2 matched.7 in
-    (matched.1, matched.3, matched.4, matched.5, matched.6, once.0, once.1, once.2)
+    (matched.1, matched.3, matched.4, matched.5, matched.6, each_once files table certificate matched.3 matched.1 (AreVisits matched.3.recursive (Some files) matched.5) checked_before checked_after before after (matched.4.all ∙ left) checked matched.2 matched.7)

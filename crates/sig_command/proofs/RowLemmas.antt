@@ -104,25 +104,29 @@ one_named found [] d some one is = absurd (omega (arith, some))
 one_named found (n ∷ []) d some one is = all_of-rows found (codes "FILE") ∙ sym is
 one_named found (n ∷ m ∷ ns) d some one is = absurd (omega (arith, one))
 
-pub many_named : (found : Found) (names : List (Bor Text)) (is_named is_csv : Bool) (formats : Option (Bor Text)) → 0 < length names → (1 < length names) ⊎ ((is_named ≡ true) ⊎ ((is_csv || is_some formats) ≡ true)) → HasFlag (codes "with-names") is_named (rows_of found) → HasFlag (codes "csv") is_csv (rows_of found) → first_of (codes "FORMATS") (rows_of found) ≡ option_map (λ w. w.now) formats → Some (map (λ n. n.now) names) ≡ option_map raw_values (matched_of found (codes "FILE")) → first_of (codes "NAMES") (rows_of found) ≡ None → NamesMany names (rows_of found)
-many_named found names is_named is_csv formats some several flag csv given is unlisted = record { are = all_of-rows found (codes "FILE") ∙ sym is; some = some; unlisted = unlisted; named = by several }
+pub many_named : (found : Found) (names : List (Bor Text)) (is_named is_csv is_recursive : Bool) (formats : Option (Bor Text)) → 0 < length names → (1 < length names) ⊎ ((is_named ≡ true) ⊎ ((is_csv || (is_some formats || is_recursive)) ≡ true)) → HasFlag (codes "with-names") is_named (rows_of found) → HasFlag (codes "csv") is_csv (rows_of found) → first_of (codes "FORMATS") (rows_of found) ≡ option_map (λ w. w.now) formats → HasFlag (codes "recursive") is_recursive (rows_of found) → Some (map (λ n. n.now) names) ≡ option_map raw_values (matched_of found (codes "FILE")) → first_of (codes "NAMES") (rows_of found) ≡ None → NamesMany names (rows_of found)
+many_named found names is_named is_csv is_recursive formats some several flag csv given recursive is unlisted = record { are = all_of-rows found (codes "FILE") ∙ sym is; some = some; unlisted = unlisted; named = by several }
   where
-    form : (b : Bool) (o : Option (Bor Text)) → (b || is_some o) ≡ true → HasFlag (codes "csv") b (rows_of found) → first_of (codes "FORMATS") (rows_of found) ≡ option_map (λ w. w.now) o → HasFlag (codes "csv") true (rows_of found) ⊎ (is_some (first_of (codes "FORMATS") (rows_of found)) ≡ true)
-    form true o has csv given = inl csv
-    form false None has csv given = let bad : false ≡ true = has in cc
-    form false (Some w) has csv given = inr (ap is_some given)
+    form : (b r : Bool) (o : Option (Bor Text)) → (b || (is_some o || r)) ≡ true → HasFlag (codes "csv") b (rows_of found) → first_of (codes "FORMATS") (rows_of found) ≡ option_map (λ w. w.now) o → HasFlag (codes "recursive") r (rows_of found) → HasFlag (codes "csv") true (rows_of found) ⊎ ((is_some (first_of (codes "FORMATS") (rows_of found)) ≡ true) ⊎ HasFlag (codes "recursive") true (rows_of found))
+    form true r o has csv given recursive = inl csv
+    form false r (Some w) has csv given recursive = inr (inl (ap is_some given))
+    form false true None has csv given recursive = inr (inr recursive)
+    form false false None has csv given recursive = let bad : false ≡ true = has in cc
 
-    by : (1 < length names) ⊎ ((is_named ≡ true) ⊎ ((is_csv || is_some formats) ≡ true)) → (1 < length names) ⊎ (HasFlag (codes "with-names") true (rows_of found) ⊎ (HasFlag (codes "csv") true (rows_of found) ⊎ (is_some (first_of (codes "FORMATS") (rows_of found)) ≡ true)))
+    by : (1 < length names) ⊎ ((is_named ≡ true) ⊎ ((is_csv || (is_some formats || is_recursive)) ≡ true)) → (1 < length names) ⊎ (HasFlag (codes "with-names") true (rows_of found) ⊎ (HasFlag (codes "csv") true (rows_of found) ⊎ ((is_some (first_of (codes "FORMATS") (rows_of found)) ≡ true) ⊎ HasFlag (codes "recursive") true (rows_of found))))
     by (inl many) = inl many
     by (inr (inl given)) = inr (inl (subst (λ b. HasFlag (codes "with-names") b (rows_of found)) given flag))
-    by (inr (inr has)) = inr (inr (form is_csv formats has csv given))
+    by (inr (inr has)) = inr (inr (form is_csv is_recursive formats has csv given recursive))
 
 -- neither of two is so
 pub neither_first : (a b : Bool) → (a || b) ≡ false → a ≡ false
 neither_first false b is = refl
 neither_first true b is = let bad : true ≡ false = is in cc
 
-pub neither_none : (a : Bool) (o : Option (Bor Text)) → (a || is_some o) ≡ false → option_map (λ w. w.now) o ≡ None
-neither_none false None is = refl
-neither_none false (Some w) is = let bad : true ≡ false = is in cc
-neither_none true o is = let bad : true ≡ false = is in cc
+pub neither_second : (a b : Bool) → (a || b) ≡ false → b ≡ false
+neither_second false b is = is
+neither_second true b is = let bad : true ≡ false = is in cc
+
+pub none_given : (o : Option (Bor Text)) → is_some o ≡ false → option_map (λ w. w.now) o ≡ None
+none_given None is = refl
+none_given (Some w) is = let bad : true ≡ false = is in cc

@@ -8,58 +8,67 @@ use Rattle.sig_table.specs.Views.{TableView}
 use Rattle.sig_engines.specs.FileTexts.{head_text}
 use Rattle.sig_engines.specs.FormatNames.{NameList}
 use Rattle.sig_engines.specs.Listed.{AreListed}
-use Rattle.sig_engines.specs.ManyFiles.{AddsFiles, AddsListed, AreLinesOf, CutsFiles, CutsListed, IsPrinted, StopsListed, Printed, PrintedFile, is_whole, names_of, out_text, out_texts}
+use Rattle.sig_engines.specs.ManyFiles.{AddsFiles, AddsListed, CutsFiles, CutsListed, IsPrinted, IsPrintedBy, StopsListed, Printed, PrintedFile, is_whole, out_text, out_texts, visits_of}
 use Rattle.sig_engines.specs.Stores.{Holding, IsTableOf, Opens, SomeFailed}
+use Rattle.sig_engines.specs.Visits.{AreVisits, Visit}
 use Rattle.sig_engines.specs.declared.ask.MatchAsk.{MatchAsk}
+use Rattle.sig_engines.specs.declared.error.NameFault.{NameFault}
 use Rattle.sig_engines.specs.declared.error.RunError.{RunError}
 use Rattle.sig_engines.specs.declared.error.RunError.TheVariants.{OutOfMemory, Read, Write}
 use Rattle.sig_engines.specs.declared.store.TablePaths.{TablePaths}
 use Rattle.sig_command.proofs.StoreLemmas.{has_opened, lacks_unopened, opened}
-use Rattle.sig_command.specs.Requests.{Answers, AreNamesOf, AsksEach, IsCutRequest, IsFaultOf, IsLoadFault, IsNamesFaultOf, Joins, Shows}
-use Rattle.sig_command.specs.Several.{AddsLinesOfEach, AreListedIn, AreTexts}
+use Rattle.sig_command.specs.Requests.{Answers, AreNamesOf, AsksEach, IsCutRequest, IsFaultOf, IsFolderFault, IsLoadFault, IsNamesFaultOf, Joins, Shows}
+use Rattle.sig_command.specs.Several.{AddsLinesOfEach, AreLinesAt, AreListedIn, AreTexts}
 use Rattle.sig_command.specs.declared.args.MatchOptions.{MatchOptions}
 use Rattle.sig_command.specs.declared.args.Request.TheVariants.{MatchListed, MatchMany}
 use Rattle.sig_command.specs.declared.fault.Fault.{Fault}
-use Rattle.sig_command.specs.declared.fault.Fault.TheVariants.{CannotOpen, CutShort, FaultyTable, Names, NoFile, NotInTable, NotText, Run, SomeFiles, SummaryOfOne, Table}
+use Rattle.sig_command.specs.declared.fault.Fault.TheVariants.{CannotOpen, CutShort, FaultyTable, IsFolder, Names, NoFile, NotInTable, NotText, Run, SomeFiles, SummaryOfOne, Table}
 
 -- ---- files of which none has a fault
 
--- the lines of one, and those of the others
-lines_of_first : {R : Type 0} (failed : R → Bool) (ask : MatchAsk) (table : TableView) (held : Holding) (name : List ℕ) (printed : Printed) (files : List PrintedFile) → IsPrinted failed ask table held name printed → true ≡ (is_ok printed && is_whole files) → (true ≡ is_whole files → AreTexts (AreLinesOf ask table held) (names_of files) (out_texts files)) → AreTexts (AreLinesOf ask table held) (name ∷ names_of files) (out_text printed ++ out_texts files)
-lines_of_first failed ask table held name (Ok lines) files is whole rest = (lines, out_texts files, refl, is, rest whole)
-lines_of_first failed ask table held name (Err fault) files is whole rest = let bad : true ≡ false = whole in cc
+-- a file that is matched has its lines
+lines_at : {R : Type 0} (failed : R → Bool) (ask : MatchAsk) (table : TableView) (held : Holding) (name lines : List ℕ) (told : Option NameFault) → IsPrintedBy failed ask table held name told (Ok lines) → AreLinesAt ask table held (record { name = name; told = told }) lines
+lines_at failed ask table held name lines None is = (refl, is)
+lines_at failed ask table held name lines (Some fault) is = let bad : Ok lines ≡ Err fault = is in cc
 
-lines_of_all : {R : Type 0} (failed : R → Bool) (ask : MatchAsk) (table : TableView) (held : Holding) (files : List PrintedFile) → All (λ (f : PrintedFile). IsPrinted failed ask table held f.name f.printed) files → true ≡ is_whole files → AreTexts (AreLinesOf ask table held) (names_of files) (out_texts files)
+-- the lines of one, and those of the others
+lines_of_first : {R : Type 0} (failed : R → Bool) (ask : MatchAsk) (table : TableView) (held : Holding) (visit : Visit) (printed : Printed) (files : List PrintedFile) → IsPrinted failed ask table held visit printed → true ≡ (is_ok printed && is_whole files) → (true ≡ is_whole files → AreTexts (AreLinesAt ask table held) (visits_of files) (out_texts files)) → AreTexts (AreLinesAt ask table held) (visit ∷ visits_of files) (out_text printed ++ out_texts files)
+lines_of_first failed ask table held visit (Ok lines) files is whole rest = (lines, out_texts files, refl, lines_at failed ask table held visit.name lines visit.told is, rest whole)
+lines_of_first failed ask table held visit (Err fault) files is whole rest = let bad : true ≡ false = whole in cc
+
+lines_of_all : {R : Type 0} (failed : R → Bool) (ask : MatchAsk) (table : TableView) (held : Holding) (files : List PrintedFile) → All (λ (f : PrintedFile). IsPrinted failed ask table held f.visit f.printed) files → true ≡ is_whole files → AreTexts (AreLinesAt ask table held) (visits_of files) (out_texts files)
 lines_of_all failed ask table held [] each whole = refl
 lines_of_all failed ask table held (f ∷ fs) each whole =
-    lines_of_first failed ask table held f.name f.printed fs
-    (All-head (λ (f : PrintedFile). IsPrinted failed ask table held f.name f.printed) f fs each) whole
-    (λ rest. lines_of_all failed ask table held fs (All-tail (λ (f : PrintedFile). IsPrinted failed ask table held f.name f.printed) f fs each) rest)
+    lines_of_first failed ask table held f.visit f.printed fs
+    (All-head (λ (f : PrintedFile). IsPrinted failed ask table held f.visit f.printed) f fs each) whole
+    (λ rest. lines_of_all failed ask table held fs (All-tail (λ (f : PrintedFile). IsPrinted failed ask table held f.visit f.printed) f fs each) rest)
 
 -- what is written of files of which none has a fault
-each_of : {R : Type 0} (failed : R → Bool) (ask : MatchAsk) (table : TableView) (held : Holding) (names : List (List ℕ)) (before after : Option (List ℕ)) (err_failed : Bool) (err_before err_after : Option (List ℕ)) → AddsFiles (head_text ask.csv) (IsPrinted failed ask table held) names before after err_failed err_before err_after true → AddsLinesOfEach ask table held names before after
-each_of failed ask table held names before after err_failed err_before err_after added = record {
+each_of : {R : Type 0} (failed : R → Bool) (ask : MatchAsk) (table : TableView) (held : Holding) (Are : List Visit → Type 0) (before after : Option (List ℕ)) (err_failed : Bool) (err_before err_after : Option (List ℕ)) → AddsFiles (head_text ask.csv) (IsPrinted failed ask table held) Are before after err_failed err_before err_after true → AddsLinesOfEach ask table held Are before after
+each_of failed ask table held Are before after err_failed err_before err_after added = record {
+  visits = visits_of added.files;
+  are = added.are;
   text = out_texts added.files;
-  are_lines = subst (λ l. AreTexts (AreLinesOf ask table held) l (out_texts added.files)) added.are (lines_of_all failed ask table held added.files added.each added.is);
+  are_lines = lines_of_all failed ask table held added.files added.each added.is;
   adds = added.adds;
 }
 
 -- ---- what comes of them, in the words of a request
 
-pub many_answered : {R : Type 0} (failed : R → Bool) (held : Holding) (options : MatchOptions) (ask : MatchAsk) (paths : TablePaths) (files : Bor (List (Bor (List ℕ)))) (core table : TableView) (before after : Option (List ℕ)) (err_failed : Bool) (err_before err_after : Option (List ℕ)) → core ≡ table → IsTableOf held paths table → AsksEach held options ask → AddsFiles (head_text ask.csv) (IsPrinted failed ask core held) (map (λ n. n.now) files.now) before after err_failed err_before err_after true → Answers held (MatchMany options paths files) true before after
+pub many_answered : {R : Type 0} (failed : R → Bool) (held : Holding) (options : MatchOptions) (ask : MatchAsk) (paths : TablePaths) (files : Bor (List (Bor (List ℕ)))) (core table : TableView) (before after : Option (List ℕ)) (err_failed : Bool) (err_before err_after : Option (List ℕ)) → core ≡ table → IsTableOf held paths table → AsksEach held options ask → AddsFiles (head_text ask.csv) (IsPrinted failed ask core held) (AreVisits ask.recursive held (map (λ n. n.now) files.now)) before after err_failed err_before err_after true → Answers held (MatchMany options paths files) true before after
 many_answered failed held options ask paths files core table before after err_failed err_before err_after same is asked adds =
     let names = map (λ (n : Bor (List ℕ)). n.now) files.now in
-    (refl, table, is, ask, asked, each_of failed ask table held names before after err_failed err_before err_after (subst (λ t. AddsFiles (head_text ask.csv) (IsPrinted failed ask t held) names before after err_failed err_before err_after true) same adds))
+    (refl, table, is, ask, asked, each_of failed ask table held (AreVisits ask.recursive held names) before after err_failed err_before err_after (subst (λ t. AddsFiles (head_text ask.csv) (IsPrinted failed ask t held) (AreVisits ask.recursive held names) before after err_failed err_before err_after true) same adds))
 
-pub many_joined : {R : Type 0} (failed : R → Bool) (held : Holding) (options : MatchOptions) (ask : MatchAsk) (paths : TablePaths) (files : Bor (List (Bor (List ℕ)))) (core table : TableView) (before after : Option (List ℕ)) (err_failed : Bool) (err_before err_after : Option (List ℕ)) → core ≡ table → IsTableOf held paths table → AsksEach held options ask → AddsFiles (head_text ask.csv) (IsPrinted failed ask core held) (map (λ n. n.now) files.now) before after err_failed err_before err_after false → Joins failed held (MatchMany options paths files) SomeFiles before after err_failed err_before err_after
+pub many_joined : {R : Type 0} (failed : R → Bool) (held : Holding) (options : MatchOptions) (ask : MatchAsk) (paths : TablePaths) (files : Bor (List (Bor (List ℕ)))) (core table : TableView) (before after : Option (List ℕ)) (err_failed : Bool) (err_before err_after : Option (List ℕ)) → core ≡ table → IsTableOf held paths table → AsksEach held options ask → AddsFiles (head_text ask.csv) (IsPrinted failed ask core held) (AreVisits ask.recursive held (map (λ n. n.now) files.now)) before after err_failed err_before err_after false → Joins failed held (MatchMany options paths files) SomeFiles before after err_failed err_before err_after
 many_joined failed held options ask paths files core table before after err_failed err_before err_after same is asked adds =
-    (table, is, ask, asked, subst (λ t. AddsFiles (head_text ask.csv) (IsPrinted failed ask t held) (map (λ (n : Bor (List ℕ)). n.now) files.now) before after err_failed err_before err_after false) same adds)
+    (table, is, ask, asked, subst (λ t. AddsFiles (head_text ask.csv) (IsPrinted failed ask t held) (AreVisits ask.recursive held (map (λ (n : Bor (List ℕ)). n.now) files.now)) before after err_failed err_before err_after false) same adds)
 
 -- each fault is told
-pub many_told : {R : Type 0} (failed : R → Bool) (held : Holding) (options : MatchOptions) (ask : MatchAsk) (paths : TablePaths) (files : Bor (List (Bor (List ℕ)))) (core table : TableView) (before after : Option (List ℕ)) (err_failed : Bool) (err_before err_after : Option (List ℕ)) → core ≡ table → IsTableOf held paths table → AsksEach held options ask → AddsFiles (head_text ask.csv) (IsPrinted failed ask core held) (map (λ n. n.now) files.now) before after err_failed err_before err_after false → Shows failed held (MatchMany options paths files) false err_failed err_before err_after
+pub many_told : {R : Type 0} (failed : R → Bool) (held : Holding) (options : MatchOptions) (ask : MatchAsk) (paths : TablePaths) (files : Bor (List (Bor (List ℕ)))) (core table : TableView) (before after : Option (List ℕ)) (err_failed : Bool) (err_before err_after : Option (List ℕ)) → core ≡ table → IsTableOf held paths table → AsksEach held options ask → AddsFiles (head_text ask.csv) (IsPrinted failed ask core held) (AreVisits ask.recursive held (map (λ n. n.now) files.now)) before after err_failed err_before err_after false → Shows failed held (MatchMany options paths files) false err_failed err_before err_after
 many_told failed held options ask paths files core table before after err_failed err_before err_after same is asked adds =
     let names = map (λ (n : Bor (List ℕ)). n.now) files.now in
-    let added = subst (λ t. AddsFiles (head_text ask.csv) (IsPrinted failed ask t held) names before after err_failed err_before err_after false) same adds in (
+    let added = subst (λ t. AddsFiles (head_text ask.csv) (IsPrinted failed ask t held) (AreVisits ask.recursive held names) before after err_failed err_before err_after false) same adds in (
       refl,
       table,
       is,
@@ -68,29 +77,29 @@ many_told failed held options ask paths files core table before after err_failed
       λ sound. record {
         files = added.files;
         others = [];
-        are_first = sym added.are ∙ sym (append-nil (names_of added.files));
+        are_first = subst (AreVisits ask.recursive held names) (sym (append-nil (visits_of added.files))) added.are;
         each = added.each;
         adds = added.reports sound;
       },
     )
 
 -- and the lines of the others are all that is written
-pub many_cut : {R : Type 0} (failed : R → Bool) (held : Holding) (options : MatchOptions) (ask : MatchAsk) (paths : TablePaths) (files : Bor (List (Bor (List ℕ)))) (core table : TableView) (before after : Option (List ℕ)) (err_failed : Bool) (err_before err_after : Option (List ℕ)) → core ≡ table → IsTableOf held paths table → AsksEach held options ask → AddsFiles (head_text ask.csv) (IsPrinted failed ask core held) (map (λ n. n.now) files.now) before after err_failed err_before err_after false → IsCutRequest failed held (MatchMany options paths files) before after
+pub many_cut : {R : Type 0} (failed : R → Bool) (held : Holding) (options : MatchOptions) (ask : MatchAsk) (paths : TablePaths) (files : Bor (List (Bor (List ℕ)))) (core table : TableView) (before after : Option (List ℕ)) (err_failed : Bool) (err_before err_after : Option (List ℕ)) → core ≡ table → IsTableOf held paths table → AsksEach held options ask → AddsFiles (head_text ask.csv) (IsPrinted failed ask core held) (AreVisits ask.recursive held (map (λ n. n.now) files.now)) before after err_failed err_before err_after false → IsCutRequest failed held (MatchMany options paths files) before after
 many_cut failed held options ask paths files core table before after err_failed err_before err_after same is asked adds =
     let names = map (λ (n : Bor (List ℕ)). n.now) files.now in
-    let added = subst (λ t. AddsFiles (head_text ask.csv) (IsPrinted failed ask t held) names before after err_failed err_before err_after false) same adds in
+    let added = subst (λ t. AddsFiles (head_text ask.csv) (IsPrinted failed ask t held) (AreVisits ask.recursive held names) before after err_failed err_before err_after false) same adds in
     (table, is, ask, asked, record { files = added.files; are = added.are; each = added.each; is = sym added.is; adds = added.adds })
 
 -- ---- a write failed
 
-pub first_joined : {R : Type 0} (failed : R → Bool) (held : Holding) (options : MatchOptions) (ask : MatchAsk) (paths : TablePaths) (files : Bor (List (Bor (List ℕ)))) (core table : TableView) (before after : Option (List ℕ)) (err_failed : Bool) (err_before err_after : Option (List ℕ)) → core ≡ table → IsTableOf held paths table → AsksEach held options ask → CutsFiles (head_text ask.csv) (IsPrinted failed ask core held) (map (λ n. n.now) files.now) before after err_failed err_before err_after → Joins failed held (MatchMany options paths files) (Run Write) before after err_failed err_before err_after
+pub first_joined : {R : Type 0} (failed : R → Bool) (held : Holding) (options : MatchOptions) (ask : MatchAsk) (paths : TablePaths) (files : Bor (List (Bor (List ℕ)))) (core table : TableView) (before after : Option (List ℕ)) (err_failed : Bool) (err_before err_after : Option (List ℕ)) → core ≡ table → IsTableOf held paths table → AsksEach held options ask → CutsFiles (head_text ask.csv) (IsPrinted failed ask core held) (AreVisits ask.recursive held (map (λ n. n.now) files.now)) before after err_failed err_before err_after → Joins failed held (MatchMany options paths files) (Run Write) before after err_failed err_before err_after
 first_joined failed held options ask paths files core table before after err_failed err_before err_after same is asked cuts =
-    (table, is, ask, asked, subst (λ t. CutsFiles (head_text ask.csv) (IsPrinted failed ask t held) (map (λ (n : Bor (List ℕ)). n.now) files.now) before after err_failed err_before err_after) same cuts)
+    (table, is, ask, asked, subst (λ t. CutsFiles (head_text ask.csv) (IsPrinted failed ask t held) (AreVisits ask.recursive held (map (λ (n : Bor (List ℕ)). n.now) files.now)) before after err_failed err_before err_after) same cuts)
 
-pub first_told : {R : Type 0} (failed : R → Bool) (held : Holding) (options : MatchOptions) (ask : MatchAsk) (paths : TablePaths) (files : Bor (List (Bor (List ℕ)))) (core table : TableView) (before after : Option (List ℕ)) (err_failed : Bool) (err_before err_after : Option (List ℕ)) → core ≡ table → IsTableOf held paths table → AsksEach held options ask → CutsFiles (head_text ask.csv) (IsPrinted failed ask core held) (map (λ n. n.now) files.now) before after err_failed err_before err_after → Shows failed held (MatchMany options paths files) false err_failed err_before err_after
+pub first_told : {R : Type 0} (failed : R → Bool) (held : Holding) (options : MatchOptions) (ask : MatchAsk) (paths : TablePaths) (files : Bor (List (Bor (List ℕ)))) (core table : TableView) (before after : Option (List ℕ)) (err_failed : Bool) (err_before err_after : Option (List ℕ)) → core ≡ table → IsTableOf held paths table → AsksEach held options ask → CutsFiles (head_text ask.csv) (IsPrinted failed ask core held) (AreVisits ask.recursive held (map (λ n. n.now) files.now)) before after err_failed err_before err_after → Shows failed held (MatchMany options paths files) false err_failed err_before err_after
 first_told failed held options ask paths files core table before after err_failed err_before err_after same is asked cuts =
     let names = map (λ (n : Bor (List ℕ)). n.now) files.now in
-    let cut = subst (λ t. CutsFiles (head_text ask.csv) (IsPrinted failed ask t held) names before after err_failed err_before err_after) same cuts in
+    let cut = subst (λ t. CutsFiles (head_text ask.csv) (IsPrinted failed ask t held) (AreVisits ask.recursive held names) before after err_failed err_before err_after) same cuts in
     (refl, table, is, ask, asked, λ sound. record { files = cut.files; others = cut.others; are_first = cut.are_first; each = cut.each; adds = cut.reports sound })
 
 -- ---- there is no table
@@ -99,6 +108,7 @@ first_told failed held options ask paths files core table before after err_faile
 pub load_joined : {R : Type 0} (failed : R → Bool) (held : Holding) (options : MatchOptions) (paths : TablePaths) (files : Bor (List (Bor (List ℕ)))) (fault : Fault) (before after : Option (List ℕ)) (err_failed : Bool) (err : Option (List ℕ)) → IsLoadFault failed held paths fault → Joins failed held (MatchMany options paths files) fault before after err_failed err err
 load_joined failed held options paths files NotText before after err_failed err is = absurd is
 load_joined failed held options paths files (CannotOpen name) before after err_failed err is = refl
+load_joined failed held options paths files (IsFolder name) before after err_failed err is = absurd is
 load_joined failed held options paths files (NoFile folder name) before after err_failed err is = absurd is
 load_joined failed held options paths files (Table error) before after err_failed err is = refl
 load_joined failed held options paths files NotInTable before after err_failed err is = absurd is
@@ -110,8 +120,8 @@ load_joined failed held options paths files FaultyTable before after err_failed 
 load_joined failed held options paths files (Names error) before after err_failed err is = absurd is
 
 -- what is asked of each file, where there are the names that are asked for
-pub asks_each : (held : Holding) (options : MatchOptions) (ask : MatchAsk) (names : Option NameList) → ask.all ≡ options.all → ask.csv ≡ options.csv → option_map (λ n. n.now) ask.names ≡ names → AreNamesOf held options.names names → AsksEach held options ask
-asks_each held options ask names all csv is are = record { all = all; csv = csv; names = subst (AreNamesOf held options.names) (sym is) are }
+pub asks_each : (held : Holding) (options : MatchOptions) (ask : MatchAsk) (names : Option NameList) → ask.all ≡ options.all → ask.csv ≡ options.csv → ask.recursive ≡ options.recursive → option_map (λ n. n.now) ask.names ≡ names → AreNamesOf held options.names names → AsksEach held options ask
+asks_each held options ask names all csv recursive is are = record { all = all; csv = csv; recursive = recursive; names = subst (AreNamesOf held options.names) (sym is) are }
 
 -- nor where there are no names of formats
 pub names_joined : {R : Type 0} (failed : R → Bool) (held : Holding) (options : MatchOptions) (paths : TablePaths) (files : Bor (List (Bor (List ℕ)))) (path : Option (Bor (List ℕ))) (fault : Fault) (before after : Option (List ℕ)) (err_failed : Bool) (err : Option (List ℕ)) → (fault ≡ Run OutOfMemory) ⊎ IsNamesFaultOf failed held path fault → Joins failed held (MatchMany options paths files) fault before after err_failed err err
@@ -135,10 +145,12 @@ pub names_list_fault : {R : Type 0} (failed : R → Bool) (held : Holding) (opti
 names_list_fault failed held options paths list end table fault is (inl memory) = inr (inl memory)
 names_list_fault failed held options paths list end table fault is (inr names) = inr (inr (inl ((table, is), inr (inr names))))
 
--- the list can't be opened
-pub unopened_list : {R : Type 0} (failed : R → Bool) (held : Holding) (options : MatchOptions) (paths : TablePaths) (list : Bor (List ℕ)) (end : ℕ) (table : TableView) (fault : Fault) → IsTableOf held paths table → fault ≡ CannotOpen list → Opens held list.now None → IsFaultOf failed held (MatchListed options paths list end) fault
-unopened_list failed held options paths list end table fault is same opens =
-    subst (λ (f : Fault). IsFaultOf failed held (MatchListed options paths list end) f) (sym same) (inr (inr (inl ((table, is), inr (inl (refl, lacks_unopened held list.now opens))))))
+-- the list can't be opened, or is a folder
+pub unopened_list : {R : Type 0} (failed : R → Bool) (held : Holding) (options : MatchOptions) (paths : TablePaths) (list : Bor (List ℕ)) (end : ℕ) (table : TableView) (fault : Fault) → IsTableOf held paths table → ((fault ≡ CannotOpen list) × Opens held list.now None) ⊎ IsFolderFault held list fault → IsFaultOf failed held (MatchListed options paths list end) fault
+unopened_list failed held options paths list end table fault is (inl (same, opens)) =
+    subst (λ (f : Fault). IsFaultOf failed held (MatchListed options paths list end) f) (sym same) (inr (inr (inl ((table, is), inr (inl (inl (refl, lacks_unopened held list.now opens)))))))
+unopened_list failed held options paths list end table fault is (inr (same, has)) =
+    subst (λ (f : Fault). IsFaultOf failed held (MatchListed options paths list end) f) (sym same) (inr (inr (inl ((table, is), inr (inl (inr (refl, has)))))))
 
 -- ---- files whose names stand in a list
 
@@ -149,20 +161,20 @@ listed_in (Some files) list end to_come names opens are =
     let o = opened files list to_come opens in
     (o.bytes, o.has, subst (λ c. AreListed end c names) o.comes are)
 
-pub listed_answered : {R : Type 0} (failed : R → Bool) (held : Holding) (options : MatchOptions) (ask : MatchAsk) (paths : TablePaths) (list : Bor (List ℕ)) (end : ℕ) (to_come : Option (List ℕ)) (core table : TableView) (before after : Option (List ℕ)) (err_failed : Bool) (err_before err_after : Option (List ℕ)) → core ≡ table → IsTableOf held paths table → AsksEach held options ask → Opens held list.now (Some to_come) → AddsListed (head_text ask.csv) (IsPrinted failed ask core held) end to_come before after err_failed err_before err_after true → Answers held (MatchListed options paths list end) true before after
+pub listed_answered : {R : Type 0} (failed : R → Bool) (held : Holding) (options : MatchOptions) (ask : MatchAsk) (paths : TablePaths) (list : Bor (List ℕ)) (end : ℕ) (to_come : Option (List ℕ)) (core table : TableView) (before after : Option (List ℕ)) (err_failed : Bool) (err_before err_after : Option (List ℕ)) → core ≡ table → IsTableOf held paths table → AsksEach held options ask → Opens held list.now (Some to_come) → AddsListed (head_text ask.csv) (IsPrinted failed ask core held) (AreVisits ask.recursive held) end to_come before after err_failed err_before err_after true → Answers held (MatchListed options paths list end) true before after
 listed_answered failed held options ask paths list end to_come core table before after err_failed err_before err_after same is asked opens adds =
-    let added = subst (λ t. AddsListed (head_text ask.csv) (IsPrinted failed ask t held) end to_come before after err_failed err_before err_after true) same adds in
-    (refl, table, is, ask, asked, added.names, listed_in held list.now end to_come added.names opens added.are_listed, each_of failed ask table held added.names before after err_failed err_before err_after added.are_added)
+    let added = subst (λ t. AddsListed (head_text ask.csv) (IsPrinted failed ask t held) (AreVisits ask.recursive held) end to_come before after err_failed err_before err_after true) same adds in
+    (refl, table, is, ask, asked, added.names, listed_in held list.now end to_come added.names opens added.are_listed, each_of failed ask table held (AreVisits ask.recursive held added.names) before after err_failed err_before err_after added.are_added)
 
 -- some of them have a fault
-pub listed_joined : {R : Type 0} (failed : R → Bool) (held : Holding) (options : MatchOptions) (ask : MatchAsk) (paths : TablePaths) (list : Bor (List ℕ)) (end : ℕ) (to_come : Option (List ℕ)) (core table : TableView) (before after : Option (List ℕ)) (err_failed : Bool) (err_before err_after : Option (List ℕ)) → core ≡ table → IsTableOf held paths table → AsksEach held options ask → Opens held list.now (Some to_come) → AddsListed (head_text ask.csv) (IsPrinted failed ask core held) end to_come before after err_failed err_before err_after false → Joins failed held (MatchListed options paths list end) SomeFiles before after err_failed err_before err_after
+pub listed_joined : {R : Type 0} (failed : R → Bool) (held : Holding) (options : MatchOptions) (ask : MatchAsk) (paths : TablePaths) (list : Bor (List ℕ)) (end : ℕ) (to_come : Option (List ℕ)) (core table : TableView) (before after : Option (List ℕ)) (err_failed : Bool) (err_before err_after : Option (List ℕ)) → core ≡ table → IsTableOf held paths table → AsksEach held options ask → Opens held list.now (Some to_come) → AddsListed (head_text ask.csv) (IsPrinted failed ask core held) (AreVisits ask.recursive held) end to_come before after err_failed err_before err_after false → Joins failed held (MatchListed options paths list end) SomeFiles before after err_failed err_before err_after
 listed_joined failed held options ask paths list end to_come core table before after err_failed err_before err_after same is asked opens adds =
-    let added = subst (λ t. AddsListed (head_text ask.csv) (IsPrinted failed ask t held) end to_come before after err_failed err_before err_after false) same adds in
+    let added = subst (λ t. AddsListed (head_text ask.csv) (IsPrinted failed ask t held) (AreVisits ask.recursive held) end to_come before after err_failed err_before err_after false) same adds in
     (table, is, ask, asked, added.names, listed_in held list.now end to_come added.names opens added.are_listed, added.are_added)
 
-pub listed_told : {R : Type 0} (failed : R → Bool) (held : Holding) (options : MatchOptions) (ask : MatchAsk) (paths : TablePaths) (list : Bor (List ℕ)) (end : ℕ) (to_come : Option (List ℕ)) (core table : TableView) (before after : Option (List ℕ)) (err_failed : Bool) (err_before err_after : Option (List ℕ)) → core ≡ table → IsTableOf held paths table → AsksEach held options ask → Opens held list.now (Some to_come) → AddsListed (head_text ask.csv) (IsPrinted failed ask core held) end to_come before after err_failed err_before err_after false → Shows failed held (MatchListed options paths list end) false err_failed err_before err_after
+pub listed_told : {R : Type 0} (failed : R → Bool) (held : Holding) (options : MatchOptions) (ask : MatchAsk) (paths : TablePaths) (list : Bor (List ℕ)) (end : ℕ) (to_come : Option (List ℕ)) (core table : TableView) (before after : Option (List ℕ)) (err_failed : Bool) (err_before err_after : Option (List ℕ)) → core ≡ table → IsTableOf held paths table → AsksEach held options ask → Opens held list.now (Some to_come) → AddsListed (head_text ask.csv) (IsPrinted failed ask core held) (AreVisits ask.recursive held) end to_come before after err_failed err_before err_after false → Shows failed held (MatchListed options paths list end) false err_failed err_before err_after
 listed_told failed held options ask paths list end to_come core table before after err_failed err_before err_after same is asked opens adds =
-    let listed = subst (λ t. AddsListed (head_text ask.csv) (IsPrinted failed ask t held) end to_come before after err_failed err_before err_after false) same adds in
+    let listed = subst (λ t. AddsListed (head_text ask.csv) (IsPrinted failed ask t held) (AreVisits ask.recursive held) end to_come before after err_failed err_before err_after false) same adds in
     let added = listed.are_added in (
       refl,
       table,
@@ -171,42 +183,42 @@ listed_told failed held options ask paths list end to_come core table before aft
       asked,
       listed.names,
       listed_in held list.now end to_come listed.names opens listed.are_listed,
-      λ sound. record { files = added.files; others = []; are_first = sym added.are ∙ sym (append-nil (names_of added.files)); each = added.each; adds = added.reports sound },
+      λ sound. record { files = added.files; others = []; are_first = subst (AreVisits ask.recursive held listed.names) (sym (append-nil (visits_of added.files))) added.are; each = added.each; adds = added.reports sound },
     )
 
-pub listed_cut : {R : Type 0} (failed : R → Bool) (held : Holding) (options : MatchOptions) (ask : MatchAsk) (paths : TablePaths) (list : Bor (List ℕ)) (end : ℕ) (to_come : Option (List ℕ)) (core table : TableView) (before after : Option (List ℕ)) (err_failed : Bool) (err_before err_after : Option (List ℕ)) → core ≡ table → IsTableOf held paths table → AsksEach held options ask → Opens held list.now (Some to_come) → AddsListed (head_text ask.csv) (IsPrinted failed ask core held) end to_come before after err_failed err_before err_after false → IsCutRequest failed held (MatchListed options paths list end) before after
+pub listed_cut : {R : Type 0} (failed : R → Bool) (held : Holding) (options : MatchOptions) (ask : MatchAsk) (paths : TablePaths) (list : Bor (List ℕ)) (end : ℕ) (to_come : Option (List ℕ)) (core table : TableView) (before after : Option (List ℕ)) (err_failed : Bool) (err_before err_after : Option (List ℕ)) → core ≡ table → IsTableOf held paths table → AsksEach held options ask → Opens held list.now (Some to_come) → AddsListed (head_text ask.csv) (IsPrinted failed ask core held) (AreVisits ask.recursive held) end to_come before after err_failed err_before err_after false → IsCutRequest failed held (MatchListed options paths list end) before after
 listed_cut failed held options ask paths list end to_come core table before after err_failed err_before err_after same is asked opens adds =
-    let listed = subst (λ t. AddsListed (head_text ask.csv) (IsPrinted failed ask t held) end to_come before after err_failed err_before err_after false) same adds in
+    let listed = subst (λ t. AddsListed (head_text ask.csv) (IsPrinted failed ask t held) (AreVisits ask.recursive held) end to_come before after err_failed err_before err_after false) same adds in
     let added = listed.are_added in
-    (table, is, ask, asked, listed.names, listed_in held list.now end to_come listed.names opens listed.are_listed, record { files = added.files; others = []; are_first = sym added.are ∙ sym (append-nil (names_of added.files)); each = added.each; adds = added.adds })
+    (table, is, ask, asked, listed.names, listed_in held list.now end to_come listed.names opens listed.are_listed, record { files = added.files; others = []; are_first = subst (AreVisits ask.recursive held listed.names) (sym (append-nil (visits_of added.files))) added.are; each = added.each; adds = added.adds })
 
 -- the run ends before the list does
-pub list_told : {R : Type 0} (failed : R → Bool) (held : Holding) (options : MatchOptions) (ask : MatchAsk) (paths : TablePaths) (list : Bor (List ℕ)) (end : ℕ) (to_come : Option (List ℕ)) (core table : TableView) (before after : Option (List ℕ)) (err_failed : Bool) (err_before err_after : Option (List ℕ)) → core ≡ table → IsTableOf held paths table → AsksEach held options ask → Opens held list.now (Some to_come) → CutsListed (head_text ask.csv) (IsPrinted failed ask core held) end to_come before after err_failed err_before err_after → Shows failed held (MatchListed options paths list end) false err_failed err_before err_after
+pub list_told : {R : Type 0} (failed : R → Bool) (held : Holding) (options : MatchOptions) (ask : MatchAsk) (paths : TablePaths) (list : Bor (List ℕ)) (end : ℕ) (to_come : Option (List ℕ)) (core table : TableView) (before after : Option (List ℕ)) (err_failed : Bool) (err_before err_after : Option (List ℕ)) → core ≡ table → IsTableOf held paths table → AsksEach held options ask → Opens held list.now (Some to_come) → CutsListed (head_text ask.csv) (IsPrinted failed ask core held) (AreVisits ask.recursive held) end to_come before after err_failed err_before err_after → Shows failed held (MatchListed options paths list end) false err_failed err_before err_after
 list_told failed held options ask paths list end to_come core table before after err_failed err_before err_after same is asked opens cuts =
-    let listed = subst (λ t. CutsListed (head_text ask.csv) (IsPrinted failed ask t held) end to_come before after err_failed err_before err_after) same cuts in
+    let listed = subst (λ t. CutsListed (head_text ask.csv) (IsPrinted failed ask t held) (AreVisits ask.recursive held) end to_come before after err_failed err_before err_after) same cuts in
     let cut = listed.are_cut in
     (refl, table, is, ask, asked, listed.names, listed_in held list.now end to_come listed.names opens listed.are_listed, λ sound. record { files = cut.files; others = cut.others; are_first = cut.are_first; each = cut.each; adds = cut.reports sound })
 
-pub list_joined : {R : Type 0} (failed : R → Bool) (held : Holding) (options : MatchOptions) (ask : MatchAsk) (paths : TablePaths) (list : Bor (List ℕ)) (end : ℕ) (to_come : Option (List ℕ)) (core table : TableView) (error : RunError) (before after : Option (List ℕ)) (err_failed : Bool) (err_before err_after : Option (List ℕ)) → core ≡ table → IsTableOf held paths table → AsksEach held options ask → Opens held list.now (Some to_come) → CutsListed (head_text ask.csv) (IsPrinted failed ask core held) end to_come before after err_failed err_before err_after → (error ≢ Write → StopsListed (head_text ask.csv) (IsPrinted failed ask core held) end to_come before after err_failed err_before err_after) → Joins failed held (MatchListed options paths list end) (Run error) before after err_failed err_before err_after
+pub list_joined : {R : Type 0} (failed : R → Bool) (held : Holding) (options : MatchOptions) (ask : MatchAsk) (paths : TablePaths) (list : Bor (List ℕ)) (end : ℕ) (to_come : Option (List ℕ)) (core table : TableView) (error : RunError) (before after : Option (List ℕ)) (err_failed : Bool) (err_before err_after : Option (List ℕ)) → core ≡ table → IsTableOf held paths table → AsksEach held options ask → Opens held list.now (Some to_come) → CutsListed (head_text ask.csv) (IsPrinted failed ask core held) (AreVisits ask.recursive held) end to_come before after err_failed err_before err_after → (error ≢ Write → StopsListed (head_text ask.csv) (IsPrinted failed ask core held) (AreVisits ask.recursive held) end to_come before after err_failed err_before err_after) → Joins failed held (MatchListed options paths list end) (Run error) before after err_failed err_before err_after
 list_joined failed held options ask paths list end to_come core table Write before after err_failed err_before err_after same is asked opens cuts stops =
-    let listed = subst (λ t. CutsListed (head_text ask.csv) (IsPrinted failed ask t held) end to_come before after err_failed err_before err_after) same cuts in
+    let listed = subst (λ t. CutsListed (head_text ask.csv) (IsPrinted failed ask t held) (AreVisits ask.recursive held) end to_come before after err_failed err_before err_after) same cuts in
     (table, is, ask, asked, listed.names, listed_in held list.now end to_come listed.names opens listed.are_listed, listed.are_cut)
 list_joined failed held options ask paths list end to_come core table Read before after err_failed err_before err_after same is asked opens cuts stops =
-    let listed = subst (λ t. StopsListed (head_text ask.csv) (IsPrinted failed ask t held) end to_come before after err_failed err_before err_after) same (stops (λ same. cc)) in
+    let listed = subst (λ t. StopsListed (head_text ask.csv) (IsPrinted failed ask t held) (AreVisits ask.recursive held) end to_come before after err_failed err_before err_after) same (stops (λ same. cc)) in
     (table, is, ask, asked, listed.names, listed_in held list.now end to_come listed.names opens listed.are_listed, listed.are_stopped)
 list_joined failed held options ask paths list end to_come core table OutOfMemory before after err_failed err_before err_after same is asked opens cuts stops =
-    let listed = subst (λ t. StopsListed (head_text ask.csv) (IsPrinted failed ask t held) end to_come before after err_failed err_before err_after) same (stops (λ same. cc)) in
+    let listed = subst (λ t. StopsListed (head_text ask.csv) (IsPrinted failed ask t held) (AreVisits ask.recursive held) end to_come before after err_failed err_before err_after) same (stops (λ same. cc)) in
     inr (table, is, ask, asked, listed.names, listed_in held list.now end to_come listed.names opens listed.are_listed, listed.are_stopped)
 
 -- where no write failed, the lines of the first files stand
-pub list_cut : {R : Type 0} (failed : R → Bool) (held : Holding) (options : MatchOptions) (ask : MatchAsk) (paths : TablePaths) (list : Bor (List ℕ)) (end : ℕ) (to_come : Option (List ℕ)) (core table : TableView) (before after : Option (List ℕ)) (err_failed : Bool) (err_before err_after : Option (List ℕ)) → core ≡ table → IsTableOf held paths table → AsksEach held options ask → Opens held list.now (Some to_come) → StopsListed (head_text ask.csv) (IsPrinted failed ask core held) end to_come before after err_failed err_before err_after → IsCutRequest failed held (MatchListed options paths list end) before after
+pub list_cut : {R : Type 0} (failed : R → Bool) (held : Holding) (options : MatchOptions) (ask : MatchAsk) (paths : TablePaths) (list : Bor (List ℕ)) (end : ℕ) (to_come : Option (List ℕ)) (core table : TableView) (before after : Option (List ℕ)) (err_failed : Bool) (err_before err_after : Option (List ℕ)) → core ≡ table → IsTableOf held paths table → AsksEach held options ask → Opens held list.now (Some to_come) → StopsListed (head_text ask.csv) (IsPrinted failed ask core held) (AreVisits ask.recursive held) end to_come before after err_failed err_before err_after → IsCutRequest failed held (MatchListed options paths list end) before after
 list_cut failed held options ask paths list end to_come core table before after err_failed err_before err_after same is asked opens stops =
-    let listed = subst (λ t. StopsListed (head_text ask.csv) (IsPrinted failed ask t held) end to_come before after err_failed err_before err_after) same stops in
+    let listed = subst (λ t. StopsListed (head_text ask.csv) (IsPrinted failed ask t held) (AreVisits ask.recursive held) end to_come before after err_failed err_before err_after) same stops in
     let stopped = listed.are_stopped in
     (table, is, ask, asked, listed.names, listed_in held list.now end to_come listed.names opens listed.are_listed, record { files = stopped.files; others = stopped.others; are_first = stopped.are_first; each = stopped.each; adds = stopped.adds })
 
 -- why the run ends
 pub list_fault : {R : Type 0} (failed : R → Bool) (held : Holding) (options : MatchOptions) (paths : TablePaths) (list : Bor (List ℕ)) (end : ℕ) (to_come : Option (List ℕ)) (table : TableView) (error : RunError) → IsTableOf held paths table → Opens held list.now (Some to_come) → (error ≡ Read → SomeFailed failed) → IsFaultOf failed held (MatchListed options paths list end) (Run error)
-list_fault failed held options paths list end to_come table Read is opens unread = inr (inr (inl ((table, is), inr (inl (has_opened held list.now to_come opens, unread refl)))))
-list_fault failed held options paths list end to_come table Write is opens unread = inr (inr (inl ((table, is), inr (inl (has_opened held list.now to_come opens)))))
+list_fault failed held options paths list end to_come table Read is opens unread = inr (inr (inl ((table, is), inr (inl (inl (has_opened held list.now to_come opens, unread refl))))))
+list_fault failed held options paths list end to_come table Write is opens unread = inr (inr (inl ((table, is), inr (inl (inl (has_opened held list.now to_come opens))))))
 list_fault failed held options paths list end to_come table OutOfMemory is opens unread = inr (inl refl)

@@ -16,7 +16,7 @@ use Rattle.sig_engines.specs.Lines.{AddsLinesOfSome}
 use Rattle.sig_command.specs.Faults.{TellsWrite}
 use Rattle.sig_command.specs.Requests.{Answers, IsFileFault}
 use Rattle.sig_command.specs.Requests.{file_fault as fault_of_file}
-use Rattle.sig_engines.specs.Stores.{Has, Holding, Holds, IsTableFault, IsTableOf, Lacks, Opens, ReadsAs, SomeFailed}
+use Rattle.sig_engines.specs.Stores.{Files, Has, Holding, Holds, IsTableFault, IsTableOf, Lacks, Opens, ReadsAs, SomeFailed}
 use Rattle.sig_engines.specs.Witnessed.{AddsWitnessOfSome}
 use Rattle.sig_command.specs.declared.args.Request.{Request}
 use Rattle.sig_command.specs.declared.args.Request.TheVariants.{Check, Match, Witness}
@@ -32,15 +32,15 @@ use Rattle.sig_command.specs.declared.fault.Fault.TheVariants.{CannotOpen, CutSh
 -- ---- one file
 
 -- a file that is opened has bytes, and they are to come
-pub record Opened (files : List ℕ → Option (List ℕ)) (name : List ℕ) (to_come : Option (List ℕ)) : Type 0 where
+pub record Opened (files : Files) (name : List ℕ) (to_come : Option (List ℕ)) : Type 0 where
   pub bytes : List ℕ
-  pub has : files name ≡ Some bytes
+  pub has : files.bytes name ≡ Some bytes
   pub comes : to_come ≡ Some bytes
 
-pub opened : (files : List ℕ → Option (List ℕ)) (name : List ℕ) (to_come : Option (List ℕ)) → Opens (Some files) name (Some to_come) → Opened files name to_come
-opened files name to_come opens = go (files name) refl opens
+pub opened : (files : Files) (name : List ℕ) (to_come : Option (List ℕ)) → Opens (Some files) name (Some to_come) → Opened files name to_come
+opened files name to_come opens = go (files.bytes name) refl opens
   where
-    go : (file : Option (List ℕ)) → files name ≡ file → Some to_come ≡ option_map Some file → Opened files name to_come
+    go : (file : Option (List ℕ)) → files.bytes name ≡ file → Some to_come ≡ option_map Some file → Opened files name to_come
     go None is same = cc
     go (Some bytes) is same = record { bytes = bytes; has = is; comes = same_Some to_come (Some bytes) same }
 
@@ -50,12 +50,12 @@ has_opened (Some files) name to_come opens = let o = opened files name to_come o
 
 pub lacks_unopened : (held : Holding) (name : List ℕ) → Opens held name None → Lacks held name
 lacks_unopened None name opens = tt
-lacks_unopened (Some files) name opens = go (files name) refl opens
+lacks_unopened (Some files) name opens = go (files.bytes name) refl opens
   where
     none : Option (Option (List ℕ))
     none = None
 
-    go : (file : Option (List ℕ)) → files name ≡ file → none ≡ option_map Some file → files name ≡ None
+    go : (file : Option (List ℕ)) → files.bytes name ≡ file → none ≡ option_map Some file → files.bytes name ≡ None
     go None is same = is
     go (Some bytes) is same = cc
 

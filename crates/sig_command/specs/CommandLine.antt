@@ -60,11 +60,11 @@ named name value = record (new_rule value) { long = Some name }
 abbrev pub null_rule : Rule
 null_rule = record (given (codes "null")) { short = Some 48 }
 
--- `match [--all] [--with-names] [--csv] [--names FORMATS] [--files-from NAMES [-0]] SIGS PRIOS [FILE..]`
+-- `match [--all] [--with-names] [--csv] [--names FORMATS] [--recursive] [--files-from NAMES [-0]] SIGS PRIOS [FILE..]`
 abbrev pub match_command : App
 match_command =
     let of_files = with_rule (with_rule (with_rule (with_rule (of_table (new_app (codes "match"))) (several (codes "FILE"))) (given (codes "all"))) (given (codes "with-names"))) (given (codes "csv")) in
-    with_rule (with_rule (with_rule of_files (named (codes "names") (codes "FORMATS"))) (named (codes "files-from") (codes "NAMES"))) null_rule
+    with_rule (with_rule (with_rule (with_rule of_files (named (codes "names") (codes "FORMATS"))) (given (codes "recursive"))) (named (codes "files-from") (codes "NAMES"))) null_rule
 
 -- `--budget N`, of a number from 1 to 4,294,967,295, and of 100,000 where it is left out
 abbrev pub budget_rule : Rule
@@ -135,12 +135,12 @@ pub record NamesOptions (options : ConflictsOptions) (rows : List Row) : Type 0 
   pub files : first_of (codes "DIR") rows ≡ option_map (λ w. w.now) options.files
   pub priorities : first_of (codes "FILE") rows ≡ option_map (λ w. w.now) options.priorities
 
--- the files are the values of their argument, in their order, and no list has their names: two at least, or one with `--with-names`, `--csv` or `--names`
+-- the files are the values of their argument, in their order, and no list has their names: two at least, or one with `--with-names`, `--csv`, `--names` or `--recursive`
 pub record NamesMany (files : List (Bor Text)) (rows : List Row) : Type 0 where
   pub are : all_of (codes "FILE") rows ≡ Some (map (λ f. f.now) files)
   pub some : 0 < length files
   pub unlisted : first_of (codes "NAMES") rows ≡ None
-  pub named : (1 < length files) ⊎ (HasFlag (codes "with-names") true rows ⊎ (HasFlag (codes "csv") true rows ⊎ (is_some (first_of (codes "FORMATS") rows) ≡ true)))
+  pub named : (1 < length files) ⊎ (HasFlag (codes "with-names") true rows ⊎ (HasFlag (codes "csv") true rows ⊎ ((is_some (first_of (codes "FORMATS") rows) ≡ true) ⊎ HasFlag (codes "recursive") true rows)))
 
 -- no word names a file
 abbrev pub HasNoFiles : List Row → Type 0
@@ -169,12 +169,13 @@ pub record NamesEach (options : MatchOptions) (rows : List Row) : Type 0 where
   pub all : HasFlag (codes "all") options.all rows
   pub csv : HasFlag (codes "csv") options.csv rows
   pub names : first_of (codes "FORMATS") rows ≡ option_map (λ w. w.now) options.names
+  pub recursive : HasFlag (codes "recursive") options.recursive rows
 
 -- the subcommand and its arguments ask for this
 abbrev pub Asks : Option (Text × List Row) → Request → Type 0
 Asks found (Show table) = (rows : List Row) × (found ≡ Some (codes "show", rows)) × NamesTable table rows
 Asks found (Lint table) = (rows : List Row) × (found ≡ Some (codes "lint", rows)) × NamesTable table rows
-Asks found (Match all table file) = (rows : List Row) × (found ≡ Some (codes "match", rows)) × NamesTable table rows × (all_of (codes "FILE") rows ≡ Some (file.now ∷ [])) × (first_of (codes "NAMES") rows ≡ None) × HasFlag (codes "all") all rows × HasFlag (codes "with-names") false rows × HasFlag (codes "csv") false rows × (first_of (codes "FORMATS") rows ≡ None)
+Asks found (Match all table file) = (rows : List Row) × (found ≡ Some (codes "match", rows)) × NamesTable table rows × (all_of (codes "FILE") rows ≡ Some (file.now ∷ [])) × (first_of (codes "NAMES") rows ≡ None) × HasFlag (codes "all") all rows × HasFlag (codes "with-names") false rows × HasFlag (codes "csv") false rows × (first_of (codes "FORMATS") rows ≡ None) × HasFlag (codes "recursive") false rows
 Asks found (MatchMany options table files) = (rows : List Row) × (found ≡ Some (codes "match", rows)) × NamesTable table rows × NamesMany files.now rows × NamesEach options rows
 Asks found (MatchListed options table list end) = (rows : List Row) × (found ≡ Some (codes "match", rows)) × NamesTable table rows × NamesList list end rows × NamesEach options rows
 Asks found (Find table budget out hex progress) = (rows : List Row) × (found ≡ Some (codes "find", rows)) × NamesTable table rows × NamesBudget budget rows × (first_of (codes "OUT") rows ≡ Some out.now) × HasFlag (codes "hex") hex rows × HasFlag (codes "progress") progress rows

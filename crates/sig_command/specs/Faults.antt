@@ -38,6 +38,7 @@ names_text (names.Twice row) = names_row row ++ codes ": pair twice"
 abbrev pub fault_text : Fault → List ℕ
 fault_text fault.NotText = codes "error: invalid UTF-8 was detected in one or more arguments"
 fault_text (fault.CannotOpen name) = codes "cannot open " ++ name.now
+fault_text (fault.IsFolder name) = name.now ++ codes ": is a folder"
 fault_text (fault.NoFile folder name) = codes "cannot open " ++ path_text folder.now name
 fault_text (fault.Table error) = site_text (site_of error) ++ code_text error
 fault_text fault.NotInTable = codes "only: not in the table"
@@ -52,6 +53,7 @@ fault_text (fault.Names error) = names_text error
 abbrev pub line_end : Fault → List ℕ
 line_end fault.NotText = 10 ∷ []
 line_end (fault.CannotOpen name) = 10 ∷ []
+line_end (fault.IsFolder name) = 10 ∷ []
 line_end (fault.NoFile folder name) = 10 ∷ []
 line_end (fault.Table error) = 10 ∷ []
 line_end fault.NotInTable = 10 ∷ []

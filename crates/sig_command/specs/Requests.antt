@@ -26,7 +26,8 @@ use Rattle.sig_engines.specs.Linted.{AddsReport}
 use Rattle.sig_engines.specs.ManyFiles.{AddsFiles, CutsFiles, IsPrinted, StopsFiles}
 use Rattle.sig_engines.specs.Progress.{AddsProgress, ShowsIf}
 use Rattle.sig_engines.specs.Shown.{show_text}
-use Rattle.sig_engines.specs.Stores.{Has, Holding, Holds, IsAny, IsMade, IsTableFault, IsTableOf, Lacks, SomeFailed}
+use Rattle.sig_engines.specs.Stores.{Has, HasFolder, Holding, Holds, IsAny, IsMade, IsTableFault, IsTableOf, Lacks, SomeFailed}
+use Rattle.sig_engines.specs.Visits.{AreVisits}
 use Rattle.sig_engines.specs.Witnessed.{AddsWitness}
 use Rattle.sig_engines.specs.Witnesses.{IsWitnessOf}
 use Rattle.sig_engines.specs.declared.ask.ConflictsAsk.{ConflictsAsk}
@@ -38,7 +39,7 @@ use Rattle.sig_engines.specs.declared.format_names.NamesError.{NamesError}
 use Rattle.sig_engines.specs.declared.error.PairsFault.TheVariants as pairs
 use Rattle.sig_engines.specs.declared.error.RunError.TheVariants.{OutOfMemory, Read, Write}
 use Rattle.sig_command.specs.declared.fault.Fault.{Fault}
-use Rattle.sig_command.specs.declared.fault.Fault.TheVariants.{CannotOpen, CutShort, FaultyTable, Names, NoFile, NotInTable, NotText, Run, SomeFiles, SummaryOfOne, Table}
+use Rattle.sig_command.specs.declared.fault.Fault.TheVariants.{CannotOpen, CutShort, FaultyTable, IsFolder, Names, NoFile, NotInTable, NotText, Run, SomeFiles, SummaryOfOne, Table}
 use Rattle.sig_command.specs.declared.args.ConflictsOptions.{ConflictsOptions}
 use Rattle.sig_command.specs.declared.args.MatchOptions.{MatchOptions}
 use Rattle.sig_command.specs.declared.args.Request.{Request}
@@ -54,6 +55,7 @@ IsUnopened held paths name = ((name ≡ paths.signatures) × Lacks held paths.si
 abbrev pub IsLoadFault : {R : Type 0} → (R → Bool) → Holding → TablePaths → Fault → Type 0
 IsLoadFault failed held paths NotText = ⊥
 IsLoadFault failed held paths (CannotOpen name) = IsUnopened held paths name
+IsLoadFault failed held paths (IsFolder name) = ⊥
 IsLoadFault failed held paths (NoFile folder witness) = ⊥
 IsLoadFault failed held paths (Table error) = IsTableFault failed held paths error
 IsLoadFault failed held paths NotInTable = ⊥
@@ -68,6 +70,7 @@ IsLoadFault failed held paths (Names error) = ⊥
 abbrev pub IsFileFault : {R : Type 0} → (R → Bool) → Holding → Bor (List ℕ) → Fault → Type 0
 IsFileFault failed held name NotText = ⊥
 IsFileFault failed held name (CannotOpen other) = (other ≡ name) × Lacks held name.now
+IsFileFault failed held name (IsFolder other) = ⊥
 IsFileFault failed held name (NoFile folder witness) = ⊥
 IsFileFault failed held name (Table error) = ⊥
 IsFileFault failed held name NotInTable = ⊥
@@ -79,6 +82,10 @@ IsFileFault failed held name (CutShort error) = ⊥
 IsFileFault failed held name SomeFiles = ⊥
 IsFileFault failed held name FaultyTable = ⊥
 IsFileFault failed held name (Names error) = ⊥
+
+-- a folder has this name
+abbrev pub IsFolderFault : Holding → Bor (List ℕ) → Fault → Type 0
+IsFolderFault held name fault = (fault ≡ IsFolder name) × HasFolder held name.now
 
 -- why there is no answer of the file of this name
 abbrev pub file_fault : Bor (List ℕ) → FileFault → Fault
@@ -94,12 +101,12 @@ pairs_fault (pairs.Cut error) = CutShort error
 -- these are the names in the file of this name, where it is known what the files hold
 abbrev pub AreNamesIn : Holding → List ℕ → NameList → Type 0
 AreNamesIn None path names = ⊤
-AreNamesIn (Some files) path names = (bytes : List ℕ) × (files path ≡ Some bytes) × (names_of (records_of bytes) ≡ Ok names)
+AreNamesIn (Some files) path names = (bytes : List ℕ) × (files.bytes path ≡ Some bytes) × (names_of (records_of bytes) ≡ Ok names)
 
 -- the file of this name is no file of names, where it is known what the files hold; or a read failed
 abbrev pub IsNamesError : {R : Type 0} → (R → Bool) → Holding → List ℕ → NamesError → Type 0
 IsNamesError failed None path error = is_judged error ≡ false → SomeFailed failed
-IsNamesError failed (Some files) path error = (is_judged error ≡ false → SomeFailed failed) × (is_judged error ≡ true → (bytes : List ℕ) × (files path ≡ Some bytes) × (names_of (records_of bytes) ≡ Err error))
+IsNamesError failed (Some files) path error = (is_judged error ≡ false → SomeFailed failed) × (is_judged error ≡ true → (bytes : List ℕ) × (files.bytes path ≡ Some bytes) × (names_of (records_of bytes) ≡ Err error))
 
 -- the names of formats that these options ask for
 abbrev pub AreNamesOf : Holding → Option (Bor Text) → Option NameList → Type 0
@@ -112,6 +119,7 @@ AreNamesOf held (Some path) (Some names) = AreNamesIn held path.now names
 pub record AsksEach (held : Holding) (options : MatchOptions) (ask : MatchAsk) : Type 0 where
   pub all : ask.all ≡ options.all
   pub csv : ask.csv ≡ options.csv
+  pub recursive : ask.recursive ≡ options.recursive
   pub names : AreNamesOf held options.names (option_map (λ n. n.now) ask.names)
 
 -- the file with the names of formats can't be opened, or it is none
@@ -123,6 +131,7 @@ IsNamesFaultOf failed held (Some path) fault = ((fault ≡ CannotOpen path) × L
 abbrev pub IsCutFault : Fault → Type 0
 IsCutFault NotText = ⊥
 IsCutFault (CannotOpen name) = ⊥
+IsCutFault (IsFolder name) = ⊥
 IsCutFault (NoFile folder witness) = ⊥
 IsCutFault (Table error) = ⊥
 IsCutFault NotInTable = ⊥
@@ -164,6 +173,7 @@ NamesMade options name = (options.files ≡ Some name) ⊎ (options.priorities �
 abbrev pub IsConflictsFault : Holding → TablePaths → ConflictsOptions → Fault → Type 0
 IsConflictsFault held paths options NotText = ⊥
 IsConflictsFault held paths options (CannotOpen name) = NamesMade options name
+IsConflictsFault held paths options (IsFolder name) = ⊥
 IsConflictsFault held paths options (NoFile folder name) = (options.files ≡ Some folder) × (t : TableView) × IsTableOf held paths t × (formats : ℕ × ℕ) × IsWitnessOf t formats name
 IsConflictsFault held paths options (Table error) = ⊥
 IsConflictsFault held paths options NotInTable = (t : TableView) × IsTableOf held paths t × NamesNone t options.only
@@ -195,9 +205,9 @@ HasTable held paths = (t : TableView) × IsTableOf held paths t
 abbrev pub IsLaterFault : {R : Type 0} → (R → Bool) → Holding → Request → Fault → Type 0
 IsLaterFault failed held (Show table) fault = fault ≡ Run Write
 IsLaterFault failed held (Lint table) fault = ⊥
-IsLaterFault failed held (Match all table file) fault = IsFileFault failed held file fault
+IsLaterFault failed held (Match all table file) fault = IsFileFault failed held file fault ⊎ IsFolderFault held file fault
 IsLaterFault failed held (MatchMany options table files) fault = (fault ≡ SomeFiles) ⊎ ((fault ≡ Run Write) ⊎ IsNamesFaultOf failed held options.names fault)
-IsLaterFault failed held (MatchListed options table list end) fault = (fault ≡ SomeFiles) ⊎ (IsFileFault failed held list fault ⊎ IsNamesFaultOf failed held options.names fault)
+IsLaterFault failed held (MatchListed options table list end) fault = (fault ≡ SomeFiles) ⊎ ((IsFileFault failed held list fault ⊎ IsFolderFault held list fault) ⊎ IsNamesFaultOf failed held options.names fault)
 IsLaterFault failed held (Find table budget out hex progress) fault = (fault ≡ CannotOpen out) ⊎ (fault ≡ Run Write)
 IsLaterFault failed held (Conflicts table options progress) fault = IsConflictsFault held table options fault
 IsLaterFault failed held (Dead table budget hex progress) fault = IsCutFault fault
@@ -233,6 +243,7 @@ HasBoth held paths = Has held paths.signatures.now × Has held paths.priorities.
 abbrev pub IsLintFault : {R : Type 0} → (R → Bool) → Holding → TablePaths → Fault → Type 0
 IsLintFault failed held paths NotText = ⊥
 IsLintFault failed held paths (CannotOpen name) = IsUnopened held paths name
+IsLintFault failed held paths (IsFolder name) = ⊥
 IsLintFault failed held paths (NoFile folder witness) = ⊥
 IsLintFault failed held paths (Table error) = ⊥
 IsLintFault failed held paths NotInTable = ⊥
@@ -268,8 +279,8 @@ abbrev pub Answers : Holding → Request → Bool → Option (List ℕ) → Opti
 Answers held (Show table) is_yes before after = (is_yes ≡ true) × (t : TableView) × IsTableOf held table t × Adds before (show_text t) after
 Answers held (Lint table) is_yes before after = (is_yes ≡ true) × IsReported true held table before after
 Answers held (Match all table name) is_yes before after = (is_yes ≡ true) × (t : TableView) × IsTableOf held table t × (file : List ℕ) × IsBytes file × Holds held name.now file × AddsLines all t file before after
-Answers held (MatchMany options table files) is_yes before after = (is_yes ≡ true) × (t : TableView) × IsTableOf held table t × (ask : MatchAsk) × AsksEach held options ask × AddsLinesOfEach ask t held (map (λ n. n.now) files.now) before after
-Answers held (MatchListed options table list end) is_yes before after = (is_yes ≡ true) × (t : TableView) × IsTableOf held table t × (ask : MatchAsk) × AsksEach held options ask × (names : List (List ℕ)) × AreListedIn held list.now end names × AddsLinesOfEach ask t held names before after
+Answers held (MatchMany options table files) is_yes before after = (is_yes ≡ true) × (t : TableView) × IsTableOf held table t × (ask : MatchAsk) × AsksEach held options ask × AddsLinesOfEach ask t held (AreVisits ask.recursive held (map (λ n. n.now) files.now)) before after
+Answers held (MatchListed options table list end) is_yes before after = (is_yes ≡ true) × (t : TableView) × IsTableOf held table t × (ask : MatchAsk) × AsksEach held options ask × (names : List (List ℕ)) × AreListedIn held list.now end names × AddsLinesOfEach ask t held (AreVisits ask.recursive held names) before after
 Answers held (Find table budget out hex progress) is_yes before after = (t : TableView) × IsTableOf held table t × AddsFound is_yes hex t budget before after
 Answers held (Conflicts table options progress) is_yes before after = (t : TableView) × IsTableOf held table t × (ask : ConflictsAsk) × AsksPairs options t ask × (refused : List ℕ) × AddsConflicts IsAny is_yes refused ask t before after
 Answers held (Dead table budget hex progress) is_yes before after = (t : TableView) × IsTableOf held table t × AddsFates is_yes hex t budget before after
@@ -302,8 +313,8 @@ abbrev pub IsCutRequest : {R : Type 0} → (R → Bool) → Holding → Request 
 IsCutRequest failed held (Show table) before after = ⊥
 IsCutRequest failed held (Lint table) before after = ⊥
 IsCutRequest failed held (Match all table path) before after = ⊥
-IsCutRequest failed held (MatchMany options table files) before after = (t : TableView) × IsTableOf held table t × (ask : MatchAsk) × AsksEach held options ask × AddsLinesOfSome (head_text ask.csv) (IsPrinted failed ask t held) (map (λ n. n.now) files.now) before after
-IsCutRequest failed held (MatchListed options table list end) before after = (t : TableView) × IsTableOf held table t × (ask : MatchAsk) × AsksEach held options ask × (names : List (List ℕ)) × AreListedIn held list.now end names × AddsLinesOfFirst (head_text ask.csv) (IsPrinted failed ask t held) names before after
+IsCutRequest failed held (MatchMany options table files) before after = (t : TableView) × IsTableOf held table t × (ask : MatchAsk) × AsksEach held options ask × AddsLinesOfSome (head_text ask.csv) (IsPrinted failed ask t held) (AreVisits ask.recursive held (map (λ n. n.now) files.now)) before after
+IsCutRequest failed held (MatchListed options table list end) before after = (t : TableView) × IsTableOf held table t × (ask : MatchAsk) × AsksEach held options ask × (names : List (List ℕ)) × AreListedIn held list.now end names × AddsLinesOfFirst (head_text ask.csv) (IsPrinted failed ask t held) (AreVisits ask.recursive held names) before after
 IsCutRequest failed held (Find table budget out hex progress) before after = ⊥
 IsCutRequest failed held (Conflicts table options progress) before after = (t : TableView) × IsTableOf held table t × (ask : ConflictsAsk) × AsksPairs options t ask × AddsFirstPairs ask t before after
 IsCutRequest failed held (Dead table budget hex progress) before after = (t : TableView) × IsTableOf held table t × AddsFirstFates hex t budget before after
@@ -363,8 +374,8 @@ abbrev pub Shows : {R : Type 0} → (R → Bool) → Holding → Request → Boo
 Shows failed held (Show table) is_answered is_failed before after = ⊥
 Shows failed held (Lint table) is_answered is_failed before after = ⊥
 Shows failed held (Match all table path) is_answered is_failed before after = ⊥
-Shows failed held (MatchMany options table files) is_answered is_failed before after = (is_answered ≡ false) × (t : TableView) × IsTableOf held table t × (ask : MatchAsk) × AsksEach held options ask × (is_failed ≡ false → AddsFaults (IsPrinted failed ask t held) (map (λ n. n.now) files.now) before after)
-Shows failed held (MatchListed options table list end) is_answered is_failed before after = (is_answered ≡ false) × (t : TableView) × IsTableOf held table t × (ask : MatchAsk) × AsksEach held options ask × (names : List (List ℕ)) × AreListedIn held list.now end names × (is_failed ≡ false → AddsFaults (IsPrinted failed ask t held) names before after)
+Shows failed held (MatchMany options table files) is_answered is_failed before after = (is_answered ≡ false) × (t : TableView) × IsTableOf held table t × (ask : MatchAsk) × AsksEach held options ask × (is_failed ≡ false → AddsFaults (IsPrinted failed ask t held) (AreVisits ask.recursive held (map (λ n. n.now) files.now)) before after)
+Shows failed held (MatchListed options table list end) is_answered is_failed before after = (is_answered ≡ false) × (t : TableView) × IsTableOf held table t × (ask : MatchAsk) × AsksEach held options ask × (names : List (List ℕ)) × AreListedIn held list.now end names × (is_failed ≡ false → AddsFaults (IsPrinted failed ask t held) (AreVisits ask.recursive held names) before after)
 Shows failed held (Find table budget out hex progress) is_answered is_failed before after = ((progress ≡ true) × (is_failed ≡ false → AddsProgress Products before after)) ⊎ ((is_answered ≡ true) × (is_failed ≡ false → ShowsReason held table progress hex budget before after))
 Shows failed held (Conflicts table options progress) is_answered is_failed before after = ((progress ≡ true) × (is_failed ≡ false → AddsProgress Pairs before after)) ⊎ ((is_answered ≡ true) × (is_some options.priorities ≡ true) × (is_failed ≡ false → ShowsRefused held table options progress before after))
 Shows failed held (Dead table budget hex progress) is_answered is_failed before after = (progress ≡ true) × (is_failed ≡ false → AddsProgress Formats before after)
@@ -386,12 +397,13 @@ TellsOf failed held request is_answered is_failed written before after =
 
 -- where some of several files have a fault, both outputs are of the same files, of all of them in their order; where a write failed, both are of the first ones; and before every other fault nothing is told
 abbrev pub TellsMany : {R : Type 0} → (R → Bool) → MatchOptions → Holding → TablePaths → List (List ℕ) → Fault → (before after : Option (List ℕ)) (err_failed : Bool) (err_before err_after : Option (List ℕ)) → Type 0
-TellsMany failed options held table names SomeFiles before after err_failed err_before err_after = (t : TableView) × IsTableOf held table t × (ask : MatchAsk) × AsksEach held options ask × AddsFiles (head_text ask.csv) (IsPrinted failed ask t held) names before after err_failed err_before err_after false
-TellsMany failed options held table names (Run Write) before after err_failed err_before err_after = (t : TableView) × IsTableOf held table t × (ask : MatchAsk) × AsksEach held options ask × CutsFiles (head_text ask.csv) (IsPrinted failed ask t held) names before after err_failed err_before err_after
+TellsMany failed options held table names SomeFiles before after err_failed err_before err_after = (t : TableView) × IsTableOf held table t × (ask : MatchAsk) × AsksEach held options ask × AddsFiles (head_text ask.csv) (IsPrinted failed ask t held) (AreVisits ask.recursive held names) before after err_failed err_before err_after false
+TellsMany failed options held table names (Run Write) before after err_failed err_before err_after = (t : TableView) × IsTableOf held table t × (ask : MatchAsk) × AsksEach held options ask × CutsFiles (head_text ask.csv) (IsPrinted failed ask t held) (AreVisits ask.recursive held names) before after err_failed err_before err_after
 TellsMany failed options held table names (Run Read) before after err_failed err_before err_after = err_after ≡ err_before
 TellsMany failed options held table names (Run OutOfMemory) before after err_failed err_before err_after = err_after ≡ err_before
 TellsMany failed options held table names NotText before after err_failed err_before err_after = err_after ≡ err_before
 TellsMany failed options held table names (CannotOpen name) before after err_failed err_before err_after = err_after ≡ err_before
+TellsMany failed options held table names (IsFolder name) before after err_failed err_before err_after = err_after ≡ err_before
 TellsMany failed options held table names (NoFile folder witness) before after err_failed err_before err_after = err_after ≡ err_before
 TellsMany failed options held table names (Table error) before after err_failed err_before err_after = err_after ≡ err_before
 TellsMany failed options held table names NotInTable before after err_failed err_before err_after = err_after ≡ err_before
@@ -402,10 +414,10 @@ TellsMany failed options held table names (Names error) before after err_failed 
 
 -- of files whose names stand in a list the same; and where the list is not read to its end, or memory runs out, both outputs are of the first files
 abbrev pub TellsListed : {R : Type 0} → (R → Bool) → MatchOptions → Holding → TablePaths → List ℕ → ℕ → Fault → (before after : Option (List ℕ)) (err_failed : Bool) (err_before err_after : Option (List ℕ)) → Type 0
-TellsListed failed options held table list end SomeFiles before after err_failed err_before err_after = (t : TableView) × IsTableOf held table t × (ask : MatchAsk) × AsksEach held options ask × (names : List (List ℕ)) × AreListedIn held list end names × AddsFiles (head_text ask.csv) (IsPrinted failed ask t held) names before after err_failed err_before err_after false
-TellsListed failed options held table list end (Run Write) before after err_failed err_before err_after = (t : TableView) × IsTableOf held table t × (ask : MatchAsk) × AsksEach held options ask × (names : List (List ℕ)) × AreListedIn held list end names × CutsFiles (head_text ask.csv) (IsPrinted failed ask t held) names before after err_failed err_before err_after
-TellsListed failed options held table list end (Run Read) before after err_failed err_before err_after = (t : TableView) × IsTableOf held table t × (ask : MatchAsk) × AsksEach held options ask × (names : List (List ℕ)) × AreListedIn held list end names × StopsFiles (head_text ask.csv) (IsPrinted failed ask t held) names before after err_failed err_before err_after
-TellsListed failed options held table list end (Run OutOfMemory) before after err_failed err_before err_after = (err_after ≡ err_before) ⊎ ((t : TableView) × IsTableOf held table t × (ask : MatchAsk) × AsksEach held options ask × (names : List (List ℕ)) × AreListedIn held list end names × StopsFiles (head_text ask.csv) (IsPrinted failed ask t held) names before after err_failed err_before err_after)
+TellsListed failed options held table list end SomeFiles before after err_failed err_before err_after = (t : TableView) × IsTableOf held table t × (ask : MatchAsk) × AsksEach held options ask × (names : List (List ℕ)) × AreListedIn held list end names × AddsFiles (head_text ask.csv) (IsPrinted failed ask t held) (AreVisits ask.recursive held names) before after err_failed err_before err_after false
+TellsListed failed options held table list end (Run Write) before after err_failed err_before err_after = (t : TableView) × IsTableOf held table t × (ask : MatchAsk) × AsksEach held options ask × (names : List (List ℕ)) × AreListedIn held list end names × CutsFiles (head_text ask.csv) (IsPrinted failed ask t held) (AreVisits ask.recursive held names) before after err_failed err_before err_after
+TellsListed failed options held table list end (Run Read) before after err_failed err_before err_after = (t : TableView) × IsTableOf held table t × (ask : MatchAsk) × AsksEach held options ask × (names : List (List ℕ)) × AreListedIn held list end names × StopsFiles (head_text ask.csv) (IsPrinted failed ask t held) (AreVisits ask.recursive held names) before after err_failed err_before err_after
+TellsListed failed options held table list end (Run OutOfMemory) before after err_failed err_before err_after = (err_after ≡ err_before) ⊎ ((t : TableView) × IsTableOf held table t × (ask : MatchAsk) × AsksEach held options ask × (names : List (List ℕ)) × AreListedIn held list end names × StopsFiles (head_text ask.csv) (IsPrinted failed ask t held) (AreVisits ask.recursive held names) before after err_failed err_before err_after)
 TellsListed failed options held table list end _ before after err_failed err_before err_after = err_after ≡ err_before
 
 -- what both outputs are of before the line of a fault: where there are several files, of the same ones

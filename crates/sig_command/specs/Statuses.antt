@@ -3,7 +3,7 @@ use Rattle.std.specs.Prelude.{ℕ}
 use Rattle.clap.specs.declared.error.kind.ErrorKind.{ErrorKind}
 use Rattle.clap.specs.declared.error.kind.ErrorKind.TheVariants.{DisplayHelp, DisplayVersion}
 use Rattle.sig_command.specs.declared.fault.Fault.{Fault}
-use Rattle.sig_command.specs.declared.fault.Fault.TheVariants.{CannotOpen, CutShort, FaultyTable, Names, NoFile, NotInTable, NotText, Run, SomeFiles, SummaryOfOne, Table}
+use Rattle.sig_command.specs.declared.fault.Fault.TheVariants.{CannotOpen, CutShort, FaultyTable, IsFolder, Names, NoFile, NotInTable, NotText, Run, SomeFiles, SummaryOfOne, Table}
 use Rattle.sig_engines.specs.declared.format_names.NamesError.{NamesError}
 use Rattle.sig_engines.specs.declared.format_names.NamesError.TheVariants as names
 use Rattle.sig_table.specs.declared.error.TableError.{TableError}
@@ -25,6 +25,7 @@ names_status _ = 2
 abbrev pub status_of : Fault → ℕ
 status_of NotText = 2
 status_of (CannotOpen name) = 3
+status_of (IsFolder name) = 3
 status_of (NoFile folder name) = 3
 status_of (Table error) = table_status error
 status_of NotInTable = 2

@@ -62,6 +62,10 @@ With --files-from the names of the files stand in NAMES, one a line, or with
 -0 each ended by a NUL. NAMES may be -, standard input. There may be any
 number of names: each file is identified before the next name is read.
 
+With --recursive a folder stands for the files in it and in the folders below
+it, in the order of their names. A link in a folder is not followed, and a
+pipe, a socket or a device there has a line on standard error.
+
 With --csv there are records of CSV in place of lines. The first one names the
 fields: file,puid,signature,name. A file that no format matches has one
 record, with its name alone.
@@ -69,7 +73,7 @@ record, with its name alone.
 With --names each line ends in a tab and the name of its format, and each
 record in that name. FORMATS is a CSV file with the header puid,name.
 
-With these two the file's name is printed also if there is only one FILE.
+With these three the file's name is printed also if there is only one FILE.
 
 Statuses:
   0  each file was read to its end and its answer was printed, even if that is
@@ -237,14 +241,15 @@ pub(crate) struct MatchOptions<'a> {
     pub(crate) all: bool,
     pub(crate) csv: bool,
     pub(crate) names: Option<&'a str>,
+    pub(crate) recursive: bool,
 }
 
 impl MatchOptions<'_> {
     // Whether the names of the files are printed, whatever their number.
     fn is_named(self) -> bool
-        ensures { result ≡ self.entry.csv || is_some self.entry.names }
+        ensures { result ≡ self.entry.csv || (is_some self.entry.names || self.entry.recursive) }
     {
-        self.csv || self.names.is_some()
+        self.csv || (self.names.is_some() || self.recursive)
     }
 }
 
@@ -265,8 +270,8 @@ pub(crate) enum Request<'m, 'a> {
         table: TablePaths<'a>,
         file: &'a str,
     },
-    /// The same for each of several files, or of one with `--with-names`, `--csv` or `--names`,
-    /// after the file's name.
+    /// The same for each of several files, or of one with `--with-names`, `--csv`, `--names` or
+    /// `--recursive`, after the file's name.
     MatchMany {
         options: MatchOptions<'a>,
         table: TablePaths<'a>,
@@ -401,6 +406,7 @@ fn match_line<'a>(alloc: Global) -> Result<Command<'a>, Error>
         .arg(option(alloc, "names", "FORMATS").help(
             "Print the names of formats from this CSV file",
         ))?
+        .arg(flag(alloc, "recursive").help("Identify the files in each folder, and below it"))?
         .arg(option(alloc, "files-from", "NAMES").help(
             "Read the names of the files from this file",
         ))?
@@ -680,6 +686,7 @@ fn match_options<'a>(matches: &ArgMatches<'a>) -> MatchOptions<'a>
         all: matches.get_flag("all"),
         csv: matches.get_flag("csv"),
         names: matches.get_str("FORMATS"),
+        recursive: matches.get_flag("recursive"),
     }
 }
 

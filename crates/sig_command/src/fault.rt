@@ -21,6 +21,8 @@ pub(crate) enum Fault<'a> {
     NotText,
     /// A file can't be opened. It is named as in the words.
     CannotOpen(&'a str),
+    /// A folder, where a file is wanted.
+    IsFolder(&'a str),
     /// The file of two formats can't be made in this folder.
     NoFile(&'a str, WitnessName),
     /// The table is refused, or was not read.
@@ -54,6 +56,7 @@ impl Fault<'_> {
             Fault::Names(NamesError::Read | NamesError::OutOfMemory) => 3,
             Fault::Table(_) | Fault::FaultyTable | Fault::Names(_) => 2,
             Fault::CannotOpen(_)
+            | Fault::IsFolder(_)
             | Fault::NoFile(..)
             | Fault::Run(_)
             | Fault::CutShort(_)
@@ -88,6 +91,7 @@ fn line_end(fault: Fault<'_>) -> &'static str
         Fault::NotText
         | Fault::SummaryOfOne
         | Fault::CannotOpen(_)
+        | Fault::IsFolder(_)
         | Fault::NoFile(..)
         | Fault::Table(_)
         | Fault::NotInTable
@@ -109,6 +113,10 @@ fn write_text<E: Output>(fault: Fault<'_>, err: &mut E) -> Result<(), DeviceFaul
         Fault::CannotOpen(name) => {
             put(err, "cannot open ")?;
             put(err, name)
+        }
+        Fault::IsFolder(name) => {
+            put(err, name)?;
+            put(err, ": is a folder")
         }
         Fault::NoFile(folder, name) => {
             put(err, "cannot open ")?;

@@ -6,15 +6,16 @@
 //! are taken, and which of them names which file.
 
 ghost use Rattle.std.specs.Borrow.{Bor};
-ghost use Rattle.std.specs.Prelude.{◌≡◌, ◌≤◌, ℕ, Bool, List, None, Option, Some, false, true, [], ◌∷◌, ◌++◌, codes, length, map};
+ghost use Rattle.std.specs.Prelude.{◌≡◌, ◌≤◌, ℕ, Bool, List, None, Option, Some, false, true, [], ◌∷◌, codes, length, map};
 ghost use Rattle.clap.specs.Words.{fault_of, takes};
 ghost use Rattle.sig_bits.specs.Device.{Adds};
 ghost use Rattle.sig_command.specs.CommandLine.{AreTableWords, all_named, first_named, one_named, program};
 ghost use Rattle.sig_command.specs.Requests.{Answers, AsksEach};
-ghost use Rattle.sig_command.specs.Several.{AreListedIn, AreTexts, IsOneLineOf};
+ghost use Rattle.sig_command.specs.Several.{AddsOneLineOfEach, AreListedIn};
 ghost use Rattle.sig_command.specs.declared.args.MatchOptions.{MatchOptions};
 ghost use Rattle.sig_command.specs.declared.args.Request.TheVariants.{Check, Match, MatchListed, MatchMany};
-ghost use Rattle.sig_engines.specs.FileTexts.{head_text};
+ghost use Rattle.sig_engines.specs.Stores.{Files};
+ghost use Rattle.sig_engines.specs.Visits.{AreVisits};
 ghost use Rattle.sig_engines.specs.declared.ask.MatchAsk.{MatchAsk};
 ghost use Rattle.sig_engines.specs.Lines.{lines_of};
 ghost use Rattle.sig_engines.specs.declared.store.TablePaths.{TablePaths};
@@ -27,7 +28,7 @@ use clap::error::ErrorKind;
 /// lines: of whatever store that tells what its files hold, of whatever file there, and whoever
 /// made the certificate.
 pub fn accepted_tables_match_once()
-    ensures { (files : List ℕ → Option (List ℕ)) (table : TablePaths) (certificate name : Bor (List ℕ)) (is_yes : Bool)
+    ensures { (files : Files) (table : TablePaths) (certificate name : Bor (List ℕ)) (is_yes : Bool)
         (checked_before checked_after before after : Option (List ℕ))
         → Answers (Some files) (Check table certificate) true checked_before checked_after
         → Answers (Some files) (Match false table name) is_yes before after
@@ -37,18 +38,18 @@ pub fn accepted_tables_match_once()
 /// The same of each of many files, whether words or a list name them: each has one line or record,
 /// of a format or of none.
 pub fn accepted_tables_match_each_once()
-    ensures named { (files : List ℕ → Option (List ℕ)) (table : TablePaths) (certificate : Bor (List ℕ)) (options : MatchOptions) (names : Bor (List (Bor (List ℕ)))) (is_yes : Bool)
+    ensures named { (files : Files) (table : TablePaths) (certificate : Bor (List ℕ)) (options : MatchOptions) (names : Bor (List (Bor (List ℕ)))) (is_yes : Bool)
         (checked_before checked_after before after : Option (List ℕ)) → options.all ≡ false
         → Answers (Some files) (Check table certificate) true checked_before checked_after
         → Answers (Some files) (MatchMany options table names) is_yes before after
         → (t : TableView) × (ask : MatchAsk) × AsksEach (Some files) options ask
-        × (text : List ℕ) × AreTexts (IsOneLineOf ask t) (map (λ n. n.now) names.now) text × Adds before (head_text ask.csv ++ text) after }
-    ensures listed { (files : List ℕ → Option (List ℕ)) (table : TablePaths) (certificate : Bor (List ℕ)) (options : MatchOptions) (list : Bor (List ℕ)) (end : ℕ) (is_yes : Bool)
+        × AddsOneLineOfEach ask t (AreVisits ask.recursive (Some files) (map (λ n. n.now) names.now)) before after }
+    ensures listed { (files : Files) (table : TablePaths) (certificate : Bor (List ℕ)) (options : MatchOptions) (list : Bor (List ℕ)) (end : ℕ) (is_yes : Bool)
         (checked_before checked_after before after : Option (List ℕ)) → options.all ≡ false
         → Answers (Some files) (Check table certificate) true checked_before checked_after
         → Answers (Some files) (MatchListed options table list end) is_yes before after
         → (t : TableView) × (ask : MatchAsk) × AsksEach (Some files) options ask × (names : List (List ℕ)) × AreListedIn (Some files) list.now end names
-        × (text : List ℕ) × AreTexts (IsOneLineOf ask t) names text × Adds before (head_text ask.csv ++ text) after }
+        × AddsOneLineOfEach ask t (AreVisits ask.recursive (Some files) names) before after }
 {}
 
 /// Words that name all files are taken, also where `match` has several, and they ask for no help.

@@ -15,9 +15,9 @@ ghost use Rattle.std.specs.Borrow.{Bor};
 ghost use Rattle.std.specs.Prelude.{None, Some, ◌≡◌, ◌≢◌, ◌<◌, ◌⊎◌, false, is_ok, is_some, length, List, option_map, true, IfErr, IfOk, OnOk};
 ghost use Rattle.clap.specs.Values.{kind_of};
 ghost use Rattle.clap.specs.Words.{Text};
-ghost use Rattle.sig_command.specs.Requests.{Answers, AnswersWords, AreNamesOf, AsksPairs, CutsSomeWords, CutsWords, IsFaultOf, IsLoadFault, IsNamesFaultOf, IsOnly, IsReported, JoinsBoth, KeepsOrCuts, ListsIf, ListsSomeWords, ListsWords, MakesOut, MakesWords, NamesNone, ShowsAsked, ShowsSomeWords, ShowsWords, TellsOf, file_fault, pairs_fault};
+ghost use Rattle.sig_command.specs.Requests.{Answers, AnswersWords, AreNamesOf, AsksPairs, CutsSomeWords, CutsWords, IsFaultOf, IsFolderFault, IsLoadFault, IsNamesFaultOf, IsOnly, IsReported, JoinsBoth, KeepsOrCuts, ListsIf, ListsSomeWords, ListsWords, MakesOut, MakesWords, NamesNone, ShowsAsked, ShowsSomeWords, ShowsWords, TellsOf, file_fault, pairs_fault};
 ghost use Rattle.sig_command.specs.Faults.{TellsWrite};
-ghost use Rattle.sig_engines.specs.Stores.{IsTableOf, Opens, SomeWriteFailed};
+ghost use Rattle.sig_engines.specs.Stores.{IsTableOf, LacksFolder, Opens, SomeWriteFailed};
 ghost use Rattle.sig_command.specs.CommandLine.{AreTaken, texts_of};
 ghost use Rattle.sig_command.specs.Endings.{AnswersBy, EndsByFault, KeepsErrors, KeepsOutput, ReportsBy, ReportsMemory, TellsBy};
 ghost use Rattle.sig_table.specs.Tables.{IsTable};
@@ -273,7 +273,7 @@ fn match_file<'a, S: Store, W: Output>(
     ensures whole { IfErr result (λ fault. W.failed out.new ≡ false → out.new ≡ out.old) }
 {
     let core = BlockCore::new(alloc, load(store, alloc, table)?);
-    let mut file = open(store, name)?;
+    let mut file = open_file(store, name)?;
     match run_match(alloc, &core, all, &mut file, out) {
         Ok(()) => Ok(true),
         Err(error) => Err(Fault::Run(error)),
@@ -338,7 +338,7 @@ fn match_listed<'a, S: Store, W: Output, E: Output>(
 {
     let table = load(store, alloc, table)?;
     let names = format_names(store, alloc, options.names)?;
-    let file = open(store, list)?;
+    let file = open_file(store, list)?;
     let core = BlockCore::prepared(alloc, table);
     let Ok(mut list) = NameReader::new(alloc, file, end) else {
         return Err(Fault::Run(RunError::OutOfMemory));
@@ -376,11 +376,13 @@ fn match_ask<'n>(options: MatchOptions<'_>, names: &'n Option<FormatNames>) -> M
     ensures all { result.all ≡ options.entry.all }
     ensures csv { result.csv ≡ options.entry.csv }
     ensures names { option_map (λ n. n.now) result.names ≡ names.now }
+    ensures recursive { result.recursive ≡ options.entry.recursive }
 {
     MatchAsk {
         all: options.all,
         csv: options.csv,
         names: names.as_ref(),
+        recursive: options.recursive,
     }
 }
 
@@ -606,6 +608,19 @@ fn open<'a, S: Store>(store: &S, name: &'a str) -> Result<S::Reader, Fault<'a>>
         Some(file) => Ok(file),
         None => Err(Fault::CannotOpen(name)),
     }
+}
+
+// Opens a file that may turn out to be a folder, which would open, too, and fail where it is read.
+fn open_file<'a, S: Store>(store: &S, name: &'a str) -> Result<S::Reader, Fault<'a>>
+    ensures opens { IfOk result (λ file. Opens (S.held store.now) name.entry.now (Some (S.Reader.to_come file))) }
+    ensures unopened { IfErr result (λ fault. ((fault ≡ Fault.CannotOpen name.entry) × Opens (S.held store.now) name.entry.now None)
+        ⊎ IsFolderFault (S.held store.now) name.entry fault) }
+    ensures file { OnOk result (LacksFolder (S.held store.now) name.entry.now) }
+{
+    if store.is_folder(name) {
+        return Err(Fault::IsFolder(name));
+    }
+    open(store, name)
 }
 
 // What `clap` says: help is an answer, and all else a fault of the words, unless memory ran out.

@@ -3,6 +3,7 @@ mod AnyLemmas
 mod CsvLemmas
 pub mod Exports
 mod FateLemmas
+mod FolderLemmas
 mod ForcedLemmas
 mod FormatNameLemmas
 mod FoundLemmas

@@ -18,6 +18,7 @@ pub mod Shown
 pub mod Stores
 pub mod Tellings
 pub mod Texts
+pub mod Visits
 pub mod Witnessed
 pub mod Witnesses
 pub mod Writing
@@ -36,3 +37,4 @@ pub use Rattle.sig_table.specs.Views
 pub mod Metered
 pub mod Pairs
 pub mod Ranking
+pub mod Waiting

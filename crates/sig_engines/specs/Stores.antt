@@ -1,35 +1,73 @@
 -- What a store holds, and what it gives.
-use Rattle.std.specs.Prelude.{◌≡◌, ◌⊎◌, ℕ, ⊤, Bool, true, false, List, [], Option, None, Some, IsSome, option_map, Result, Ok, Err}
+use Rattle.std.specs.Prelude.{◌≡◌, ◌≢◌, ◌⊎◌, ℕ, ⊤, Bool, true, false, List, [], Option, None, Some, IsSome, is_some, option_map, string_bytes, Result, Ok, Err}
 use Rattle.sig_bits.specs.Device.{Adds}
 use Rattle.sig_table.specs.Judging.{is_judged, is_read}
 use Rattle.sig_table.specs.Loading.{records_of, table_of}
 use Rattle.sig_table.specs.Tables.{IsTable}
 use Rattle.sig_table.specs.Views.{TableView}
 use Rattle.sig_table.specs.declared.error.TableError.{TableError}
+use Rattle.sig_engines.specs.declared.error.FileFault.{FileFault}
+use Rattle.sig_engines.specs.declared.error.FileFault.TheVariants.{CannotOpen, Run}
+use Rattle.sig_engines.specs.declared.error.RunError.TheVariants.{OutOfMemory, Write}
+use Rattle.sig_engines.specs.declared.store.Entry.{Entry}
+use Rattle.sig_engines.specs.declared.store.EntryKind.{EntryKind}
 use Rattle.sig_engines.specs.declared.store.TablePaths.{TablePaths}
 
--- the bytes of the file of each name, and nothing for a name without a file, where that is known
+-- what stands in a folder: its name, with the folder's before it, and its kind
+pub record Item : Type 0 where
+  pub name : List ℕ
+  pub kind : EntryKind
+
+-- what an entry tells of it
+abbrev pub item_of : Entry → Item
+item_of entry = record { name = string_bytes entry.name; kind = entry.kind }
+
+-- the bytes of the file of each name, and nothing for a name without a file; and what stands in the folder of each name, and nothing for a name without a folder
+pub record Files : Type 0 where
+  pub bytes : List ℕ → Option (List ℕ)
+  pub items : List ℕ → Option (List Item)
+
+-- the files and folders of a store, where they are known
 abbrev pub Holding : Type 0
-Holding = Option (List ℕ → Option (List ℕ))
+Holding = Option Files
 
 -- the file of this name has these bytes, where that is known
 abbrev pub Holds : Holding → List ℕ → List ℕ → Type 0
 Holds None name bytes = ⊤
-Holds (Some files) name bytes = files name ≡ Some bytes
+Holds (Some files) name bytes = files.bytes name ≡ Some bytes
 
 -- there is a file of this name, or there is none, where that is known
 abbrev pub Has : Holding → List ℕ → Type 0
 Has None name = ⊤
-Has (Some files) name = IsSome (files name)
+Has (Some files) name = IsSome (files.bytes name)
 
 abbrev pub Lacks : Holding → List ℕ → Type 0
 Lacks None name = ⊤
-Lacks (Some files) name = files name ≡ None
+Lacks (Some files) name = files.bytes name ≡ None
 
 -- a name that has a file is opened, with the file's bytes to come, and no other name is
 abbrev pub Opens : Holding → List ℕ → Option (Option (List ℕ)) → Type 0
 Opens None name opened = ⊤
-Opens (Some files) name opened = opened ≡ option_map Some (files name)
+Opens (Some files) name opened = opened ≡ option_map Some (files.bytes name)
+
+-- there is a folder of this name, or there is none, where that is known
+abbrev pub HasFolder : Holding → List ℕ → Type 0
+HasFolder None name = ⊤
+HasFolder (Some files) name = is_some (files.items name) ≡ true
+
+abbrev pub LacksFolder : Holding → List ℕ → Type 0
+LacksFolder None name = ⊤
+LacksFolder (Some files) name = is_some (files.items name) ≡ false
+
+-- these stand in the folder of this name, where that is known
+abbrev pub Lists : Holding → List ℕ → List Item → Type 0
+Lists None name items = ⊤
+Lists (Some files) name items = files.items name ≡ Some items
+
+-- why what stands in the folder of this name is not told: there is no such folder, where that is known, a read failed or memory ran out
+abbrev pub IsUnlisted : Holding → List ℕ → FileFault → Type 0
+IsUnlisted None name fault = fault ≢ Run Write
+IsUnlisted (Some files) name fault = (fault ≡ Run OutOfMemory) ⊎ ((fault ≡ CannotOpen) × (files.items name ≡ None))
 
 -- of a file that is made nothing is written yet
 abbrev pub Makes : Holding → Option (List ℕ) → Type 0
@@ -71,7 +109,7 @@ SomeWriteFailed failed is_failed = (is_failed ≡ true) ⊎ SomeMadeFailed faile
 -- the two files of these names are read as this table, or as this fault of one, where it is known what they hold
 abbrev pub ReadsAs : Holding → TablePaths → Result TableView TableError → Type 0
 ReadsAs None paths read = ⊤
-ReadsAs (Some files) paths read = (signatures priorities : List ℕ) × (files paths.signatures.now ≡ Some signatures) × (files paths.priorities.now ≡ Some priorities) × (table_of (records_of signatures) (records_of priorities) ≡ read)
+ReadsAs (Some files) paths read = (signatures priorities : List ℕ) × (files.bytes paths.signatures.now ≡ Some signatures) × (files.bytes paths.priorities.now ≡ Some priorities) × (table_of (records_of signatures) (records_of priorities) ≡ read)
 
 -- the table of the two files of these names
 pub record IsTableOf (held : Holding) (paths : TablePaths) (table : TableView) : Type 0 where

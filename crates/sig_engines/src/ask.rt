@@ -15,6 +15,8 @@ pub struct MatchAsk<'n> {
     pub csv: bool,
     /// The names of formats, which stand behind each line, or in the last field of a record.
     pub names: Option<&'n FormatNames>,
+    /// The files in each folder, and in those below it, in place of a fault.
+    pub recursive: bool,
 }
 
 /// What `conflicts` is asked for.

@@ -54,6 +54,21 @@ pub enum FileFault {
     Run(RunError),
 }
 
+/// Why nothing is identified under a name.
+#[derive(Clone, Copy, Debug, PartialEq, Eq)]
+pub enum NameFault {
+    /// The file has no answer, or the folder is not listed.
+    File(FileFault),
+    /// A folder, where its files are not asked for.
+    IsFolder,
+    /// A pipe, a socket or a device that stands in a folder.
+    NotRegular,
+    /// The folder of this name has a name in it that is no text.
+    NotText,
+    /// A folder below so many others that it is not listed.
+    TooDeep,
+}
+
 /// Why an engine stopped before its last line. The lines that it wrote until then stand.
 #[derive(Clone, Copy, Debug, PartialEq, Eq)]
 pub enum CutShort {

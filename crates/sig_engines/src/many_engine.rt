@@ -9,15 +9,16 @@ ghost use Rattle.sig_bits.specs.Device.{Adds, AddsFront};
 ghost use Rattle.sig_engines.specs.FileTexts.{head_text};
 ghost use Rattle.sig_engines.specs.Listed.{end_of, has_failed, unread_of};
 ghost use Rattle.sig_engines.specs.Writing.{Prints};
-ghost use Rattle.sig_engines.specs.ManyFiles.{AddsFiles, AddsListed, AddsPrinted, CutsFiles, CutsListed, CutsPrinted, IsPrinted, StopsListed, file_fault_line};
+ghost use Rattle.sig_engines.specs.ManyFiles.{AddsFiles, AddsListed, AddsPrinted, CutsFiles, CutsListed, CutsPrinted, IsPrinted, StopsListed};
+ghost use Rattle.sig_engines.specs.Visits.{AreOf, AreVisits};
 
 use crate::ask::MatchAsk;
-use crate::error::{FileFault, RunError};
-use crate::match_engine::text_of_match;
+use crate::error::{NameFault, RunError};
+use crate::folder_engine::match_folder;
 use crate::name_reader::NameReader;
+use crate::named_file::{match_file, tell, tell_unopened};
 use crate::store::Store;
-use crate::writing::put;
-use sig_bits::{DeviceFault, Input, Output};
+use sig_bits::{Input, Output};
 use sig_core::DroidCore;
 use std::alloc::Global;
 use std::str;
@@ -50,7 +51,7 @@ pub fn run_match_many<S: Store, K: DroidCore, W: Output, E: Output>(
     write_head(ask, out)?;
     let mut is_whole = true;
     for name in names {
-        is_whole &= match_file(alloc, store, core, ask, name, out, err)?;
+        is_whole &= match_name(alloc, store, core, ask, name, out, err)?;
     }
     Ok(is_whole)
 }
@@ -70,7 +71,7 @@ pub fn run_match_listed<S: Store, K: DroidCore, I: Input + Drop, W: Output, E: O
     out: &mut W,
     err: &mut E,
 ) -> Result<bool, RunError>
-    ensures answers { IfOk result (AddsListed (head_text ask.entry.csv) (IsPrinted S.Reader.failed ask.entry (K.lists core.now) (S.held store.now))
+    ensures answers { IfOk result (AddsListed (head_text ask.entry.csv) (IsPrinted S.Reader.failed ask.entry (K.lists core.now) (S.held store.now)) (AreVisits ask.entry.recursive (S.held store.now))
         (end_of list.old) (unread_of I.to_come list.old) (W.written out.old) (W.written out.new) (E.failed err.new) (E.written err.old) (E.written err.new)) }
     ensures quiet { result ≡ Ok true → err.new ≡ err.old }
     ensures sound { OnOk result (W.failed out.new ≡ false) }
@@ -78,9 +79,9 @@ pub fn run_match_listed<S: Store, K: DroidCore, I: Input + Drop, W: Output, E: O
     // Each refusal, and when.
     ensures write { IsErrOf result RunError.Write → W.failed out.new ≡ true }
     ensures read { IsErrOf result RunError.Read → has_failed I.failed list.new ≡ true }
-    ensures stopped { IfErr result (λ e. e ≢ RunError.Write → StopsListed (head_text ask.entry.csv) (IsPrinted S.Reader.failed ask.entry (K.lists core.now) (S.held store.now))
+    ensures stopped { IfErr result (λ e. e ≢ RunError.Write → StopsListed (head_text ask.entry.csv) (IsPrinted S.Reader.failed ask.entry (K.lists core.now) (S.held store.now)) (AreVisits ask.entry.recursive (S.held store.now))
         (end_of list.old) (unread_of I.to_come list.old) (W.written out.old) (W.written out.new) (E.failed err.new) (E.written err.old) (E.written err.new)) }
-    ensures cut { IfErr result (λ e. CutsListed (head_text ask.entry.csv) (IsPrinted S.Reader.failed ask.entry (K.lists core.now) (S.held store.now))
+    ensures cut { IfErr result (λ e. CutsListed (head_text ask.entry.csv) (IsPrinted S.Reader.failed ask.entry (K.lists core.now) (S.held store.now)) (AreVisits ask.entry.recursive (S.held store.now))
         (end_of list.old) (unread_of I.to_come list.old) (W.written out.old) (W.written out.new) (E.failed err.new) (E.written err.old) (E.written err.new)) }
 {
     write_head(ask, out)?;
@@ -118,8 +119,8 @@ fn head(ask: MatchAsk<'_>) -> &'static str
     }
 }
 
-// Writes what is asked of the file of a name that stands in a list, or tells its fault. Answers
-// whether it has none.
+// Writes what is asked of a name that stands in a list, or tells its fault. Answers whether it has
+// none.
 fn match_listed<S: Store, K: DroidCore, W: Output, E: Output>(
     alloc: Global,
     store: &S,
@@ -129,28 +130,28 @@ fn match_listed<S: Store, K: DroidCore, W: Output, E: Output>(
     out: &mut W,
     err: &mut E,
 ) -> Result<bool, RunError>
-    ensures answers { IfOk result (AddsFiles [] (IsPrinted S.Reader.failed ask.entry (K.lists core.now) (S.held store.now)) (name.now ∷ [])
+    ensures answers { IfOk result (AddsFiles [] (IsPrinted S.Reader.failed ask.entry (K.lists core.now) (S.held store.now)) (AreOf ask.entry.recursive (S.held store.now) name.now)
         (W.written out.old) (W.written out.new) (E.failed err.new) (E.written err.old) (E.written err.new)) }
     ensures quiet { result ≡ Ok true → err.new ≡ err.old }
     ensures writes { OnOk result (W.failed out.old ≡ false → W.failed out.new ≡ false) }
-    ensures stays_failed { OnOk result (E.failed err.new ≡ false → E.failed err.old ≡ false) }
+    ensures stays_failed { E.failed err.new ≡ false → E.failed err.old ≡ false }
 
     // The one refusal, and when.
     ensures write { IfErr result (λ e. e ≡ RunError.Write) }
     ensures failed { IfErr result (λ e. W.failed out.new ≡ true) }
-    ensures cut { IfErr result (λ e. CutsFiles [] (IsPrinted S.Reader.failed ask.entry (K.lists core.now) (S.held store.now)) (name.now ∷ [])
+    ensures cut { IfErr result (λ e. CutsFiles [] (IsPrinted S.Reader.failed ask.entry (K.lists core.now) (S.held store.now)) (AreOf ask.entry.recursive (S.held store.now) name.now)
         (W.written out.old) (W.written out.new) (E.failed err.new) (E.written err.old) (E.written err.new)) }
-    ensures untouched { IfErr result (λ e. err.new ≡ err.old) }
 {
     let Ok(text) = str::from_utf8(name) else {
         let _ = tell_unopened(name, err);
         return Ok(false);
     };
-    match_file(alloc, store, core, ask, text, out, err)
+    match_name(alloc, store, core, ask, text, out, err)
 }
 
-// Writes what is asked of one file, or tells its fault. Answers whether it has none.
-fn match_file<S: Store, K: DroidCore, W: Output, E: Output>(
+// Writes what is asked of one file, or of those in a folder, or tells the fault. Answers whether
+// there is none.
+fn match_name<S: Store, K: DroidCore, W: Output, E: Output>(
     alloc: Global,
     store: &S,
     core: &K,
@@ -159,78 +160,24 @@ fn match_file<S: Store, K: DroidCore, W: Output, E: Output>(
     out: &mut W,
     err: &mut E,
 ) -> Result<bool, RunError>
-    ensures answers { IfOk result (AddsFiles [] (IsPrinted S.Reader.failed ask.entry (K.lists core.now) (S.held store.now)) (name.now ∷ [])
+    ensures answers { IfOk result (AddsFiles [] (IsPrinted S.Reader.failed ask.entry (K.lists core.now) (S.held store.now)) (AreOf ask.entry.recursive (S.held store.now) name.now)
         (W.written out.old) (W.written out.new) (E.failed err.new) (E.written err.old) (E.written err.new)) }
     ensures quiet { result ≡ Ok true → err.new ≡ err.old }
     ensures writes { OnOk result (W.failed out.old ≡ false → W.failed out.new ≡ false) }
-    ensures shown { result ≡ Ok true → W.failed out.new ≡ false }
-    ensures stays_failed { OnOk result (E.failed err.new ≡ false → E.failed err.old ≡ false) }
+    ensures stays_failed { E.failed err.new ≡ false → E.failed err.old ≡ false }
 
     // The one refusal, and when.
     ensures write { IfErr result (λ e. e ≡ RunError.Write) }
     ensures failed { IfErr result (λ e. W.failed out.new ≡ true) }
-    ensures cut { IfErr result (λ e. CutsFiles [] (IsPrinted S.Reader.failed ask.entry (K.lists core.now) (S.held store.now)) (name.now ∷ [])
+    ensures cut { IfErr result (λ e. CutsFiles [] (IsPrinted S.Reader.failed ask.entry (K.lists core.now) (S.held store.now)) (AreOf ask.entry.recursive (S.held store.now) name.now)
         (W.written out.old) (W.written out.new) (E.failed err.new) (E.written err.old) (E.written err.new)) }
-    ensures untouched { IfErr result (λ e. err.new ≡ err.old) }
 {
-    match text_of_name(alloc, store, core, ask, name) {
-        Ok(text) => match out.write_all(&text) {
-            Ok(()) => Ok(true),
-            Err(_) => Err(RunError::Write),
-        },
-        Err(fault) => {
-            let _ = tell(name, fault, err);
-            Ok(false)
-        }
+    if !store.is_folder(name) {
+        return match_file(alloc, store, core, ask, name, out, err);
     }
-}
-
-// What is written of the file of this name.
-fn text_of_name<S: Store, K: DroidCore>(
-    alloc: Global,
-    store: &S,
-    core: &K,
-    ask: MatchAsk<'_>,
-    name: &str,
-) -> Result<Vec<u8>, FileFault>
-    ensures text { IfOk result (λ text. IsPrinted S.Reader.failed ask.entry (K.lists core.now) (S.held store.now) name.now (Ok text.items)) }
-    ensures fault { IfErr result (λ fault. IsPrinted S.Reader.failed ask.entry (K.lists core.now) (S.held store.now) name.now (Err fault)) }
-{
-    let Some(mut file) = store.open(name) else {
-        return Err(FileFault::CannotOpen);
-    };
-    match text_of_match(alloc, core, ask, name, &mut file) {
-        Ok(text) => Ok(text),
-        Err(error) => Err(FileFault::Run(error)),
+    if ask.recursive {
+        return match_folder(alloc, store, core, ask, name, out, err);
     }
-}
-
-// Writes the line of a fault in pieces, which takes no memory.
-fn tell<E: Output>(name: &str, fault: FileFault, err: &mut E) -> Result<(), DeviceFault>
-    ensures prints { Prints result (file_fault_line name.now fault) (E.written err.old) (E.written err.new) (E.failed err.new) }
-    ensures sound { E.failed err.new ≡ false → E.failed err.old ≡ false }
-{
-    match fault {
-        FileFault::CannotOpen => tell_unopened(name.as_bytes(), err),
-        FileFault::Run(error) => tell_unmatched(name, error, err),
-    }
-}
-
-fn tell_unopened<E: Output>(name: &[u8], err: &mut E) -> Result<(), DeviceFault>
-    ensures prints { Prints result (file_fault_line name.now FileFault.CannotOpen) (E.written err.old) (E.written err.new) (E.failed err.new) }
-    ensures sound { E.failed err.new ≡ false → E.failed err.old ≡ false }
-{
-    put(err, "cannot open ")?;
-    err.write_all(name)?;
-    put(err, "\n")
-}
-
-fn tell_unmatched<E: Output>(name: &str, error: RunError, err: &mut E) -> Result<(), DeviceFault>
-    ensures prints { Prints result (file_fault_line name.now (FileFault.Run error)) (E.written err.old) (E.written err.new) (E.failed err.new) }
-    ensures sound { E.failed err.new ≡ false → E.failed err.old ≡ false }
-{
-    put(err, name)?;
-    put(err, ": ")?;
-    put(err, error.text())?;
-    put(err, "\n")
+    let _ = tell(name, NameFault::IsFolder, err);
+    Ok(false)
 }

@@ -9,12 +9,14 @@
 //! program's line is `read failed`. No clause says when a store refuses a name, nor that
 //! `SystemFiles` ever opens or makes a file: `.ci/program` shows that it does.
 
-ghost use Rattle.std.specs.Prelude.{◌≡◌, ℕ, false, IfSome, List, None, Option, option_map};
-ghost use Rattle.sig_engines.specs.Stores.{Holding, IsNamed, Makes, Opens};
+ghost use Rattle.std.specs.Prelude.{◌≡◌, ◌≢◌, ℕ, false, IfErr, IfOk, IfSome, List, map, None, Option, option_map, true};
+ghost use Rattle.sig_engines.specs.Stores.{HasFolder, Holding, IsNamed, IsUnlisted, LacksFolder, Lists, Makes, Opens, item_of};
 
+use crate::error::{FileFault, RunError};
 use sig_bits::{FromRead, FromWrite, Input, Output};
-use std::fs;
+use std::alloc::Global;
 use std::rt::Files;
+use std::{fs, io};
 
 /// A store of files.
 pub trait Store {
@@ -42,9 +44,39 @@ pub trait Store {
         ensures makes { IfSome result (λ file. Makes (held self.now) (Self.Writer.written file)) }
         ensures fresh { IfSome result (λ file. Self.Writer.failed file ≡ false) };
 
+    /// Whether there is a folder of this name, or a link to one.
+    fn is_folder(&self, name: &str) -> bool
+        ensures has { result ≡ true → HasFolder (held self.now) name.now }
+        ensures lacks { result ≡ false → LacksFolder (held self.now) name.now };
+
+    /// What stands in a folder, in the order of the bytes of the names. Links are left out.
+    fn list(&self, alloc: Global, folder: &str) -> Result<Vec<Entry>, FileFault>
+        ensures lists { IfOk result (λ entries. Lists (held self.now) folder.now (map item_of entries.items)) }
+        ensures fault { IfErr result (IsUnlisted (held self.now) folder.now) };
+
     /// Makes a folder of this name, and those that it lies in, where they are missing. Answers
     /// whether it is there.
     fn make_folder(&self, name: &str) -> bool;
+}
+
+/// What stands in a folder.
+#[derive(Debug, Drop)]
+pub struct Entry {
+    /// Its name, with the folder's before it; of a name that is no text the folder's alone.
+    pub name: String,
+    pub kind: EntryKind,
+}
+
+/// What an entry of a folder is.
+#[derive(Clone, Copy, Debug, PartialEq, Eq)]
+pub enum EntryKind {
+    /// A regular file, or one that was gone when it was asked for.
+    File,
+    Folder,
+    /// A pipe, a socket or a device.
+    NotRegular,
+    /// Something with a name that is no text.
+    NotText,
 }
 
 /// The names of the two files of a table.
@@ -89,7 +121,78 @@ impl<R: Files> Store for SystemFiles<'_, R> {
         }
     }
 
+    fn is_folder(&self, name: &str) -> bool {
+        match fs::metadata(self.rt, name) {
+            Ok(metadata) => metadata.is_dir(),
+            Err(_) => false,
+        }
+    }
+
+    fn list(&self, alloc: Global, folder: &str) -> Result<Vec<Entry>, FileFault> {
+        let Ok(found) = fs::read_dir(&(self.rt, alloc), folder) else {
+            return Err(FileFault::CannotOpen);
+        };
+        let mut entries = Vec::new(alloc);
+        for next in found {
+            let entry = match next {
+                Ok(entry) => entry_of(alloc, self.rt, entry.path().as_str()),
+                Err(error) => unnamed_entry(alloc, folder, error.kind()),
+            };
+            if let Some(entry) = entry? {
+                push_entry(&mut entries, entry)?;
+            }
+        }
+        entries.sort_unstable_by(|a, b| a.name.cmp(&b.name));
+        Ok(entries)
+    }
+
     fn make_folder(&self, name: &str) -> bool {
         fs::create_dir_all(self.rt, name).is_ok()
+    }
+}
+
+// What stands under this name of a folder, unless it is a link.
+fn entry_of<R: Files>(alloc: Global, rt: &R, name: &str) -> Result<Option<Entry>, FileFault>
+    ensures { IfErr result (λ fault. fault ≢ FileFault.Run RunError.Write) }
+{
+    let kind = match fs::symlink_metadata(rt, name) {
+        Ok(metadata) if metadata.is_symlink() => return Ok(None),
+        Ok(metadata) if metadata.is_dir() => EntryKind::Folder,
+        Ok(metadata) if !metadata.is_file() => EntryKind::NotRegular,
+        _ => EntryKind::File,
+    };
+    new_entry(alloc, name, kind)
+}
+
+// What a folder does not name.
+fn unnamed_entry(
+    alloc: Global,
+    folder: &str,
+    error: io::ErrorKind,
+) -> Result<Option<Entry>, FileFault>
+    ensures { IfErr result (λ fault. fault ≢ FileFault.Run RunError.Write) }
+{
+    match error {
+        io::ErrorKind::InvalidFilename => new_entry(alloc, folder, EntryKind::NotText),
+        io::ErrorKind::OutOfMemory => Err(FileFault::Run(RunError::OutOfMemory)),
+        _ => Err(FileFault::Run(RunError::Read)),
+    }
+}
+
+fn new_entry(alloc: Global, name: &str, kind: EntryKind) -> Result<Option<Entry>, FileFault>
+    ensures { IfErr result (λ fault. fault ≢ FileFault.Run RunError.Write) }
+{
+    match String::from_str(alloc, name) {
+        Ok(name) => Ok(Some(Entry { name, kind })),
+        Err(_) => Err(FileFault::Run(RunError::OutOfMemory)),
+    }
+}
+
+fn push_entry(entries: &mut Vec<Entry>, entry: Entry) -> Result<(), FileFault>
+    ensures { IfErr result (λ fault. fault ≢ FileFault.Run RunError.Write) }
+{
+    match entries.push(entry) {
+        Ok(()) => Ok(()),
+        Err(_) => Err(FileFault::Run(RunError::OutOfMemory)),
     }
 }

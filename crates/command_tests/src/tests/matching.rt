@@ -101,7 +101,6 @@ const OPENED: &[Fault] = &[
     Fault(&["match", P, P, "none"], 2, "signatures: L2 header\n"),
     Fault(&["match", "@", P, F], 3, "read failed\n"),
     Fault(&["match", S, "@", F], 3, "read failed\n"),
-    Fault(&["match", S, P, "@"], 3, "read failed\n"),
 ];
 
 #[test]

@@ -5,6 +5,8 @@ use crate::tests::{Fault, P, S, first_untold, make_with, path_of, put, remove, r
 use fixtures::{Room, Rows};
 use sig_bits::FromWrite;
 use sig_command::command;
+use std::fs;
+use std::rt::Files;
 use std::test::Fail;
 
 // A format whose files begin with `A`, below one whose files begin with `AB`.
@@ -67,6 +69,7 @@ const MANY: &[Answered] = &[
         "",
     ),
     Answered(&["match", S, P, "@/none.bin"], 0, "", ""),
+    Answered(&["match", S, P, "@"], 3, "", "@: is a folder\n"),
 ];
 
 #[test]
@@ -129,7 +132,7 @@ const WITH_NAMES: &[Answered] = &[
         &["match", "--with-names", S, P, "@"],
         3,
         "",
-        "@: read failed\n",
+        "@: is a folder\n",
     ),
 ];
 
@@ -357,8 +360,8 @@ const LISTED: &[Answered] = &[
     Answered(
         &["match", "--csv", "--files-from", "@", S, P],
         3,
-        "file,puid,signature,name\n",
-        "read failed\n",
+        "",
+        "@: is a folder\n",
     ),
     Answered(
         &["match", "--files-from", "@/missing", S, "none.csv"],
@@ -392,6 +395,87 @@ fn takes_the_names_of_the_files_from_a_list(rt: HostRuntime) -> Result<(), Fail>
     remove(&rt, folder)
 }
 
+// A folder with one below it, from which a link leads back, and a link to the folder.
+fn put_folders(rt: &HostRuntime, folder: &str) -> Result<(), Fail> {
+    let path = path_of(rt, folder)?;
+    fs::create_dir_all(rt, text_in(rt, folder, "@/deep/down/empty")?.as_str())?;
+    put(rt, folder, "deep/one.bin", b"AC")?;
+    put(rt, folder, "deep/down/both.bin", b"AB")?;
+    put(rt, folder, "deep/z.bin", b"B")?;
+    rt.symlink(
+        path.as_str(),
+        text_in(rt, folder, "@/deep/down/back")?.as_str(),
+    )?;
+    rt.symlink("deep", text_in(rt, folder, "@/link")?.as_str())?;
+    put_text(rt, folder, "names", "@/deep/down\n@/deep/z.bin\n")
+}
+
+// Folders are gone through in the order of the names that stand in them, and links in them are not
+// followed.
+const RECURSIVE: &[Answered] = &[
+    Answered(
+        &["match", "--recursive", S, P, "@/deep"],
+        0,
+        "@/deep/down/both.bin\tfmt/2 2\n@/deep/one.bin\tfmt/1 1\n@/deep/z.bin\t-\n",
+        "",
+    ),
+    Answered(
+        &[
+            "match",
+            "--recursive",
+            "--csv",
+            S,
+            P,
+            "@/link/down",
+            "@/deep/z.bin",
+        ],
+        0,
+        "file,puid,signature,name\n@/link/down/both.bin,fmt/2,2,\n@/deep/z.bin,,,\n",
+        "",
+    ),
+    Answered(
+        &["match", "--recursive", "--files-from", "@/names", S, P],
+        0,
+        "@/deep/down/both.bin\tfmt/2 2\n@/deep/z.bin\t-\n",
+        "",
+    ),
+    Answered(
+        &["match", "--files-from", "@/names", S, P],
+        3,
+        "@/deep/z.bin\t-\n",
+        "@/deep/down: is a folder\n",
+    ),
+    Answered(
+        &["match", "--recursive", S, P, "@/deep/down/empty/"],
+        0,
+        "",
+        "",
+    ),
+    Answered(
+        &["match", "--recursive", S, P, "@/deep/z.bin"],
+        0,
+        "@/deep/z.bin\t-\n",
+        "",
+    ),
+    Answered(
+        &["match", "--recursive", S, P, "@/missing", "@/deep/z.bin"],
+        3,
+        "@/deep/z.bin\t-\n",
+        "cannot open @/missing\n",
+    ),
+];
+
+#[test]
+fn identifies_the_files_in_folders(rt: HostRuntime) -> Result<(), Fail> {
+    let folder = "folders";
+    make_with(&rt, folder, BELOW)?;
+    put_folders(&rt, folder)?;
+    for row in RECURSIVE {
+        assert!(rt; is_answered(&rt, folder, row)?, "{:?}", row.0);
+    }
+    remove(&rt, folder)
+}
+
 const GOING_ON: &Answered = &Answered(
     &[
         "match",
@@ -404,7 +488,7 @@ const GOING_ON: &Answered = &Answered(
     ],
     3,
     "@/one.bin\tfmt/1 1\n@/one.bin\tfmt/1 1\n",
-    "cannot open @/missing.bin\n@: read failed\n",
+    "cannot open @/missing.bin\n@: is a folder\n",
 );
 
 #[test]

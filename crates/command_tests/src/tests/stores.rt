@@ -2,7 +2,7 @@
 //! fail.
 
 use crate::tests::{Shown, words_in};
-use fixtures::{Failing, Memory, Named};
+use fixtures::{Failing, Memory, NO_FOLDER, Named};
 use sig_bits::FromWrite;
 use sig_command::command_over;
 use sig_engines::Store;
@@ -140,6 +140,8 @@ fn is_answered(rt: &HostRuntime, row: &Answered) -> Result<bool, Fail> {
             bytes: file,
             ..FILE
         },
+        upper: NO_FOLDER,
+        lower: NO_FOLDER,
     };
     Ok(run_over(rt, &store, words)?.is(status, out, err))
 }

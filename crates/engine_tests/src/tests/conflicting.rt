@@ -2,7 +2,7 @@
 //! out by hand.
 
 use crate::tests::table_of;
-use fixtures::{EVERY_FILE, Memory, Named, OVER_FIRST, Rows, THREE_RELATED, TWO};
+use fixtures::{EVERY_FILE, Memory, NO_FOLDER, Named, OVER_FIRST, Rows, THREE_RELATED, TWO};
 use sig_bits::FromWrite;
 use sig_engines::{ConflictsAsk, format_named, settle};
 use sig_table::{FormatId, Puid};
@@ -98,6 +98,8 @@ fn nowhere(rt: &HostRuntime) -> Memory {
         first: nothing,
         second: nothing,
         third: nothing,
+        upper: NO_FOLDER,
+        lower: NO_FOLDER,
     }
 }
 

@@ -1,7 +1,7 @@
 //! What `find` says where it gives up: tables and their lines, worked out by hand.
 
 use crate::tests::table_of;
-use fixtures::{Memory, Named, TWO};
+use fixtures::{Memory, NO_FOLDER, Named, TWO};
 use sig_bits::FromWrite;
 use sig_engines::run_find;
 use std::test::Fail;
@@ -29,6 +29,8 @@ fn gives_up(
         first: NO_FILE,
         second: NO_FILE,
         third: NO_FILE,
+        upper: NO_FOLDER,
+        lower: NO_FOLDER,
     };
     let mut out = FromWrite::new(Vec::new(rt.alloc()));
     let mut err = FromWrite::new(Vec::new(rt.alloc()));

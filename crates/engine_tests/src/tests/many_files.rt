@@ -1,7 +1,7 @@
 //! Many files, out of a store in memory and out of one with a file whose reads fail.
 
 use crate::tests::table_of;
-use fixtures::{Broken, Failing, Memory, Named, Pieces, Room, Rows};
+use fixtures::{Broken, Failing, Memory, NO_FOLDER, Named, Pieces, Room, Rows};
 use sig_bits::{FromRead, FromWrite, Input};
 use sig_core::DroidCore;
 use sig_engines::{
@@ -42,6 +42,7 @@ impl Nameless {
             all: self.all,
             csv: self.csv,
             names: None,
+            recursive: false,
         }
     }
 }
@@ -146,6 +147,8 @@ fn is_printed<K: DroidCore>(rt: &HostRuntime, core: &K, row: &Printed) -> bool {
         first: GOOD,
         second: ODD,
         third: BAD,
+        upper: NO_FOLDER,
+        lower: NO_FOLDER,
     };
     is_run(rt, &store, core, row)
 }
@@ -250,6 +253,8 @@ fn a_name_with_commas_and_quotes_is_one_field(rt: HostRuntime) -> Result<(), Fai
         },
         second: ODD,
         third: BAD,
+        upper: NO_FOLDER,
+        lower: NO_FOLDER,
     };
     let row = Printed(
         &["a,\"b\".bin"],
@@ -324,6 +329,8 @@ fn is_listed<I: Input + Drop>(
         first: GOOD,
         second: ODD,
         third: BAD,
+        upper: NO_FOLDER,
+        lower: NO_FOLDER,
     };
     let mut list = NameReader::new(rt.alloc(), input, end)?;
     let mut out = FromWrite::new(Vec::new(rt.alloc()));
@@ -410,6 +417,7 @@ fn is_named(rt: &HostRuntime, csv: bool, names: &[&str], text: &str) -> Result<b
     let ask = MatchAsk {
         all: true,
         csv,
+        recursive: false,
         names: formats.as_ref().ok(),
     };
     let mut out = FromWrite::new(Vec::new(rt.alloc()));

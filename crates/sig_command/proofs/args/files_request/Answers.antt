@@ -3,7 +3,7 @@ use Rattle.std.specs.Prelude.{is_some}
 use Rattle.clap.specs.Matches.{found_of}
 use Rattle.clap.specs.Words.{rows_of}
 use Rattle.sig_command.specs.CommandLine.{HasFlag}
-use Rattle.sig_command.proofs.RowLemmas.{all_of-rows, flag_is_read, many_named, neither_first, neither_none, none_named, one_named}
+use Rattle.sig_command.proofs.RowLemmas.{all_of-rows, flag_is_read, many_named, neither_first, neither_second, none_given, none_named, one_named}
 use Rattle.sig_command.proofs.args.files_request.Goals as goal
 
 pub returns-in_err-files-clause-none : goal.returns-in_err-files-clause-none
@@ -15,28 +15,33 @@ pub returns-in-empty-clause-none : goal.returns-in-empty-clause-none
 returns-in-empty-clause-none c = λ is text texts are. none_named (found_of c.args.matches.now) _ c.in-empty.len_below c.in_ok-files.ensures text texts are
 
 pub returns-in-len1-clause-asked : goal.returns-in-len1-clause-asked
-returns-in-len1-clause-asked c = (
-  rows_of (found_of c.args.matches.now),
-  refl,
-  c.requires.named,
-  one_named (found_of c.args.matches.now) c.in_ok-files.files.now _ c.in-len1.len_at_least c.in-len1.len_below c.in_ok-files.ensures,
-  c.requires.unlisted,
-  c.match_options-options.ensures.all,
-  subst (λ b. HasFlag (codes "with-names") b (rows_of (found_of c.args.matches.now))) c.if-not-with_names.true
-      (flag_is_read (found_of c.args.matches.now) (codes "with-names") _ c.get_flag-with_names.ensures.value c.get_flag-with_names.ensures.other c.get_flag-with_names.ensures.none),
-  subst (λ b. HasFlag (codes "csv") b (rows_of (found_of c.args.matches.now))) (neither_first c.match_options-options.result.csv _ (sym c.is_named.ensures ∙ c.if-not-is_named.true)) c.match_options-options.ensures.csv,
-  c.match_options-options.ensures.names ∙ neither_none c.match_options-options.result.csv _ (sym c.is_named.ensures ∙ c.if-not-is_named.true),
-)
-
-pub returns-in_default-clause-asked : goal.returns-in_default-clause-asked
-returns-in_default-clause-asked c =
-    let some : 0 < length c.in_ok-files.files.now = grind arith in
-    let several : (1 < length c.in_ok-files.files.now) ⊎ ((c.get_flag-with_names.result ≡ true) ⊎ ((c.match_options-options.result.csv || is_some c.match_options-options.result.names) ≡ true)) = search rules in (
+returns-in-len1-clause-asked c =
+    let options = c.match_options-options.result in
+    let plain = sym c.is_named.ensures ∙ c.if-not-is_named.true in
+    let rest = neither_second options.csv _ plain in (
       rows_of (found_of c.args.matches.now),
       refl,
       c.requires.named,
-      many_named (found_of c.args.matches.now) c.in_ok-files.files.now _ _ _ some several
+      one_named (found_of c.args.matches.now) c.in_ok-files.files.now _ c.in-len1.len_at_least c.in-len1.len_below c.in_ok-files.ensures,
+      c.requires.unlisted,
+      c.match_options-options.ensures.all,
+      subst (λ b. HasFlag (codes "with-names") b (rows_of (found_of c.args.matches.now))) c.if-not-with_names.true
+          (flag_is_read (found_of c.args.matches.now) (codes "with-names") _ c.get_flag-with_names.ensures.value c.get_flag-with_names.ensures.other c.get_flag-with_names.ensures.none),
+      subst (λ b. HasFlag (codes "csv") b (rows_of (found_of c.args.matches.now))) (neither_first options.csv _ plain) c.match_options-options.ensures.csv,
+      c.match_options-options.ensures.names ∙ none_given options.names (neither_first (is_some options.names) options.recursive rest),
+      subst (λ b. HasFlag (codes "recursive") b (rows_of (found_of c.args.matches.now))) (neither_second (is_some options.names) options.recursive rest) c.match_options-options.ensures.recursive,
+    )
+
+pub returns-in_default-clause-asked : goal.returns-in_default-clause-asked
+returns-in_default-clause-asked c =
+    let options = c.match_options-options.result in
+    let some : 0 < length c.in_ok-files.files.now = grind arith in
+    let several : (1 < length c.in_ok-files.files.now) ⊎ ((c.get_flag-with_names.result ≡ true) ⊎ ((options.csv || (is_some options.names || options.recursive)) ≡ true)) = search rules in (
+      rows_of (found_of c.args.matches.now),
+      refl,
+      c.requires.named,
+      many_named (found_of c.args.matches.now) c.in_ok-files.files.now _ _ _ _ some several
           (flag_is_read (found_of c.args.matches.now) (codes "with-names") _ c.get_flag-with_names.ensures.value c.get_flag-with_names.ensures.other c.get_flag-with_names.ensures.none)
-          c.match_options-options.ensures.csv c.match_options-options.ensures.names c.in_ok-files.ensures c.requires.unlisted,
+          c.match_options-options.ensures.csv c.match_options-options.ensures.names c.match_options-options.ensures.recursive c.in_ok-files.ensures c.requires.unlisted,
       c.match_options-options.ensures,
     )

@@ -20,14 +20,17 @@ returns-clause-line c =
     let csv_local : c.help-4.result.global ≡ false = rw c.help-4.ensures c.flag-3.ensures.local in
     let names : rule_of c.help-5.result ≡ named (codes "names") (codes "FORMATS") = rw c.help-5.ensures c.option.ensures.rule in
     let names_local : c.help-5.result.global ≡ false = rw c.help-5.ensures c.option.ensures.local in
-    let list : rule_of c.help-6.result ≡ named (codes "files-from") (codes "NAMES") = rw c.help-6.ensures c.option-2.ensures.rule in
-    let list_local : c.help-6.result.global ≡ false = rw c.help-6.ensures c.option-2.ensures.local in
-    let nul : rule_of c.help-7.result ≡ null_rule = rw c.help-7.ensures c.null.ensures.rule in
-    let nul_local : c.help-7.result.global ≡ false = rw c.help-7.ensures c.null.ensures.local in
+    let recursive : rule_of c.help-6.result ≡ given (codes "recursive") = rw c.help-6.ensures c.flag-4.ensures.rule in
+    let recursive_local : c.help-6.result.global ≡ false = rw c.help-6.ensures c.flag-4.ensures.local in
+    let list : rule_of c.help-7.result ≡ named (codes "files-from") (codes "NAMES") = rw c.help-7.ensures c.option-2.ensures.rule in
+    let list_local : c.help-7.result.global ≡ false = rw c.help-7.ensures c.option-2.ensures.local in
+    let nul : rule_of c.help-8.result ≡ null_rule = rw c.help-8.ensures c.null.ensures.rule in
+    let nul_local : c.help-8.result.global ≡ false = rw c.help-8.ensures c.null.ensures.local in
     record {
       is_app =
           c.in_ok-line.ensures.shape nul_local ∙ ap₂ with_rule (
-          c.in_ok-arg-6.ensures.shape list_local ∙ ap₂ with_rule (
+          c.in_ok-arg-7.ensures.shape list_local ∙ ap₂ with_rule (
+          c.in_ok-arg-6.ensures.shape recursive_local ∙ ap₂ with_rule (
           c.in_ok-arg-5.ensures.shape names_local ∙ ap₂ with_rule (
           c.in_ok-arg-4.ensures.shape csv_local ∙ ap₂ with_rule (
           c.in_ok-arg-3.ensures.shape with_names_local ∙ ap₂ with_rule (
@@ -37,10 +40,12 @@ returns-clause-line c =
           ) with_names
           ) csv
           ) names
+          ) recursive
           ) list
           ) nul;
       has_no_globals =
-          c.in_ok-line.ensures.globals ∙ or_false _ _ nul_local ∙ c.in_ok-arg-6.ensures.globals ∙ or_false _ _ list_local ∙ c.in_ok-arg-5.ensures.globals ∙ or_false _ _ names_local
+          c.in_ok-line.ensures.globals ∙ or_false _ _ nul_local ∙ c.in_ok-arg-7.ensures.globals ∙ or_false _ _ list_local ∙ c.in_ok-arg-6.ensures.globals ∙ or_false _ _ recursive_local
+          ∙ c.in_ok-arg-5.ensures.globals ∙ or_false _ _ names_local
           ∙ c.in_ok-arg-4.ensures.globals ∙ or_false _ _ csv_local ∙ c.in_ok-arg-3.ensures.globals ∙ or_false _ _ with_names_local
           ∙ c.in_ok-arg-2.ensures.globals ∙ or_false _ _ all_local ∙ c.in_ok-arg.ensures.globals ∙ or_false _ _ file_local ∙ table_local;
     }

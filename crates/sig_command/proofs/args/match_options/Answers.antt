@@ -8,4 +8,5 @@ returns c = record {
   all = flag_is_read (found_of c.args.matches.now) (codes "all") _ c.get_flag.ensures.value c.get_flag.ensures.other c.get_flag.ensures.none;
   csv = flag_is_read (found_of c.args.matches.now) (codes "csv") _ c.get_flag-2.ensures.value c.get_flag-2.ensures.other c.get_flag-2.ensures.none;
   names = first_of-rows (found_of c.args.matches.now) (codes "FORMATS") ∙ sym c.get_str.ensures;
+  recursive = flag_is_read (found_of c.args.matches.now) (codes "recursive") _ c.get_flag-3.ensures.value c.get_flag-3.ensures.other c.get_flag-3.ensures.none;
 }
