@@ -550,7 +550,7 @@ def linted(runs, kind):
 def words_case(runs, chance):
     """A command line that is mixed up. A usage fault has some lines, and each other answer its form."""
     words = [chance.choice(["match", "show", "lint", "check", "witness", "find", "conflicts", "dead", "--all", "--with-names", "--csv", "--names", "--files-from", "-0", "--out", "--budget",
-                            "--hex", "--progress", "--class", "--only", "fmt/1", "0", "1", "4294967296", "-1", "--", "-", "", "none", "signatures.csv", "priorities.csv", "certificate",
+                            "--hex", "--progress", "--class", "--only", "--no-priorities", "fmt/1", "0", "1", "4294967296", "-1", "--", "-", "", "none", "signatures.csv", "priorities.csv", "certificate",
                             "--al", "match=1", "/", "n\u00e4me", "a\x1bb"]) for _ in range(chance.randrange(7))]
     words = [word.encode() if chance.random() < 0.9 else word.encode() + b"\xff" for word in words]
     runs.clear("out")

@@ -15,6 +15,7 @@ mod settling;
 mod showing;
 mod stores;
 mod usage;
+mod without_priorities;
 mod witnessing;
 
 use fixtures::{PRIORITIES, Rows, SIGNATURES};

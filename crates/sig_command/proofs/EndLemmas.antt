@@ -2,7 +2,7 @@
 use Rattle.std.proofs.Common.{◌≡◌, ◌≢◌, ◌⊎◌, ℕ, ◌<◌, ◌≤◌, Bool, List, [], None, Option, Some, ap, arith, false, inl, inr, refl, subst, sym, true, ◌∙◌}
 use Rattle.std.proofs.lemmas.List.{append-nil}
 use Rattle.std.specs.Borrow.{Bor}
-use Rattle.clap.specs.Words.{HasKind, IsAmong, Text, fault_of, kind_of, subcommand_of}
+use Rattle.clap.specs.Words.{HasKind, IsAmong, Text, kind_of}
 use Rattle.clap.specs.declared.error.Error.{Error}
 use Rattle.clap.specs.declared.error.kind.ErrorKind.{ErrorKind}
 use Rattle.clap.specs.declared.error.kind.ErrorKind.TheVariants as kind
@@ -19,7 +19,7 @@ use Rattle.sig_engines.specs.declared.format_names.NamesError.TheVariants as nam
 use Rattle.sig_engines.specs.declared.witness_name.WitnessName.{WitnessName}
 use Rattle.sig_table.specs.declared.error.TableError.{TableError}
 use Rattle.sig_table.specs.declared.error.TableError.TheVariants as table
-use Rattle.sig_command.specs.CommandLine.{AreTaken, Asks, HasFaultKind, IsHelpAsked, program}
+use Rattle.sig_command.specs.CommandLine.{AreTaken, Asks, HasFaultKind, IsHelpAsked, fault_of_words, subcommand_of_words}
 use Rattle.sig_command.specs.Endings.{AnswersBy, EndsByFault, KeepsErrors, KeepsOutput, ReportsMemory, TellsBy}
 use Rattle.sig_command.specs.Faults.{Reports, ReportsLine, TellsWrite}
 use Rattle.sig_command.specs.Requests.{Behind, CutsSomeWords, CutsWords, IsCutRequest, IsFaultOf, IsFirstFault, IsFolderFault, IsLaterFault, IsNamesFaultOf, Joins, KeepsOrCuts, ListsIf, ListsRequest, ListsSomeWords, ListsWords, ReportsFaultOf, ReportsLineOf, Shows, ShowsBefore, ShowsSomeWords, ShowsWords, TellsOf}
@@ -172,7 +172,7 @@ files_are_reported failed held (Check table certificate) status before after is_
 files_are_reported failed held (Witness table file) status before after is_failed err_before mid err_after is joins sound reports = absurd (no_files failed held (Witness table file) (λ never. never) is)
 
 -- some line stands behind what the words show
-some_line : {R E : Type 0} (failed : R → Bool) (held : Holding) (words : List Text) (request : Request) (reason : Fault) (status : ℕ) (is_failed : E → Bool) (written : E → Option (List ℕ)) (err mid : E) (before after err_after : Option (List ℕ)) → Asks (subcommand_of program words) request → IsFaultOf failed held request reason → TellsOf failed held request false is_failed written err mid → Joins failed held request reason before after (is_failed mid) (written err) (written mid) → is_failed mid ≡ false → Reports reason status (written mid) err_after → Behind (ShowsWords failed held words false false) (ReportsLine status) (written err) err_after ⊎ ReportsFiles (written err) err_after
+some_line : {R E : Type 0} (failed : R → Bool) (held : Holding) (words : List Text) (request : Request) (reason : Fault) (status : ℕ) (is_failed : E → Bool) (written : E → Option (List ℕ)) (err mid : E) (before after err_after : Option (List ℕ)) → Asks (subcommand_of_words words) request → IsFaultOf failed held request reason → TellsOf failed held request false is_failed written err mid → Joins failed held request reason before after (is_failed mid) (written err) (written mid) → is_failed mid ≡ false → Reports reason status (written mid) err_after → Behind (ShowsWords failed held words false false) (ReportsLine status) (written err) err_after ⊎ ReportsFiles (written err) err_after
 some_line failed held words request reason status is_failed written err mid before after err_after asks is told joins sound reports = go reason is joins reports
   where
     shown : (mid : Option (List ℕ)) → (mid ≡ written err) ⊎ Shows failed held request false false (written err) mid → (mid ≡ written err) ⊎ ShowsWords failed held words false false (written err) mid
@@ -226,7 +226,7 @@ high_status (Names error) = high_names error
 never_low : (status : ℕ) (reason : Fault) → status ≡ status_of reason → status < 2 → ⊥
 never_low status reason ends low = let high = high_status reason in omega (arith, low, high, ends)
 
-pub fault_keeps_errors : {R E : Type 0} (failed : R → Bool) (held : Holding) (words : List Text) (request : Request) (reason : Fault) (status : ℕ) (is_failed : E → Bool) (written : E → Option (List ℕ)) (err mid last : E) (before after : Option (List ℕ)) → Asks (subcommand_of program words) request → IsFaultOf failed held request reason → TellsOf failed held request false is_failed written err mid → Joins failed held request reason before after (is_failed mid) (written err) (written mid) → status ≡ status_of reason → (is_failed last ≡ false → is_failed mid ≡ false) → (is_failed last ≡ false → Reports reason status (written mid) (written last)) → KeepsErrors (ShowsWords failed held words) status (is_failed last) err last (written err) (written last)
+pub fault_keeps_errors : {R E : Type 0} (failed : R → Bool) (held : Holding) (words : List Text) (request : Request) (reason : Fault) (status : ℕ) (is_failed : E → Bool) (written : E → Option (List ℕ)) (err mid last : E) (before after : Option (List ℕ)) → Asks (subcommand_of_words words) request → IsFaultOf failed held request reason → TellsOf failed held request false is_failed written err mid → Joins failed held request reason before after (is_failed mid) (written err) (written mid) → status ≡ status_of reason → (is_failed last ≡ false → is_failed mid ≡ false) → (is_failed last ≡ false → Reports reason status (written mid) (written last)) → KeepsErrors (ShowsWords failed held words) status (is_failed last) err last (written err) (written last)
 fault_keeps_errors failed held words request reason status is_failed written err mid last before after asks is told joins ends sound reports = record {
   quiet = λ low. absurd (never_low status reason ends low);
   reported = λ three whole.
@@ -254,7 +254,7 @@ nothing_is_shown Shown status is_failed before after written written_after keeps
     behind (inr files) = inr files
 
 -- with 2 the output is as it was, or has the faults of a table; with 3 an answer may be cut short
-pub fault_keeps_output : {R W : Type 0} (failed : R → Bool) (held : Holding) (words : List Text) (request : Request) (reason : Fault) (status : ℕ) (is_failed : W → Bool) (written : W → Option (List ℕ)) (before after : W) → Asks (subcommand_of program words) request → IsFaultOf failed held request reason → status ≡ status_of reason → (((e : RunError) → reason ≢ Run e) → ((e : Cut) → reason ≢ CutShort e) → ((folder : Bor Text) (name : WitnessName) → reason ≢ NoFile folder name) → reason ≢ SomeFiles → reason ≢ FaultyTable → after ≡ before) → ListsIf held request reason (is_failed after) (written before) (written after) → (reason ≢ FaultyTable → KeepsOrCuts failed held request is_failed written before after) → KeepsOutput (CutsWords failed held words (written before) (written after)) (ListsWords held words (written before) (written after)) status (is_failed after) before after
+pub fault_keeps_output : {R W : Type 0} (failed : R → Bool) (held : Holding) (words : List Text) (request : Request) (reason : Fault) (status : ℕ) (is_failed : W → Bool) (written : W → Option (List ℕ)) (before after : W) → Asks (subcommand_of_words words) request → IsFaultOf failed held request reason → status ≡ status_of reason → (((e : RunError) → reason ≢ Run e) → ((e : Cut) → reason ≢ CutShort e) → ((folder : Bor Text) (name : WitnessName) → reason ≢ NoFile folder name) → reason ≢ SomeFiles → reason ≢ FaultyTable → after ≡ before) → ListsIf held request reason (is_failed after) (written before) (written after) → (reason ≢ FaultyTable → KeepsOrCuts failed held request is_failed written before after) → KeepsOutput (CutsWords failed held words (written before) (written after)) (ListsWords held words (written before) (written after)) status (is_failed after) before after
 fault_keeps_output failed held words request reason status is_failed written before after asks is ends untouched lists keeps = record {
   shown = λ low. absurd (never_low status reason ends low);
   refused = λ two. refused reason is (sym two ∙ ends) untouched lists;
@@ -311,11 +311,11 @@ by_kind status k (inr (inr is)) help usage = inl is
 pub ends_by_fault : (words : List Text) (e : Error) (status : ℕ) → HasFaultKind words e → (status ≡ 0) ⊎ ((status ≡ 2) ⊎ (status ≡ 3)) → (kind_of e ≡ kind.OutOfMemory → status ≡ 3) → (status ≡ 0 → (kind_of e ≡ DisplayHelp) ⊎ (kind_of e ≡ DisplayVersion)) → (status ≡ 2 → (kind_of e ≢ DisplayHelp) × (kind_of e ≢ DisplayVersion)) → EndsByFault words status
 ends_by_fault words e status kinds known memory help usage = λ some. go (kinds some)
   where
-    go : HasKind (fault_of program words) e → (status ≡ 3) ⊎ ((k : ErrorKind) × IsAmong k (fault_of program words) × (status ≡ kind_status k))
+    go : HasKind (fault_of_words words) e → (status ≡ 3) ⊎ ((k : ErrorKind) × IsAmong k (fault_of_words words) × (status ≡ kind_status k))
     go (inl is) = inl (memory is)
     go (inr among) = of_kind among (by_kind status (kind_of e) known help usage)
       where
-        of_kind : IsAmong (kind_of e) (fault_of program words) → (status ≡ 3) ⊎ (status ≡ kind_status (kind_of e)) → (status ≡ 3) ⊎ ((k : ErrorKind) × IsAmong k (fault_of program words) × (status ≡ kind_status k))
+        of_kind : IsAmong (kind_of e) (fault_of_words words) → (status ≡ 3) ⊎ (status ≡ kind_status (kind_of e)) → (status ≡ 3) ⊎ ((k : ErrorKind) × IsAmong k (fault_of_words words) × (status ≡ kind_status k))
         of_kind among (inl is) = inl is
         of_kind among (inr is) = inr (kind_of e, among, is)
 

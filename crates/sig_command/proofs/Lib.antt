@@ -2,6 +2,7 @@
 pub mod BudgetLemmas
 pub mod EndLemmas
 pub mod FindLemmas
+mod FlagLemmas
 pub mod OnceLemmas
 mod PairsLemmas
 pub mod RequestLemmas

@@ -1,5 +1,5 @@
 -- What an accepted certificate means for the lines of a match.
-use Rattle.std.proofs.Common.{◌≡◌, ◌∙◌, ◌≤◌, ℕ, Bool, true, false, List, [], ◌∷◌, ◌++◌, length, map, Option, Some, Result, Ok, Err, ap, ap₂, subst, sym}
+use Rattle.std.proofs.Common.{◌≡◌, ◌∙◌, ◌≤◌, ℕ, Bool, true, false, List, [], ◌∷◌, ◌++◌, length, map, None, Option, Some, Result, Ok, Err, ap, ap₂, subst, sym}
 use Rattle.std.specs.Borrow.{Bor}
 use Rattle.std.specs.Prelude.{is_ok}
 use Rattle.std.proofs.lemmas.Option.{same_Some}
@@ -14,7 +14,7 @@ use Rattle.sig_command.specs.Several.{AddsLinesOfEach, AddsOneLineOfEach, AreLin
 use Rattle.sig_command.specs.declared.args.Request.TheVariants.{Check, Match, MatchListed, MatchMany}
 use Rattle.sig_engines.specs.Lines.{AreAsked, lines_of}
 use Rattle.sig_engines.specs.declared.ask.MatchAsk.{MatchAsk}
-use Rattle.sig_engines.specs.Stores.{Files, IsTableOf, ReadsAs}
+use Rattle.sig_engines.specs.Stores.{Files, HoldsPriorities, IsTableOf, ReadsAs}
 use Rattle.sig_engines.specs.Visits.{AreVisits, Visit}
 use Rattle.sig_engines.specs.declared.store.TablePaths.{TablePaths}
 use Rattle.sig_core.specs.declared.results.Hit.{Hit}
@@ -26,11 +26,16 @@ abbrev table_or : TableView → Result TableView TableError → TableView
 table_or other (Ok table) = table
 table_or other (Err error) = other
 
--- two files hold one table
+-- the priorities are these bytes alone
+same_priorities : (files : Files) (name : Option (Bor (List ℕ))) (one other : List ℕ) → HoldsPriorities (Some files) name one → HoldsPriorities (Some files) name other → one ≡ other
+same_priorities files None one other r q = r ∙ sym q
+same_priorities files (Some name) one other r q = same_Some one other (sym r ∙ q)
+
+-- the files hold one table
 same_table : (files : Files) (paths : TablePaths) (one other : TableView) → ReadsAs (Some files) paths (Ok one) → ReadsAs (Some files) paths (Ok other) → one ≡ other
 same_table files paths one other r q =
     let signatures : r.0 ≡ q.0 = same_Some r.0 q.0 (sym r.2 ∙ q.2) in
-    let priorities : r.1 ≡ q.1 = same_Some r.1 q.1 (sym r.3 ∙ q.3) in
+    let priorities : r.1 ≡ q.1 = same_priorities files paths.priorities r.1 q.1 r.3 q.3 in
     let same : table_of (records_of r.0) (records_of r.1) ≡ table_of (records_of q.0) (records_of q.1) = ap₂ (λ s p. table_of (records_of s) (records_of p)) signatures priorities in
     ap (table_or one) (sym r.4 ∙ same ∙ q.4)
 

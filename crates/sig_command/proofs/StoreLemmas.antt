@@ -16,7 +16,10 @@ use Rattle.sig_engines.specs.Lines.{AddsLinesOfSome}
 use Rattle.sig_command.specs.Faults.{TellsWrite}
 use Rattle.sig_command.specs.Requests.{Answers, IsFileFault}
 use Rattle.sig_command.specs.Requests.{file_fault as fault_of_file}
-use Rattle.sig_engines.specs.Stores.{Files, Has, Holding, Holds, IsTableFault, IsTableOf, Lacks, Opens, ReadsAs, SomeFailed}
+use Rattle.sig_engines.specs.Stores.{Files, Has, HasPriorities, Holding, Holds, HoldsPriorities, IsTableFault, IsTableOf, Lacks, Opens, OpensPriorities, ReadsAs, SomeFailed, no_priorities}
+use Rattle.sig_engines.specs.PriorityInputs.{has_failed}
+use Rattle.sig_engines.specs.declared.priority_input.PriorityInput.{PriorityInput}
+use Rattle.sig_engines.specs.declared.priority_input.PriorityInput.TheVariants.{File, Header}
 use Rattle.sig_engines.specs.Witnessed.{AddsWitnessOfSome}
 use Rattle.sig_command.specs.declared.args.Request.{Request}
 use Rattle.sig_command.specs.declared.args.Request.TheVariants.{Check, Match, Witness}
@@ -86,26 +89,45 @@ file_write name fault reason P same write tells = go fault (subst TellsWrite sam
     go (file.Run OutOfMemory) (inl is) write = let bad : Run OutOfMemory ≡ Run Write = is in cc
     go (file.Run OutOfMemory) (inr is) write = let bad : Run OutOfMemory ≡ CutShort cut.Write = is in cc
 
--- ---- the two files of a table
+-- ---- the files of a table
 
-reads_as : (held : Holding) (paths : TablePaths) (first second : Option (List ℕ)) (read : Result TableView TableError) → Opens held paths.signatures.now (Some first) → Opens held paths.priorities.now (Some second) → ((s p : List ℕ) → first ≡ Some s → second ≡ Some p → table_of (records_of s) (records_of p) ≡ read) → ReadsAs held paths read
+-- priorities that are opened have bytes, and they are to come
+record OpenedPriorities (files : Files) (name : Option (Bor (List ℕ))) (to_come : Option (List ℕ)) : Type 0 where
+  pub bytes : List ℕ
+  pub has : HoldsPriorities (Some files) name bytes
+  pub comes : to_come ≡ Some bytes
+
+opened_priorities : (files : Files) (name : Option (Bor (List ℕ))) (to_come : Option (List ℕ)) → OpensPriorities (Some files) name to_come → OpenedPriorities files name to_come
+opened_priorities files None to_come opens = record { bytes = no_priorities; has = refl; comes = opens }
+opened_priorities files (Some name) to_come opens = let o = opened files name.now to_come opens in record { bytes = o.bytes; has = o.has; comes = o.comes }
+
+has_priorities : (held : Holding) (name : Option (Bor (List ℕ))) (to_come : Option (List ℕ)) → OpensPriorities held name to_come → HasPriorities held name
+has_priorities held None to_come opens = tt
+has_priorities held (Some name) to_come opens = has_opened held name.now to_come opens
+
+reads_as : (held : Holding) (paths : TablePaths) (first second : Option (List ℕ)) (read : Result TableView TableError) → Opens held paths.signatures.now (Some first) → OpensPriorities held paths.priorities second → ((s p : List ℕ) → first ≡ Some s → second ≡ Some p → table_of (records_of s) (records_of p) ≡ read) → ReadsAs held paths read
 reads_as None paths first second read opens_first opens_second exact = tt
 reads_as (Some files) paths first second read opens_first opens_second exact =
     let one = opened files paths.signatures.now first opens_first in
-    let two = opened files paths.priorities.now second opens_second in
+    let two = opened_priorities files paths.priorities second opens_second in
     (one.bytes, two.bytes, one.has, two.has, exact one.bytes two.bytes one.comes two.comes)
 
-pub table_read : (held : Holding) (paths : TablePaths) (first second : Option (List ℕ)) (table : TableView) → Opens held paths.signatures.now (Some first) → Opens held paths.priorities.now (Some second) → IsTable table → ((s p : List ℕ) → first ≡ Some s → second ≡ Some p → table_of (records_of s) (records_of p) ≡ Ok table) → IsTableOf held paths table
+pub table_read : (held : Holding) (paths : TablePaths) (first second : Option (List ℕ)) (table : TableView) → Opens held paths.signatures.now (Some first) → OpensPriorities held paths.priorities second → IsTable table → ((s p : List ℕ) → first ≡ Some s → second ≡ Some p → table_of (records_of s) (records_of p) ≡ Ok table) → IsTableOf held paths table
 table_read held paths first second table opens_first opens_second limits exact = record { limits = limits; read = reads_as held paths first second (Ok table) opens_first opens_second exact }
 
 on_false : (b : Bool) (P : Type 0) → OnFalse b P → not b ≡ true → P
 on_false true P is judged = cc
 on_false false P is judged = is
 
+-- priorities fail only by the reader of their file
+priorities_failed : {R : Type 0} (failed : R → Bool) (input : PriorityInput R) → has_failed failed input ≡ true → SomeFailed failed
+priorities_failed failed (File file) is = record { reader = file; has_failed = is }
+priorities_failed failed (Header rest) is = let bad : false ≡ true = is in cc
+
 -- a failed read is one of the reader of its file
-reader_failed : {R : Type 0} (failed : R → Bool) (one two : R) (error : TableError) → (error ≡ table.Read Signatures → failed one ≡ true) → (error ≡ table.Read Priorities → failed two ≡ true) → is_read error ≡ true → SomeFailed failed
+reader_failed : {R : Type 0} (failed : R → Bool) (one : R) (two : PriorityInput R) (error : TableError) → (error ≡ table.Read Signatures → failed one ≡ true) → (error ≡ table.Read Priorities → has_failed failed two ≡ true) → is_read error ≡ true → SomeFailed failed
 reader_failed failed one two (table.Read Signatures) first second is = record { reader = one; has_failed = first refl }
-reader_failed failed one two (table.Read Priorities) first second is = record { reader = two; has_failed = second refl }
+reader_failed failed one two (table.Read Priorities) first second is = priorities_failed failed two (second refl)
 reader_failed failed one two (table.Header f) first second is = cc
 reader_failed failed one two (table.Fields f n) first second is = cc
 reader_failed failed one two (table.Puid f n) first second is = cc
@@ -123,10 +145,10 @@ reader_failed failed one two (table.PriorityTwice n) first second is = cc
 reader_failed failed one two (table.PriorityCycle n) first second is = cc
 reader_failed failed one two table.OutOfMemory first second is = cc
 
-pub table_fault : {R : Type 0} (failed : R → Bool) (held : Holding) (paths : TablePaths) (first second : Option (List ℕ)) (one two : R) (error : TableError) → Opens held paths.signatures.now (Some first) → Opens held paths.priorities.now (Some second) → ((s p : List ℕ) → first ≡ Some s → second ≡ Some p → OnFalse (is_read error || is_memory error) (table_of (records_of s) (records_of p) ≡ Err error)) → (error ≡ table.Read Signatures → failed one ≡ true) → (error ≡ table.Read Priorities → failed two ≡ true) → IsTableFault failed held paths error
+pub table_fault : {R : Type 0} (failed : R → Bool) (held : Holding) (paths : TablePaths) (first second : Option (List ℕ)) (one : R) (two : PriorityInput R) (error : TableError) → Opens held paths.signatures.now (Some first) → OpensPriorities held paths.priorities second → ((s p : List ℕ) → first ≡ Some s → second ≡ Some p → OnFalse (is_read error || is_memory error) (table_of (records_of s) (records_of p) ≡ Err error)) → (error ≡ table.Read Signatures → failed one ≡ true) → (error ≡ table.Read Priorities → has_failed failed two ≡ true) → IsTableFault failed held paths error
 table_fault failed held paths first second one two error opens_first opens_second exact read_first read_second = record {
   has_signatures = has_opened held paths.signatures.now first opens_first;
-  has_priorities = has_opened held paths.priorities.now second opens_second;
+  has_priorities = has_priorities held paths.priorities second opens_second;
   judged = λ judged. reads_as held paths first second (Err error) opens_first opens_second (λ s p one two. on_false (is_read error || is_memory error) (table_of (records_of s) (records_of p) ≡ Err error) (exact s p one two) judged);
   unread = reader_failed failed one two error read_first read_second;
 }

@@ -1,11 +1,12 @@
 -- The command line in clap's words, and what its words ask for.
-use Rattle.std.specs.Prelude.{◌≡◌, ◌≢◌, ◌⊎◌, ◌<◌, ◌^◌, ℕ, pos, Bool, true, false, List, [], ◌∷◌, Option, None, Some, String, codes, length, map, option_and_then, option_map, string_bytes, if◌then◌else◌, is_some}
+use Rattle.std.specs.Prelude.{◌≡◌, ◌≢◌, ◌⊎◌, ◌<◌, ◌^◌, ℕ, pos, Bool, true, false, List, [], ◌∷◌, Option, None, Some, String, codes, length, map, option_and_then, option_map, string_bytes, if◌then◌else◌, is_some, not, take_while}
+use Rattle.std.specs.List.{list_any}
 use Rattle.std.specs.Str.{bytes_eq}
 use Rattle.std.specs.Borrow.{Bor}
 use Rattle.std.specs.Str.Parse.{IsNumeral, digits_value, without_leading_plus}
 use Rattle.clap.specs.Lexer.{usize_max}
 use Rattle.clap.specs.Simple.{on_top}
-use Rattle.clap.specs.Words.{App, HasKind, IsAmong, Row, Rule, Text, all_of, app_of, fault_of, first_of, found_of, one_of, new_app, new_rule, rows_of, subcommand_of, takes, with_rule, with_subcommand}
+use Rattle.clap.specs.Words.{App, HasKind, IsAmong, Kinds, Row, Rule, Text, all_of, app_of, fault_of, first_of, found_of, one_of, new_app, new_rule, rows_of, subcommand_of, takes, with_rule, with_subcommand}
 use Rattle.clap.specs.declared.Command.{Command}
 use Rattle.clap.specs.declared.Command.TheViews.{out-Command as fields_of}
 use Rattle.clap.specs.declared.parser.matches.ArgMatches.{ArgMatches}
@@ -32,21 +33,23 @@ pub record IsLine (app : App) (command : Command) : Type 0 where
 abbrev pub wanted : Text → Rule
 wanted name = record (new_rule name) { required = true }
 
--- a command with the two arguments that name a table
-abbrev pub of_table : App → App
-of_table app = with_rule (with_rule app (wanted (codes "SIGS"))) (wanted (codes "PRIOS"))
-
--- `show SIGS PRIOS`
-abbrev pub show_command : App
-show_command = of_table (new_app (codes "show"))
-
--- `lint SIGS PRIOS`
-abbrev pub lint_command : App
-lint_command = of_table (new_app (codes "lint"))
-
 -- a flag, with two hyphens before its name
 abbrev pub given : Text → Rule
 given name = record (new_rule name) { long = Some name; action = Some SetTrue }
+
+-- a command with the arguments that name a table: the signatures, the flag, and the priorities where the flag does not leave them out
+abbrev pub of_table : Bool → App → App
+of_table has_priorities app =
+    let signatures = with_rule (with_rule app (wanted (codes "SIGS"))) (given (codes "no-priorities")) in
+    if has_priorities then with_rule signatures (wanted (codes "PRIOS")) else signatures
+
+-- `show SIGS PRIOS`, or `show --no-priorities SIGS`; so it is with the others
+abbrev pub show_command : Bool → App
+show_command has_priorities = of_table has_priorities (new_app (codes "show"))
+
+-- `lint SIGS PRIOS`
+abbrev pub lint_command : Bool → App
+lint_command has_priorities = of_table has_priorities (new_app (codes "lint"))
 
 -- an argument of one value or more
 abbrev pub several : Text → Rule
@@ -61,9 +64,9 @@ abbrev pub null_rule : Rule
 null_rule = record (given (codes "null")) { short = Some 48 }
 
 -- `match [--all] [--with-names] [--csv] [--names FORMATS] [--recursive] [--files-from NAMES [-0]] SIGS PRIOS [FILE..]`
-abbrev pub match_command : App
-match_command =
-    let of_files = with_rule (with_rule (with_rule (with_rule (of_table (new_app (codes "match"))) (several (codes "FILE"))) (given (codes "all"))) (given (codes "with-names"))) (given (codes "csv")) in
+abbrev pub match_command : Bool → App
+match_command has_priorities =
+    let of_files = with_rule (with_rule (with_rule (with_rule (of_table has_priorities (new_app (codes "match"))) (several (codes "FILE"))) (given (codes "all"))) (given (codes "with-names"))) (given (codes "csv")) in
     with_rule (with_rule (with_rule (with_rule of_files (named (codes "names") (codes "FORMATS"))) (given (codes "recursive"))) (named (codes "files-from") (codes "NAMES"))) null_rule
 
 -- `--budget N`, of a number from 1 to 4,294,967,295, and of 100,000 where it is left out
@@ -75,41 +78,59 @@ abbrev pub out_rule : Rule
 out_rule = record (named (codes "out") (codes "OUT")) { required = true }
 
 -- `find [--budget N] --out OUT [--hex] [--progress] SIGS PRIOS`
-abbrev pub find_command : App
-find_command = with_rule (with_rule (with_rule (with_rule (of_table (new_app (codes "find"))) budget_rule) out_rule) (given (codes "hex"))) (given (codes "progress"))
+abbrev pub find_command : Bool → App
+find_command has_priorities = with_rule (with_rule (with_rule (with_rule (of_table has_priorities (new_app (codes "find"))) budget_rule) out_rule) (given (codes "hex"))) (given (codes "progress"))
 
 -- `conflicts [--budget N] [--only PUID] [--class] [--summary] [--hex] [--files DIR] [--priorities FILE] [--progress] SIGS PRIOS`
-abbrev pub conflicts_command : App
-conflicts_command =
-    let of_pairs = with_rule (with_rule (with_rule (with_rule (of_table (new_app (codes "conflicts"))) budget_rule) (named (codes "only") (codes "PUID"))) (given (codes "class"))) (given (codes "summary")) in
+abbrev pub conflicts_command : Bool → App
+conflicts_command has_priorities =
+    let of_pairs = with_rule (with_rule (with_rule (with_rule (of_table has_priorities (new_app (codes "conflicts"))) budget_rule) (named (codes "only") (codes "PUID"))) (given (codes "class"))) (given (codes "summary")) in
     with_rule (with_rule (with_rule (with_rule of_pairs (given (codes "hex"))) (named (codes "files") (codes "DIR"))) (named (codes "priorities") (codes "FILE"))) (given (codes "progress"))
 
 -- `dead [--budget N] [--hex] [--progress] SIGS PRIOS`
-abbrev pub dead_command : App
-dead_command = with_rule (with_rule (with_rule (of_table (new_app (codes "dead"))) budget_rule) (given (codes "hex"))) (given (codes "progress"))
+abbrev pub dead_command : Bool → App
+dead_command has_priorities = with_rule (with_rule (with_rule (of_table has_priorities (new_app (codes "dead"))) budget_rule) (given (codes "hex"))) (given (codes "progress"))
 
 -- `check SIGS PRIOS CERT`
-abbrev pub check_command : App
-check_command = with_rule (of_table (new_app (codes "check"))) (wanted (codes "CERT"))
+abbrev pub check_command : Bool → App
+check_command has_priorities = with_rule (of_table has_priorities (new_app (codes "check"))) (wanted (codes "CERT"))
 
 -- `witness SIGS PRIOS FILE`
-abbrev pub witness_command : App
-witness_command = with_rule (of_table (new_app (codes "witness"))) (wanted (codes "FILE"))
+abbrev pub witness_command : Bool → App
+witness_command has_priorities = with_rule (of_table has_priorities (new_app (codes "witness"))) (wanted (codes "FILE"))
 
 -- the program, whose first word is a subcommand, with `--version`
-abbrev pub program : App
-program =
+abbrev pub program : Bool → App
+program has_priorities =
     let top = on_top (λ s. record s { has_version = true; no_binary_name = true; subcommand_required = true }) (new_app (codes "pronom_sig")) in
-    with_subcommand (with_subcommand (with_subcommand (with_subcommand (with_subcommand (with_subcommand (with_subcommand (with_subcommand top show_command.top) lint_command.top) match_command.top) find_command.top) conflicts_command.top) dead_command.top) check_command.top) witness_command.top
+    with_subcommand (with_subcommand (with_subcommand (with_subcommand (with_subcommand (with_subcommand (with_subcommand (with_subcommand top (show_command has_priorities).top) (lint_command has_priorities).top) (match_command has_priorities).top) (find_command has_priorities).top) (conflicts_command has_priorities).top) (dead_command has_priorities).top) (check_command has_priorities).top) (witness_command has_priorities).top
+
+-- whether the words name a priority file: `--no-priorities` is not among those before `--`
+abbrev pub names_priorities : List Text → Bool
+names_priorities words = not (list_any (λ word. bytes_eq word (codes "--no-priorities")) (take_while (λ word. not (bytes_eq word (codes "--"))) words))
+
+-- the program that reads these words. No option takes a word that begins with a hyphen for its value, so the flag is never one
+abbrev pub program_of : List Text → App
+program_of words = program (names_priorities words)
+
+-- whether clap takes the words, the faults that it finds in them, and the subcommand among them with its arguments
+abbrev pub takes_words : List Text → Bool
+takes_words words = takes (program_of words) words
+
+abbrev pub fault_of_words : List Text → Kinds
+fault_of_words words = fault_of (program_of words) words
+
+abbrev pub subcommand_of_words : List Text → Option (Text × List Row)
+subcommand_of_words words = subcommand_of (program_of words) words
 
 -- the subcommand of this name with these arguments
 abbrev pub asking : Text → ArgMatches → Option (Text × List Row)
 asking name matches = Some (name, rows_of (found_of matches))
 
--- the two files of a table are the first values of their arguments
+-- the files of a table are the first values of their arguments
 pub record NamesTable (paths : TablePaths) (rows : List Row) : Type 0 where
   pub signatures : first_of (codes "SIGS") rows ≡ Some paths.signatures.now
-  pub priorities : first_of (codes "PRIOS") rows ≡ Some paths.priorities.now
+  pub priorities : first_of (codes "PRIOS") rows ≡ option_map (λ w. w.now) paths.priorities
 
 -- the value of `--budget`, its default where it is left out, writes this number in decimal, perhaps behind a plus
 pub record NamesBudget (budget : ℕ) (rows : List Row) : Type 0 where
@@ -186,26 +207,30 @@ Asks found (Witness table file) = (rows : List Row) × (found ≡ Some (codes "w
 
 -- the words are taken, and they ask for something
 abbrev pub AreTaken : List Text → Type 0
-AreTaken words = (takes program words ≡ true) × ((request : Request) × Asks (subcommand_of program words) request)
+AreTaken words = (takes_words words ≡ true) × ((request : Request) × Asks (subcommand_of_words words) request)
 
 -- the words ask for help, or for the version
 abbrev pub IsHelpAsked : List Text → Type 0
-IsHelpAsked words = IsAmong DisplayHelp (fault_of program words) ⊎ IsAmong DisplayVersion (fault_of program words)
+IsHelpAsked words = IsAmong DisplayHelp (fault_of_words words) ⊎ IsAmong DisplayVersion (fault_of_words words)
 
 -- where clap finds a fault in the words, the error has its kind, unless memory ran out
 abbrev pub HasFaultKind : List Text → Error → Type 0
-HasFaultKind words e = fault_of program words ≢ [] → HasKind (fault_of program words) e
+HasFaultKind words e = fault_of_words words ≢ [] → HasKind (fault_of_words words) e
 
 -- the first value of an argument among the words, what is read of it, and all its values
 abbrev pub first_named : Text → List Text → Option Text
-first_named name words = option_and_then (λ s. first_of name s.1) (subcommand_of program words)
+first_named name words = option_and_then (λ s. first_of name s.1) (subcommand_of_words words)
 
 abbrev pub one_named : Text → List Text → Option Text
-one_named name words = option_and_then (λ s. one_of name s.1) (subcommand_of program words)
+one_named name words = option_and_then (λ s. one_of name s.1) (subcommand_of_words words)
 
 abbrev pub all_named : Text → List Text → Option (List Text)
-all_named name words = option_and_then (λ s. all_of name s.1) (subcommand_of program words)
+all_named name words = option_and_then (λ s. all_of name s.1) (subcommand_of_words words)
 
 -- the words name these two files of a table
 abbrev pub AreTableWords : (signatures priorities : Text) → List Text → Type 0
 AreTableWords signatures priorities words = (first_named (codes "SIGS") words ≡ Some signatures) × (first_named (codes "PRIOS") words ≡ Some priorities)
+
+-- the words name the signatures of a table alone
+abbrev pub IsTableWord : Text → List Text → Type 0
+IsTableWord signatures words = (first_named (codes "SIGS") words ≡ Some signatures) × (first_named (codes "PRIOS") words ≡ None)

@@ -1,8 +1,8 @@
 -- What the status of a run says: of the output, of the error output and of the words.
 use Rattle.std.specs.Prelude.{◌≡◌, ◌≢◌, ℕ, ◌<◌, ◌≤◌, ◌⊎◌, Bool, true, false, List, [], Option}
-use Rattle.clap.specs.Words.{IsAmong, Text, fault_of}
+use Rattle.clap.specs.Words.{IsAmong, Text}
 use Rattle.clap.specs.declared.error.kind.ErrorKind.{ErrorKind}
-use Rattle.sig_command.specs.CommandLine.{AreTaken, IsHelpAsked, program}
+use Rattle.sig_command.specs.CommandLine.{AreTaken, IsHelpAsked, fault_of_words}
 use Rattle.sig_command.specs.Faults.{Reports, ReportsLine}
 use Rattle.sig_command.specs.Requests.{AnswersWords, Behind, ReportsFaultOfWords, ShowsAskedWords}
 use Rattle.sig_command.specs.Several.{ReportsFiles}
@@ -41,7 +41,7 @@ pub record TellsBy {E : Type 0} (held : Holding) (words : List Text) (status : �
 -- words in which clap finds a fault end as it says of their kind, unless memory ran out or a write failed
 abbrev pub EndsByFault : List Text → ℕ → Type 0
 EndsByFault words status =
-    fault_of program words ≢ [] → (status ≡ 3) ⊎ ((kind : ErrorKind) × IsAmong kind (fault_of program words) × (status ≡ kind_status kind))
+    fault_of_words words ≢ [] → (status ≡ 3) ⊎ ((kind : ErrorKind) × IsAmong kind (fault_of_words words) × (status ≡ kind_status kind))
 
 -- the line of want of memory is reported
 abbrev pub ReportsMemory : Option (List ℕ) → Option (List ℕ) → Type 0

@@ -1,7 +1,7 @@
 -- What comes of what the words ask for: its answers, and its faults.
 use Rattle.std.specs.Borrow.{Bor}
 use Rattle.std.specs.Prelude.{◌≡◌, ℕ, ◌⊎◌, Bool, false, true, List, Option, None, Some, Err, ⊤, is_some, map, Ok, option_map}
-use Rattle.clap.specs.Words.{Text, subcommand_of}
+use Rattle.clap.specs.Words.{Text}
 use Rattle.sig_bits.specs.Bytes.{IsBytes}
 use Rattle.sig_bits.specs.Device.{Adds}
 use Rattle.sig_table.specs.Loading.{records_of, table_of}
@@ -10,7 +10,7 @@ use Rattle.sig_table.specs.Views.{TableView}
 use Rattle.sig_table.specs.declared.error.TableError.{TableError}
 use Rattle.sig_table.specs.declared.ids.FormatId.{FormatId}
 use Rattle.sig_table.specs.declared.puid.Puid.{Puid}
-use Rattle.sig_command.specs.CommandLine.{Asks, program}
+use Rattle.sig_command.specs.CommandLine.{Asks, subcommand_of_words}
 use Rattle.sig_engines.specs.Asks.{IsFormatNamed}
 use Rattle.sig_engines.specs.Conflicts.{AddsConflicts, AddsFirstPairs, Settles}
 use Rattle.sig_command.specs.Faults.{Reports, TellsWrite}
@@ -26,7 +26,7 @@ use Rattle.sig_engines.specs.Linted.{AddsReport}
 use Rattle.sig_engines.specs.ManyFiles.{AddsFiles, CutsFiles, IsPrinted, StopsFiles}
 use Rattle.sig_engines.specs.Progress.{AddsProgress, ShowsIf}
 use Rattle.sig_engines.specs.Shown.{show_text}
-use Rattle.sig_engines.specs.Stores.{Has, HasFolder, Holding, Holds, IsAny, IsMade, IsTableFault, IsTableOf, Lacks, SomeFailed}
+use Rattle.sig_engines.specs.Stores.{Has, HasFolder, HasPriorities, Holding, Holds, HoldsPriorities, IsAny, IsMade, IsTableFault, IsTableOf, Lacks, SomeFailed}
 use Rattle.sig_engines.specs.Visits.{AreVisits}
 use Rattle.sig_engines.specs.Witnessed.{AddsWitness}
 use Rattle.sig_engines.specs.Witnesses.{IsWitnessOf}
@@ -47,9 +47,14 @@ use Rattle.sig_command.specs.declared.args.Request.TheVariants.{Check, Conflicts
 use Rattle.sig_engines.specs.declared.store.TablePaths.{TablePaths}
 use Rattle.sig_engines.specs.declared.progress.Things.TheVariants.{Formats, Pairs, Products}
 
--- there is no file of the name of the signatures; or there is one, and none of the name of the priorities
+-- there is no file of the name of the signatures; or there is one, and the priorities have a name, of which there is none
 abbrev pub IsUnopened : Holding → TablePaths → Bor (List ℕ) → Type 0
-IsUnopened held paths name = ((name ≡ paths.signatures) × Lacks held paths.signatures.now) ⊎ ((name ≡ paths.priorities) × Has held paths.signatures.now × Lacks held paths.priorities.now)
+IsUnopened held paths name = ((name ≡ paths.signatures) × Lacks held paths.signatures.now) ⊎ ((paths.priorities ≡ Some name) × Has held paths.signatures.now × Lacks held name.now)
+
+-- the priority file of this name can't be opened, since there is none
+abbrev pub LacksPriorities : Holding → Option (Bor Text) → Fault → Type 0
+LacksPriorities held None fault = ⊥
+LacksPriorities held (Some name) fault = (fault ≡ CannotOpen name) × Lacks held name.now
 
 -- a file of the table can't be opened, or there is no table
 abbrev pub IsLoadFault : {R : Type 0} → (R → Bool) → Holding → TablePaths → Fault → Type 0
@@ -229,15 +234,15 @@ AsksTwo (Witness table file) = ⊥
 
 -- what `lint` writes of the files of these names: a line for each fault, or that there is none
 abbrev pub IsReported : Bool → Holding → TablePaths → Option (List ℕ) → Option (List ℕ) → Type 0
-IsReported is_faultless held paths before after = (signatures priorities : List ℕ) × Holds held paths.signatures.now signatures × Holds held paths.priorities.now priorities × AddsReport is_faultless signatures priorities before after
+IsReported is_faultless held paths before after = (signatures priorities : List ℕ) × Holds held paths.signatures.now signatures × HoldsPriorities held paths.priorities priorities × AddsReport is_faultless signatures priorities before after
 
 -- `load` refuses what the two files hold
 abbrev pub IsRefused : Holding → TablePaths → Type 0
-IsRefused held paths = (signatures priorities : List ℕ) × Holds held paths.signatures.now signatures × Holds held paths.priorities.now priorities × (error : TableError) × (table_of (records_of signatures) (records_of priorities) ≡ Err error)
+IsRefused held paths = (signatures priorities : List ℕ) × Holds held paths.signatures.now signatures × HoldsPriorities held paths.priorities priorities × (error : TableError) × (table_of (records_of signatures) (records_of priorities) ≡ Err error)
 
--- there are both files of the table
+-- there are the files of the table that are named
 abbrev pub HasBoth : Holding → TablePaths → Type 0
-HasBoth held paths = Has held paths.signatures.now × Has held paths.priorities.now
+HasBoth held paths = Has held paths.signatures.now × HasPriorities held paths.priorities
 
 -- a file can't be opened or read, or what `lint` tells can't be written, or it has told that the table is refused
 abbrev pub IsLintFault : {R : Type 0} → (R → Bool) → Holding → TablePaths → Fault → Type 0
@@ -289,7 +294,7 @@ Answers held (Witness table name) is_yes before after = (t : TableView) × IsTab
 
 -- what is written grows by an answer to what the words ask for, a yes or a no
 abbrev pub AnswersWords : Holding → List Text → Bool → Option (List ℕ) → Option (List ℕ) → Type 0
-AnswersWords held words is_yes before after = (request : Request) × Asks (subcommand_of program words) request × Answers held request is_yes before after
+AnswersWords held words is_yes before after = (request : Request) × Asks (subcommand_of_words words) request × Answers held request is_yes before after
 
 -- of a search, what is written grows by the lines of what is found, and a file of the name that is asked for was made of the bytes of just that; of pairs of formats the files that are asked for were made; of all else it says nothing
 abbrev pub MakesOut : {F : Type 0} → (name_of written : F → Option (List ℕ)) → (F → Bool) → Holding → Request → Bool → (before after : Option (List ℕ)) → Type 0
@@ -306,7 +311,7 @@ MakesOut name_of written failed held (Witness table path) is_yes before after = 
 
 -- the files that the words ask for were made
 abbrev pub MakesWords : {F : Type 0} → (name_of written : F → Option (List ℕ)) → (F → Bool) → Holding → List Text → Bool → (before after : Option (List ℕ)) → Type 0
-MakesWords name_of written failed held words is_yes before after = (request : Request) × Asks (subcommand_of program words) request × MakesOut name_of written failed held request is_yes before after
+MakesWords name_of written failed held words is_yes before after = (request : Request) × Asks (subcommand_of_words words) request × MakesOut name_of written failed held request is_yes before after
 
 -- the pairs of formats of a table, and its formats, are written one by one, so that the lines of the first ones can be all that is written; and of several files those without a fault can be all that are written
 abbrev pub IsCutRequest : {R : Type 0} → (R → Bool) → Holding → Request → Option (List ℕ) → Option (List ℕ) → Type 0
@@ -323,7 +328,7 @@ IsCutRequest failed held (Witness table path) before after = ⊥
 
 -- the words ask for these pairs or files, and what is written grows by the lines of some of them
 abbrev pub CutsWords : {R : Type 0} → (R → Bool) → Holding → List Text → Option (List ℕ) → Option (List ℕ) → Type 0
-CutsWords failed held words before after = (request : Request) × Asks (subcommand_of program words) request × IsCutRequest failed held request before after
+CutsWords failed held words before after = (request : Request) × Asks (subcommand_of_words words) request × IsCutRequest failed held request before after
 
 -- so for some words, where it is not known what the files hold
 abbrev pub CutsSomeWords : {R : Type 0} → (R → Bool) → Option (List ℕ) → Option (List ℕ) → Type 0
@@ -335,7 +340,7 @@ ListsRequest held request before after = (table : TablePaths) × (request ≡ Li
 
 -- so for what the words ask for
 abbrev pub ListsWords : Holding → List Text → Option (List ℕ) → Option (List ℕ) → Type 0
-ListsWords held words before after = (request : Request) × Asks (subcommand_of program words) request × ListsRequest held request before after
+ListsWords held words before after = (request : Request) × Asks (subcommand_of_words words) request × ListsRequest held request before after
 
 -- so for some words, where it is not known what the files hold
 abbrev pub ListsSomeWords : Option (List ℕ) → Option (List ℕ) → Type 0
@@ -384,7 +389,7 @@ Shows failed held (Witness table path) is_answered is_failed before after = ⊥
 
 -- the words ask for progress or for several files, and this is shown
 abbrev pub ShowsWords : {R : Type 0} → (R → Bool) → Holding → List Text → Bool → Bool → Option (List ℕ) → Option (List ℕ) → Type 0
-ShowsWords failed held words is_answered is_failed before after = (request : Request) × Asks (subcommand_of program words) request × Shows failed held request is_answered is_failed before after
+ShowsWords failed held words is_answered is_failed before after = (request : Request) × Asks (subcommand_of_words words) request × Shows failed held request is_answered is_failed before after
 
 -- so for some words, where it is not known what the files hold
 abbrev pub ShowsSomeWords : {R : Type 0} → (R → Bool) → Bool → Bool → Option (List ℕ) → Option (List ℕ) → Type 0
@@ -463,7 +468,7 @@ pub record ReportsFaultOf {R : Type 0} (failed : R → Bool) (WriteFailed : Type
 
 -- so for what the words ask for
 abbrev pub ReportsFaultOfWords : {R : Type 0} → (R → Bool) → Type 0 → Holding → List Text → ℕ → (before after : Option (List ℕ)) (err_failed : Bool) (err_before err_after : Option (List ℕ)) → Type 0
-ReportsFaultOfWords failed WriteFailed held words status before after err_failed err_before err_after = (request : Request) × Asks (subcommand_of program words) request × ReportsFaultOf failed WriteFailed held request status before after err_failed err_before err_after
+ReportsFaultOfWords failed WriteFailed held words status before after err_failed err_before err_after = (request : Request) × Asks (subcommand_of_words words) request × ReportsFaultOf failed WriteFailed held request status before after err_failed err_before err_after
 
 -- with an answer the error output shows progress just where that is asked for; and with a no of a search over products it is said why the search gave up, unless a write failed
 abbrev pub ShowsAsked : {E : Type 0} → Holding → Request → Bool → (out_before out_after : Option (List ℕ)) → Bool → (before after : E) → Option (List ℕ) → Option (List ℕ) → Type 0
@@ -485,4 +490,4 @@ ShowsAsked held (Witness table path) is_yes out_before out_after is_failed befor
 -- so for what the words ask for
 abbrev pub ShowsAskedWords : {E : Type 0} → Holding → List Text → Bool → (out_before out_after : Option (List ℕ)) → Bool → (before after : E) → Option (List ℕ) → Option (List ℕ) → Type 0
 ShowsAskedWords held words is_yes out_before out_after is_failed before after written written_after =
-    (request : Request) × Asks (subcommand_of program words) request × ShowsAsked held request is_yes out_before out_after is_failed before after written written_after
+    (request : Request) × Asks (subcommand_of_words words) request × ShowsAsked held request is_yes out_before out_after is_failed before after written written_after

@@ -11,8 +11,8 @@ ghost use Rattle.std.specs.Prelude.{◌≡◌, ◌≢◌, ◌⊎◌, ◌||◌, [
 ghost use Rattle.clap.specs.Values.{kind_of};
 ghost use Rattle.clap.specs.Matches.{found_of};
 ghost use Rattle.clap.specs.declared.Command.TheViews.{out-Command as fields_of};
-ghost use Rattle.clap.specs.Words.{all_of, app_of, fault_of, first_of, new_rule, one_of, rows_of, rule_of, subcommand_of, subcommand_rows_of};
-ghost use Rattle.sig_command.specs.CommandLine.{AreTaken, Asks, HasFaultKind, HasFlag, HasNoFiles, IsHelpAsked, IsLine, NamesEach, NamesOptions, NamesTable, asking, budget_rule, check_command, conflicts_command, dead_command, find_command, given, lint_command, list_path, match_command, name_end, named, null_rule, of_table, out_rule, program, several, show_command, texts_of, wanted, witness_command};
+ghost use Rattle.clap.specs.Words.{all_of, app_of, first_of, new_rule, one_of, rows_of, rule_of, subcommand_rows_of};
+ghost use Rattle.sig_command.specs.CommandLine.{AreTaken, Asks, HasFaultKind, HasFlag, HasNoFiles, IsHelpAsked, IsLine, NamesEach, NamesOptions, NamesTable, asking, budget_rule, check_command, conflicts_command, dead_command, fault_of_words, find_command, given, lint_command, list_path, match_command, name_end, named, names_priorities, null_rule, of_table, out_rule, program_of, several, show_command, subcommand_of_words, texts_of, wanted, witness_command};
 
 use clap::error::ErrorKind;
 use clap::{Arg, ArgAction, ArgMatches, Command, Error, value_parser};
@@ -23,6 +23,7 @@ const SHOW_HELP: &str = "\
 Prints the signatures, an empty line, and the priorities. Each of the two
 parts is a CSV file with a record in each line: first the header, then the
 rows in canonical form. The two files load as the same table.
+With --no-priorities the second part is its header alone.
 
 Statuses:
   0  the table was printed
@@ -321,14 +322,14 @@ pub(crate) enum Request<'m, 'a> {
 ///
 /// The error is also a request for help.
 pub(crate) fn read_args<'a>(alloc: Global, words: &'a [String]) -> Result<ArgMatches<'a>, Error>
-    ensures found { IfOk result (λ matches. subcommand_rows_of matches ≡ subcommand_of program (texts_of words.now)) }
-    ensures asked { IfOk result (λ matches. (request : Request) × Asks (subcommand_of program (texts_of words.now)) request) }
+    ensures found { IfOk result (λ matches. subcommand_rows_of matches ≡ subcommand_of_words (texts_of words.now)) }
+    ensures asked { IfOk result (λ matches. (request : Request) × Asks (subcommand_of_words (texts_of words.now)) request) }
     ensures taken { IfErr result (λ e. AreTaken (texts_of words.now) → kind_of e ≡ ErrorKind.OutOfMemory) }
-    ensures sound { IfOk result (λ matches. fault_of program (texts_of words.now) ≡ []) }
+    ensures sound { IfOk result (λ matches. fault_of_words (texts_of words.now) ≡ []) }
     ensures kinds { IfErr result (HasFaultKind (texts_of words.now)) }
     ensures help { IfErr result (λ e. (kind_of e ≡ ErrorKind.DisplayHelp) ⊎ (kind_of e ≡ ErrorKind.DisplayVersion) → IsHelpAsked (texts_of words.now)) }
 {
-    let mut command = command_line(alloc)?;
+    let mut command = command_line(alloc, words)?;
     let matches = command.try_get_matches_from_mut(words)?;
     if request_of(&matches).is_none() {
         return Err(command.error(ErrorKind::MissingRequiredArgument, missing(&matches))?);
@@ -346,45 +347,63 @@ fn missing(matches: &ArgMatches<'_>) -> &'static str {
     }
 }
 
-// All subcommands and their words.
-fn command_line<'a>(alloc: Global) -> Result<Command<'a>, Error>
-    ensures app { IfOk result (λ command. app_of command ≡ program) }
+// Whether the words name a priority file. `clap` fills the arguments without a name in their order,
+// so it is given a command line that has no place for the file where there is none.
+fn names_priorities(words: &[String]) -> bool
+    ensures { result ≡ names_priorities (texts_of words.now) }
+{
+    for word in words {
+        let word = word.as_str();
+        if word == "--" {
+            return true;
+        }
+        if word == "--no-priorities" {
+            return false;
+        }
+    }
+    true
+}
+
+// All subcommands and their words, with a place for a priority file where these words name one.
+fn command_line<'a>(alloc: Global, words: &[String]) -> Result<Command<'a>, Error>
+    ensures app { IfOk result (λ command. app_of command ≡ program_of (texts_of words.now)) }
     ensures memory { IfErr result (λ e. kind_of e ≡ ErrorKind.OutOfMemory) }
 {
+    let has_priorities = names_priorities(words);
     let command = Command::new(alloc, "pronom_sig")
         .about("Identify files by signatures, and check tables of signatures for ambiguity")
         .version("0.1.0")
         .bin_name("pronom_sig")?
         .no_binary_name(true)
         .subcommand_required(true)
-        .subcommand(show_line(alloc)?)?
-        .subcommand(lint_line(alloc)?)?
-        .subcommand(match_line(alloc)?)?
-        .subcommand(find_line(alloc)?)?
-        .subcommand(conflicts_line(alloc)?)?
-        .subcommand(dead_line(alloc)?)?
-        .subcommand(check_line(alloc)?)?
-        .subcommand(witness_line(alloc)?)?;
+        .subcommand(show_line(alloc, has_priorities)?)?
+        .subcommand(lint_line(alloc, has_priorities)?)?
+        .subcommand(match_line(alloc, has_priorities)?)?
+        .subcommand(find_line(alloc, has_priorities)?)?
+        .subcommand(conflicts_line(alloc, has_priorities)?)?
+        .subcommand(dead_line(alloc, has_priorities)?)?
+        .subcommand(check_line(alloc, has_priorities)?)?
+        .subcommand(witness_line(alloc, has_priorities)?)?;
     Ok(command)
 }
 
 // `show SIGS PRIOS`
-fn show_line<'a>(alloc: Global) -> Result<Command<'a>, Error>
-    ensures line { IfOk result (IsLine show_command) }
+fn show_line<'a>(alloc: Global, has_priorities: bool) -> Result<Command<'a>, Error>
+    ensures line { IfOk result (IsLine (show_command has_priorities)) }
     ensures memory { IfErr result (λ e. kind_of e ≡ ErrorKind.OutOfMemory) }
 {
-    let line = with_table_args(alloc, Command::new(alloc, "show"))?
+    let line = with_table_args(alloc, Command::new(alloc, "show"), has_priorities)?
         .about("Check a table and print it in canonical form")
         .after_help(SHOW_HELP);
     Ok(line)
 }
 
 // `lint SIGS PRIOS`
-fn lint_line<'a>(alloc: Global) -> Result<Command<'a>, Error>
-    ensures line { IfOk result (IsLine lint_command) }
+fn lint_line<'a>(alloc: Global, has_priorities: bool) -> Result<Command<'a>, Error>
+    ensures line { IfOk result (IsLine (lint_command has_priorities)) }
     ensures memory { IfErr result (λ e. kind_of e ≡ ErrorKind.OutOfMemory) }
 {
-    let line = with_table_args(alloc, Command::new(alloc, "lint"))?
+    let line = with_table_args(alloc, Command::new(alloc, "lint"), has_priorities)?
         .about("List all faults of a table, and how to mend them")
         .after_help(LINT_HELP);
     Ok(line)
@@ -392,11 +411,11 @@ fn lint_line<'a>(alloc: Global) -> Result<Command<'a>, Error>
 
 // `match [--all] [--with-names] [--csv] [--names FORMATS] [--files-from NAMES [-0]] SIGS PRIOS
 // [FILE..]`
-fn match_line<'a>(alloc: Global) -> Result<Command<'a>, Error>
-    ensures line { IfOk result (IsLine match_command) }
+fn match_line<'a>(alloc: Global, has_priorities: bool) -> Result<Command<'a>, Error>
+    ensures line { IfOk result (IsLine (match_command has_priorities)) }
     ensures memory { IfErr result (λ e. kind_of e ≡ ErrorKind.OutOfMemory) }
 {
-    let line = with_table_args(alloc, Command::new(alloc, "match"))?
+    let line = with_table_args(alloc, Command::new(alloc, "match"), has_priorities)?
         .about("Print the formats that match each file, after priorities")
         .after_help(MATCH_HELP)
         .arg(several(alloc, "FILE").help("The files to identify"))?
@@ -415,11 +434,11 @@ fn match_line<'a>(alloc: Global) -> Result<Command<'a>, Error>
 }
 
 // `find [--budget N] --out OUT [--hex] [--progress] SIGS PRIOS`
-fn find_line<'a>(alloc: Global) -> Result<Command<'a>, Error>
-    ensures line { IfOk result (IsLine find_command) }
+fn find_line<'a>(alloc: Global, has_priorities: bool) -> Result<Command<'a>, Error>
+    ensures line { IfOk result (IsLine (find_command has_priorities)) }
     ensures memory { IfErr result (λ e. kind_of e ≡ ErrorKind.OutOfMemory) }
 {
-    let line = with_table_args(alloc, Command::new(alloc, "find"))?
+    let line = with_table_args(alloc, Command::new(alloc, "find"), has_priorities)?
         .about("Certify that no file gets two formats, or find a file that does")
         .after_help(FIND_HELP)
         .arg(budget(alloc).help("States that one search may visit"))?
@@ -431,11 +450,11 @@ fn find_line<'a>(alloc: Global) -> Result<Command<'a>, Error>
 
 // `conflicts [--budget N] [--only PUID] [--class] [--summary] [--hex] [--files DIR] [--priorities
 // FILE] [--progress] SIGS PRIOS`
-fn conflicts_line<'a>(alloc: Global) -> Result<Command<'a>, Error>
-    ensures line { IfOk result (IsLine conflicts_command) }
+fn conflicts_line<'a>(alloc: Global, has_priorities: bool) -> Result<Command<'a>, Error>
+    ensures line { IfOk result (IsLine (conflicts_command has_priorities)) }
     ensures memory { IfErr result (λ e. kind_of e ≡ ErrorKind.OutOfMemory) }
 {
-    let line = with_table_args(alloc, Command::new(alloc, "conflicts"))?
+    let line = with_table_args(alloc, Command::new(alloc, "conflicts"), has_priorities)?
         .about("List all pairs of formats that can both be reported for one file")
         .after_help(CONFLICTS_HELP)
         .arg(budget(alloc).help("States that one search may visit"))?
@@ -452,11 +471,11 @@ fn conflicts_line<'a>(alloc: Global) -> Result<Command<'a>, Error>
 }
 
 // `dead [--budget N] [--hex] [--progress] SIGS PRIOS`
-fn dead_line<'a>(alloc: Global) -> Result<Command<'a>, Error>
-    ensures line { IfOk result (IsLine dead_command) }
+fn dead_line<'a>(alloc: Global, has_priorities: bool) -> Result<Command<'a>, Error>
+    ensures line { IfOk result (IsLine (dead_command has_priorities)) }
     ensures memory { IfErr result (λ e. kind_of e ≡ ErrorKind.OutOfMemory) }
 {
-    let line = with_table_args(alloc, Command::new(alloc, "dead"))?
+    let line = with_table_args(alloc, Command::new(alloc, "dead"), has_priorities)?
         .about("List formats and signatures that are reported for no file")
         .after_help(DEAD_HELP)
         .arg(budget(alloc).help("States that one search may visit"))?
@@ -466,11 +485,11 @@ fn dead_line<'a>(alloc: Global) -> Result<Command<'a>, Error>
 }
 
 // `check SIGS PRIOS CERT`
-fn check_line<'a>(alloc: Global) -> Result<Command<'a>, Error>
-    ensures line { IfOk result (IsLine check_command) }
+fn check_line<'a>(alloc: Global, has_priorities: bool) -> Result<Command<'a>, Error>
+    ensures line { IfOk result (IsLine (check_command has_priorities)) }
     ensures memory { IfErr result (λ e. kind_of e ≡ ErrorKind.OutOfMemory) }
 {
-    let line = with_table_args(alloc, Command::new(alloc, "check"))?
+    let line = with_table_args(alloc, Command::new(alloc, "check"), has_priorities)?
         .about("Check a certificate")
         .after_help(CHECK_HELP)
         .arg(required(alloc, "CERT").help("The certificate"))?;
@@ -478,27 +497,34 @@ fn check_line<'a>(alloc: Global) -> Result<Command<'a>, Error>
 }
 
 // `witness SIGS PRIOS FILE`
-fn witness_line<'a>(alloc: Global) -> Result<Command<'a>, Error>
-    ensures line { IfOk result (IsLine witness_command) }
+fn witness_line<'a>(alloc: Global, has_priorities: bool) -> Result<Command<'a>, Error>
+    ensures line { IfOk result (IsLine (witness_command has_priorities)) }
     ensures memory { IfErr result (λ e. kind_of e ≡ ErrorKind.OutOfMemory) }
 {
-    let line = with_table_args(alloc, Command::new(alloc, "witness"))?
+    let line = with_table_args(alloc, Command::new(alloc, "witness"), has_priorities)?
         .about("Tell whether two formats are reported for a file")
         .after_help(WITNESS_HELP)
         .arg(required(alloc, "FILE").help("The file to check"))?;
     Ok(line)
 }
 
-// The two words that name a table.
-fn with_table_args<'a>(alloc: Global, command: Command<'a>) -> Result<Command<'a>, Error>
-    ensures app { IfOk result (λ r. app_of r ≡ of_table (app_of command.entry)) }
+// The words that name a table. The flag is read before `clap` reads any word.
+fn with_table_args<'a>(
+    alloc: Global,
+    command: Command<'a>,
+    has_priorities: bool,
+) -> Result<Command<'a>, Error>
+    ensures app { IfOk result (λ r. app_of r ≡ of_table has_priorities (app_of command.entry)) }
     ensures local { IfOk result (λ r. (fields_of r).has_globals ≡ (fields_of command.entry).has_globals) }
     ensures memory { IfErr result (λ e. kind_of e ≡ ErrorKind.OutOfMemory) }
 {
     let command = command
         .arg(required(alloc, "SIGS").help("The signatures, as CSV"))?
-        .arg(required(alloc, "PRIOS").help("The priorities, as CSV"))?;
-    Ok(command)
+        .arg(flag(alloc, "no-priorities").help("Leave PRIOS out: the table has no priorities"))?;
+    if !has_priorities {
+        return Ok(command);
+    }
+    Ok(command.arg(required(alloc, "PRIOS").help("The priorities, as CSV"))?)
 }
 
 fn required<'a>(alloc: Global, name: &'a str) -> Arg<'a>
@@ -774,6 +800,6 @@ fn table_paths<'a>(matches: &ArgMatches<'a>) -> Option<TablePaths<'a>>
 {
     Some(TablePaths {
         signatures: matches.get_str("SIGS")?,
-        priorities: matches.get_str("PRIOS")?,
+        priorities: matches.get_str("PRIOS"),
     })
 }

@@ -3,13 +3,13 @@
 //! `accepted_tables_match_once` and `accepted_tables_match_each_once` are what a certificate is
 //! for: if `check` accepts one of a table, `match` without `--all` names at most one format for a
 //! file. `words_are_taken` and `words_name_files` say on examples of each subcommand which words
-//! are taken, and which of them names which file.
+//! are taken, and which of them names which file, and `words_leave_out_priorities` says it of words
+//! with `--no-priorities`.
 
 ghost use Rattle.std.specs.Borrow.{Bor};
 ghost use Rattle.std.specs.Prelude.{◌≡◌, ◌≤◌, ℕ, Bool, List, None, Option, Some, false, true, [], ◌∷◌, codes, length, map};
-ghost use Rattle.clap.specs.Words.{fault_of, takes};
 ghost use Rattle.sig_bits.specs.Device.{Adds};
-ghost use Rattle.sig_command.specs.CommandLine.{AreTableWords, all_named, first_named, one_named, program};
+ghost use Rattle.sig_command.specs.CommandLine.{AreTableWords, IsTableWord, all_named, fault_of_words, first_named, one_named, takes_words};
 ghost use Rattle.sig_command.specs.Requests.{Answers, AsksEach};
 ghost use Rattle.sig_command.specs.Several.{AddsOneLineOfEach, AreListedIn};
 ghost use Rattle.sig_command.specs.declared.args.MatchOptions.{MatchOptions};
@@ -55,34 +55,34 @@ pub fn accepted_tables_match_each_once()
 /// Words that name all files are taken, also where `match` has several, and they ask for no help.
 /// `--help` alone asks for it, and `--version` for the version.
 pub fn words_are_taken()
-    ensures shown { takes program (codes "show" ∷ codes "a" ∷ codes "b" ∷ []) ≡ true }
-    ensures shown_no_help { fault_of program (codes "show" ∷ codes "a" ∷ codes "b" ∷ []) ≡ [] }
-    ensures linted { takes program (codes "lint" ∷ codes "a" ∷ codes "b" ∷ []) ≡ true }
-    ensures linted_no_help { fault_of program (codes "lint" ∷ codes "a" ∷ codes "b" ∷ []) ≡ [] }
-    ensures matched { takes program (codes "match" ∷ codes "a" ∷ codes "b" ∷ codes "c" ∷ []) ≡ true }
-    ensures matched_no_help { fault_of program (codes "match" ∷ codes "a" ∷ codes "b" ∷ codes "c" ∷ []) ≡ [] }
-    ensures many { takes program (codes "match" ∷ codes "a" ∷ codes "b" ∷ codes "c" ∷ codes "d" ∷ []) ≡ true }
-    ensures many_no_help { fault_of program (codes "match" ∷ codes "a" ∷ codes "b" ∷ codes "c" ∷ codes "d" ∷ []) ≡ [] }
-    ensures all { takes program (codes "match" ∷ codes "--all" ∷ codes "a" ∷ codes "b" ∷ codes "c" ∷ []) ≡ true }
-    ensures listed { takes program (codes "match" ∷ codes "--csv" ∷ codes "-0" ∷ codes "--files-from" ∷ codes "-" ∷ codes "a" ∷ codes "b" ∷ []) ≡ true }
-    ensures named { takes program (codes "match" ∷ codes "--with-names" ∷ codes "a" ∷ codes "b" ∷ codes "c" ∷ []) ≡ true }
-    ensures found { takes program (codes "find" ∷ codes "--budget" ∷ codes "100000" ∷ codes "--out" ∷ codes "a" ∷ codes "b" ∷ codes "c" ∷ []) ≡ true }
-    ensures found_shown { takes program (codes "find" ∷ codes "--progress" ∷ codes "--budget" ∷ codes "100000" ∷
+    ensures shown { takes_words (codes "show" ∷ codes "a" ∷ codes "b" ∷ []) ≡ true }
+    ensures shown_no_help { fault_of_words (codes "show" ∷ codes "a" ∷ codes "b" ∷ []) ≡ [] }
+    ensures linted { takes_words (codes "lint" ∷ codes "a" ∷ codes "b" ∷ []) ≡ true }
+    ensures linted_no_help { fault_of_words (codes "lint" ∷ codes "a" ∷ codes "b" ∷ []) ≡ [] }
+    ensures matched { takes_words (codes "match" ∷ codes "a" ∷ codes "b" ∷ codes "c" ∷ []) ≡ true }
+    ensures matched_no_help { fault_of_words (codes "match" ∷ codes "a" ∷ codes "b" ∷ codes "c" ∷ []) ≡ [] }
+    ensures many { takes_words (codes "match" ∷ codes "a" ∷ codes "b" ∷ codes "c" ∷ codes "d" ∷ []) ≡ true }
+    ensures many_no_help { fault_of_words (codes "match" ∷ codes "a" ∷ codes "b" ∷ codes "c" ∷ codes "d" ∷ []) ≡ [] }
+    ensures all { takes_words (codes "match" ∷ codes "--all" ∷ codes "a" ∷ codes "b" ∷ codes "c" ∷ []) ≡ true }
+    ensures listed { takes_words (codes "match" ∷ codes "--csv" ∷ codes "-0" ∷ codes "--files-from" ∷ codes "-" ∷ codes "a" ∷ codes "b" ∷ []) ≡ true }
+    ensures named { takes_words (codes "match" ∷ codes "--with-names" ∷ codes "a" ∷ codes "b" ∷ codes "c" ∷ []) ≡ true }
+    ensures found { takes_words (codes "find" ∷ codes "--budget" ∷ codes "100000" ∷ codes "--out" ∷ codes "a" ∷ codes "b" ∷ codes "c" ∷ []) ≡ true }
+    ensures found_shown { takes_words (codes "find" ∷ codes "--progress" ∷ codes "--budget" ∷ codes "100000" ∷
         codes "--out" ∷ codes "a" ∷ codes "b" ∷ codes "c" ∷ []) ≡ true }
-    ensures found_by_default { takes program (codes "find" ∷ codes "--out" ∷ codes "a" ∷ codes "b" ∷ codes "c" ∷ []) ≡ true }
-    ensures no_budget_of_zero { takes program
+    ensures found_by_default { takes_words (codes "find" ∷ codes "--out" ∷ codes "a" ∷ codes "b" ∷ codes "c" ∷ []) ≡ true }
+    ensures no_budget_of_zero { takes_words
         (codes "find" ∷ codes "--budget" ∷ codes "0" ∷ codes "--out" ∷ codes "a" ∷ codes "b" ∷ codes "c" ∷ []) ≡ false }
-    ensures settled { takes program (codes "conflicts" ∷ codes "--budget" ∷ codes "100000" ∷ codes "a" ∷ codes "b" ∷ []) ≡ true }
-    ensures settled_shown { takes program (codes "conflicts" ∷ codes "--progress" ∷ codes "--budget" ∷ codes "100000" ∷ codes "a" ∷ codes "b" ∷ []) ≡ true }
-    ensures settled_by_default { takes program (codes "conflicts" ∷ codes "a" ∷ codes "b" ∷ []) ≡ true }
-    ensures settled_of_one { takes program (codes "conflicts" ∷ codes "--only" ∷ codes "fmt/1" ∷ codes "--class" ∷ codes "a" ∷ codes "b" ∷ []) ≡ true }
-    ensures judged_by_default { takes program (codes "dead" ∷ codes "a" ∷ codes "b" ∷ []) ≡ true }
-    ensures checked { takes program (codes "check" ∷ codes "a" ∷ codes "b" ∷ codes "c" ∷ []) ≡ true }
-    ensures checked_no_help { fault_of program (codes "check" ∷ codes "a" ∷ codes "b" ∷ codes "c" ∷ []) ≡ [] }
-    ensures witnessed { takes program (codes "witness" ∷ codes "a" ∷ codes "b" ∷ codes "c" ∷ []) ≡ true }
-    ensures witnessed_no_help { fault_of program (codes "witness" ∷ codes "a" ∷ codes "b" ∷ codes "c" ∷ []) ≡ [] }
-    ensures help { fault_of program (codes "--help" ∷ []) ≡ ErrorKind.DisplayHelp ∷ [] }
-    ensures version { fault_of program (codes "--version" ∷ []) ≡ ErrorKind.DisplayVersion ∷ [] }
+    ensures settled { takes_words (codes "conflicts" ∷ codes "--budget" ∷ codes "100000" ∷ codes "a" ∷ codes "b" ∷ []) ≡ true }
+    ensures settled_shown { takes_words (codes "conflicts" ∷ codes "--progress" ∷ codes "--budget" ∷ codes "100000" ∷ codes "a" ∷ codes "b" ∷ []) ≡ true }
+    ensures settled_by_default { takes_words (codes "conflicts" ∷ codes "a" ∷ codes "b" ∷ []) ≡ true }
+    ensures settled_of_one { takes_words (codes "conflicts" ∷ codes "--only" ∷ codes "fmt/1" ∷ codes "--class" ∷ codes "a" ∷ codes "b" ∷ []) ≡ true }
+    ensures judged_by_default { takes_words (codes "dead" ∷ codes "a" ∷ codes "b" ∷ []) ≡ true }
+    ensures checked { takes_words (codes "check" ∷ codes "a" ∷ codes "b" ∷ codes "c" ∷ []) ≡ true }
+    ensures checked_no_help { fault_of_words (codes "check" ∷ codes "a" ∷ codes "b" ∷ codes "c" ∷ []) ≡ [] }
+    ensures witnessed { takes_words (codes "witness" ∷ codes "a" ∷ codes "b" ∷ codes "c" ∷ []) ≡ true }
+    ensures witnessed_no_help { fault_of_words (codes "witness" ∷ codes "a" ∷ codes "b" ∷ codes "c" ∷ []) ≡ [] }
+    ensures help { fault_of_words (codes "--help" ∷ []) ≡ ErrorKind.DisplayHelp ∷ [] }
+    ensures version { fault_of_words (codes "--version" ∷ []) ≡ ErrorKind.DisplayVersion ∷ [] }
 {}
 
 /// The words behind a subcommand are the signatures, the priorities and then what else it takes,
@@ -144,4 +144,36 @@ pub fn words_name_files()
     ensures checked_certificate { first_named (codes "CERT") (codes "check" ∷ codes "a" ∷ codes "b" ∷ codes "c" ∷ []) ≡ Some (codes "c") }
     ensures judged_table { AreTableWords (codes "a") (codes "b") (codes "witness" ∷ codes "a" ∷ codes "b" ∷ codes "c" ∷ []) }
     ensures judged_file { first_named (codes "FILE") (codes "witness" ∷ codes "a" ∷ codes "b" ∷ codes "c" ∷ []) ≡ Some (codes "c") }
+{}
+
+/// With `--no-priorities` among the words none of them names a priority file: the one behind the
+/// signatures is what else the subcommand takes. Behind `--` the flag is a file, and no option
+/// takes it for its value.
+pub fn words_leave_out_priorities()
+    ensures shown { takes_words (codes "show" ∷ codes "--no-priorities" ∷ codes "a" ∷ []) ≡ true }
+    ensures shown_table { IsTableWord (codes "a") (codes "show" ∷ codes "--no-priorities" ∷ codes "a" ∷ []) }
+    ensures shown_flag_last { IsTableWord (codes "a") (codes "show" ∷ codes "a" ∷ codes "--no-priorities" ∷ []) }
+    ensures shown_no_second { takes_words (codes "show" ∷ codes "--no-priorities" ∷ codes "a" ∷ codes "b" ∷ []) ≡ false }
+    ensures linted { takes_words (codes "lint" ∷ codes "--no-priorities" ∷ codes "a" ∷ []) ≡ true }
+    ensures linted_table { IsTableWord (codes "a") (codes "lint" ∷ codes "--no-priorities" ∷ codes "a" ∷ []) }
+    ensures matched { takes_words (codes "match" ∷ codes "--no-priorities" ∷ codes "a" ∷ codes "b" ∷ codes "c" ∷ []) ≡ true }
+    ensures matched_table { IsTableWord (codes "a") (codes "match" ∷ codes "--no-priorities" ∷ codes "a" ∷ codes "b" ∷ codes "c" ∷ []) }
+    ensures matched_files { all_named (codes "FILE") (codes "match" ∷ codes "--no-priorities" ∷ codes "a" ∷ codes "b" ∷ codes "c" ∷ []) ≡ Some (codes "b" ∷ codes "c" ∷ []) }
+    ensures listed { takes_words (codes "match" ∷ codes "--no-priorities" ∷ codes "--files-from" ∷ codes "b" ∷ codes "a" ∷ []) ≡ true }
+    ensures listed_list { first_named (codes "NAMES") (codes "match" ∷ codes "--no-priorities" ∷ codes "--files-from" ∷ codes "b" ∷ codes "a" ∷ []) ≡ Some (codes "b") }
+    ensures found { takes_words (codes "find" ∷ codes "--no-priorities" ∷ codes "--out" ∷ codes "b" ∷ codes "a" ∷ []) ≡ true }
+    ensures found_table { IsTableWord (codes "a") (codes "find" ∷ codes "--no-priorities" ∷ codes "--out" ∷ codes "b" ∷ codes "a" ∷ []) }
+    ensures found_no_value { takes_words (codes "find" ∷ codes "a" ∷ codes "b" ∷ codes "--out" ∷ codes "--no-priorities" ∷ []) ≡ false }
+    ensures settled { takes_words (codes "conflicts" ∷ codes "--priorities" ∷ codes "b" ∷ codes "--no-priorities" ∷ codes "a" ∷ []) ≡ true }
+    ensures settled_table { IsTableWord (codes "a") (codes "conflicts" ∷ codes "--priorities" ∷ codes "b" ∷ codes "--no-priorities" ∷ codes "a" ∷ []) }
+    ensures dying { takes_words (codes "dead" ∷ codes "--no-priorities" ∷ codes "a" ∷ []) ≡ true }
+    ensures dying_table { IsTableWord (codes "a") (codes "dead" ∷ codes "--no-priorities" ∷ codes "a" ∷ []) }
+    ensures checked { takes_words (codes "check" ∷ codes "--no-priorities" ∷ codes "a" ∷ codes "b" ∷ []) ≡ true }
+    ensures checked_table { IsTableWord (codes "a") (codes "check" ∷ codes "--no-priorities" ∷ codes "a" ∷ codes "b" ∷ []) }
+    ensures checked_certificate { first_named (codes "CERT") (codes "check" ∷ codes "--no-priorities" ∷ codes "a" ∷ codes "b" ∷ []) ≡ Some (codes "b") }
+    ensures witnessed { takes_words (codes "witness" ∷ codes "--no-priorities" ∷ codes "a" ∷ codes "b" ∷ []) ≡ true }
+    ensures witnessed_table { IsTableWord (codes "a") (codes "witness" ∷ codes "--no-priorities" ∷ codes "a" ∷ codes "b" ∷ []) }
+    ensures witnessed_file { first_named (codes "FILE") (codes "witness" ∷ codes "--no-priorities" ∷ codes "a" ∷ codes "b" ∷ []) ≡ Some (codes "b") }
+    ensures behind_table { AreTableWords (codes "a") (codes "b") (codes "match" ∷ codes "a" ∷ codes "b" ∷ codes "--" ∷ codes "--no-priorities" ∷ []) }
+    ensures behind_file { all_named (codes "FILE") (codes "match" ∷ codes "a" ∷ codes "b" ∷ codes "--" ∷ codes "--no-priorities" ∷ []) ≡ Some (codes "--no-priorities" ∷ []) }
 {}

@@ -17,6 +17,7 @@ mod laws;
 mod requests;
 
 pub use laws::{
-    accepted_tables_match_each_once, accepted_tables_match_once, words_are_taken, words_name_files,
+    accepted_tables_match_each_once, accepted_tables_match_once, words_are_taken,
+    words_leave_out_priorities, words_name_files,
 };
 pub use requests::{command, command_over, run};

@@ -15,9 +15,10 @@ ghost use Rattle.std.specs.Borrow.{Bor};
 ghost use Rattle.std.specs.Prelude.{None, Some, ◌≡◌, ◌≢◌, ◌<◌, ◌⊎◌, false, is_ok, is_some, length, List, option_map, true, IfErr, IfOk, OnOk};
 ghost use Rattle.clap.specs.Values.{kind_of};
 ghost use Rattle.clap.specs.Words.{Text};
-ghost use Rattle.sig_command.specs.Requests.{Answers, AnswersWords, AreNamesOf, AsksPairs, CutsSomeWords, CutsWords, IsFaultOf, IsFolderFault, IsLoadFault, IsNamesFaultOf, IsOnly, IsReported, JoinsBoth, KeepsOrCuts, ListsIf, ListsSomeWords, ListsWords, MakesOut, MakesWords, NamesNone, ShowsAsked, ShowsSomeWords, ShowsWords, TellsOf, file_fault, pairs_fault};
+ghost use Rattle.sig_command.specs.Requests.{Answers, AnswersWords, AreNamesOf, AsksPairs, CutsSomeWords, CutsWords, IsFaultOf, IsFolderFault, IsLoadFault, IsNamesFaultOf, IsOnly, IsReported, JoinsBoth, KeepsOrCuts, LacksPriorities, ListsIf, ListsSomeWords, ListsWords, MakesOut, MakesWords, NamesNone, ShowsAsked, ShowsSomeWords, ShowsWords, TellsOf, file_fault, pairs_fault};
 ghost use Rattle.sig_command.specs.Faults.{TellsWrite};
-ghost use Rattle.sig_engines.specs.Stores.{IsTableOf, LacksFolder, Opens, SomeWriteFailed};
+ghost use Rattle.sig_engines.specs.PriorityInputs.{to_come_of};
+ghost use Rattle.sig_engines.specs.Stores.{IsTableOf, LacksFolder, Opens, OpensPriorities, SomeWriteFailed};
 ghost use Rattle.sig_command.specs.CommandLine.{AreTaken, texts_of};
 ghost use Rattle.sig_command.specs.Endings.{AnswersBy, EndsByFault, KeepsErrors, KeepsOutput, ReportsBy, ReportsMemory, TellsBy};
 ghost use Rattle.sig_table.specs.Tables.{IsTable};
@@ -29,8 +30,9 @@ use clap::error::ErrorKind;
 use sig_bits::{FromRead, FromWrite, Input, Output};
 use sig_engines::{
     ConflictsAsk, CutShort, FileFault, FormatNames, MatchAsk, NameReader, NamesError, PairsFault,
-    RunError, Store, SystemFiles, TablePaths, WitnessName, find_dead, format_named, run_check,
-    run_find, run_lint, run_match, run_match_listed, run_match_many, run_show, run_witness, settle,
+    PriorityInput, RunError, Store, SystemFiles, TablePaths, WitnessName, find_dead, format_named,
+    run_check, run_find, run_lint, run_match, run_match_listed, run_match_many, run_show,
+    run_witness, settle,
 };
 use sig_scan::BlockCore;
 use sig_table::{FormatId, Puid, Table};
@@ -249,7 +251,7 @@ fn lint_table<'a, S: Store, W: Output>(
     ensures whole { IfErr result (λ fault. fault ≢ Fault.FaultyTable → W.failed out.new ≡ false → out.new ≡ out.old) }
 {
     let mut signatures = open(store, table.signatures)?;
-    let mut priorities = open(store, table.priorities)?;
+    let mut priorities = open_priorities(store, table.priorities)?;
     match run_lint(alloc, &mut signatures, &mut priorities, out) {
         Ok(true) => Ok(true),
         Ok(false) => Err(Fault::FaultyTable),
@@ -580,7 +582,7 @@ fn file_fault(name: &str, fault: FileFault) -> Fault<'_>
     }
 }
 
-// Opens both files of a table before either is read. It stands in a frame of its own, as the
+// Opens the files of a table before one is read. It stands in a frame of its own, as the
 // engines do: the buffers of all of them in one frame would double the stack that the program
 // needs.
 #[inline(never)]
@@ -589,7 +591,7 @@ fn load<'a, S: Store>(store: &S, alloc: Global, paths: TablePaths<'a>) -> Result
     ensures faults { IfErr result (IsLoadFault S.Reader.failed (S.held store.now) paths.entry) }
 {
     let mut signatures = open(store, paths.signatures)?;
-    let mut priorities = open(store, paths.priorities)?;
+    let mut priorities = open_priorities(store, paths.priorities)?;
     match Table::load(alloc, &mut signatures, &mut priorities) {
         Ok(table) => {
             let is_within = table.format_count() <= 1000;
@@ -597,6 +599,20 @@ fn load<'a, S: Store>(store: &S, alloc: Global, paths: TablePaths<'a>) -> Result
             Ok(table)
         }
         Err(error) => Err(Fault::Table(error)),
+    }
+}
+
+// The priorities of a table: the file of this name, or none.
+fn open_priorities<'a, S: Store>(
+    store: &S,
+    name: Option<&'a str>,
+) -> Result<PriorityInput<S::Reader>, Fault<'a>>
+    ensures opens { IfOk result (λ input. OpensPriorities (S.held store.now) name.entry (to_come_of S.Reader.to_come input)) }
+    ensures unopened { IfErr result (LacksPriorities (S.held store.now) name.entry) }
+{
+    match name {
+        Some(name) => Ok(PriorityInput::File(open(store, name)?)),
+        None => Ok(PriorityInput::none()),
     }
 }
 

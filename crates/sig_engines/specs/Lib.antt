@@ -13,6 +13,7 @@ pub mod Linted
 pub mod Listed
 pub mod ManyFiles
 pub mod Notes
+pub mod PriorityInputs
 pub mod Progress
 pub mod Shown
 pub mod Stores

@@ -1,5 +1,6 @@
 -- What a store holds, and what it gives.
-use Rattle.std.specs.Prelude.{◌≡◌, ◌≢◌, ◌⊎◌, ℕ, ⊤, Bool, true, false, List, [], Option, None, Some, IsSome, is_some, option_map, string_bytes, Result, Ok, Err}
+use Rattle.std.specs.Prelude.{◌≡◌, ◌≢◌, ◌⊎◌, ℕ, ⊤, Bool, true, false, List, [], Option, None, Some, IsSome, is_some, codes, option_map, string_bytes, Result, Ok, Err}
+use Rattle.std.specs.Borrow.{Bor}
 use Rattle.sig_bits.specs.Device.{Adds}
 use Rattle.sig_table.specs.Judging.{is_judged, is_read}
 use Rattle.sig_table.specs.Loading.{records_of, table_of}
@@ -106,19 +107,38 @@ pub record SomeMadeFailed {F : Type 0} (failed : F → Bool) : Type 0 where
 abbrev pub SomeWriteFailed : {F : Type 0} → (F → Bool) → Bool → Type 0
 SomeWriteFailed failed is_failed = (is_failed ≡ true) ⊎ SomeMadeFailed failed
 
--- the two files of these names are read as this table, or as this fault of one, where it is known what they hold
+-- a priority file without rows: its header
+abbrev pub no_priorities : List ℕ
+no_priorities = codes "higher,lower\n"
+
+-- the priorities of a table have these bytes, where that is known: those of the file of this name, and without a name no row
+abbrev pub HoldsPriorities : Holding → Option (Bor (List ℕ)) → List ℕ → Type 0
+HoldsPriorities held None bytes = bytes ≡ no_priorities
+HoldsPriorities held (Some name) bytes = Holds held name.now bytes
+
+-- there is a priority file of this name, or no name is given, where that is known
+abbrev pub HasPriorities : Holding → Option (Bor (List ℕ)) → Type 0
+HasPriorities held None = ⊤
+HasPriorities held (Some name) = Has held name.now
+
+-- the bytes to come are those of the priority file of this name, or without a name no row, where that is known
+abbrev pub OpensPriorities : Holding → Option (Bor (List ℕ)) → Option (List ℕ) → Type 0
+OpensPriorities held None to_come = to_come ≡ Some no_priorities
+OpensPriorities held (Some name) to_come = Opens held name.now (Some to_come)
+
+-- the files of these names are read as this table, or as this fault of one, where it is known what they hold
 abbrev pub ReadsAs : Holding → TablePaths → Result TableView TableError → Type 0
 ReadsAs None paths read = ⊤
-ReadsAs (Some files) paths read = (signatures priorities : List ℕ) × (files.bytes paths.signatures.now ≡ Some signatures) × (files.bytes paths.priorities.now ≡ Some priorities) × (table_of (records_of signatures) (records_of priorities) ≡ read)
+ReadsAs (Some files) paths read = (signatures priorities : List ℕ) × (files.bytes paths.signatures.now ≡ Some signatures) × HoldsPriorities (Some files) paths.priorities priorities × (table_of (records_of signatures) (records_of priorities) ≡ read)
 
--- the table of the two files of these names
+-- the table of the files of these names
 pub record IsTableOf (held : Holding) (paths : TablePaths) (table : TableView) : Type 0 where
   pub limits : IsTable table
   pub read : ReadsAs held paths (Ok table)
 
--- why there is no table of the two files of these names: what they hold has this fault, a reader failed, or memory ran out
+-- why there is no table of the files of these names: what they hold has this fault, a reader failed, or memory ran out
 pub record IsTableFault {R : Type 0} (failed : R → Bool) (held : Holding) (paths : TablePaths) (error : TableError) : Type 0 where
   pub has_signatures : Has held paths.signatures.now
-  pub has_priorities : Has held paths.priorities.now
+  pub has_priorities : HasPriorities held paths.priorities
   pub judged : is_judged error ≡ true → ReadsAs held paths (Err error)
   pub unread : is_read error ≡ true → SomeFailed failed

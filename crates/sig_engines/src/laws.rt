@@ -1,6 +1,6 @@
 //! Laws of what the engines write.
 
-ghost use Rattle.std.specs.Prelude.{◌≡◌, ◌≤◌, ◌++◌, ◌∷◌, ℕ, false, flat_map, List, Option, length, true};
+ghost use Rattle.std.specs.Prelude.{◌≡◌, ◌≤◌, ◌++◌, ◌∷◌, ℕ, [], false, flat_map, List, None, Option, Some, length, true};
 ghost use Rattle.std.specs.Borrow.{Bor};
 ghost use Rattle.csv.specs.Reading.{AreRecords, default_config, strip_bom};
 ghost use Rattle.csv.specs.declared.parser.State.TheVariants as st;
@@ -9,6 +9,8 @@ ghost use Rattle.sig_cert.specs.Deciding.{Decided};
 ghost use Rattle.sig_engines.specs.FileTexts.{file_text, head_record, head_text, records_of_file};
 ghost use Rattle.sig_engines.specs.FormatNames.{NameList};
 ghost use Rattle.sig_engines.specs.Lines.{AddsLinesOfSome, AreLinesOfSome, file_lines, lines_of};
+ghost use Rattle.sig_engines.specs.Stores.{Files, IsTableOf};
+ghost use Rattle.sig_engines.specs.declared.store.TablePaths.{TablePaths};
 ghost use Rattle.sig_core.specs.declared.results.Hit.{Hit};
 ghost use Rattle.sig_table.specs.Views.{TableView};
 
@@ -27,4 +29,10 @@ pub fn records_are_read_back()
     ensures { (names : Option (Bor NameList)) (table : TableView) (files : List (List ℕ × List Hit))
         → AreRecords default_config st.StartRecord (strip_bom (head_text true ++ flat_map (λ f. file_text true names f.0 table f.1) files))
         (head_record ∷ flat_map (λ f. records_of_file names f.0 table f.1) files) }
+{}
+
+/// Files of which none is of priorities have a table without priorities.
+pub fn no_priorities_are_read()
+    ensures { (files : Files) (paths : TablePaths) (table : TableView) → paths.priorities ≡ None
+        → IsTableOf (Some files) paths table → table.priorities ≡ [] }
 {}

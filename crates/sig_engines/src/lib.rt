@@ -11,7 +11,8 @@
 //! What each adds to an output stands in `specs/`: `Lines`, `FormatNames`, `FileTexts`, `Listed`,
 //! `ManyFiles`, `Shown`, `Linted`, `Finding`, `Judged`, `Witnessed`, `Conflicts`, `Fates` and `Progress`. `Asks`
 //! says which pairs `conflicts` is asked for, and `ClassTexts` how their classes are written and
-//! counted. `Stores` says what a store of files holds and makes.
+//! counted. `Stores` says what a store of files holds and makes, and `PriorityInputs` where the
+//! priorities of a table come from.
 #![tactic(auto)]
 
 mod ask;
@@ -36,6 +37,7 @@ mod name_reader;
 mod named_file;
 mod note;
 mod pair_lines;
+mod priority_input;
 mod progress;
 mod settling;
 mod show_engine;
@@ -52,11 +54,12 @@ pub use dead_engine::{find_dead, run_dead};
 pub use error::{CutShort, FileFault, NameFault, PairsFault, RunError};
 pub use find_engine::run_find;
 pub use format_names::{FormatNames, NamesError};
-pub use laws::{records_are_read_back, two_lines_are_never_added};
+pub use laws::{no_priorities_are_read, records_are_read_back, two_lines_are_never_added};
 pub use lint_engine::run_lint;
 pub use many_engine::{run_match_listed, run_match_many};
 pub use match_engine::run_match;
 pub use name_reader::NameReader;
+pub use priority_input::PriorityInput;
 pub use progress::Things;
 pub use settling::settle;
 pub use show_engine::run_show;

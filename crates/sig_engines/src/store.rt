@@ -79,11 +79,11 @@ pub enum EntryKind {
     NotText,
 }
 
-/// The names of the two files of a table.
+/// The names of the files of a table. One without a priority file has no priorities.
 #[derive(Clone, Copy, Debug, PartialEq, Eq)]
 pub struct TablePaths<'a> {
     pub signatures: &'a str,
-    pub priorities: &'a str,
+    pub priorities: Option<&'a str>,
 }
 
 /// The files of the system.

@@ -106,6 +106,41 @@ const ANSWERED: &[Answered] = &[
     Answered(b"AB", &["match", "x", "y", "z"], 3, "", "cannot open x\n"),
     Answered(b"AB", &["match", "s", "y", "z"], 3, "", "cannot open y\n"),
     Answered(b"AB", &["match", "s", "p", "z"], 3, "", "cannot open z\n"),
+    Answered(
+        b"AB",
+        &["match", "--no-priorities", "s", "f"],
+        0,
+        "fmt/1 1\nfmt/2 2\n",
+        "",
+    ),
+    Answered(
+        b"AB",
+        &["match", "--no-priorities", "s", "f", "p"],
+        0,
+        "f\tfmt/1 1\nf\tfmt/2 2\np\t-\n",
+        "",
+    ),
+    Answered(
+        b"f\n",
+        &["match", "--no-priorities", "--files-from", "f", "s"],
+        0,
+        "f\t-\n",
+        "",
+    ),
+    Answered(
+        b"AB",
+        &["match", "s", "p", "--", "--no-priorities"],
+        3,
+        "",
+        "cannot open --no-priorities\n",
+    ),
+    Answered(
+        b"AB",
+        &["find", "--no-priorities", "--out", "o", "s"],
+        0,
+        "witness fmt/1 fmt/2\n",
+        "",
+    ),
 ];
 
 const OF_A_FILE: &[&[&str]] = &[
@@ -191,6 +226,18 @@ fn says_nothing_of_a_file_whose_reads_fail(rt: HostRuntime) -> Result<(), Fail> 
 #[test]
 fn says_nothing_of_a_table_whose_reads_fail(rt: HostRuntime) -> Result<(), Fail> {
     assert!(rt; all_report(&rt, PRIORITIES_FAIL, OF_A_TABLE, 3, "read failed\n")?);
+    Ok(())
+}
+
+// Without a priority file nothing is read that can fail.
+#[test]
+fn reads_no_priority_file_where_it_is_left_out(rt: HostRuntime) -> Result<(), Fail> {
+    let shown = run_over(
+        &rt,
+        PRIORITIES_FAIL,
+        &["match", "--no-priorities", "s", "f"],
+    )?;
+    assert!(rt; shown.is(0, "fmt/1 1\nfmt/2 2\n", ""));
     Ok(())
 }
 

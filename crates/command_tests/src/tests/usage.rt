@@ -72,7 +72,7 @@ const OF_FIND: &[&str] = &[
     "or a priority\n    between their formats.\n  over 64 signatures outrank S or T: see conflicts\n",
     "A priority between the formats\n    of S and T settles it; fewer",
     "may, too.\n\nStatuses:\n  0  ",
-    "  --budget <N>  States that one search may visit [default: 100000]\n",
+    "  --budget <N>     States that one search may visit [default: 100000]\n",
     "Also print the bytes of OUT in hexadecimal\n",
 ];
 
@@ -104,7 +104,7 @@ const OF_CONFLICTS: &[&str] = &[
 const OF_DEAD: &[&str] = &[
     "  dead A       A is reported for no file: A matches no file, or formats over A\n",
     "The last line is `formats F alive .. dead .. unknown ..` and then the same of\n`signatures S`.",
-    "  --budget <N>  States that one search may visit [default: 100000]\n",
+    "  --budget <N>     States that one search may visit [default: 100000]\n",
 ];
 
 // What the help of `check` says.
@@ -116,7 +116,10 @@ const OF_CHECK: &[&str] = &[
 const OF_WITNESS: &[&str] = &["or `not ambiguous` if at most one is. An ambiguous file\nshows"];
 
 // What the help of `show` says.
-const OF_SHOW: &[&str] = &["first the header, then the\nrows in canonical form."];
+const OF_SHOW: &[&str] = &[
+    "first the header, then the\nrows in canonical form.",
+    "load as the same table.\nWith --no-priorities the second part is its header alone.\n",
+];
 
 // The subcommands, and what their help says.
 const HELPS: &[(&str, &[&str])] = &[

@@ -1,36 +1,14 @@
 use Rattle.std.proofs.Common.{◌≡◌, false, ap, ap₂, codes, ◌∙◌}
 use Rattle.clap.specs.Simple.{app_of_fields}
-use Rattle.clap.specs.Words.{App, app_of, new_app, rule_of, with_rule}
+use Rattle.clap.specs.Words.{app_of, new_app, rule_of, with_rule}
 use Rattle.clap.specs.declared.Command.TheViews.{out-Command as fields_of}
 use Rattle.sig_command.specs.CommandLine.{budget_rule, given, named, of_table}
 use Rattle.sig_command.proofs.RowLemmas.{or_false}
 use Rattle.sig_command.proofs.args.conflicts_line.Goals as goal
 
--- the command with its first arguments
-abbrev with_budget : App
-with_budget = with_rule (of_table (new_app (codes "conflicts"))) budget_rule
-
-abbrev with_only : App
-with_only = with_rule with_budget (named (codes "only") (codes "PUID"))
-
-abbrev with_class : App
-with_class = with_rule with_only (given (codes "class"))
-
-abbrev with_summary : App
-with_summary = with_rule with_class (given (codes "summary"))
-
-abbrev with_hex : App
-with_hex = with_rule with_summary (given (codes "hex"))
-
-abbrev with_files : App
-with_files = with_rule with_hex (named (codes "files") (codes "DIR"))
-
-abbrev with_priorities : App
-with_priorities = with_rule with_files (named (codes "priorities") (codes "FILE"))
-
 pub returns-clause-line : goal.returns-clause-line
 returns-clause-line c =
-    let table : app_of c.after_help.result ≡ of_table (new_app (codes "conflicts")) = ap app_of_fields c.after_help.ensures ∙ ap app_of_fields c.about.ensures ∙ c.in_ok-with_table_args.ensures.app ∙ ap of_table c.new.ensures.app in
+    let table : app_of c.after_help.result ≡ of_table c.args.has_priorities (new_app (codes "conflicts")) = ap app_of_fields c.after_help.ensures ∙ ap app_of_fields c.about.ensures ∙ c.in_ok-with_table_args.ensures.app ∙ ap (of_table c.args.has_priorities) c.new.ensures.app in
     let table_local : (fields_of c.after_help.result).has_globals ≡ false = rw (c.after_help.ensures, c.about.ensures) (c.in_ok-with_table_args.ensures.local ∙ c.new.ensures.local) in
     let budget : rule_of c.help.result ≡ budget_rule = rw c.help.ensures c.budget.ensures.rule in
     let budget_local : c.help.result.global ≡ false = rw c.help.ensures c.budget.ensures.local in
@@ -48,15 +26,23 @@ returns-clause-line c =
     let priorities_local : c.help-7.result.global ≡ false = rw c.help-7.ensures c.option-3.ensures.local in
     let shown : rule_of c.help-8.result ≡ given (codes "progress") = rw c.help-8.ensures c.flag-4.ensures.rule in
     let shown_local : c.help-8.result.global ≡ false = rw c.help-8.ensures c.flag-4.ensures.local in
-    let first : app_of c.in_ok-arg.field-0 ≡ with_budget = c.in_ok-arg.ensures.shape budget_local ∙ ap₂ with_rule table budget in
-    let second : app_of c.in_ok-arg-2.field-0 ≡ with_only = c.in_ok-arg-2.ensures.shape only_local ∙ ap₂ with_rule first only in
-    let third : app_of c.in_ok-arg-3.field-0 ≡ with_class = c.in_ok-arg-3.ensures.shape class_local ∙ ap₂ with_rule second class in
-    let fourth : app_of c.in_ok-arg-4.field-0 ≡ with_summary = c.in_ok-arg-4.ensures.shape summary_local ∙ ap₂ with_rule third summary in
-    let fifth : app_of c.in_ok-arg-5.field-0 ≡ with_hex = c.in_ok-arg-5.ensures.shape hex_local ∙ ap₂ with_rule fourth hex in
-    let sixth : app_of c.in_ok-arg-6.field-0 ≡ with_files = c.in_ok-arg-6.ensures.shape files_local ∙ ap₂ with_rule fifth files in
-    let seventh : app_of c.in_ok-arg-7.field-0 ≡ with_priorities = c.in_ok-arg-7.ensures.shape priorities_local ∙ ap₂ with_rule sixth priorities in
     record {
-      is_app = c.in_ok-line.ensures.shape shown_local ∙ ap₂ with_rule seventh shown;
+      is_app =
+          c.in_ok-line.ensures.shape shown_local ∙ ap₂ with_rule (
+          c.in_ok-arg-7.ensures.shape priorities_local ∙ ap₂ with_rule (
+          c.in_ok-arg-6.ensures.shape files_local ∙ ap₂ with_rule (
+          c.in_ok-arg-5.ensures.shape hex_local ∙ ap₂ with_rule (
+          c.in_ok-arg-4.ensures.shape summary_local ∙ ap₂ with_rule (
+          c.in_ok-arg-3.ensures.shape class_local ∙ ap₂ with_rule (
+          c.in_ok-arg-2.ensures.shape only_local ∙ ap₂ with_rule (
+          c.in_ok-arg.ensures.shape budget_local ∙ ap₂ with_rule table budget
+          ) only
+          ) class
+          ) summary
+          ) hex
+          ) files
+          ) priorities
+          ) shown;
       has_no_globals = c.in_ok-line.ensures.globals ∙ or_false _ _ shown_local ∙ c.in_ok-arg-7.ensures.globals ∙ or_false _ _ priorities_local ∙ c.in_ok-arg-6.ensures.globals ∙ or_false _ _ files_local
           ∙ c.in_ok-arg-5.ensures.globals ∙ or_false _ _ hex_local ∙ c.in_ok-arg-4.ensures.globals ∙ or_false _ _ summary_local ∙ c.in_ok-arg-3.ensures.globals ∙ or_false _ _ class_local
           ∙ c.in_ok-arg-2.ensures.globals ∙ or_false _ _ only_local ∙ c.in_ok-arg.ensures.globals ∙ or_false _ _ budget_local ∙ table_local;
