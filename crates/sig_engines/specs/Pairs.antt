@@ -1,13 +1,10 @@
 -- The pairs of formats that are settled so far.
 use Rattle.std.specs.Borrow.{Bor}
-use Rattle.std.specs.Prelude.{◌≡◌, ◌⊎◌, ℕ, ⊤, Bool, true, false, List, ◌++◌, All, IfSome, None, Option, Some, is_some}
+use Rattle.std.specs.Prelude.{◌≡◌, ◌⊎◌, ℕ, ⊤, Bool, true, false, List, ◌++◌, All, None, Option, Some}
 use Rattle.sig_bits.specs.Device.{Adds, AddsFront}
-use Rattle.sig_find.specs.Lives.{AreLivesOfTable}
 use Rattle.sig_find.specs.declared.class.PairClass.{PairClass}
-use Rattle.sig_find.specs.declared.life.SignatureLife.{SignatureLife}
 use Rattle.sig_find.specs.declared.pair.PairDecision.{PairDecision}
 use Rattle.sig_table.specs.Views.{TableView}
-use Rattle.sig_engines.specs.Asks.{needs_class}
 use Rattle.sig_engines.specs.Conflicts.{AreCounts, AreFirst, IsCounted, IsSettled, KnownPair, notes_of, pair_line, pair_lines}
 use Rattle.sig_engines.specs.Notes.{noted}
 use Rattle.sig_engines.specs.Ranking.{IsOfFormats}
@@ -19,11 +16,6 @@ use Rattle.sig_engines.specs.declared.error.CutShort.TheVariants.{OutOfMemory, W
 use Rattle.sig_engines.specs.declared.error.PairsFault.{PairsFault}
 use Rattle.sig_engines.specs.declared.error.PairsFault.TheVariants.{CannotOpen, Cut, NoFile}
 use Rattle.sig_engines.specs.declared.note.Note.{Note}
-
--- the lives of the table, exactly where classes are needed
-pub record AreLivesAsked (ask : ConflictsAsk) (table : TableView) (lives : Option (List (List SignatureLife))) : Type 0 where
-  pub there : is_some lives ≡ needs_class ask
-  pub are : IfSome lives (AreLivesOfTable table ask.budget)
 
 -- a file of the name of the priorities is made, and nothing is written to it yet, exactly where there is such a name
 abbrev pub IsFileAsked : {F : Type 0} → (name_of written : F → Option (List ℕ)) → (F → Bool) → Holding → Option (Bor (List ℕ)) → Option F → Type 0

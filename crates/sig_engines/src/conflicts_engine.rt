@@ -1,16 +1,15 @@
 //! `conflicts`, over any output: the pairs of formats of a table, one after another.
 //!
 //! A line is written as soon as its pair is known. So where memory runs out or a write fails, the
-//! lines before stand, and the last line is missing. Where classes are needed, each signature of
-//! the table is decided once before the first pair (`lives_of_table`), since a format is in many
-//! pairs. What is made of all pairs together, a line for each format and the forced pairs, is made
-//! of their notes at the end.
+//! lines before stand, and the last line is missing. Each signature of the table is decided once
+//! before the first pair (`lives_of_table`), since a format is in many pairs. What is made of all
+//! pairs together, a line for each format and the forced pairs, is made of their notes at the end.
 
-ghost use Rattle.std.specs.Prelude.{◌≡◌, ◌↔◌, ◌+◌, ◌-◌, ◌++◌, ◌^◌, ◌<◌, [], None, Some, All, false, true, IfErr, IfOk, IsSome, IsTrue, OnOk, length, option_map, string_bytes};
+ghost use Rattle.std.specs.Prelude.{◌≡◌, ◌↔◌, ◌+◌, ◌-◌, ◌++◌, ◌^◌, ◌<◌, [], None, Some, All, false, true, IfErr, IfOk, IsSome, IsTrue, OnOk, length, string_bytes};
 ghost use Rattle.sig_engines.specs.Conflicts.{AddsConflicts, IsBeforeSearch, IsClassOf, IsCounted, StopsPairs, asked_line, classes_in, counts_line, pairs_in};
 ghost use Rattle.sig_engines.specs.Forced.{Forces};
 ghost use Rattle.sig_engines.specs.Notes.{noted, summary_if_asked};
-ghost use Rattle.sig_engines.specs.Pairs.{AreLivesAsked, AreTold, IsFileAsked, IsFileFault, IsPairCut, IsRankFault, IsTargetFault, IsTold};
+ghost use Rattle.sig_engines.specs.Pairs.{AreTold, IsFileAsked, IsFileFault, IsPairCut, IsRankFault, IsTargetFault, IsTold};
 ghost use Rattle.sig_engines.specs.Ranking.{IsOfFormats};
 ghost use Rattle.sig_engines.specs.Stores.{IsMade};
 ghost use Rattle.sig_engines.specs.Asks.{shows_class};
@@ -19,6 +18,7 @@ ghost use Rattle.sig_bits.specs.Device.{Adds, AddsFront};
 ghost use Rattle.sig_cert.specs.Deciding.{AreFormats, Decided};
 ghost use Rattle.sig_cert.specs.Pairs.{AreRelated};
 ghost use Rattle.sig_find.specs.FormatPairs.{NamesSignatures};
+ghost use Rattle.sig_find.specs.Lives.{AreLivesOfTable};
 ghost use Rattle.sig_table.specs.Tables.{IsTable};
 
 use crate::ask::ConflictsAsk;
@@ -116,8 +116,8 @@ pub(crate) fn answer_pairs<'a, S: Store, W: Output, O: Observer>(
     ensures searched { IfErr result (λ fault. ¬ IsBeforeSearch fault) }
     ensures observed { O.becomes observer.old observer.new }
 {
-    let lives = lives_if_asked(alloc, table, ask)?;
-    let told = write_pairs(alloc, store, table, ask, lives.as_ref(), out, observer)?;
+    let lives = lives_of_table(alloc, table, ask.budget)?;
+    let told = write_pairs(alloc, store, table, ask, &lives, out, observer)?;
     let refused = write_forced(alloc, store, table, ask, &told.notes, file)?;
     let lines = last_lines(alloc, table, ask, told.counts, &told.notes)?;
     write_line(lines.as_str(), out)?;
@@ -125,21 +125,6 @@ pub(crate) fn answer_pairs<'a, S: Store, W: Output, O: Observer>(
         all_decided: told.counts.are_all_decided(),
         refused,
     })
-}
-
-// The lives of the signatures of the table, where classes are needed.
-fn lives_if_asked(
-    alloc: Global,
-    table: &Table,
-    ask: ConflictsAsk<'_>,
-) -> Result<Option<TableLives>, AllocError>
-    ensures { IfOk result (λ lives. AreLivesAsked ask.entry table.now lives) }
-{
-    if ask.needs_class() {
-        Ok(Some(lives_of_table(alloc, table, ask.budget)?))
-    } else {
-        Ok(None)
-    }
 }
 
 // What is known of the pairs so far: how many there are of each kind, and a note of each that has a
@@ -183,11 +168,11 @@ fn write_pairs<'a, S: Store, W: Output, O: Observer>(
     store: &S,
     table: &Table,
     ask: ConflictsAsk<'a>,
-    lives: Option<&TableLives>,
+    lives: &TableLives,
     out: &mut W,
     observer: &mut O,
 ) -> Result<Told, PairsFault<'a>>
-    requires { AreLivesAsked ask table.now (option_map (λ l. l.now) lives) }
+    requires { AreLivesOfTable table.now ask.budget lives.now }
     ensures told { IfOk result (λ told. AreTold (IsMade S.name_of S.Writer.written S.Writer.failed (S.held store.now)) ask.entry table.now []
         told.counts told.notes.items (W.written out.old) (W.written out.new)) }
     ensures limits { IsTable table.now }
@@ -237,13 +222,13 @@ fn write_pair<'a, S: Store, W: Output>(
     store: &S,
     table: &Table,
     ask: ConflictsAsk<'a>,
-    lives: Option<&TableLives>,
+    lives: &TableLives,
     a: FormatId,
     b: FormatId,
     told: &mut Told,
     out: &mut W,
 ) -> Result<(), PairsFault<'a>>
-    requires lives { AreLivesAsked ask table.now (option_map (λ l. l.now) lives) }
+    requires lives { AreLivesOfTable table.now ask.budget lives.now }
     requires formats { AreFormats table.now (a, b) }
     requires few { pairs_in told.old.counts < 2 ^ 32 - 1 }
     requires few_classes { classes_in told.old.counts < 2 ^ 32 - 1 }
@@ -254,7 +239,7 @@ fn write_pair<'a, S: Store, W: Output>(
     if are_related(table, a, b) {
         return Ok(());
     }
-    let decision = decide_pair(alloc, table, a, b, ask.budget)?;
+    let decision = decide_pair(alloc, table, lives, a, b, ask.budget)?;
     let class = class_if_asked(alloc, table, ask, lives, a, b, &decision)?;
     let line = line_if_asked(alloc, table, ask, a, b, &decision, class)?;
     told.add(a, b, &decision, class)?;
@@ -268,18 +253,18 @@ fn class_if_asked(
     alloc: Global,
     table: &Table,
     ask: ConflictsAsk<'_>,
-    lives: Option<&TableLives>,
+    lives: &TableLives,
     a: FormatId,
     b: FormatId,
     decision: &PairDecision,
 ) -> Result<Option<PairClass>, AllocError>
-    requires lives { AreLivesAsked ask table.now (option_map (λ l. l.now) lives) }
+    requires lives { AreLivesOfTable table.now ask.budget lives.now }
     requires formats { AreFormats table.now (a, b) }
     ensures { IfOk result (λ class. IsClassOf ask.entry table.now (a.0, b.0) (Some decision.now) class) }
 {
-    let Some(lives) = lives else {
+    if !ask.needs_class() {
         return Ok(None);
-    };
+    }
     match decision {
         PairDecision::Ambiguous { .. } | PairDecision::Tried { .. } => {
             Ok(Some(class_of_pair(alloc, table, lives, a, b, ask.budget)?))

@@ -1,13 +1,15 @@
 //! Each signature of a table, decided once.
 //!
 //! Who compares many pairs of formats asks of each format again and again which of its signatures
-//! are alive, and for their files. `life` decides one format; here its answers for all are kept.
+//! are dead or alive, and for their files. `life` decides one format; here its answers for all are
+//! kept.
 
-ghost use Rattle.std.specs.Prelude.{◌≡◌, ◌<◌, IfOk, Some, length, slice_get};
-ghost use Rattle.sig_find.specs.Lives.{AreLivesOfTable};
+ghost use Rattle.std.specs.Prelude.{◌≡◌, ◌<◌, ℕ, IfOk, IsTrue, Some, length, slice_get};
+ghost use Rattle.sig_find.specs.Lives.{AreLives, AreLivesOfTable, IsDead};
+ghost use Rattle.sig_table.specs.Views.{TableView};
 
-use crate::life::{SignatureLife, decide_format};
-use sig_table::{FormatId, Table};
+use crate::life::{Fate, SignatureLife, decide_format};
+use sig_table::{FormatId, SigId, Table};
 use std::alloc::{AllocError, Global};
 use std::marker::Model;
 
@@ -35,6 +37,28 @@ impl TableLives {
         let lives = &self.formats[format.0 as usize];
         lives.as_slice()
     }
+
+    /// Whether the format has this signature, and it is found to be dead.
+    pub(crate) fn has_dead(&self, format: FormatId, signature: SigId) -> bool
+        ensures { IsTrue result → (table : TableView) (budget : ℕ) → AreLivesOfTable table budget self.now → IsDead table format.0 signature.0 }
+    {
+        match self.formats.get(format.0 as usize) {
+            Some(lives) => is_dead(lives, signature),
+            None => false,
+        }
+    }
+}
+
+// Whether the signature is found to be dead among these.
+fn is_dead(lives: &[SignatureLife], signature: SigId) -> bool
+    ensures { IsTrue result → (table : TableView) (budget format : ℕ) → AreLives table budget format lives.now → IsDead table format signature.0 }
+{
+    for own in lives {
+        if own.signature == signature {
+            return own.life.fate() == Fate::Dead;
+        }
+    }
+    false
 }
 
 /// Decides each signature of the table, within a budget of rows as [`decide_format`] does.
