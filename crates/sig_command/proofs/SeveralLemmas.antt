@@ -1,5 +1,5 @@
 -- What is written of several files.
-use Rattle.std.proofs.Common.{◌≡◌, ◌≢◌, ◌⊎◌, ℕ, List, [], ◌∷◌, ◌++◌, Bool, None, Option, Some, Ok, Err, false, inl, inr, true, map, refl, subst, sym, ◌∙◌}
+use Rattle.std.proofs.Common.{◌≡◌, ◌≢◌, ◌⊎◌, ℕ, List, [], ◌∷◌, ◌++◌, Bool, None, Option, Some, Ok, Err, false, inl, inr, true, map, refl, subst, sym}
 use Rattle.std.specs.Prelude.{All, is_ok, option_map, ◌&&◌}
 use Rattle.std.specs.Borrow.{Bor}
 use Rattle.std.proofs.lemmas.List.{append-nil}

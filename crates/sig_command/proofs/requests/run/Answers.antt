@@ -7,3 +7,6 @@ returns-in-Ok-clause-errors g c = errors_of_some _ (texts_of c.as_slice.result.n
 
 pub returns-in-Ok-clause-output : goal.returns-in-Ok-clause-output
 returns-in-Ok-clause-output g c = output_of_some _ (texts_of c.as_slice.result.now) _ _ _ _ _ _ c.command.ensures.output
+
+pub returns-in-Ok-clause-denied : goal.returns-in-Ok-clause-denied
+returns-in-Ok-clause-denied g c = λ no. (texts_of c.as_slice.result.now, c.command.ensures.answers.denied no)
