@@ -356,13 +356,15 @@ def judged(runs, kind, signatures, priorities, certificate):
 
 def listed(runs, kind, chance, file):
     """Of files whose names stand in a list, the records are those of each alone, and the others have a message."""
-    odd = 'a,"b"\nc'
-    runs.put("file", file)
-    runs.put(odd, file[1:])
-    names = [chance.choice(["file", odd, "none", "", "\udcff"]) for _ in range(chance.randrange(6))]
+    odd, deep = 'a,"b"\nc', "folder/deep/a"
+    os.makedirs(os.path.join(runs.folder, "folder/deep"), exist_ok=True)
+    for name, data in (("file", file), (odd, file[1:]), (deep, file[2:])):
+        runs.put(name, data)
+    names = [chance.choice(["file", odd, "folder", "none", "", "\udcff"]) for _ in range(chance.randrange(6))]
     runs.put("names", "".join(name + "\0" for name in names).encode("utf-8", "surrogateescape"))
-    alone = {name: runs.run("match", *TABLE_FILES, name) for name in ("file", odd)}
-    words = ["match", "--csv", "-0", "--files-from", "names", *TABLE_FILES]
+    alone = {name: runs.run("match", *TABLE_FILES, name) for name in ("file", odd, deep)}
+    recursive = chance.random() < 0.5
+    words = ["match", "--csv", "-0", "--files-from", "names", *TABLE_FILES] + ["--recursive"] * recursive
     done = subprocess.run([runs.program, *words], cwd=runs.folder, capture_output=True, timeout=LONGEST)
     runs.runs += 1
     runs.count(kind, f"status {done.returncode}")
@@ -371,10 +373,11 @@ def listed(runs, kind, chance, file):
         wanted = alone["file"]
     else:
         rows = [["file", "puid", "signature", "name"]]
-        for name in names:
+        visited = [deep if name == "folder" and recursive else name for name in names]
+        for name in visited:
             if name in alone:
                 rows += [[name, *line.split(), ""] for line in alone[name][1].splitlines()] or [[name, "", "", ""]]
-        told = "".join(f"cannot open {name}\n" for name in names if name not in alone)
+        told = "".join("folder: is a folder\n" if name == "folder" else f"cannot open {name}\n" for name in visited if name not in alone)
         out, wanted = list(csv.reader(io.StringIO(out, newline=""))), (3 if told else 0, rows, told)
     if (done.returncode, out, err) != wanted:
         raise Failed(f"{words} of {names}: {(done.returncode, out, err)}, and each alone {alone}")
