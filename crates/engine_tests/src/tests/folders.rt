@@ -77,6 +77,7 @@ const PLAIN: MatchAsk<'static> = MatchAsk {
 
 // The names, whether folders are gone through, whether nothing has a fault, the lines, and those of
 // the faults.
+#[derive(Clone, Copy)]
 struct Gone(
     &'static [&'static str],
     bool,
