@@ -12,7 +12,9 @@
 //! is with the faults that `lint` tells on the output: it ends with 2, as for a refused table.
 
 ghost use Rattle.std.specs.Borrow.{Bor};
-ghost use Rattle.std.specs.Prelude.{None, Some, ◌≡◌, ◌≢◌, ◌<◌, ◌⊎◌, false, is_ok, is_some, length, List, option_map, true, IfErr, IfOk, OnOk};
+ghost use Rattle.std.specs.Prelude.{None, Some, drop, ◌≡◌, ◌≢◌, ◌<◌, ◌⊎◌, false, is_ok, is_some, length, List, option_map, true, IfErr, IfOk, OnOk};
+ghost use Rattle.std.specs.Vec.Iter.{into_iter_items};
+ghost use Rattle.std.specs.IoError.{error_kind};
 ghost use Rattle.clap.specs.Values.{kind_of};
 ghost use Rattle.clap.specs.Words.{Text};
 ghost use Rattle.sig_command.specs.Requests.{Answers, AnswersWords, AreNamesOf, AsksPairs, CutsSomeWords, CutsWords, IsFaultOf, IsFolderFault, IsLoadFault, IsNamesFaultOf, IsOnly, IsReported, JoinsBoth, KeepsOrCuts, LacksPriorities, ListsIf, ListsSomeWords, ListsWords, MakesOut, MakesWords, NamesNone, ShowsAsked, ShowsSomeWords, ShowsWords, TellsOf, file_fault, pairs_fault};
@@ -37,6 +39,8 @@ use sig_engines::{
 use sig_scan::BlockCore;
 use sig_table::{FormatId, Puid, Table};
 use std::alloc::Global;
+use std::env::Args;
+use std::io::ErrorKind as IoKind;
 use std::rt::{Env, Files};
 use std::{env, io};
 
@@ -69,17 +73,31 @@ fn words_of<R: Env + AllocGlobal>(rt: &R) -> Result<Vec<String>, Fault<'static>>
     ensures { IfErr result (λ fault. (fault ≡ Fault.NotText) ⊎ (fault ≡ Fault.Run RunError.OutOfMemory)) }
 {
     let words = env::args(rt).map_err(fault_of_words)?;
-    words
-        .skip(1)
-        .collect(rt.alloc())
-        .map_err(|_| Fault::Run(RunError::OutOfMemory))
+    words_behind_name(rt.alloc(), words)
 }
 
+// All words but the first, which is the program's name.
+fn words_behind_name(alloc: Global, mut words: Args) -> Result<Vec<String>, Fault<'static>>
+    ensures words { IfOk result (λ rest. rest.items ≡ drop 1 (into_iter_items words)) }
+    ensures memory { IfErr result (λ fault. fault ≡ Fault.Run RunError.OutOfMemory) }
+{
+    let mut rest = Vec::new(alloc);
+    let _ = words.next();
+    'words: while let Some(word) = words.next() {
+        if rest.push(word).is_err() {
+            return Err(Fault::Run(RunError::OutOfMemory));
+        }
+    }
+    Ok(rest)
+}
+
+// A word that is no text, or want of memory: the system tells of no other fault.
 fn fault_of_words(error: io::Error) -> Fault<'static>
-    ensures { (result ≡ Fault.NotText) ⊎ (result ≡ Fault.Run RunError.OutOfMemory) }
+    ensures text { error_kind error ≡ IoKind.InvalidData → result ≡ Fault.NotText }
+    ensures memory { error_kind error ≢ IoKind.InvalidData → result ≡ Fault.Run RunError.OutOfMemory }
 {
     match error.kind() {
-        io::ErrorKind::InvalidData => Fault::NotText,
+        IoKind::InvalidData => Fault::NotText,
         _ => Fault::Run(RunError::OutOfMemory),
     }
 }
