@@ -129,8 +129,9 @@ impl<R: Files> Store for SystemFiles<'_, R> {
     }
 
     fn list(&self, alloc: Global, folder: &str) -> Result<Vec<Entry>, FileFault> {
-        let Ok(found) = fs::read_dir(&(self.rt, alloc), folder) else {
-            return Err(FileFault::CannotOpen);
+        let found = match fs::read_dir(&(self.rt, alloc), folder) {
+            Ok(found) => found,
+            Err(error) => return Err(unopened(error.kind())),
         };
         let mut entries = Vec::new(alloc);
         for next in found {
@@ -148,6 +149,16 @@ impl<R: Files> Store for SystemFiles<'_, R> {
 
     fn make_folder(&self, name: &str) -> bool {
         fs::create_dir_all(self.rt, name).is_ok()
+    }
+}
+
+// Why a folder is not opened.
+fn unopened(error: io::ErrorKind) -> FileFault
+    ensures { result ≢ FileFault.Run RunError.Write }
+{
+    match error {
+        io::ErrorKind::OutOfMemory => FileFault::Run(RunError::OutOfMemory),
+        _ => FileFault::CannotOpen,
     }
 }
 
