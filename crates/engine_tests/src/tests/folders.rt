@@ -1,5 +1,7 @@
 //! Folders in the place of files: with `--recursive` each file in them, and else a fault.
 
+ghost use Rattle.std.specs.Prelude.{None};
+
 use crate::tests::table_of;
 use fixtures::{Failing, Folder, Listed, Memory, Named, Room, Rows};
 use sig_bits::FromWrite;
