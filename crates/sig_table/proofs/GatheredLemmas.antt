@@ -103,7 +103,7 @@ number_self n = eq-eqb n n refl
 pub number_same : (m n : ℕ) → nat_eq m n ≡ true → m ≡ n
 number_same m n h = eqb-true m n h
 
-puid_self : (p : Puid) → puid_eq p p ≡ true
+pub puid_self : (p : Puid) → puid_eq p p ≡ true
 puid_self p = elim p.registry as (λ r. puid_eq (record p { registry = r }) (record p { registry = r }) ≡ true) [
   | Fmt ↦ number_self p.number
   | XFmt ↦ number_self p.number

@@ -10,6 +10,7 @@ mod JudgingLemmas
 mod LimitLemmas
 mod LoadLemmas
 mod NumberLemmas
+mod PairFaultLemmas
 mod PairLemmas
 mod PairsAgainLemmas
 mod PassingLemmas
@@ -24,6 +25,7 @@ mod RecordLemmas
 mod RecordsAgainLemmas
 mod RemovalLemmas
 mod RowAgainLemmas
+mod RowFaultLemmas
 mod RowLemmas
 mod RowTextLemmas
 mod SignatureFaultLemmas

@@ -21,7 +21,7 @@ use Rattle.sig_table.specs.RowTexts.{PriorityText}
 use Rattle.sig_table.specs.Tables.{AllDifferent, IsNumber}
 
 -- where a PUID is found, it stands
-found-there : (formats : List Puid) (p : Puid) (i : ℕ) → index_in formats p ≡ Some i → slice_get formats i ≡ Some p
+pub found-there : (formats : List Puid) (p : Puid) (i : ℕ) → index_in formats p ≡ Some i → slice_get formats i ≡ Some p
 found-there formats p i h =
     let found = position-Some (puid_eq p) formats i p h in
     slice_get-get_or formats i p found.0 ∙ ap Some (sym (puid_eq-true p (get_or formats i p) found.1))

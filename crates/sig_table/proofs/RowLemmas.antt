@@ -40,7 +40,7 @@ IsNumber-numbered r digits (Some n) p e h =
     let is : record { registry = r; number = n } ≡ p = cc (rw e at h) in
     rw (← is) (IsNumber-positive_of digits n e)
 
-IsNumber-puid_of : (text : List ℕ) (p : Puid) → puid_of text ≡ Some p → IsNumber p.number
+pub IsNumber-puid_of : (text : List ℕ) (p : Puid) → puid_of text ≡ Some p → IsNumber p.number
 unfolding puid_of
 IsNumber-puid_of text p h = elim (cases_Bool (starts_with nat_eq text (codes "fmt/"))) [
   | inl t ↦ IsNumber-numbered Fmt (drop 4 text) _ p refl (rw t at h)
@@ -82,7 +82,7 @@ offsets_of-ordered : (row : ℕ) (offset max : List ℕ) (p : ℕ × ℕ) → of
 offsets_of-ordered row offset max p h = up_to-ordered (offset_of offset) max p (as_offset-most (number_of 5 offset)) (ok_or-ok (up_to (offset_of offset) max) (error.Offset row) p h)
 
 -- the offsets of a place
-InOrder-position_of : (row : ℕ) (word offset max : List ℕ) (place : Position) → position_of row word offset max ≡ Ok place → InOrder place
+pub InOrder-position_of : (row : ℕ) (word offset max : List ℕ) (place : Position) → position_of row word offset max ≡ Ok place → InOrder place
 unfolding position_of
 InOrder-position_of row word offset max place h = elim (cases_Bool (is_word word (codes "BOF"))) [
   | inl t ↦

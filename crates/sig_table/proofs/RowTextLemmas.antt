@@ -72,7 +72,7 @@ both_empty a b h = elim (cases_Bool (length a == 0)) [
   | inr f ↦ absurd (cc (rw f at h))
 ]
 
-read-position : (row : ℕ) (word offset greatest : List ℕ) (p : Position) → position_of row word offset greatest ≡ Ok p → PositionTexts p word offset greatest
+pub read-position : (row : ℕ) (word offset greatest : List ℕ) (p : Position) → position_of row word offset greatest ≡ Ok p → PositionTexts p word offset greatest
 unfolding position_of
 read-position row word offset greatest p h = elim (cases_Bool (is_word word (codes "BOF"))) [
   | inl t ↦
@@ -146,7 +146,7 @@ offsets_of-texts row min max offset greatest (is, inl whole) order most = rw (is
 offsets_of-texts row min max offset greatest (is, inr one) order most =
     rw (is, one.0, ← one.1, number_of-decimal min (omega arith), not_below 65535 min (omega arith)) refl
 
-position_of-texts : (row : ℕ) (p : Position) (word offset greatest : List ℕ) → PositionTexts p word offset greatest → InOrder p → position_of row word offset greatest ≡ Ok p
+pub position_of-texts : (row : ℕ) (p : Position) (word offset greatest : List ℕ) → PositionTexts p word offset greatest → InOrder p → position_of row word offset greatest ≡ Ok p
 unfolding position_of
 position_of-texts row (position.Bof min max) word offset greatest texts order = rw (texts.0, offsets_of-texts row min max offset greatest texts.1 order.0 order.1) refl
 position_of-texts row (position.Eof min max) word offset greatest texts order = rw (texts.0, offsets_of-texts row min max offset greatest texts.1 order.0 order.1) refl

@@ -1,12 +1,20 @@
 -- What the fields of a row are in either file, in plain words.
-use Rattle.std.specs.Prelude.{◌≡◌, ◌≢◌, ◌⊎◌, ℕ, List, [], ◌∷◌, codes, slice_get, Some, Ok}
+use Rattle.std.specs.Prelude.{◌≡◌, ◌≢◌, ◌⊎◌, ℕ, List, [], ◌∷◌, length, codes, slice_get, Contains, Some, Ok}
 use Rattle.std.specs.Fmt.{decimal}
+use Rattle.sig_expr.specs.declared.error.ExprError.{ExprError}
+use Rattle.sig_expr.specs.Profile.{InProfile}
+use Rattle.sig_expr.specs.Refusals.{Means}
 use Rattle.sig_expr.specs.Texts.{expr_of}
+use Rattle.sig_table.specs.declared.error.TableError.{TableError}
+use Rattle.sig_table.specs.declared.error.TableError.TheVariants as error
+use Rattle.sig_table.specs.declared.error.TableFile.TheVariants.{Signatures, Priorities}
 use Rattle.sig_table.specs.declared.position.Position.{Position}
 use Rattle.sig_table.specs.declared.position.Position.TheVariants as position
 use Rattle.sig_table.specs.declared.puid.Puid.{Puid}
 use Rattle.sig_table.specs.declared.row.Row.{Row}
+use Rattle.sig_table.specs.Judging.{FirstOf}
 use Rattle.sig_table.specs.Puids.{puid_text}
+use Rattle.sig_table.specs.Rows.{text_at}
 use Rattle.sig_table.specs.Tables.{InOrder, IsNumber}
 
 -- the decimals of two offsets, of which the second may be left out where both are one
@@ -40,3 +48,45 @@ pub record PriorityText (formats : List Puid) (fields : List (List ℕ)) (pair :
   pub is_higher : slice_get formats pair.0 ≡ Some higher
   pub is_lower : slice_get formats pair.1 ≡ Some lower
   pub two : pair.0 ≢ pair.1
+
+-- the text of some PUID
+abbrev pub IsPuid : List ℕ → Type 0
+IsPuid text = (puid : Puid) × IsNumber puid.number × (text ≡ puid_text puid)
+
+-- the decimal of some signature number
+abbrev pub IsSignatureNumber : List ℕ → Type 0
+IsSignatureNumber text = (number : ℕ) × IsNumber number × (text ≡ decimal number)
+
+-- one of the three words
+abbrev pub IsWordOfPosition : List ℕ → Type 0
+IsWordOfPosition word = (word ≡ codes "BOF") ⊎ ((word ≡ codes "EOF") ⊎ (word ≡ codes "Variable"))
+
+-- the texts of the offsets of some position of this word
+abbrev pub AreOffsets : List ℕ → List ℕ → List ℕ → Type 0
+AreOffsets word offset greatest = (place : Position) × InOrder place × PositionTexts place word offset greatest
+
+-- the text is outside the profile, and the fault has the refusal whose meaning is true of it
+abbrev pub IsFaultOfExpression : ℕ → List ℕ → TableError → Type 0
+IsFaultOfExpression n text fault = ¬ InProfile text × ((refusal : ExprError) × Means refusal text × (fault ≡ error.Expression n refusal))
+
+-- the fault of the fields of the n-th record of the signature file: the first that they have
+abbrev pub IsRowTextFault : ℕ → List (List ℕ) → TableError → Type 0
+IsRowTextFault n fields =
+    FirstOf (length fields ≢ 6) (error.Fields Signatures n)
+    (FirstOf (¬ IsPuid (text_at fields 0)) (error.Puid Signatures n)
+    (FirstOf (¬ IsSignatureNumber (text_at fields 1)) (error.SignatureNumber n)
+    (FirstOf (¬ IsWordOfPosition (text_at fields 2)) (error.Position n)
+    (FirstOf (¬ AreOffsets (text_at fields 2) (text_at fields 3) (text_at fields 4)) (error.Offset n)
+    (IsFaultOfExpression n (text_at fields 5))))))
+
+-- the text of the PUID of one of the formats
+abbrev pub IsKnown : List Puid → List ℕ → Type 0
+IsKnown formats text = (puid : Puid) × IsNumber puid.number × (text ≡ puid_text puid) × Contains formats puid
+
+-- the fault of the fields of the n-th record of the priority file: the first that they have
+abbrev pub IsPriorityTextFault : List Puid → ℕ → List (List ℕ) → TableError → Type 0
+IsPriorityTextFault formats n fields =
+    FirstOf (length fields ≢ 2) (error.Fields Priorities n)
+    (FirstOf (¬ IsPuid (text_at fields 0) ⊎ ¬ IsPuid (text_at fields 1)) (error.Puid Priorities n)
+    (FirstOf (¬ IsKnown formats (text_at fields 0) ⊎ ¬ IsKnown formats (text_at fields 1)) (error.PriorityUnknown n)
+    (λ fault. (text_at fields 0 ≡ text_at fields 1) × (fault ≡ error.PrioritySelf n))))

@@ -9,7 +9,7 @@ ghost use Rattle.sig_table.specs.declared.error.TableError.{TableError};
 ghost use Rattle.sig_table.specs.declared.puid.Puid.{Puid};
 ghost use Rattle.sig_table.specs.declared.row.Row.{Row};
 ghost use Rattle.sig_table.specs.Rows.{row_of};
-ghost use Rattle.sig_table.specs.RowTexts.{PriorityText, RowText};
+ghost use Rattle.sig_table.specs.RowTexts.{IsPriorityTextFault, IsRowTextFault, PriorityText, RowText};
 ghost use Rattle.sig_table.specs.Canonical.{priority_csv, signature_csv};
 ghost use Rattle.sig_table.specs.Gathered.{IsFaultOf, IsTableOf};
 ghost use Rattle.sig_table.specs.Views.{TableView};
@@ -37,11 +37,24 @@ pub fn rows_are_spelled()
     ensures { (row_number : ℕ) (fields : List (List ℕ)) (row : Row) → row_of row_number fields ≡ Ok row ↔ RowText fields row }
 {}
 
+/// A record gives no row exactly where it has a fault of the signature file's fields, and the first
+/// is told: not six, no PUID, no signature number, no word of a position, no offsets of that word,
+/// no expression.
+pub fn rows_are_refused()
+    ensures { (row_number : ℕ) (fields : List (List ℕ)) (fault : TableError) → row_of row_number fields ≡ Err fault ↔ IsRowTextFault row_number fields fault }
+{}
+
 /// A record of the priority file gives a pair exactly where its fields are the PUIDs of the pair's
 /// two formats, in a table's formats.
 pub fn pairs_are_spelled()
     ensures { (formats : List Puid) → All (λ p. IsNumber p.number) formats → AllDifferent formats
         → (row : ℕ) (fields : List (List ℕ)) (pair : ℕ × ℕ) → pair_of formats row fields ≡ Ok pair ↔ PriorityText formats fields pair }
+{}
+
+/// A record gives no pair exactly where it has a fault of the priority file's fields, and the first
+/// is told: not two, one that is no PUID, one that is no format's, both the same.
+pub fn pairs_are_refused()
+    ensures { (formats : List Puid) (row : ℕ) (fields : List (List ℕ)) (fault : TableError) → pair_of formats row fields ≡ Err fault ↔ IsPriorityTextFault formats row fields fault }
 {}
 
 /// The pairs of a priority file are those of its rows, in their order: none stands twice, and they

@@ -29,9 +29,9 @@ pub use draft::Draft;
 pub use error::{OutError, TableError, TableFile};
 pub use ids::{FormatId, SigId};
 pub use laws::{
-    first_fault_is_told, first_priority_fault_is_told, pairs_are_listed, pairs_are_spelled,
-    rows_are_gathered, rows_are_spelled, some_is_not_outranked, written_is_loaded,
-    written_priorities_are_loaded,
+    first_fault_is_told, first_priority_fault_is_told, pairs_are_listed, pairs_are_refused,
+    pairs_are_spelled, rows_are_gathered, rows_are_refused, rows_are_spelled,
+    some_is_not_outranked, written_is_loaded, written_priorities_are_loaded,
 };
 pub use loader::{is_priority_header, is_signature_header};
 pub use passing::{take_pair, take_row};
