@@ -354,6 +354,24 @@ def judged(runs, kind, signatures, priorities, certificate):
         runs.count("verdicts of three checkers that agree", "")
 
 
+def told_of(answers, progress, summary):
+    """What standard error has of files: `answers` are the number of lines and of bytes, or the message, of each."""
+    told, counts, read = "\r0 files" * progress, [0, 0, 0, 0], 0
+    for done, (lines, size) in enumerate(answers, 1):
+        report = f"\r{done} files" * progress
+        if isinstance(lines, str):
+            told += "\n" * progress + lines + report
+            counts[3] += 1
+        else:
+            told += report if done < 100 or done % 100 == 0 else ""
+            counts[(2, 0)[lines] if lines < 2 else 1] += 1
+            read += size
+    told += "\n" * progress
+    if summary:
+        told += "files {} identified {} several {} none {} failed {} bytes {}\n".format(sum(counts), *counts, read)
+    return told
+
+
 def listed(runs, kind, chance, file):
     """Of files whose names stand in a list, the records are those of each alone, and the others have a message."""
     odd, deep = 'a,"b"\nc', "folder/deep/a"
@@ -363,22 +381,27 @@ def listed(runs, kind, chance, file):
     names = [chance.choice(["file", odd, "folder", "none", "", "\udcff"]) for _ in range(chance.randrange(6))]
     runs.put("names", "".join(name + "\0" for name in names).encode("utf-8", "surrogateescape"))
     alone = {name: runs.run("match", *TABLE_FILES, name) for name in ("file", odd, deep)}
-    recursive = chance.random() < 0.5
-    words = ["match", "--csv", "-0", "--files-from", "names", *TABLE_FILES] + ["--recursive"] * recursive
-    done = subprocess.run([runs.program, *words], cwd=runs.folder, capture_output=True, timeout=LONGEST)
+    recursive, progress, summary, by_input = (chance.random() < 0.5 for _ in range(4))
+    words = ["match", "--csv", "-0", "--files-from", "-" if by_input else "names", *TABLE_FILES]
+    words += ["--recursive"] * recursive + ["--progress"] * progress + ["--summary"] * summary
+    with open(os.path.join(runs.folder, "names"), "rb") as given:
+        done = subprocess.run([runs.program, *words], cwd=runs.folder, stdin=given, capture_output=True, timeout=LONGEST)
     runs.runs += 1
     runs.count(kind, f"status {done.returncode}")
     out, err = (it.decode("utf-8", "surrogateescape") for it in (done.stdout, done.stderr))
     if alone["file"][0] != 0:
         wanted = alone["file"]
     else:
-        rows = [["file", "puid", "signature", "name"]]
-        visited = [deep if name == "folder" and recursive else name for name in names]
-        for name in visited:
+        rows, answers = [["file", "puid", "signature", "name"]], []
+        for name in [deep if name == "folder" and recursive else name for name in names]:
             if name in alone:
-                rows += [[name, *line.split(), ""] for line in alone[name][1].splitlines()] or [[name, "", "", ""]]
-        told = "".join("folder: is a folder\n" if name == "folder" else f"cannot open {name}\n" for name in visited if name not in alone)
-        out, wanted = list(csv.reader(io.StringIO(out, newline=""))), (3 if told else 0, rows, told)
+                lines = alone[name][1].splitlines()
+                rows += [[name, *line.split(), ""] for line in lines] or [[name, "", "", ""]]
+                answers.append((len(lines), os.path.getsize(os.path.join(runs.folder, name))))
+            else:
+                answers.append(("folder: is a folder\n" if name == "folder" else f"cannot open {name}\n", 0))
+        status = 3 if any(isinstance(it[0], str) for it in answers) else 0
+        out, wanted = list(csv.reader(io.StringIO(out, newline=""))), (status, rows, told_of(answers, progress, summary))
     if (done.returncode, out, err) != wanted:
         raise Failed(f"{words} of {names}: {(done.returncode, out, err)}, and each alone {alone}")
 
@@ -553,14 +576,16 @@ def linted(runs, kind):
 def words_case(runs, chance):
     """A command line that is mixed up. A usage fault has some lines, and each other answer its form."""
     words = [chance.choice(["match", "show", "lint", "check", "witness", "find", "conflicts", "dead", "--all", "--with-names", "--csv", "--names", "--files-from", "-0", "--out", "--budget",
-                            "--hex", "--progress", "--class", "--only", "--no-priorities", "fmt/1", "0", "1", "4294967296", "-1", "--", "-", "", "none", "signatures.csv", "priorities.csv", "certificate",
+                            "--hex", "--progress", "--summary", "--class", "--only", "--no-priorities", "fmt/1", "0", "1", "4294967296", "-1", "--", "-", "", "none", "signatures.csv", "priorities.csv", "certificate",
                             "--al", "match=1", "/", "n\u00e4me", "a\x1bb"]) for _ in range(chance.randrange(7))]
     words = [word.encode() if chance.random() < 0.9 else word.encode() + b"\xff" for word in words]
     runs.clear("out")
     done = subprocess.run([runs.program, *words], cwd=runs.folder, stdin=subprocess.DEVNULL, capture_output=True, timeout=LONGEST)
     runs.runs += 1
     runs.count("command lines", f"status {done.returncode}")
-    err = re.sub(rb"\A(\r\d+ of \d+ (products|pairs|formats))+\n", b"", done.stderr) if b"--progress" in words else done.stderr
+    err = re.sub(rb"\A(\r\d+ of \d+ (products|pairs|formats))+\n|\r\d+ files\n?", b"", done.stderr) if b"--progress" in words else done.stderr
+    if b"match" in words and b"--summary" in words:
+        err = re.sub(rb"files \d+ identified \d+ several \d+ none \d+ failed \d+ bytes \d+\n\Z", b"", err)
     if words[:1] == [b"find"] and done.returncode == 1:
         err = re.sub(rf"\A{TOLD['find', 1]}\Z".encode(), b"", err)
     is_fault = done.returncode in (2, 3) and done.stdout == b"" and err.endswith(b"\n")

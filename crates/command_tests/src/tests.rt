@@ -111,7 +111,7 @@ pub(crate) fn words_in(
 fn run_words(rt: &HostRuntime, words: &[String]) -> Result<Shown, Fail> {
     let mut out = FromWrite::new(Vec::new(rt.alloc()));
     let mut err = FromWrite::new(Vec::new(rt.alloc()));
-    let status = command(rt, words, &mut out, &mut err);
+    let status = command(rt, rt.stdin(), words, &mut out, &mut err);
     Shown::of(status, out.into_inner(), err.into_inner())
 }
 

@@ -6,6 +6,7 @@ mod judging;
 mod linting;
 mod many_files;
 mod reading;
+mod summaries;
 mod worked_rows;
 
 use fixtures::{PRIORITIES, SIGNATURES};

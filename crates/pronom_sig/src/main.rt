@@ -12,5 +12,5 @@ use std::process::ExitCode;
 fn main(rt: HostRuntime) -> ExitCode {
     let mut out = FromWrite::new(io::writer(&rt));
     let mut err = FromWrite::new(rt.stderr());
-    ExitCode::from(run(&rt, &mut out, &mut err))
+    ExitCode::from(run(&rt, rt.stdin(), &mut out, &mut err))
 }

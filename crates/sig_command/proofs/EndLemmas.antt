@@ -1,5 +1,5 @@
 -- How a run ends, whatever is asked for.
-use Rattle.std.proofs.Common.{◌≡◌, ◌≢◌, ◌⊎◌, ℕ, ◌<◌, ◌≤◌, Bool, List, [], None, Option, Some, ap, arith, false, inl, inr, refl, subst, sym, true, ◌∙◌}
+use Rattle.std.proofs.Common.{◌≡◌, ◌≢◌, ◌⊎◌, ℕ, ◌<◌, ◌≤◌, Bool, List, [], ◌++◌, None, Option, Some, ap, arith, false, inl, inr, refl, subst, sym, true, ◌∙◌}
 use Rattle.std.proofs.lemmas.List.{append-nil}
 use Rattle.std.specs.Borrow.{Bor}
 use Rattle.clap.specs.Words.{HasKind, IsAmong, Text, kind_of}
@@ -8,8 +8,9 @@ use Rattle.clap.specs.declared.error.kind.ErrorKind.{ErrorKind}
 use Rattle.clap.specs.declared.error.kind.ErrorKind.TheVariants as kind
 use Rattle.clap.specs.declared.error.kind.ErrorKind.TheVariants.{DisplayHelp, DisplayVersion}
 use Rattle.sig_bits.specs.Device.{Adds}
-use Rattle.sig_engines.specs.ManyFiles.{err_texts}
+use Rattle.sig_engines.specs.ManyFiles.{run_text, summary_text, tally_of}
 use Rattle.sig_engines.specs.Stores.{Holding}
+use Rattle.sig_engines.specs.Tallies.{none_yet}
 use Rattle.sig_engines.specs.declared.error.CutShort.{CutShort as Cut}
 use Rattle.sig_engines.specs.declared.error.CutShort.TheVariants as cut
 use Rattle.sig_engines.specs.declared.error.RunError.{RunError}
@@ -22,11 +23,15 @@ use Rattle.sig_table.specs.declared.error.TableError.TheVariants as table
 use Rattle.sig_command.specs.CommandLine.{AreTaken, Asks, HasFaultKind, IsHelpAsked, fault_of_words, subcommand_of_words}
 use Rattle.sig_command.specs.Endings.{AnswersBy, EndsByFault, KeepsErrors, KeepsOutput, ReportsMemory, TellsBy}
 use Rattle.sig_command.specs.Faults.{Reports, ReportsLine, TellsWrite}
-use Rattle.sig_command.specs.Requests.{Behind, CutsSomeWords, CutsWords, IsCutRequest, IsFaultOf, IsFirstFault, IsFolderFault, IsLaterFault, IsNamesFaultOf, Joins, KeepsOrCuts, ListsIf, ListsRequest, ListsSomeWords, ListsWords, ReportsFaultOf, ReportsLineOf, Shows, ShowsBefore, ShowsSomeWords, ShowsWords, TellsOf}
+use Rattle.sig_command.specs.Requests.{Behind, CutsSomeWords, CutsWords, IsCutRequest, IsFaultOf, IsFirstFault, IsFolderFault, IsLaterFault, IsListFault, IsNamesFaultOf, Joins, KeepsOrCuts, ListsIf, ListsRequest, ListsSomeWords, ListsWords, ReportsFaultOf, ReportsLineOf, Shows, ShowsBefore, ShowsSomeWords, ShowsWords, TellsOf}
 use Rattle.sig_command.specs.Several.{ReportsFiles}
+use Rattle.sig_command.proofs.SeveralLemmas.{memory_before}
 use Rattle.sig_command.specs.Statuses.{kind_status, names_status, status_of, table_status}
+use Rattle.sig_command.specs.declared.args.FileNames.{FileNames}
+use Rattle.sig_command.specs.declared.args.FileNames.TheVariants.{Input, Words}
+use Rattle.sig_command.specs.declared.args.FileNames.TheVariants as source
 use Rattle.sig_command.specs.declared.args.Request.{Request}
-use Rattle.sig_command.specs.declared.args.Request.TheVariants.{Check, Conflicts, Dead, Find, Lint, Match, MatchListed, MatchMany, Show, Witness}
+use Rattle.sig_command.specs.declared.args.Request.TheVariants.{Check, Conflicts, Dead, Find, Lint, Match, MatchMany, Show, Witness}
 use Rattle.sig_command.specs.declared.fault.Fault.{Fault}
 use Rattle.sig_command.specs.declared.fault.Fault.TheVariants.{CannotOpen, CutShort, FaultyTable, IsFolder, Names, NoFile, NotInTable, NotText, Run, SomeFiles, SummaryOfOne, Table}
 
@@ -42,8 +47,7 @@ memory_first failed held request before after err = (inl refl, go request)
     go (Show table) = tt
     go (Lint table) = tt
     go (Match all table file) = tt
-    go (MatchMany options table files) = refl
-    go (MatchListed options table list end) = inl refl
+    go (MatchMany options table names) = inl (memory_before, refl)
     go (Find table budget out hex progress) = tt
     go (Conflicts table options progress) = tt
     go (Dead table budget hex progress) = tt
@@ -65,18 +69,33 @@ no_names failed held None reason unopened names is = is
 no_names failed held (Some path) reason unopened names (inl is) = unopened path is.0
 no_names failed held (Some path) reason unopened names (inr is) = names is.0 is.1
 
+-- a list of names has faults of three kinds
+no_list : {R : Type 0} (failed : R → Bool) (held : Holding) (names : FileNames) (reason : Fault) → ((e : RunError) → reason ≢ Run e) → ((name : Bor Text) → reason ≢ CannotOpen name) → ((name : Bor Text) → reason ≢ IsFolder name) → IsListFault failed held names reason → ⊥
+no_list failed held (Words words) reason ended unopened folder is = is
+no_list failed held (source.List list end) reason ended unopened folder (inr is) = folder list is.0
+no_list failed held (source.List list end) NotText ended unopened folder (inl is) = is
+no_list failed held (source.List list end) (CannotOpen name) ended unopened folder (inl is) = unopened name refl
+no_list failed held (source.List list end) (IsFolder name) ended unopened folder (inl is) = is
+no_list failed held (source.List list end) (NoFile folder_name witness) ended unopened folder (inl is) = is
+no_list failed held (source.List list end) (Table error) ended unopened folder (inl is) = is
+no_list failed held (source.List list end) NotInTable ended unopened folder (inl is) = is
+no_list failed held (source.List list end) SummaryOfOne ended unopened folder (inl is) = is
+no_list failed held (source.List list end) (Run error) ended unopened folder (inl is) = ended error refl
+no_list failed held (source.List list end) (CutShort error) ended unopened folder (inl is) = is
+no_list failed held (source.List list end) SomeFiles ended unopened folder (inl is) = is
+no_list failed held (source.List list end) FaultyTable ended unopened folder (inl is) = is
+no_list failed held (source.List list end) (Names error) ended unopened folder (inl is) = is
+no_list failed held (Input end) reason ended unopened folder is = ended run.Read is.0
+
 -- the faults of a table are no fault of one that loads
 later_faulty : {R : Type 0} (failed : R → Bool) (held : Holding) (request : Request) → IsLaterFault failed held request FaultyTable → ⊥
 later_faulty failed held (Show table) is = let bad : FaultyTable ≡ Run run.Write = is in cc
 later_faulty failed held (Match all table file) (inl is) = is
 later_faulty failed held (Match all table file) (inr is) = let bad : FaultyTable ≡ IsFolder file = is.0 in cc
-later_faulty failed held (MatchMany options table files) (inl is) = let bad : FaultyTable ≡ SomeFiles = is in cc
-later_faulty failed held (MatchMany options table files) (inr (inl is)) = let bad : FaultyTable ≡ Run run.Write = is in cc
-later_faulty failed held (MatchMany options table files) (inr (inr is)) = no_names failed held options.names FaultyTable (λ name same. cc) (λ error same. cc) is
-later_faulty failed held (MatchListed options table list end) (inl is) = let bad : FaultyTable ≡ SomeFiles = is in cc
-later_faulty failed held (MatchListed options table list end) (inr (inl (inl is))) = is
-later_faulty failed held (MatchListed options table list end) (inr (inl (inr is))) = let bad : FaultyTable ≡ IsFolder list = is.0 in cc
-later_faulty failed held (MatchListed options table list end) (inr (inr is)) = no_names failed held options.names FaultyTable (λ name same. cc) (λ error same. cc) is
+later_faulty failed held (MatchMany options table names) (inl is) = let bad : FaultyTable ≡ SomeFiles = is in cc
+later_faulty failed held (MatchMany options table names) (inr (inl is)) = let bad : FaultyTable ≡ Run run.Write = is in cc
+later_faulty failed held (MatchMany options table names) (inr (inr (inl is))) = no_list failed held names FaultyTable (λ error same. cc) (λ name same. cc) (λ name same. cc) is
+later_faulty failed held (MatchMany options table names) (inr (inr (inr is))) = no_names failed held options.names FaultyTable (λ name same. cc) (λ error same. cc) is
 later_faulty failed held (Find table budget out hex progress) (inl is) = let bad : FaultyTable ≡ CannotOpen out = is in cc
 later_faulty failed held (Find table budget out hex progress) (inr is) = let bad : FaultyTable ≡ Run run.Write = is in cc
 later_faulty failed held request is = is
@@ -155,12 +174,17 @@ files_are_reported failed held (Match all table file) status before after is_fai
     never : ⊥ ⊎ IsFolderFault held file SomeFiles → ⊥
     never (inl is) = is
     never (inr is) = let bad : SomeFiles ≡ IsFolder file = is.0 in cc
-files_are_reported failed held (MatchMany options table files) status before after is_failed err_before mid err_after is joins sound reports =
+files_are_reported failed held (MatchMany options table names) status before after is_failed err_before mid err_after is (inl quiet) sound reports = absurd (quiet.0.files refl)
+files_are_reported failed held (MatchMany options table names) status before after is_failed err_before mid err_after is (inr joins) sound reports =
+    let ask = joins.2 in
     let added = joins.4 in
-    record { files = added.files; is = sym added.is; adds = nothing_behind err_before mid err_after (err_texts added.files) (added.reports sound) reports.adds }
-files_are_reported failed held (MatchListed options table list end) status before after is_failed err_before mid err_after is joins sound reports =
-    let added = joins.6 in
-    record { files = added.files; is = sym added.is; adds = nothing_behind err_before mid err_after (err_texts added.files) (added.reports sound) reports.adds }
+    record {
+      files = added.files;
+      is = sym added.is;
+      progress = ask.progress;
+      summary = ask.summary;
+      adds = nothing_behind err_before mid err_after (run_text ask.progress added.files ++ summary_text ask.summary (tally_of none_yet added.files)) (added.reports sound) reports.adds;
+    }
 files_are_reported failed held (Find table budget out hex progress) status before after is_failed err_before mid err_after is joins sound reports = absurd (no_files failed held (Find table budget out hex progress) never is)
   where
     never : (SomeFiles ≡ CannotOpen out) ⊎ (SomeFiles ≡ Run run.Write) → ⊥

@@ -9,13 +9,14 @@ use Rattle.sig_cert.specs.Deciding.{Decided}
 use Rattle.sig_cert.specs.Verdicts.{Verdict}
 use Rattle.sig_cert.specs.declared.error.CheckError.{CheckError}
 use Rattle.sig_command.specs.Requests.{Answers, AsksEach}
+use Rattle.sig_command.specs.declared.args.FileNames.{FileNames}
 use Rattle.sig_command.specs.declared.args.MatchOptions.{MatchOptions}
-use Rattle.sig_command.specs.Several.{AddsLinesOfEach, AddsOneLineOfEach, AreLinesAt, AreListedIn, AreTexts, IsOneLineOf}
-use Rattle.sig_command.specs.declared.args.Request.TheVariants.{Check, Match, MatchListed, MatchMany}
+use Rattle.sig_command.specs.Several.{AddsLinesOfEach, AddsOneLineOfEach, AreLinesAt, AreTexts, AreVisitsOf, IsOneLineOf}
+use Rattle.sig_command.specs.declared.args.Request.TheVariants.{Check, Match, MatchMany}
 use Rattle.sig_engines.specs.Lines.{AreAsked, lines_of}
 use Rattle.sig_engines.specs.declared.ask.MatchAsk.{MatchAsk}
 use Rattle.sig_engines.specs.Stores.{Files, HoldsPriorities, IsTableOf, ReadsAs}
-use Rattle.sig_engines.specs.Visits.{AreVisits, Visit}
+use Rattle.sig_engines.specs.Visits.{Visit}
 use Rattle.sig_engines.specs.declared.store.TablePaths.{TablePaths}
 use Rattle.sig_core.specs.declared.results.Hit.{Hit}
 use Rattle.sig_table.specs.Loading.{records_of, table_of}
@@ -81,13 +82,10 @@ each_once files table certificate ask t Are checked_before checked_after before 
   where
     one : Decided t → (visit : Visit) (text : List ℕ) → AreLinesAt ask t (Some files) visit text → IsOneLineOf ask t visit text
     one decided visit text is =
-        let lines = is.1 in
+        let lines = is.2 in
         (lines.hits, one_is_left t lines.file lines.hits decided lines.bytes (subst (λ b. AreAsked b t lines.file lines.hits) left lines.are_asked), lines.are_lines)
 
-pub one_line_each : (files : Files) (table : TablePaths) (certificate : Bor (List ℕ)) (options : MatchOptions) (names : Bor (List (Bor (List ℕ)))) (is_yes : Bool) (checked_before checked_after before after : Option (List ℕ)) → options.all ≡ false → Answers (Some files) (Check table certificate) true checked_before checked_after → Answers (Some files) (MatchMany options table names) is_yes before after → (t : TableView) × (ask : MatchAsk) × AsksEach (Some files) options ask × AddsOneLineOfEach ask t (AreVisits ask.recursive (Some files) (map (λ n. n.now) names.now)) before after
+pub one_line_each : (files : Files) (table : TablePaths) (certificate : Bor (List ℕ)) (options : MatchOptions) (names : FileNames) (is_yes : Bool) (checked_before checked_after before after : Option (List ℕ)) → options.all ≡ false → Answers (Some files) (Check table certificate) true checked_before checked_after → Answers (Some files) (MatchMany options table names) is_yes before after → (t : TableView) × (ask : MatchAsk) × AsksEach (Some files) options ask × AddsOneLineOfEach ask t (AreVisitsOf ask (Some files) names) before after
 one_line_each files table certificate options names is_yes checked_before checked_after before after left checked matched =
-    (matched.1, matched.3, matched.4, each_once files table certificate matched.3 matched.1 (AreVisits matched.3.recursive (Some files) (map (λ (n : Bor (List ℕ)). n.now) names.now)) checked_before checked_after before after (matched.4.all ∙ left) checked matched.2 matched.5)
-
-pub one_line_listed : (files : Files) (table : TablePaths) (certificate : Bor (List ℕ)) (options : MatchOptions) (list : Bor (List ℕ)) (end : ℕ) (is_yes : Bool) (checked_before checked_after before after : Option (List ℕ)) → options.all ≡ false → Answers (Some files) (Check table certificate) true checked_before checked_after → Answers (Some files) (MatchListed options table list end) is_yes before after → (t : TableView) × (ask : MatchAsk) × AsksEach (Some files) options ask × (names : List (List ℕ)) × AreListedIn (Some files) list.now end names × AddsOneLineOfEach ask t (AreVisits ask.recursive (Some files) names) before after
-one_line_listed files table certificate options list end is_yes checked_before checked_after before after left checked matched =
-    (matched.1, matched.3, matched.4, matched.5, matched.6, each_once files table certificate matched.3 matched.1 (AreVisits matched.3.recursive (Some files) matched.5) checked_before checked_after before after (matched.4.all ∙ left) checked matched.2 matched.7)
+    let each = matched.1 in
+    (each.0, each.2, each.3, each_once files table certificate each.2 each.0 (AreVisitsOf each.2 (Some files) names) checked_before checked_after before after (each.3.all ∙ left) checked each.1 each.4)

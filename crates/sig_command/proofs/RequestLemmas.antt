@@ -7,10 +7,11 @@ use Rattle.std.proofs.lemmas.Option.{same_Some}
 use Rattle.clap.specs.Words.{HasKind, IsAmong, Kinds, Row, Text, all_of, first_of, kind_of}
 use Rattle.clap.specs.declared.error.Error.{Error}
 use Rattle.clap.specs.declared.error.kind.ErrorKind.TheVariants.{DisplayHelp, DisplayVersion, OutOfMemory}
-use Rattle.sig_command.specs.CommandLine.{Asks, NamesBudget, NamesList, NamesMany, NamesOptions, NamesTable}
+use Rattle.sig_command.specs.CommandLine.{Asks, NamesBudget, NamesFiles, NamesMany, NamesOptions, NamesTable}
 use Rattle.sig_command.specs.declared.args.ConflictsOptions.{ConflictsOptions}
+use Rattle.sig_command.specs.declared.args.MatchOptions.{MatchOptions}
 use Rattle.sig_command.specs.declared.args.Request.{Request}
-use Rattle.sig_command.specs.declared.args.Request.TheVariants.{Check, Conflicts, Dead, Find, Lint, Match, MatchListed, MatchMany, Show, Witness}
+use Rattle.sig_command.specs.declared.args.Request.TheVariants.{Check, Conflicts, Dead, Find, Lint, Match, MatchMany, Show, Witness}
 use Rattle.sig_engines.specs.declared.store.TablePaths.{TablePaths}
 
 -- one subcommand and its rows are another and its own
@@ -31,8 +32,7 @@ abbrev name_of : Request → Text
 name_of (Show table) = codes "show"
 name_of (Lint table) = codes "lint"
 name_of (Match all table file) = codes "match"
-name_of (MatchMany options table files) = codes "match"
-name_of (MatchListed options table list end) = codes "match"
+name_of (MatchMany options table names) = codes "match"
 name_of (Find table budget out hex progress) = codes "find"
 name_of (Conflicts table options progress) = codes "conflicts"
 name_of (Dead table budget hex progress) = codes "dead"
@@ -63,22 +63,21 @@ no_lint rows missing (Lint table) asks = missing table (subst (NamesTable table)
 no_lint rows missing asked asks = other_name (codes "lint") (name_of asked) rows asks.0 (omega arith) asks.1
 
 -- files that are named have a first one
-many_named : (files : List (Bor Text)) (rows : List Row) → NamesMany files rows → ((text : Text) (texts : List Text) → all_of (codes "FILE") rows ≡ Some (text ∷ texts) → ⊥) → ⊥
-many_named [] rows named none = let few : 0 < 0 = named.some in absurd (omega (arith, few))
-many_named (file ∷ files) rows named none = none file.now (map (λ f. f.now) files) named.are
+many_named : (files : List (Bor Text)) (options : MatchOptions) (rows : List Row) → NamesMany files options rows → ((text : Text) (texts : List Text) → all_of (codes "FILE") rows ≡ Some (text ∷ texts) → ⊥) → ⊥
+many_named [] options rows named none = let few : 0 < 0 = named.some in absurd (omega (arith, few))
+many_named (file ∷ files) options rows named none = none file.now (map (λ f. f.now) files) named.are
 
 pub no_match : (rows : List Row) → ((table : TablePaths) (text : Text) (texts : List Text) → NamesTable table rows → first_of (codes "NAMES") rows ≡ None → all_of (codes "FILE") rows ≡ Some (text ∷ texts) → ⊥) → ((table : TablePaths) (word : Text) → NamesTable table rows → first_of (codes "NAMES") rows ≡ Some word → all_of (codes "FILE") rows ≡ None → ⊥) → (asked : Request) → Asks (Some (codes "match", rows)) asked → ⊥
 no_match rows missing unlisted (Match all table file) asks =
     let same : asks.0 ≡ rows = rows_of_found (codes "match") rows asks.0 asks.1 in
     missing table file.now [] (subst (NamesTable table) same asks.2) (subst (λ (r : List Row). first_of (codes "NAMES") r ≡ None) same asks.4) (subst (λ (r : List Row). all_of (codes "FILE") r ≡ Some (file.now ∷ [])) same asks.3)
-no_match rows missing unlisted (MatchMany options table files) asks =
+no_match rows missing unlisted (MatchMany options table names) asks =
     let same : asks.0 ≡ rows = rows_of_found (codes "match") rows asks.0 asks.1 in
-    let named : NamesMany files.now rows = subst (NamesMany files.now) same asks.3 in
-    many_named files.now rows named (λ text texts is. missing table text texts (subst (NamesTable table) same asks.2) named.unlisted is)
-no_match rows missing unlisted (MatchListed options table list end) asks =
-    let same : asks.0 ≡ rows = rows_of_found (codes "match") rows asks.0 asks.1 in
-    let named : NamesList list end rows = subst (NamesList list end) same asks.3 in
-    unlisted table named.word (subst (NamesTable table) same asks.2) named.given named.alone
+    named (subst (NamesTable table) same asks.2) (subst (NamesFiles names options) same asks.3)
+  where
+    named : NamesTable table rows → NamesFiles names options rows → ⊥
+    named paths (inl files) = many_named files.0.now options rows files.2 (λ text texts is. missing table text texts paths files.2.unlisted is)
+    named paths (inr list) = unlisted table list.word.now paths list.given list.alone
 no_match rows missing unlisted asked asks = other_name (codes "match") (name_of asked) rows asks.0 (omega arith) asks.1
 
 pub no_check : (rows : List Row) → ((table : TablePaths) (text : Text) → NamesTable table rows → first_of (codes "CERT") rows ≡ Some text → ⊥) → (asked : Request) → Asks (Some (codes "check", rows)) asked → ⊥

@@ -9,7 +9,8 @@ use Rattle.clap.specs.Values.{read_as}
 use Rattle.clap.specs.Walk.{Text, all_of, first_of, one_of, row_of, rows_of, texts}
 use Rattle.clap.specs.declared.builder.value_parser.Reading.{Reading}
 use Rattle.clap.specs.declared.parser.matches.Found.{Found}
-use Rattle.sig_command.specs.CommandLine.{HasFlag, NamesMany}
+use Rattle.sig_command.specs.CommandLine.{HasFlag, NamesMany, is_named}
+use Rattle.sig_command.specs.declared.args.MatchOptions.{MatchOptions}
 
 first_text : (values : List (Bor Text)) → slice_get (texts values) 0 ≡ option_map (λ s. s.now) (slice_get values 0)
 first_text [] = refl
@@ -104,19 +105,13 @@ one_named found [] d some one is = absurd (omega (arith, some))
 one_named found (n ∷ []) d some one is = all_of-rows found (codes "FILE") ∙ sym is
 one_named found (n ∷ m ∷ ns) d some one is = absurd (omega (arith, one))
 
-pub many_named : (found : Found) (names : List (Bor Text)) (is_named is_csv is_recursive : Bool) (formats : Option (Bor Text)) → 0 < length names → (1 < length names) ⊎ ((is_named ≡ true) ⊎ ((is_csv || (is_some formats || is_recursive)) ≡ true)) → HasFlag (codes "with-names") is_named (rows_of found) → HasFlag (codes "csv") is_csv (rows_of found) → first_of (codes "FORMATS") (rows_of found) ≡ option_map (λ w. w.now) formats → HasFlag (codes "recursive") is_recursive (rows_of found) → Some (map (λ n. n.now) names) ≡ option_map raw_values (matched_of found (codes "FILE")) → first_of (codes "NAMES") (rows_of found) ≡ None → NamesMany names (rows_of found)
-many_named found names is_named is_csv is_recursive formats some several flag csv given recursive is unlisted = record { are = all_of-rows found (codes "FILE") ∙ sym is; some = some; unlisted = unlisted; named = by several }
+pub many_named : (found : Found) (names : List (Bor Text)) (options : MatchOptions) (is_given : Bool) → 0 < length names → (1 < length names) ⊎ ((is_given ≡ true) ⊎ (is_named options ≡ true)) → HasFlag (codes "with-names") is_given (rows_of found) → Some (map (λ n. n.now) names) ≡ option_map raw_values (matched_of found (codes "FILE")) → first_of (codes "NAMES") (rows_of found) ≡ None → NamesMany names options (rows_of found)
+many_named found names options is_given some several flag is unlisted = record { are = all_of-rows found (codes "FILE") ∙ sym is; some = some; unlisted = unlisted; named = by several }
   where
-    form : (b r : Bool) (o : Option (Bor Text)) → (b || (is_some o || r)) ≡ true → HasFlag (codes "csv") b (rows_of found) → first_of (codes "FORMATS") (rows_of found) ≡ option_map (λ w. w.now) o → HasFlag (codes "recursive") r (rows_of found) → HasFlag (codes "csv") true (rows_of found) ⊎ ((is_some (first_of (codes "FORMATS") (rows_of found)) ≡ true) ⊎ HasFlag (codes "recursive") true (rows_of found))
-    form true r o has csv given recursive = inl csv
-    form false r (Some w) has csv given recursive = inr (inl (ap is_some given))
-    form false true None has csv given recursive = inr (inr recursive)
-    form false false None has csv given recursive = let bad : false ≡ true = has in cc
-
-    by : (1 < length names) ⊎ ((is_named ≡ true) ⊎ ((is_csv || (is_some formats || is_recursive)) ≡ true)) → (1 < length names) ⊎ (HasFlag (codes "with-names") true (rows_of found) ⊎ (HasFlag (codes "csv") true (rows_of found) ⊎ ((is_some (first_of (codes "FORMATS") (rows_of found)) ≡ true) ⊎ HasFlag (codes "recursive") true (rows_of found))))
+    by : (1 < length names) ⊎ ((is_given ≡ true) ⊎ (is_named options ≡ true)) → (1 < length names) ⊎ (HasFlag (codes "with-names") true (rows_of found) ⊎ (is_named options ≡ true))
     by (inl many) = inl many
     by (inr (inl given)) = inr (inl (subst (λ b. HasFlag (codes "with-names") b (rows_of found)) given flag))
-    by (inr (inr has)) = inr (inr (form is_csv is_recursive formats has csv given recursive))
+    by (inr (inr has)) = inr (inr has)
 
 -- neither of two is so
 pub neither_first : (a b : Bool) → (a || b) ≡ false → a ≡ false

@@ -1,5 +1,5 @@
 -- The command line in clap's words, and what its words ask for.
-use Rattle.std.specs.Prelude.{◌≡◌, ◌≢◌, ◌⊎◌, ◌<◌, ◌^◌, ℕ, pos, Bool, true, false, List, [], ◌∷◌, Option, None, Some, String, codes, length, map, option_and_then, option_map, string_bytes, if◌then◌else◌, is_some, not, take_while}
+use Rattle.std.specs.Prelude.{◌≡◌, ◌≢◌, ◌⊎◌, ◌||◌, ◌<◌, ◌^◌, ℕ, pos, Bool, true, false, List, [], ◌∷◌, Option, None, Some, String, codes, length, map, option_and_then, option_map, string_bytes, if◌then◌else◌, is_some, not, take_while}
 use Rattle.std.specs.List.{list_any}
 use Rattle.std.specs.Str.{bytes_eq}
 use Rattle.std.specs.Borrow.{Bor}
@@ -15,9 +15,12 @@ use Rattle.clap.specs.declared.builder.value_parser.ValueParser.TheVariants.{Sig
 use Rattle.clap.specs.declared.error.Error.{Error}
 use Rattle.clap.specs.declared.error.kind.ErrorKind.TheVariants.{DisplayHelp, DisplayVersion}
 use Rattle.sig_command.specs.declared.args.ConflictsOptions.{ConflictsOptions}
+use Rattle.sig_command.specs.declared.args.FileNames.{FileNames}
+use Rattle.sig_command.specs.declared.args.FileNames.TheVariants.{Input, Words}
+use Rattle.sig_command.specs.declared.args.FileNames.TheVariants as listed
 use Rattle.sig_command.specs.declared.args.MatchOptions.{MatchOptions}
 use Rattle.sig_command.specs.declared.args.Request.{Request}
-use Rattle.sig_command.specs.declared.args.Request.TheVariants.{Check, Conflicts, Dead, Find, Lint, Match, MatchListed, MatchMany, Show, Witness}
+use Rattle.sig_command.specs.declared.args.Request.TheVariants.{Check, Conflicts, Dead, Find, Lint, Match, MatchMany, Show, Witness}
 use Rattle.sig_engines.specs.declared.store.TablePaths.{TablePaths}
 
 -- the texts of the words
@@ -63,11 +66,12 @@ named name value = record (new_rule value) { long = Some name }
 abbrev pub null_rule : Rule
 null_rule = record (given (codes "null")) { short = Some 48 }
 
--- `match [--all] [--with-names] [--csv] [--names FORMATS] [--recursive] [--files-from NAMES [-0]] SIGS PRIOS [FILE..]`
+-- `match [--all] [--with-names] [--csv] [--names FORMATS] [--recursive] [--files-from NAMES [-0]] [--progress] [--summary] SIGS PRIOS [FILE..]`
 abbrev pub match_command : Bool → App
 match_command has_priorities =
     let of_files = with_rule (with_rule (with_rule (with_rule (of_table has_priorities (new_app (codes "match"))) (several (codes "FILE"))) (given (codes "all"))) (given (codes "with-names"))) (given (codes "csv")) in
-    with_rule (with_rule (with_rule (with_rule of_files (named (codes "names") (codes "FORMATS"))) (given (codes "recursive"))) (named (codes "files-from") (codes "NAMES"))) null_rule
+    let with_list = with_rule (with_rule (with_rule (with_rule of_files (named (codes "names") (codes "FORMATS"))) (given (codes "recursive"))) (named (codes "files-from") (codes "NAMES"))) null_rule in
+    with_rule (with_rule with_list (given (codes "progress"))) (given (codes "summary"))
 
 -- `--budget N`, of a number from 1 to 4,294,967,295, and of 100,000 where it is left out
 abbrev pub budget_rule : Rule
@@ -156,34 +160,41 @@ pub record NamesOptions (options : ConflictsOptions) (rows : List Row) : Type 0 
   pub files : first_of (codes "DIR") rows ≡ option_map (λ w. w.now) options.files
   pub priorities : first_of (codes "FILE") rows ≡ option_map (λ w. w.now) options.priorities
 
--- the files are the values of their argument, in their order, and no list has their names: two at least, or one with `--with-names`, `--csv`, `--names` or `--recursive`
-pub record NamesMany (files : List (Bor Text)) (rows : List Row) : Type 0 where
+-- whether the names of the files are printed, whatever their number
+abbrev pub is_named : MatchOptions → Bool
+is_named options = options.csv || (is_some options.names || (options.recursive || (options.progress || options.summary)))
+
+-- the files are the values of their argument, in their order, and no list has their names: two at least, or one with `--with-names` or with options with which its name is printed
+pub record NamesMany (files : List (Bor Text)) (options : MatchOptions) (rows : List Row) : Type 0 where
   pub are : all_of (codes "FILE") rows ≡ Some (map (λ f. f.now) files)
   pub some : 0 < length files
   pub unlisted : first_of (codes "NAMES") rows ≡ None
-  pub named : (1 < length files) ⊎ (HasFlag (codes "with-names") true rows ⊎ (HasFlag (codes "csv") true rows ⊎ ((is_some (first_of (codes "FORMATS") rows) ≡ true) ⊎ HasFlag (codes "recursive") true rows)))
+  pub named : (1 < length files) ⊎ (HasFlag (codes "with-names") true rows ⊎ (is_named options ≡ true))
 
 -- no word names a file
 abbrev pub HasNoFiles : List Row → Type 0
 HasNoFiles rows = (text : Text) (texts : List Text) → all_of (codes "FILE") rows ≢ Some (text ∷ texts)
 
--- the file with the names: a hyphen stands for standard input
-abbrev pub list_path : Text → Text
-list_path word = if bytes_eq word (codes "-") then codes "/dev/stdin" else word
+-- the list that a word names: a hyphen stands for standard input
+abbrev pub list_names : Bor Text → ℕ → FileNames
+list_names word end = if bytes_eq word.now (codes "-") then Input end else listed.List word end
 
 -- what ends a name: a line feed, or with `--null` a NUL
 abbrev pub name_end : Bool → ℕ
 name_end is_null = if is_null then 0 else 10
 
 -- a list has the names of the files, and no word has one
-pub record NamesList (list : Bor Text) (end : ℕ) (rows : List Row) : Type 0 where
-  pub word : Text
-  pub given : first_of (codes "NAMES") rows ≡ Some word
-  pub is : list.now ≡ list_path word
+pub record NamesList (names : FileNames) (rows : List Row) : Type 0 where
+  pub word : Bor Text
+  pub given : first_of (codes "NAMES") rows ≡ Some word.now
   pub is_null : Bool
   pub null : HasFlag (codes "null") is_null rows
-  pub ends : end ≡ name_end is_null
+  pub is : names ≡ list_names word (name_end is_null)
   pub alone : all_of (codes "FILE") rows ≡ None
+
+-- where the names of the files come from: from words, or from a list
+abbrev pub NamesFiles : FileNames → MatchOptions → List Row → Type 0
+NamesFiles names options rows = ((files : Bor (List (Bor Text))) × (names ≡ Words files) × NamesMany files.now options rows) ⊎ NamesList names rows
 
 -- what is asked of each of many files
 pub record NamesEach (options : MatchOptions) (rows : List Row) : Type 0 where
@@ -191,14 +202,15 @@ pub record NamesEach (options : MatchOptions) (rows : List Row) : Type 0 where
   pub csv : HasFlag (codes "csv") options.csv rows
   pub names : first_of (codes "FORMATS") rows ≡ option_map (λ w. w.now) options.names
   pub recursive : HasFlag (codes "recursive") options.recursive rows
+  pub progress : HasFlag (codes "progress") options.progress rows
+  pub summary : HasFlag (codes "summary") options.summary rows
 
 -- the subcommand and its arguments ask for this
 abbrev pub Asks : Option (Text × List Row) → Request → Type 0
 Asks found (Show table) = (rows : List Row) × (found ≡ Some (codes "show", rows)) × NamesTable table rows
 Asks found (Lint table) = (rows : List Row) × (found ≡ Some (codes "lint", rows)) × NamesTable table rows
-Asks found (Match all table file) = (rows : List Row) × (found ≡ Some (codes "match", rows)) × NamesTable table rows × (all_of (codes "FILE") rows ≡ Some (file.now ∷ [])) × (first_of (codes "NAMES") rows ≡ None) × HasFlag (codes "all") all rows × HasFlag (codes "with-names") false rows × HasFlag (codes "csv") false rows × (first_of (codes "FORMATS") rows ≡ None) × HasFlag (codes "recursive") false rows
-Asks found (MatchMany options table files) = (rows : List Row) × (found ≡ Some (codes "match", rows)) × NamesTable table rows × NamesMany files.now rows × NamesEach options rows
-Asks found (MatchListed options table list end) = (rows : List Row) × (found ≡ Some (codes "match", rows)) × NamesTable table rows × NamesList list end rows × NamesEach options rows
+Asks found (Match all table file) = (rows : List Row) × (found ≡ Some (codes "match", rows)) × NamesTable table rows × (all_of (codes "FILE") rows ≡ Some (file.now ∷ [])) × (first_of (codes "NAMES") rows ≡ None) × HasFlag (codes "all") all rows × HasFlag (codes "with-names") false rows × HasFlag (codes "csv") false rows × (first_of (codes "FORMATS") rows ≡ None) × HasFlag (codes "recursive") false rows × HasFlag (codes "progress") false rows × HasFlag (codes "summary") false rows
+Asks found (MatchMany options table names) = (rows : List Row) × (found ≡ Some (codes "match", rows)) × NamesTable table rows × NamesFiles names options rows × NamesEach options rows
 Asks found (Find table budget out hex progress) = (rows : List Row) × (found ≡ Some (codes "find", rows)) × NamesTable table rows × NamesBudget budget rows × (first_of (codes "OUT") rows ≡ Some out.now) × HasFlag (codes "hex") hex rows × HasFlag (codes "progress") progress rows
 Asks found (Conflicts table options progress) = (rows : List Row) × (found ≡ Some (codes "conflicts", rows)) × NamesTable table rows × NamesOptions options rows × HasFlag (codes "progress") progress rows
 Asks found (Dead table budget hex progress) = (rows : List Row) × (found ≡ Some (codes "dead", rows)) × NamesTable table rows × NamesBudget budget rows × HasFlag (codes "hex") hex rows × HasFlag (codes "progress") progress rows

@@ -1,6 +1,6 @@
 -- What comes of what the words ask for: its answers, and its faults.
 use Rattle.std.specs.Borrow.{Bor}
-use Rattle.std.specs.Prelude.{◌≡◌, ℕ, ◌⊎◌, Bool, false, true, List, Option, None, Some, Err, ⊤, is_some, map, Ok, option_map}
+use Rattle.std.specs.Prelude.{◌≡◌, ◌≢◌, ◌||◌, ℕ, ◌⊎◌, Bool, false, true, List, Option, None, Some, Err, ⊤, is_some, Ok, option_map, Result}
 use Rattle.clap.specs.Words.{Text}
 use Rattle.sig_bits.specs.Bytes.{IsBytes}
 use Rattle.sig_bits.specs.Device.{Adds}
@@ -15,7 +15,7 @@ use Rattle.sig_engines.specs.Asks.{IsFormatNamed}
 use Rattle.sig_engines.specs.Conflicts.{AddsConflicts, AddsFirstPairs, Settles}
 use Rattle.sig_command.specs.Faults.{Reports, TellsWrite}
 use Rattle.sig_command.specs.Statuses.{status_of}
-use Rattle.sig_command.specs.Several.{AddsFaults, AddsLinesOfEach, AddsLinesOfFirst, AddsLinesOfSome, AreListedIn}
+use Rattle.sig_command.specs.Several.{AddsLinesOfEach, AddsLinesOfFirst, AddsLinesOfSome, AddsTold, AreVisitsOf, IsList, TellsOfEach}
 use Rattle.sig_engines.specs.Fates.{AddsFates, AddsFirstFates}
 use Rattle.sig_engines.specs.FileTexts.{head_text}
 use Rattle.sig_engines.specs.Finding.{AddsFound, KeepsFound, TellsWhy}
@@ -23,11 +23,11 @@ use Rattle.sig_engines.specs.FormatNames.{NameList, is_judged, names_of}
 use Rattle.sig_engines.specs.Judged.{AddsVerdict}
 use Rattle.sig_engines.specs.Lines.{AddsLines}
 use Rattle.sig_engines.specs.Linted.{AddsReport}
-use Rattle.sig_engines.specs.ManyFiles.{AddsFiles, CutsFiles, IsPrinted, StopsFiles}
+use Rattle.sig_engines.specs.ManyFiles.{AddsAll, CutsAll, IsPrinted, Printed, StopsAll}
 use Rattle.sig_engines.specs.Progress.{AddsProgress, ShowsIf}
 use Rattle.sig_engines.specs.Shown.{show_text}
 use Rattle.sig_engines.specs.Stores.{Has, HasFolder, HasPriorities, Holding, Holds, HoldsPriorities, IsAny, IsMade, IsTableFault, IsTableOf, Lacks, SomeFailed}
-use Rattle.sig_engines.specs.Visits.{AreVisits}
+use Rattle.sig_engines.specs.Visits.{Visit}
 use Rattle.sig_engines.specs.Witnessed.{AddsWitness}
 use Rattle.sig_engines.specs.Witnesses.{IsWitnessOf}
 use Rattle.sig_engines.specs.declared.ask.ConflictsAsk.{ConflictsAsk}
@@ -37,13 +37,17 @@ use Rattle.sig_engines.specs.declared.error.FileFault.TheVariants as file
 use Rattle.sig_engines.specs.declared.error.PairsFault.{PairsFault}
 use Rattle.sig_engines.specs.declared.format_names.NamesError.{NamesError}
 use Rattle.sig_engines.specs.declared.error.PairsFault.TheVariants as pairs
+use Rattle.sig_engines.specs.declared.error.RunError.{RunError}
 use Rattle.sig_engines.specs.declared.error.RunError.TheVariants.{OutOfMemory, Read, Write}
 use Rattle.sig_command.specs.declared.fault.Fault.{Fault}
 use Rattle.sig_command.specs.declared.fault.Fault.TheVariants.{CannotOpen, CutShort, FaultyTable, IsFolder, Names, NoFile, NotInTable, NotText, Run, SomeFiles, SummaryOfOne, Table}
 use Rattle.sig_command.specs.declared.args.ConflictsOptions.{ConflictsOptions}
+use Rattle.sig_command.specs.declared.args.FileNames.{FileNames}
+use Rattle.sig_command.specs.declared.args.FileNames.TheVariants.{Input, Words}
+use Rattle.sig_command.specs.declared.args.FileNames.TheVariants as source
 use Rattle.sig_command.specs.declared.args.MatchOptions.{MatchOptions}
 use Rattle.sig_command.specs.declared.args.Request.{Request}
-use Rattle.sig_command.specs.declared.args.Request.TheVariants.{Check, Conflicts, Dead, Find, Lint, Match, MatchListed, MatchMany, Show, Witness}
+use Rattle.sig_command.specs.declared.args.Request.TheVariants.{Check, Conflicts, Dead, Find, Lint, Match, MatchMany, Show, Witness}
 use Rattle.sig_engines.specs.declared.store.TablePaths.{TablePaths}
 use Rattle.sig_engines.specs.declared.progress.Things.TheVariants.{Formats, Pairs, Products}
 
@@ -92,6 +96,12 @@ IsFileFault failed held name (Names error) = ⊥
 abbrev pub IsFolderFault : Holding → Bor (List ℕ) → Fault → Type 0
 IsFolderFault held name fault = (fault ≡ IsFolder name) × HasFolder held name.now
 
+-- a list of names can't be opened, or a read of it failed
+abbrev pub IsListFault : {R : Type 0} → (R → Bool) → Holding → FileNames → Fault → Type 0
+IsListFault failed held (Words words) fault = ⊥
+IsListFault failed held (source.List list end) fault = IsFileFault failed held list fault ⊎ IsFolderFault held list fault
+IsListFault failed held (Input end) fault = (fault ≡ Run Read) × SomeFailed failed
+
 -- why there is no answer of the file of this name
 abbrev pub file_fault : Bor (List ℕ) → FileFault → Fault
 file_fault name file.CannotOpen = CannotOpen name
@@ -125,7 +135,13 @@ pub record AsksEach (held : Holding) (options : MatchOptions) (ask : MatchAsk) :
   pub all : ask.all ≡ options.all
   pub csv : ask.csv ≡ options.csv
   pub recursive : ask.recursive ≡ options.recursive
+  pub progress : ask.progress ≡ options.progress
+  pub summary : ask.summary ≡ options.summary
   pub names : AreNamesOf held options.names (option_map (λ n. n.now) ask.names)
+
+-- so it is of the table in these files, and of what these options ask of each of many files
+abbrev pub OfTable : Holding → TablePaths → MatchOptions → (TableView → MatchAsk → Type 0) → Type 0
+OfTable held paths options Is = (table : TableView) × IsTableOf held paths table × (ask : MatchAsk) × AsksEach held options ask × Is table ask
 
 -- the file with the names of formats can't be opened, or it is none
 abbrev pub IsNamesFaultOf : {R : Type 0} → (R → Bool) → Holding → Option (Bor Text) → Fault → Type 0
@@ -194,8 +210,7 @@ abbrev pub paths_of : Request → TablePaths
 paths_of (Show table) = table
 paths_of (Lint table) = table
 paths_of (Match all table file) = table
-paths_of (MatchMany options table files) = table
-paths_of (MatchListed options table list end) = table
+paths_of (MatchMany options table names) = table
 paths_of (Find table budget out hex progress) = table
 paths_of (Conflicts table options progress) = table
 paths_of (Dead table budget hex progress) = table
@@ -211,8 +226,7 @@ abbrev pub IsLaterFault : {R : Type 0} → (R → Bool) → Holding → Request 
 IsLaterFault failed held (Show table) fault = fault ≡ Run Write
 IsLaterFault failed held (Lint table) fault = ⊥
 IsLaterFault failed held (Match all table file) fault = IsFileFault failed held file fault ⊎ IsFolderFault held file fault
-IsLaterFault failed held (MatchMany options table files) fault = (fault ≡ SomeFiles) ⊎ ((fault ≡ Run Write) ⊎ IsNamesFaultOf failed held options.names fault)
-IsLaterFault failed held (MatchListed options table list end) fault = (fault ≡ SomeFiles) ⊎ ((IsFileFault failed held list fault ⊎ IsFolderFault held list fault) ⊎ IsNamesFaultOf failed held options.names fault)
+IsLaterFault failed held (MatchMany options table names) fault = (fault ≡ SomeFiles) ⊎ ((fault ≡ Run Write) ⊎ (IsListFault failed held names fault ⊎ IsNamesFaultOf failed held options.names fault))
 IsLaterFault failed held (Find table budget out hex progress) fault = (fault ≡ CannotOpen out) ⊎ (fault ≡ Run Write)
 IsLaterFault failed held (Conflicts table options progress) fault = IsConflictsFault held table options fault
 IsLaterFault failed held (Dead table budget hex progress) fault = IsCutFault fault
@@ -224,8 +238,7 @@ abbrev pub AsksTwo : Request → Type 0
 AsksTwo (Show table) = ⊥
 AsksTwo (Lint table) = ⊥
 AsksTwo (Match all table file) = ⊥
-AsksTwo (MatchMany options table files) = ⊥
-AsksTwo (MatchListed options table list end) = ⊥
+AsksTwo (MatchMany options table names) = ⊥
 AsksTwo (Find table budget out hex progress) = ⊥
 AsksTwo (Conflicts table options progress) = (options.summary ≡ true) × (is_some options.only ≡ true)
 AsksTwo (Dead table budget hex progress) = ⊥
@@ -266,8 +279,7 @@ abbrev pub IsFirstFault : {R : Type 0} → (R → Bool) → Holding → Request 
 IsFirstFault failed held (Show table) fault = IsLoadFault failed held table fault
 IsFirstFault failed held (Lint table) fault = IsLintFault failed held table fault
 IsFirstFault failed held (Match all table file) fault = IsLoadFault failed held table fault
-IsFirstFault failed held (MatchMany options table files) fault = IsLoadFault failed held table fault
-IsFirstFault failed held (MatchListed options table list end) fault = IsLoadFault failed held table fault
+IsFirstFault failed held (MatchMany options table names) fault = IsLoadFault failed held table fault
 IsFirstFault failed held (Find table budget out hex progress) fault = IsLoadFault failed held table fault
 IsFirstFault failed held (Conflicts table options progress) fault = IsLoadFault failed held table fault
 IsFirstFault failed held (Dead table budget hex progress) fault = IsLoadFault failed held table fault
@@ -284,8 +296,7 @@ abbrev pub Answers : Holding → Request → Bool → Option (List ℕ) → Opti
 Answers held (Show table) is_yes before after = (is_yes ≡ true) × (t : TableView) × IsTableOf held table t × Adds before (show_text t) after
 Answers held (Lint table) is_yes before after = (is_yes ≡ true) × IsReported true held table before after
 Answers held (Match all table name) is_yes before after = (is_yes ≡ true) × (t : TableView) × IsTableOf held table t × (file : List ℕ) × IsBytes file × Holds held name.now file × AddsLines all t file before after
-Answers held (MatchMany options table files) is_yes before after = (is_yes ≡ true) × (t : TableView) × IsTableOf held table t × (ask : MatchAsk) × AsksEach held options ask × AddsLinesOfEach ask t held (AreVisits ask.recursive held (map (λ n. n.now) files.now)) before after
-Answers held (MatchListed options table list end) is_yes before after = (is_yes ≡ true) × (t : TableView) × IsTableOf held table t × (ask : MatchAsk) × AsksEach held options ask × (names : List (List ℕ)) × AreListedIn held list.now end names × AddsLinesOfEach ask t held (AreVisits ask.recursive held names) before after
+Answers held (MatchMany options table names) is_yes before after = (is_yes ≡ true) × OfTable held table options (λ t ask. AddsLinesOfEach ask t held (AreVisitsOf ask held names) before after)
 Answers held (Find table budget out hex progress) is_yes before after = (t : TableView) × IsTableOf held table t × AddsFound is_yes hex t budget before after
 Answers held (Conflicts table options progress) is_yes before after = (t : TableView) × IsTableOf held table t × (ask : ConflictsAsk) × AsksPairs options t ask × (refused : List ℕ) × AddsConflicts IsAny is_yes refused ask t before after
 Answers held (Dead table budget hex progress) is_yes before after = (t : TableView) × IsTableOf held table t × AddsFates is_yes hex t budget before after
@@ -301,8 +312,7 @@ abbrev pub MakesOut : {F : Type 0} → (name_of written : F → Option (List ℕ
 MakesOut name_of written failed held (Show table) is_yes before after = ⊤
 MakesOut name_of written failed held (Lint table) is_yes before after = ⊤
 MakesOut name_of written failed held (Match all table path) is_yes before after = ⊤
-MakesOut name_of written failed held (MatchMany options table files) is_yes before after = ⊤
-MakesOut name_of written failed held (MatchListed options table list end) is_yes before after = ⊤
+MakesOut name_of written failed held (MatchMany options table names) is_yes before after = ⊤
 MakesOut name_of written failed held (Find table budget out hex progress) is_yes before after = (t : TableView) × IsTableOf held table t × KeepsFound (IsMade name_of written failed held out.now) is_yes hex t budget before after
 MakesOut name_of written failed held (Conflicts table options progress) is_yes before after = (t : TableView) × IsTableOf held table t × (ask : ConflictsAsk) × AsksPairs options t ask × (refused : List ℕ) × AddsConflicts (IsMade name_of written failed held) is_yes refused ask t before after
 MakesOut name_of written failed held (Dead table budget hex progress) is_yes before after = ⊤
@@ -313,13 +323,16 @@ MakesOut name_of written failed held (Witness table path) is_yes before after = 
 abbrev pub MakesWords : {F : Type 0} → (name_of written : F → Option (List ℕ)) → (F → Bool) → Holding → List Text → Bool → (before after : Option (List ℕ)) → Type 0
 MakesWords name_of written failed held words is_yes before after = (request : Request) × Asks (subcommand_of_words words) request × MakesOut name_of written failed held request is_yes before after
 
+-- the lines of all files that have no fault are all that is written; or a list was not read whole, and they are those of the first files
+abbrev pub CutsMany : MatchAsk → (Visit → Printed → Type 0) → FileNames → (List Visit → Type 0) → (before after : Option (List ℕ)) → Type 0
+CutsMany ask IsOf names Are before after = AddsLinesOfSome (head_text ask.csv) IsOf Are before after ⊎ (IsList names × AddsLinesOfFirst (head_text ask.csv) IsOf Are before after)
+
 -- the pairs of formats of a table, and its formats, are written one by one, so that the lines of the first ones can be all that is written; and of several files those without a fault can be all that are written
 abbrev pub IsCutRequest : {R : Type 0} → (R → Bool) → Holding → Request → Option (List ℕ) → Option (List ℕ) → Type 0
 IsCutRequest failed held (Show table) before after = ⊥
 IsCutRequest failed held (Lint table) before after = ⊥
 IsCutRequest failed held (Match all table path) before after = ⊥
-IsCutRequest failed held (MatchMany options table files) before after = (t : TableView) × IsTableOf held table t × (ask : MatchAsk) × AsksEach held options ask × AddsLinesOfSome (head_text ask.csv) (IsPrinted failed ask t held) (AreVisits ask.recursive held (map (λ n. n.now) files.now)) before after
-IsCutRequest failed held (MatchListed options table list end) before after = (t : TableView) × IsTableOf held table t × (ask : MatchAsk) × AsksEach held options ask × (names : List (List ℕ)) × AreListedIn held list.now end names × AddsLinesOfFirst (head_text ask.csv) (IsPrinted failed ask t held) (AreVisits ask.recursive held names) before after
+IsCutRequest failed held (MatchMany options table names) before after = OfTable held table options (λ t ask. CutsMany ask (IsPrinted failed ask t held) names (AreVisitsOf ask held names) before after)
 IsCutRequest failed held (Find table budget out hex progress) before after = ⊥
 IsCutRequest failed held (Conflicts table options progress) before after = (t : TableView) × IsTableOf held table t × (ask : ConflictsAsk) × AsksPairs options t ask × AddsFirstPairs ask t before after
 IsCutRequest failed held (Dead table budget hex progress) before after = (t : TableView) × IsTableOf held table t × AddsFirstFates hex t budget before after
@@ -351,8 +364,7 @@ abbrev pub ListsIf : Holding → Request → Fault → Bool → Option (List ℕ
 ListsIf held (Show table) fault is_failed before after = ⊤
 ListsIf held (Lint table) fault is_failed before after = fault ≡ FaultyTable → (is_failed ≡ false) × IsReported false held table before after
 ListsIf held (Match all table file) fault is_failed before after = ⊤
-ListsIf held (MatchMany options table files) fault is_failed before after = ⊤
-ListsIf held (MatchListed options table list end) fault is_failed before after = ⊤
+ListsIf held (MatchMany options table names) fault is_failed before after = ⊤
 ListsIf held (Find table budget out hex progress) fault is_failed before after = ⊤
 ListsIf held (Conflicts table options progress) fault is_failed before after = ⊤
 ListsIf held (Dead table budget hex progress) fault is_failed before after = ⊤
@@ -379,8 +391,7 @@ abbrev pub Shows : {R : Type 0} → (R → Bool) → Holding → Request → Boo
 Shows failed held (Show table) is_answered is_failed before after = ⊥
 Shows failed held (Lint table) is_answered is_failed before after = ⊥
 Shows failed held (Match all table path) is_answered is_failed before after = ⊥
-Shows failed held (MatchMany options table files) is_answered is_failed before after = (is_answered ≡ false) × (t : TableView) × IsTableOf held table t × (ask : MatchAsk) × AsksEach held options ask × (is_failed ≡ false → AddsFaults (IsPrinted failed ask t held) (AreVisits ask.recursive held (map (λ n. n.now) files.now)) before after)
-Shows failed held (MatchListed options table list end) is_answered is_failed before after = (is_answered ≡ false) × (t : TableView) × IsTableOf held table t × (ask : MatchAsk) × AsksEach held options ask × (names : List (List ℕ)) × AreListedIn held list.now end names × (is_failed ≡ false → AddsFaults (IsPrinted failed ask t held) (AreVisits ask.recursive held names) before after)
+Shows failed held (MatchMany options table names) is_answered is_failed before after = ((is_answered ≡ false) ⊎ ((options.progress || options.summary) ≡ true)) × OfTable held table options (λ t ask. is_failed ≡ false → AddsTold ask (IsPrinted failed ask t held) (AreVisitsOf ask held names) before after)
 Shows failed held (Find table budget out hex progress) is_answered is_failed before after = ((progress ≡ true) × (is_failed ≡ false → AddsProgress Products before after)) ⊎ ((is_answered ≡ true) × (is_failed ≡ false → ShowsReason held table progress hex budget before after))
 Shows failed held (Conflicts table options progress) is_answered is_failed before after = ((progress ≡ true) × (is_failed ≡ false → AddsProgress Pairs before after)) ⊎ ((is_answered ≡ true) × (is_some options.priorities ≡ true) × (is_failed ≡ false → ShowsRefused held table options progress before after))
 Shows failed held (Dead table budget hex progress) is_answered is_failed before after = (progress ≡ true) × (is_failed ≡ false → AddsProgress Formats before after)
@@ -400,38 +411,42 @@ abbrev pub TellsOf : {R E : Type 0} → (R → Bool) → Holding → Request →
 TellsOf failed held request is_answered is_failed written before after =
     (after ≡ before) ⊎ Shows failed held request is_answered (is_failed after) (written before) (written after)
 
--- where some of several files have a fault, both outputs are of the same files, of all of them in their order; where a write failed, both are of the first ones; and before every other fault nothing is told
-abbrev pub TellsMany : {R : Type 0} → (R → Bool) → MatchOptions → Holding → TablePaths → List (List ℕ) → Fault → (before after : Option (List ℕ)) (err_failed : Bool) (err_before err_after : Option (List ℕ)) → Type 0
-TellsMany failed options held table names SomeFiles before after err_failed err_before err_after = (t : TableView) × IsTableOf held table t × (ask : MatchAsk) × AsksEach held options ask × AddsFiles (head_text ask.csv) (IsPrinted failed ask t held) (AreVisits ask.recursive held names) before after err_failed err_before err_after false
-TellsMany failed options held table names (Run Write) before after err_failed err_before err_after = (t : TableView) × IsTableOf held table t × (ask : MatchAsk) × AsksEach held options ask × CutsFiles (head_text ask.csv) (IsPrinted failed ask t held) (AreVisits ask.recursive held names) before after err_failed err_before err_after
-TellsMany failed options held table names (Run Read) before after err_failed err_before err_after = err_after ≡ err_before
-TellsMany failed options held table names (Run OutOfMemory) before after err_failed err_before err_after = err_after ≡ err_before
-TellsMany failed options held table names NotText before after err_failed err_before err_after = err_after ≡ err_before
-TellsMany failed options held table names (CannotOpen name) before after err_failed err_before err_after = err_after ≡ err_before
-TellsMany failed options held table names (IsFolder name) before after err_failed err_before err_after = err_after ≡ err_before
-TellsMany failed options held table names (NoFile folder witness) before after err_failed err_before err_after = err_after ≡ err_before
-TellsMany failed options held table names (Table error) before after err_failed err_before err_after = err_after ≡ err_before
-TellsMany failed options held table names NotInTable before after err_failed err_before err_after = err_after ≡ err_before
-TellsMany failed options held table names SummaryOfOne before after err_failed err_before err_after = err_after ≡ err_before
-TellsMany failed options held table names (CutShort error) before after err_failed err_before err_after = err_after ≡ err_before
-TellsMany failed options held table names FaultyTable before after err_failed err_before err_after = err_after ≡ err_before
-TellsMany failed options held table names (Names error) before after err_failed err_before err_after = err_after ≡ err_before
+-- where some of many files have a fault, both outputs are of the same files, of all of them in their order; where a write failed, both are of the first ones, and so where a list is not read whole; nothing else ends the run
+abbrev pub TellsMany : MatchAsk → (Visit → Printed → Type 0) → (List Visit → Type 0) → (Listed : Type 0) → Fault → (before after : Option (List ℕ)) (err_failed : Bool) (err_before err_after : Option (List ℕ)) → Type 0
+TellsMany ask IsOf Are Listed SomeFiles before after err_failed err_before err_after = AddsAll ask IsOf Are before after err_failed err_before err_after false
+TellsMany ask IsOf Are Listed (Run Write) before after err_failed err_before err_after = CutsAll ask IsOf Are before after err_failed err_before err_after
+TellsMany ask IsOf Are Listed (Run Read) before after err_failed err_before err_after = Listed × StopsAll ask IsOf Are before after err_failed err_before err_after
+TellsMany ask IsOf Are Listed (Run OutOfMemory) before after err_failed err_before err_after = Listed × StopsAll ask IsOf Are before after err_failed err_before err_after
+TellsMany ask IsOf Are Listed _ before after err_failed err_before err_after = ⊥
 
--- of files whose names stand in a list the same; and where the list is not read to its end, or memory runs out, both outputs are of the first files
-abbrev pub TellsListed : {R : Type 0} → (R → Bool) → MatchOptions → Holding → TablePaths → List ℕ → ℕ → Fault → (before after : Option (List ℕ)) (err_failed : Bool) (err_before err_after : Option (List ℕ)) → Type 0
-TellsListed failed options held table list end SomeFiles before after err_failed err_before err_after = (t : TableView) × IsTableOf held table t × (ask : MatchAsk) × AsksEach held options ask × (names : List (List ℕ)) × AreListedIn held list end names × AddsFiles (head_text ask.csv) (IsPrinted failed ask t held) (AreVisits ask.recursive held names) before after err_failed err_before err_after false
-TellsListed failed options held table list end (Run Write) before after err_failed err_before err_after = (t : TableView) × IsTableOf held table t × (ask : MatchAsk) × AsksEach held options ask × (names : List (List ℕ)) × AreListedIn held list end names × CutsFiles (head_text ask.csv) (IsPrinted failed ask t held) (AreVisits ask.recursive held names) before after err_failed err_before err_after
-TellsListed failed options held table list end (Run Read) before after err_failed err_before err_after = (t : TableView) × IsTableOf held table t × (ask : MatchAsk) × AsksEach held options ask × (names : List (List ℕ)) × AreListedIn held list end names × StopsFiles (head_text ask.csv) (IsPrinted failed ask t held) (AreVisits ask.recursive held names) before after err_failed err_before err_after
-TellsListed failed options held table list end (Run OutOfMemory) before after err_failed err_before err_after = (err_after ≡ err_before) ⊎ ((t : TableView) × IsTableOf held table t × (ask : MatchAsk) × AsksEach held options ask × (names : List (List ℕ)) × AreListedIn held list end names × StopsFiles (head_text ask.csv) (IsPrinted failed ask t held) (AreVisits ask.recursive held names) before after err_failed err_before err_after)
-TellsListed failed options held table list end _ before after err_failed err_before err_after = err_after ≡ err_before
+-- the fault is none that a run alone can have
+pub record IsBeforeRun (fault : Fault) : Type 0 where
+  pub files : fault ≢ SomeFiles
+  pub write : fault ≢ Run Write
+  pub read : fault ≢ Run Read
+
+-- a run ends with this fault, or both outputs are as they were before it
+abbrev pub TellsRun : {W E : Type 0} → MatchAsk → (Visit → Printed → Type 0) → (List Visit → Type 0) → (Listed : Type 0) → Fault → (W → Option (List ℕ)) → (before after : W) → (E → Bool) → (E → Option (List ℕ)) → (err_before err_after : E) → Type 0
+TellsRun ask IsOf Are Listed fault written before after err_failed err_written err_before err_after =
+    (IsBeforeRun fault × (after ≡ before) × (err_after ≡ err_before)) ⊎ TellsMany ask IsOf Are Listed fault (written before) (written after) (err_failed err_after) (err_written err_before) (err_written err_after)
+
+-- the faults of a run
+abbrev pub IsRunFault : Fault → (Other : Type 0) → Type 0
+IsRunFault fault Other = (fault ≡ SomeFiles) ⊎ ((fault ≡ Run Write) ⊎ ((fault ≡ Run OutOfMemory) ⊎ Other))
+
+-- what a run comes to
+abbrev pub answer_of : Result Bool RunError → Result Bool Fault
+answer_of (Ok true) = Ok true
+answer_of (Ok false) = Err SomeFiles
+answer_of (Err error) = Err (Run error)
 
 -- what both outputs are of before the line of a fault: where there are several files, of the same ones
 abbrev pub Joins : {R : Type 0} → (R → Bool) → Holding → Request → Fault → (before after : Option (List ℕ)) (err_failed : Bool) (err_before err_after : Option (List ℕ)) → Type 0
 Joins failed held (Show table) fault before after err_failed err_before err_after = ⊤
 Joins failed held (Lint table) fault before after err_failed err_before err_after = ⊤
 Joins failed held (Match all table path) fault before after err_failed err_before err_after = ⊤
-Joins failed held (MatchMany options table files) fault before after err_failed err_before err_after = TellsMany failed options held table (map (λ n. n.now) files.now) fault before after err_failed err_before err_after
-Joins failed held (MatchListed options table list end) fault before after err_failed err_before err_after = TellsListed failed options held table list.now end fault before after err_failed err_before err_after
+Joins failed held (MatchMany options table names) fault before after err_failed err_before err_after =
+    (IsBeforeRun fault × (err_after ≡ err_before)) ⊎ OfTable held table options (λ t ask. TellsMany ask (IsPrinted failed ask t held) (AreVisitsOf ask held names) (IsList names) fault before after err_failed err_before err_after)
 Joins failed held (Find table budget out hex progress) fault before after err_failed err_before err_after = ⊤
 Joins failed held (Conflicts table options progress) fault before after err_failed err_before err_after = ⊤
 Joins failed held (Dead table budget hex progress) fault before after err_failed err_before err_after = ⊤
@@ -475,8 +490,8 @@ abbrev pub ShowsAsked : {E : Type 0} → Holding → Request → Bool → (out_b
 ShowsAsked held (Show table) is_yes out_before out_after is_failed before after written written_after = after ≡ before
 ShowsAsked held (Lint table) is_yes out_before out_after is_failed before after written written_after = after ≡ before
 ShowsAsked held (Match all table path) is_yes out_before out_after is_failed before after written written_after = after ≡ before
-ShowsAsked held (MatchMany options table files) is_yes out_before out_after is_failed before after written written_after = after ≡ before
-ShowsAsked held (MatchListed options table list end) is_yes out_before out_after is_failed before after written written_after = after ≡ before
+ShowsAsked held (MatchMany options table names) is_yes out_before out_after is_failed before after written written_after =
+    ((options.progress || options.summary) ≡ false → after ≡ before) × OfTable held table options (λ t ask. is_failed ≡ false → TellsOfEach ask t held (AreVisitsOf ask held names) out_before out_after written written_after)
 ShowsAsked held (Find table budget out hex progress) true out_before out_after is_failed before after written written_after = ShowsIf progress Products is_failed before after written written_after
 ShowsAsked held (Find table budget out hex progress) false out_before out_after is_failed before after written written_after =
     is_failed ≡ false → (t : TableView) × IsTableOf held table t × TellsWhy progress hex t budget out_before out_after written written_after

@@ -7,15 +7,15 @@
 //! with `--no-priorities`.
 
 ghost use Rattle.std.specs.Borrow.{Bor};
-ghost use Rattle.std.specs.Prelude.{◌≡◌, ◌≤◌, ℕ, Bool, List, None, Option, Some, false, true, [], ◌∷◌, codes, length, map};
+ghost use Rattle.std.specs.Prelude.{◌≡◌, ◌≤◌, ℕ, Bool, List, None, Option, Some, false, true, [], ◌∷◌, codes, length};
 ghost use Rattle.sig_bits.specs.Device.{Adds};
 ghost use Rattle.sig_command.specs.CommandLine.{AreTableWords, IsTableWord, all_named, fault_of_words, first_named, one_named, takes_words};
 ghost use Rattle.sig_command.specs.Requests.{Answers, AsksEach};
-ghost use Rattle.sig_command.specs.Several.{AddsOneLineOfEach, AreListedIn};
+ghost use Rattle.sig_command.specs.Several.{AddsOneLineOfEach, AreVisitsOf};
+ghost use Rattle.sig_command.specs.declared.args.FileNames.{FileNames};
 ghost use Rattle.sig_command.specs.declared.args.MatchOptions.{MatchOptions};
-ghost use Rattle.sig_command.specs.declared.args.Request.TheVariants.{Check, Match, MatchListed, MatchMany};
+ghost use Rattle.sig_command.specs.declared.args.Request.TheVariants.{Check, Match, MatchMany};
 ghost use Rattle.sig_engines.specs.Stores.{Files};
-ghost use Rattle.sig_engines.specs.Visits.{AreVisits};
 ghost use Rattle.sig_engines.specs.declared.ask.MatchAsk.{MatchAsk};
 ghost use Rattle.sig_engines.specs.Lines.{lines_of};
 ghost use Rattle.sig_engines.specs.declared.store.TablePaths.{TablePaths};
@@ -38,18 +38,12 @@ pub fn accepted_tables_match_once()
 /// The same of each of many files, whether words or a list name them: each has one line or record,
 /// of a format or of none.
 pub fn accepted_tables_match_each_once()
-    ensures named { (files : Files) (table : TablePaths) (certificate : Bor (List ℕ)) (options : MatchOptions) (names : Bor (List (Bor (List ℕ)))) (is_yes : Bool)
+    ensures { (files : Files) (table : TablePaths) (certificate : Bor (List ℕ)) (options : MatchOptions) (names : FileNames) (is_yes : Bool)
         (checked_before checked_after before after : Option (List ℕ)) → options.all ≡ false
         → Answers (Some files) (Check table certificate) true checked_before checked_after
         → Answers (Some files) (MatchMany options table names) is_yes before after
         → (t : TableView) × (ask : MatchAsk) × AsksEach (Some files) options ask
-        × AddsOneLineOfEach ask t (AreVisits ask.recursive (Some files) (map (λ n. n.now) names.now)) before after }
-    ensures listed { (files : Files) (table : TablePaths) (certificate : Bor (List ℕ)) (options : MatchOptions) (list : Bor (List ℕ)) (end : ℕ) (is_yes : Bool)
-        (checked_before checked_after before after : Option (List ℕ)) → options.all ≡ false
-        → Answers (Some files) (Check table certificate) true checked_before checked_after
-        → Answers (Some files) (MatchListed options table list end) is_yes before after
-        → (t : TableView) × (ask : MatchAsk) × AsksEach (Some files) options ask × (names : List (List ℕ)) × AreListedIn (Some files) list.now end names
-        × AddsOneLineOfEach ask t (AreVisits ask.recursive (Some files) names) before after }
+        × AddsOneLineOfEach ask t (AreVisitsOf ask (Some files) names) before after }
 {}
 
 /// Words that name all files are taken, also where `match` has several, and they ask for no help.

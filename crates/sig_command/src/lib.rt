@@ -13,6 +13,7 @@
 
 mod args;
 mod fault;
+mod help;
 mod laws;
 mod requests;
 

@@ -12,58 +12,64 @@
 //! is with the faults that `lint` tells on the output: it ends with 2, as for a refused table.
 
 ghost use Rattle.std.specs.Borrow.{Bor};
-ghost use Rattle.std.specs.Prelude.{None, Some, drop, ◌≡◌, ◌≢◌, ◌<◌, ◌⊎◌, false, is_ok, is_some, length, List, option_map, true, IfErr, IfOk, OnOk};
+ghost use Rattle.std.specs.Prelude.{None, Some, drop, ◌≡◌, ◌≢◌, ◌<◌, ◌⊎◌, false, is_ok, is_some, length, List, option_map, true, IfErr, IfOk, OnOk, ⊤};
 ghost use Rattle.std.specs.Vec.Iter.{into_iter_items};
 ghost use Rattle.std.specs.IoError.{error_kind};
 ghost use Rattle.clap.specs.Values.{kind_of};
 ghost use Rattle.clap.specs.Words.{Text};
-ghost use Rattle.sig_command.specs.Requests.{Answers, AnswersWords, AreNamesOf, AsksPairs, CutsSomeWords, CutsWords, IsFaultOf, IsFolderFault, IsLoadFault, IsNamesFaultOf, IsOnly, IsReported, JoinsBoth, KeepsOrCuts, LacksPriorities, ListsIf, ListsSomeWords, ListsWords, MakesOut, MakesWords, NamesNone, ShowsAsked, ShowsSomeWords, ShowsWords, TellsOf, file_fault, pairs_fault};
+ghost use Rattle.sig_command.specs.Requests.{Answers, AnswersWords, AreNamesOf, AsksPairs, CutsSomeWords, CutsWords, IsFaultOf, IsFolderFault, IsListFault, IsLoadFault, IsNamesFaultOf, IsOnly, IsReported, IsRunFault, JoinsBoth, KeepsOrCuts, LacksPriorities, ListsIf, ListsSomeWords, ListsWords, MakesOut, MakesWords, NamesNone, ShowsAsked, ShowsSomeWords, ShowsWords, TellsOf, TellsRun, answer_of, file_fault, pairs_fault};
 ghost use Rattle.sig_command.specs.Faults.{TellsWrite};
+ghost use Rattle.sig_command.specs.Several.{AreVisitsOf, IsList};
+ghost use Rattle.sig_engines.specs.ManyFiles.{AddsAll, AreListedVisits, IsPrinted};
 ghost use Rattle.sig_engines.specs.PriorityInputs.{to_come_of};
-ghost use Rattle.sig_engines.specs.Stores.{IsTableOf, LacksFolder, Opens, OpensPriorities, SomeWriteFailed};
+ghost use Rattle.sig_engines.specs.Stores.{IsTableOf, LacksFolder, Opens, OpensPriorities, SomeFailed, SomeWriteFailed};
 ghost use Rattle.sig_command.specs.CommandLine.{AreTaken, texts_of};
 ghost use Rattle.sig_command.specs.Endings.{AnswersBy, EndsByFault, KeepsErrors, KeepsOutput, ReportsBy, ReportsMemory, TellsBy};
 ghost use Rattle.sig_table.specs.Tables.{IsTable};
 
-use crate::args::{ConflictsOptions, MatchOptions, Request, read_args, request_of};
+use crate::args::{ConflictsOptions, FileNames, MatchOptions, Request, read_args, request_of};
 use crate::fault::Fault;
 use clap::Error;
 use clap::error::ErrorKind;
+use either::Either;
 use sig_bits::{FromRead, FromWrite, Input, Output};
+use sig_core::DroidCore;
 use sig_engines::{
-    ConflictsAsk, CutShort, FileFault, FormatNames, MatchAsk, NameReader, NamesError, PairsFault,
-    PriorityInput, RunError, Store, SystemFiles, TablePaths, WitnessName, find_dead, format_named,
-    run_check, run_find, run_lint, run_match, run_match_listed, run_match_many, run_show,
-    run_witness, settle,
+    ConflictsAsk, CutShort, FileFault, FormatNames, MatchAsk, MatchRun, NameReader, NamesError,
+    PairsFault, PriorityInput, RunError, Store, SystemFiles, TablePaths, WitnessName, find_dead,
+    format_named, run_check, run_find, run_lint, run_match, run_match_listed, run_match_many,
+    run_show, run_witness, settle,
 };
 use sig_scan::BlockCore;
 use sig_table::{FormatId, Puid, Table};
 use std::alloc::Global;
 use std::env::Args;
-use std::io::ErrorKind as IoKind;
+use std::io::{ErrorKind as IoKind, Read};
 use std::rt::{Env, Files};
 use std::{env, io};
 
-/// Runs the program on the words that it was started with, and answers the status.
+/// Runs the program on the words that it was started with, and answers the status. `input` is
+/// standard input.
 ///
 /// No contract says which words these are. So the clauses speak of some words, and of what is
 /// written with 0 they say nothing: some words ask for help. `command` says it.
-pub fn run<R: Env + Files + AllocGlobal, W: Output, E: Output>(
+pub fn run<R: Env + Files + AllocGlobal, I: Read + Copy + Drop, W: Output, E: Output>(
     rt: &R,
+    input: I,
     out: &mut W,
     err: &mut E,
 ) -> u8
     ensures known { result < 4 }
-    ensures output { KeepsOutput (CutsSomeWords ⟦<FromRead<R::File> as Input>⟧.failed (W.written out.old) (W.written out.new))
+    ensures output { KeepsOutput (CutsSomeWords ⟦<FromRead<Either<R::File, I>> as Input>⟧.failed (W.written out.old) (W.written out.new))
         (ListsSomeWords (W.written out.old) (W.written out.new)) result (W.failed out.new) out.old out.new }
-    ensures errors { KeepsErrors (ShowsSomeWords ⟦<FromRead<R::File> as Input>⟧.failed)
+    ensures errors { KeepsErrors (ShowsSomeWords ⟦<FromRead<Either<R::File, I>> as Input>⟧.failed)
         result (E.failed err.new) err.old err.new (E.written err.old) (E.written err.new) }
 
     // A no answers some words.
     ensures denied { result ≡ 1 → (words : List Text) × AnswersWords None words false (W.written out.old) (W.written out.new) }
 {
     match words_of(rt) {
-        Ok(words) => command(rt, words.as_slice(), out, err),
+        Ok(words) => command(rt, input, words.as_slice(), out, err),
         Err(fault) => fault.report(err),
     }
 }
@@ -102,27 +108,28 @@ fn fault_of_words(error: io::Error) -> Fault<'static>
     }
 }
 
-/// Runs the program on its words, without its name, over the files of the system, and answers the
-/// status.
-pub fn command<R: Files + AllocGlobal, W: Output, E: Output>(
+/// Runs the program on its words, without its name, over the files of the system and this standard
+/// input, and answers the status.
+pub fn command<R: Files + AllocGlobal, I: Read + Copy + Drop, W: Output, E: Output>(
     rt: &R,
+    input: I,
     words: &[String],
     out: &mut W,
     err: &mut E,
 ) -> u8
     ensures known { result < 4 }
-    ensures output { KeepsOutput (CutsWords ⟦<FromRead<R::File> as Input>⟧.failed None (texts_of words.now) (W.written out.old) (W.written out.new))
+    ensures output { KeepsOutput (CutsWords ⟦<FromRead<Either<R::File, I>> as Input>⟧.failed None (texts_of words.now) (W.written out.old) (W.written out.new))
         (ListsWords None (texts_of words.now) (W.written out.old) (W.written out.new)) result (W.failed out.new) out.old out.new }
-    ensures errors { KeepsErrors (ShowsWords ⟦<FromRead<R::File> as Input>⟧.failed None (texts_of words.now))
+    ensures errors { KeepsErrors (ShowsWords ⟦<FromRead<Either<R::File, I>> as Input>⟧.failed None (texts_of words.now))
         result (E.failed err.new) err.old err.new (E.written err.old) (E.written err.new) }
     ensures answers { AnswersBy None (texts_of words.now) result (W.written out.old) (W.written out.new) }
     ensures told { TellsBy None (texts_of words.now) result (W.written out.old) (W.written out.new)
         (E.failed err.new) err.old err.new (E.written err.old) (E.written err.new) }
-    ensures faults { ReportsBy ⟦<FromRead<R::File> as Input>⟧.failed (SomeWriteFailed ⟦<FromWrite<R::File> as Output>⟧.failed (W.failed out.new))
+    ensures faults { ReportsBy ⟦<FromRead<Either<R::File, I>> as Input>⟧.failed (SomeWriteFailed ⟦<FromWrite<R::File> as Output>⟧.failed (W.failed out.new))
         None (texts_of words.now) result W.written out.old out.new E.failed E.written err.old err.new }
     ensures words { EndsByFault (texts_of words.now) result }
 {
-    command_over(&SystemFiles::new(rt), rt.alloc(), words, out, err)
+    command_over(&SystemFiles::new(rt, input), rt.alloc(), words, out, err)
 }
 
 /// Runs the program on its words, without its name, over the files of a store, and answers the
@@ -200,14 +207,8 @@ fn answer<'m, 'a, S: Store, W: Output, E: Output>(
         Request::MatchMany {
             options,
             table,
-            files,
-        } => match_many(store, alloc, options, table, files, out, err),
-        Request::MatchListed {
-            options,
-            table,
-            list,
-            end,
-        } => match_listed(store, alloc, options, table, list, end, out, err),
+            names,
+        } => match_many(store, alloc, options, table, names, out, err),
         Request::Find {
             table,
             budget,
@@ -306,65 +307,89 @@ fn match_many<'m, 'a, S: Store, W: Output, E: Output>(
     alloc: Global,
     options: MatchOptions<'a>,
     table: TablePaths<'a>,
-    files: &'m [&'a str],
+    names: FileNames<'m, 'a>,
     out: &mut W,
     err: &mut E,
 ) -> Result<bool, Fault<'a>>
-    ensures told { TellsOf S.Reader.failed (S.held store.now) (Request.MatchMany options.entry table.entry files.entry) (is_ok result) E.failed E.written err.old err.new }
+    ensures told { TellsOf S.Reader.failed (S.held store.now) (Request.MatchMany options.entry table.entry names.entry) (is_ok result) E.failed E.written err.old err.new }
     ensures joined { IfErr result (JoinsBoth S.Reader.failed (S.held store.now)
-        (Request.MatchMany options.entry table.entry files.entry) W.written out.old out.new E.failed E.written err.old err.new) }
+        (Request.MatchMany options.entry table.entry names.entry) W.written out.old out.new E.failed E.written err.old err.new) }
     ensures shown { OnOk result (W.failed out.new ≡ false) }
-    ensures answers { IfOk result (λ is_yes. Answers (S.held store.now) (Request.MatchMany options.entry table.entry files.entry) is_yes (W.written out.old) (W.written out.new)) }
-    ensures quiet { OnOk result (err.new ≡ err.old) }
-    ensures faults { IfErr result (λ fault. IsFaultOf S.Reader.failed (S.held store.now) (Request.MatchMany options.entry table.entry files.entry) fault) }
+    ensures answers { IfOk result (λ is_yes. Answers (S.held store.now) (Request.MatchMany options.entry table.entry names.entry) is_yes (W.written out.old) (W.written out.new)) }
+    ensures progress { IfOk result (λ is_yes. ShowsAsked (S.held store.now) (Request.MatchMany options.entry table.entry names.entry) is_yes
+        (W.written out.old) (W.written out.new) (E.failed err.new) err.old err.new (E.written err.old) (E.written err.new)) }
+    ensures faults { IfErr result (λ fault. IsFaultOf S.Reader.failed (S.held store.now) (Request.MatchMany options.entry table.entry names.entry) fault) }
     ensures write { IfErr result (λ fault. TellsWrite fault → W.failed out.new ≡ true) }
-    ensures untouched { IfErr result (λ fault. fault ≢ Fault.Run RunError.Write → fault ≢ Fault.SomeFiles → out.new ≡ out.old) }
+    ensures untouched { IfErr result (λ fault. ((e : RunError) → fault ≢ Fault.Run e) → fault ≢ Fault.SomeFiles → out.new ≡ out.old) }
     ensures whole { IfErr result (λ fault. KeepsOrCuts S.Reader.failed (S.held store.now)
-        (Request.MatchMany options.entry table.entry files.entry) W.failed W.written out.old out.new) }
+        (Request.MatchMany options.entry table.entry names.entry) W.failed W.written out.old out.new) }
 {
     let table = load(store, alloc, table)?;
-    let names = format_names(store, alloc, options.names)?;
+    let format_names = format_names(store, alloc, options.names)?;
     let core = BlockCore::prepared(alloc, table);
-    let ask = match_ask(options, &names);
-    match run_match_many(alloc, store, &core, ask, files, out, err) {
-        Ok(true) => Ok(true),
-        Ok(false) => Err(Fault::SomeFiles),
-        Err(error) => Err(Fault::Run(error)),
+    let ask = match_ask(options, &format_names);
+    let run = MatchRun {
+        alloc,
+        store,
+        core: &core,
+        ask,
+    };
+    match_named(&run, names, out, err)
+}
+
+// The files of these names, with a table that is loaded.
+fn match_named<'m, 'a, S: Store, K: DroidCore, W: Output, E: Output>(
+    run: &MatchRun<'_, S, K>,
+    names: FileNames<'m, 'a>,
+    out: &mut W,
+    err: &mut E,
+) -> Result<bool, Fault<'a>>
+    ensures answers { IfOk result (λ is_yes. (is_yes ≡ true) × AddsAll run.now.ask (IsPrinted S.Reader.failed run.now.ask (K.lists run.now.core.now) (S.held run.now.store.now)) (AreVisitsOf run.now.ask (S.held run.now.store.now) names.entry)
+        (W.written out.old) (W.written out.new) (E.failed err.new) (E.written err.old) (E.written err.new) true) }
+    ensures quiet { OnOk result (run.now.ask.progress ≡ false → run.now.ask.summary ≡ false → err.new ≡ err.old) }
+    ensures shown { OnOk result (W.failed out.new ≡ false) }
+    ensures faults { IfErr result (λ fault. IsRunFault fault (IsListFault S.Reader.failed (S.held run.now.store.now) names.entry fault)) }
+    ensures told { IfErr result (λ fault. TellsRun run.now.ask (IsPrinted S.Reader.failed run.now.ask (K.lists run.now.core.now) (S.held run.now.store.now)) (AreVisitsOf run.now.ask (S.held run.now.store.now) names.entry) (IsList names.entry) fault
+        W.written out.old out.new E.failed E.written err.old err.new) }
+    ensures write { IfErr result (λ fault. TellsWrite fault → W.failed out.new ≡ true) }
+{
+    match names {
+        FileNames::Words(words) => answer_of(run_match_many(run, words, out, err)),
+        FileNames::List(name, end) => {
+            match_listed(run, open_file(run.store, name)?, end, out, err)
+        }
+        FileNames::Input(end) => match_listed(run, run.store.standard_input(), end, out, err),
     }
 }
 
-// The same of files whose names stand in a list.
-fn match_listed<'a, S: Store, W: Output, E: Output>(
-    store: &S,
-    alloc: Global,
-    options: MatchOptions<'a>,
-    table: TablePaths<'a>,
-    list: &'a str,
+// The files whose names stand in this list.
+fn match_listed<'a, S: Store, K: DroidCore, W: Output, E: Output>(
+    run: &MatchRun<'_, S, K>,
+    list: S::Reader,
     end: u8,
     out: &mut W,
     err: &mut E,
 ) -> Result<bool, Fault<'a>>
-    ensures told { TellsOf S.Reader.failed (S.held store.now) (Request.MatchListed options.entry table.entry list.entry end) (is_ok result) E.failed E.written err.old err.new }
-    ensures joined { IfErr result (JoinsBoth S.Reader.failed (S.held store.now)
-        (Request.MatchListed options.entry table.entry list.entry end) W.written out.old out.new E.failed E.written err.old err.new) }
+    ensures answers { IfOk result (λ is_yes. (is_yes ≡ true) × AddsAll run.now.ask (IsPrinted S.Reader.failed run.now.ask (K.lists run.now.core.now) (S.held run.now.store.now)) (AreListedVisits run.now.ask.recursive (S.held run.now.store.now) end (S.Reader.to_come list))
+        (W.written out.old) (W.written out.new) (E.failed err.new) (E.written err.old) (E.written err.new) true) }
+    ensures quiet { OnOk result (run.now.ask.progress ≡ false → run.now.ask.summary ≡ false → err.new ≡ err.old) }
     ensures shown { OnOk result (W.failed out.new ≡ false) }
-    ensures answers { IfOk result (λ is_yes. Answers (S.held store.now) (Request.MatchListed options.entry table.entry list.entry end) is_yes (W.written out.old) (W.written out.new)) }
-    ensures quiet { OnOk result (err.new ≡ err.old) }
-    ensures faults { IfErr result (λ fault. IsFaultOf S.Reader.failed (S.held store.now) (Request.MatchListed options.entry table.entry list.entry end) fault) }
+    ensures faults { IfErr result (λ fault. IsRunFault fault ((fault ≡ Fault.Run RunError.Read) × SomeFailed S.Reader.failed)) }
+    ensures told { IfErr result (λ fault. TellsRun run.now.ask (IsPrinted S.Reader.failed run.now.ask (K.lists run.now.core.now) (S.held run.now.store.now)) (AreListedVisits run.now.ask.recursive (S.held run.now.store.now) end (S.Reader.to_come list)) ⊤ fault
+        W.written out.old out.new E.failed E.written err.old err.new) }
     ensures write { IfErr result (λ fault. TellsWrite fault → W.failed out.new ≡ true) }
-    ensures untouched { IfErr result (λ fault. ((e : RunError) → fault ≢ Fault.Run e) → fault ≢ Fault.SomeFiles → out.new ≡ out.old) }
-    ensures whole { IfErr result (λ fault. KeepsOrCuts S.Reader.failed (S.held store.now)
-        (Request.MatchListed options.entry table.entry list.entry end) W.failed W.written out.old out.new) }
 {
-    let table = load(store, alloc, table)?;
-    let names = format_names(store, alloc, options.names)?;
-    let file = open_file(store, list)?;
-    let core = BlockCore::prepared(alloc, table);
-    let Ok(mut list) = NameReader::new(alloc, file, end) else {
+    let Ok(mut list) = NameReader::new(run.alloc, list, end) else {
         return Err(Fault::Run(RunError::OutOfMemory));
     };
-    let ask = match_ask(options, &names);
-    match run_match_listed(alloc, store, &core, ask, &mut list, out, err) {
+    answer_of(run_match_listed(run, &mut list, out, err))
+}
+
+// What a run comes to: where some file has a fault, that is the run's.
+fn answer_of<'a>(matched: Result<bool, RunError>) -> Result<bool, Fault<'a>>
+    ensures { result ≡ answer_of matched }
+{
+    match matched {
         Ok(true) => Ok(true),
         Ok(false) => Err(Fault::SomeFiles),
         Err(error) => Err(Fault::Run(error)),
@@ -397,12 +422,24 @@ fn match_ask<'n>(options: MatchOptions<'_>, names: &'n Option<FormatNames>) -> M
     ensures csv { result.csv ≡ options.entry.csv }
     ensures names { option_map (λ n. n.now) result.names ≡ names.now }
     ensures recursive { result.recursive ≡ options.entry.recursive }
+    ensures progress { result.progress ≡ options.entry.progress }
+    ensures summary { result.summary ≡ options.entry.summary }
 {
+    let MatchOptions {
+        all,
+        csv,
+        recursive,
+        progress,
+        summary,
+        ..
+    } = options;
     MatchAsk {
-        all: options.all,
-        csv: options.csv,
+        all,
+        csv,
         names: names.as_ref(),
-        recursive: options.recursive,
+        recursive,
+        progress,
+        summary,
     }
 }
 

@@ -1,5 +1,5 @@
 -- What is written of a file that is matched by its name: lines, or records of CSV.
-use Rattle.std.specs.Prelude.{◌≡◌, ℕ, Bool, true, false, List, [], ◌∷◌, ◌++◌, codes, flat_map, map, None, Option, Some, slice_get}
+use Rattle.std.specs.Prelude.{◌≡◌, ℕ, Bool, true, false, List, [], ◌∷◌, ◌++◌, codes, flat_map, length, map, None, Option, Some, slice_get}
 use Rattle.std.specs.Borrow.{Bor}
 use Rattle.csv.specs.Writing.{default_writer, row_text}
 use Rattle.sig_core.specs.declared.results.Hit.{Hit}
@@ -63,8 +63,9 @@ file_text true names name table hits = file_records names name table hits
 file_text false None name table hits = file_lines (Some name) table hits
 file_text false (Some names) name table hits = named_lines names.now name table hits
 
--- this is written of a file of this name: of the one to come, where its bytes are known
-pub record IsTextOfSome (ask : MatchAsk) (table : TableView) (name : List ℕ) (to_come : Option (List ℕ)) (text : List ℕ) : Type 0 where
+-- this is written of a file of this name, of so many hits: of the one to come, where its bytes are known
+pub record IsTextOfSome (ask : MatchAsk) (table : TableView) (name : List ℕ) (to_come : Option (List ℕ)) (count : ℕ) (text : List ℕ) : Type 0 where
   pub hits : List Hit
   pub are_asked : AreAskedOfSome ask.all table to_come hits
+  pub counts : count ≡ length hits
   pub is_text : text ≡ file_text ask.csv ask.names name table hits

@@ -3,6 +3,7 @@ pub mod Asks
 pub mod ClassTexts
 pub mod Conflicts
 pub mod Fates
+pub mod FileProgress
 pub mod FileTexts
 pub mod Finding
 pub mod Forced
@@ -17,6 +18,7 @@ pub mod PriorityInputs
 pub mod Progress
 pub mod Shown
 pub mod Stores
+pub mod Tallies
 pub mod Tellings
 pub mod Texts
 pub mod Visits

@@ -23,10 +23,11 @@ pub record Item : Type 0 where
 abbrev pub item_of : Entry → Item
 item_of entry = record { name = string_bytes entry.name; kind = entry.kind }
 
--- the bytes of the file of each name, and nothing for a name without a file; and what stands in the folder of each name, and nothing for a name without a folder
+-- the bytes of the file of each name, and nothing for a name without a file; what stands in the folder of each name, and nothing for a name without a folder; and the bytes of standard input
 pub record Files : Type 0 where
   pub bytes : List ℕ → Option (List ℕ)
   pub items : List ℕ → Option (List Item)
+  pub input : List ℕ
 
 -- the files and folders of a store, where they are known
 abbrev pub Holding : Type 0
@@ -50,6 +51,11 @@ Lacks (Some files) name = files.bytes name ≡ None
 abbrev pub Opens : Holding → List ℕ → Option (Option (List ℕ)) → Type 0
 Opens None name opened = ⊤
 Opens (Some files) name opened = opened ≡ option_map Some (files.bytes name)
+
+-- the bytes to come are those of standard input, where that is known
+abbrev pub GivesInput : Holding → Option (List ℕ) → Type 0
+GivesInput None to_come = ⊤
+GivesInput (Some files) to_come = to_come ≡ Some files.input
 
 -- there is a folder of this name, or there is none, where that is known
 abbrev pub HasFolder : Holding → List ℕ → Type 0

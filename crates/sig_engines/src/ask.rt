@@ -5,6 +5,7 @@ ghost use Rattle.sig_engines.specs.Asks.{IsFormatNamed, is_asked, needs_class, s
 
 use crate::format_names::FormatNames;
 use sig_table::{FormatId, Puid, Table};
+use std::alloc::Global;
 
 /// What `match` is asked for of each of many files.
 #[derive(Clone, Copy)]
@@ -17,6 +18,20 @@ pub struct MatchAsk<'n> {
     pub names: Option<&'n FormatNames>,
     /// The files in each folder, and in those below it, in place of a fault.
     pub recursive: bool,
+    /// Reports on the error output of how many files are done.
+    pub progress: bool,
+    /// A last line on the error output that counts the files.
+    pub summary: bool,
+}
+
+/// What many files are matched with.
+#[derive(Drop)]
+pub struct MatchRun<'r, S, K> {
+    pub alloc: Global,
+    /// Where the files are.
+    pub store: &'r S,
+    pub core: &'r K,
+    pub ask: MatchAsk<'r>,
 }
 
 /// What `conflicts` is asked for.

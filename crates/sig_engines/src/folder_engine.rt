@@ -10,10 +10,11 @@ ghost use Rattle.sig_engines.specs.Visits.{AreIn, AreMet, greatest_depth};
 ghost use Rattle.sig_engines.specs.Waiting.{AreMetOf, Leads, Pushes, worth, worth_of};
 ghost use Rattle.sig_engines.specs.declared.store.Entry.{Entry};
 
-use crate::ask::MatchAsk;
+use crate::ask::MatchRun;
 use crate::error::{FileFault, NameFault, RunError};
 use crate::named_file::{match_file, tell};
 use crate::store::{Entry, EntryKind, Store};
+use crate::tally::Tally;
 use sig_bits::Output;
 use sig_core::DroidCore;
 use std::alloc::{AllocError, Global};
@@ -30,55 +31,56 @@ struct Waiting {
 }
 
 /// Writes what is asked of each file in a folder, and in those below it, in the order of their
-/// names, and tells each fault. Answers whether there is none.
+/// names, and tells each fault. Answers the tally with them.
 pub(crate) fn match_folder<S: Store, K: DroidCore, W: Output, E: Output>(
-    alloc: Global,
-    store: &S,
-    core: &K,
-    ask: MatchAsk<'_>,
+    run: &MatchRun<'_, S, K>,
     folder: &str,
+    tally: Tally,
     out: &mut W,
     err: &mut E,
-) -> Result<bool, RunError>
-    ensures answers { IfOk result (AddsFiles [] (IsPrinted S.Reader.failed ask.entry (K.lists core.now) (S.held store.now)) (AreIn (AreMet (S.held store.now) greatest_depth) (S.held store.now) folder.now)
+) -> Result<Tally, RunError>
+    ensures answers { IfOk result (AddsFiles [] (IsPrinted S.Reader.failed run.now.ask (K.lists run.now.core.now) (S.held run.now.store.now)) (AreIn (AreMet (S.held run.now.store.now) greatest_depth) (S.held run.now.store.now) folder.now) run.now.ask.progress tally
         (W.written out.old) (W.written out.new) (E.failed err.new) (E.written err.old) (E.written err.new)) }
-    ensures quiet { result ≡ Ok true → err.new ≡ err.old }
+    ensures quiet { IfOk result (λ to. run.now.ask.progress ≡ false → to.failed ≡ 0 → err.new ≡ err.old) }
     ensures writes { OnOk result (W.failed out.old ≡ false → W.failed out.new ≡ false) }
     ensures stays_failed { E.failed err.new ≡ false → E.failed err.old ≡ false }
 
     // The one refusal, and when.
     ensures write { IfErr result (λ e. e ≡ RunError.Write) }
     ensures failed { IfErr result (λ e. W.failed out.new ≡ true) }
-    ensures cut { IfErr result (λ e. CutsFiles [] (IsPrinted S.Reader.failed ask.entry (K.lists core.now) (S.held store.now)) (AreIn (AreMet (S.held store.now) greatest_depth) (S.held store.now) folder.now)
+    ensures cut { IfErr result (λ e. CutsFiles [] (IsPrinted S.Reader.failed run.now.ask (K.lists run.now.core.now) (S.held run.now.store.now)) (AreIn (AreMet (S.held run.now.store.now) greatest_depth) (S.held run.now.store.now) folder.now) run.now.ask.progress tally
         (W.written out.old) (W.written out.new) (E.failed err.new) (E.written err.old) (E.written err.new)) }
 {
-    let mut waiting = Vec::new(alloc);
-    if let Err(fault) = push_folder(alloc, store, folder, GREATEST_DEPTH, &mut waiting) {
-        let _ = tell(folder, NameFault::File(fault), err);
-        return Ok(false);
+    let mut waiting = Vec::new(run.alloc);
+    if let Err(fault) = push_folder(run.alloc, run.store, folder, GREATEST_DEPTH, &mut waiting) {
+        return Ok(tell(
+            run.ask.progress,
+            tally,
+            folder.as_bytes(),
+            NameFault::File(fault),
+            err,
+        ));
     }
-    let mut is_whole = true;
+    let mut tally = tally;
     'entries: while let Some(next) = waiting.pop() {
-        is_whole &= match_entry(alloc, store, core, ask, &next, &mut waiting, out, err)?;
+        tally = match_entry(run, &next, &mut waiting, tally, out, err)?;
     }
-    Ok(is_whole)
+    Ok(tally)
 }
 
 // Writes what is asked of a file that stands in a folder, or has what stands in a folder wait, or
-// tells the fault. Answers whether there is none.
+// tells the fault. Answers the tally with it.
 fn match_entry<S: Store, K: DroidCore, W: Output, E: Output>(
-    alloc: Global,
-    store: &S,
-    core: &K,
-    ask: MatchAsk<'_>,
+    run: &MatchRun<'_, S, K>,
     next: &Waiting,
     waiting: &mut Vec<Waiting>,
+    tally: Tally,
     out: &mut W,
     err: &mut E,
-) -> Result<bool, RunError>
-    ensures answers { IfOk result (AddsFiles [] (IsPrinted S.Reader.failed ask.entry (K.lists core.now) (S.held store.now)) (λ visits. Leads (S.held store.now) (AreMetOf (S.held store.now) next.now) visits waiting.old.items waiting.new.items)
+) -> Result<Tally, RunError>
+    ensures answers { IfOk result (AddsFiles [] (IsPrinted S.Reader.failed run.now.ask (K.lists run.now.core.now) (S.held run.now.store.now)) (λ visits. Leads (S.held run.now.store.now) (AreMetOf (S.held run.now.store.now) next.now) visits waiting.old.items waiting.new.items) run.now.ask.progress tally
         (W.written out.old) (W.written out.new) (E.failed err.new) (E.written err.old) (E.written err.new)) }
-    ensures quiet { result ≡ Ok true → err.new ≡ err.old }
+    ensures quiet { IfOk result (λ to. run.now.ask.progress ≡ false → to.failed ≡ 0 → err.new ≡ err.old) }
     ensures writes { OnOk result (W.failed out.old ≡ false → W.failed out.new ≡ false) }
     ensures stays_failed { E.failed err.new ≡ false → E.failed err.old ≡ false }
     ensures lowers { OnOk result (worth_of waiting.new.items < worth_of waiting.old.items + worth next.now.room) }
@@ -86,23 +88,24 @@ fn match_entry<S: Store, K: DroidCore, W: Output, E: Output>(
     // The one refusal, and when.
     ensures write { IfErr result (λ e. e ≡ RunError.Write) }
     ensures failed { IfErr result (λ e. W.failed out.new ≡ true) }
-    ensures cut { IfErr result (λ e. CutsFiles [] (IsPrinted S.Reader.failed ask.entry (K.lists core.now) (S.held store.now)) (AreMetOf (S.held store.now) next.now)
+    ensures cut { IfErr result (λ e. CutsFiles [] (IsPrinted S.Reader.failed run.now.ask (K.lists run.now.core.now) (S.held run.now.store.now)) (AreMetOf (S.held run.now.store.now) next.now) run.now.ask.progress tally
         (W.written out.old) (W.written out.new) (E.failed err.new) (E.written err.old) (E.written err.new)) }
     ensures untouched { IfErr result (λ e. waiting.new ≡ waiting.old) }
 {
     let name = next.entry.name.as_str();
     let fault = match next.entry.kind {
-        EntryKind::File => return match_file(alloc, store, core, ask, name, out, err),
+        EntryKind::File => return match_file(run, name, tally, out, err),
         EntryKind::NotRegular => NameFault::NotRegular,
         EntryKind::NotText => NameFault::NotText,
         EntryKind::Folder if next.room == 0 => NameFault::TooDeep,
-        EntryKind::Folder => match push_folder(alloc, store, name, next.room - 1, waiting) {
-            Ok(()) => return Ok(true),
-            Err(fault) => NameFault::File(fault),
-        },
+        EntryKind::Folder => {
+            match push_folder(run.alloc, run.store, name, next.room - 1, waiting) {
+                Ok(()) => return Ok(tally),
+                Err(fault) => NameFault::File(fault),
+            }
+        }
     };
-    let _ = tell(name, fault, err);
-    Ok(false)
+    Ok(tell(run.ask.progress, tally, name.as_bytes(), fault, err))
 }
 
 // Has all that stands in a folder wait, the first thing last. Where it can't, nothing more waits.

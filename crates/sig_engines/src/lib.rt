@@ -18,10 +18,12 @@
 mod ask;
 mod check_engine;
 mod conflicts_engine;
+mod counted;
 mod counts;
 mod dead_engine;
 mod error;
 mod fate_lines;
+mod file_progress;
 mod file_text;
 mod find_engine;
 mod folder_engine;
@@ -43,11 +45,12 @@ mod settling;
 mod show_engine;
 mod store;
 mod summary;
+mod tally;
 mod witness_engine;
 mod witness_name;
 mod writing;
 
-pub use ask::{ConflictsAsk, MatchAsk, format_named};
+pub use ask::{ConflictsAsk, MatchAsk, MatchRun, format_named};
 pub use check_engine::run_check;
 pub use conflicts_engine::{PairsAnswer, run_conflicts};
 pub use dead_engine::{find_dead, run_dead};

@@ -6,8 +6,10 @@ ghost use Rattle.std.specs.Prelude.{◌≡◌, ◌≢◌, None, false, true, IfO
 ghost use Rattle.sig_bits.specs.Device.{IsAtEnd};
 ghost use Rattle.sig_engines.specs.FileTexts.{IsTextOfSome};
 ghost use Rattle.sig_engines.specs.Lines.{AddsLinesOfSome, AreAskedOfSome, AreLinesOfSome};
+ghost use Rattle.sig_engines.specs.Stores.{SomeFailed};
 
 use crate::ask::MatchAsk;
+use crate::counted::Counted;
 use crate::error::RunError;
 use crate::file_text::text_of_file;
 use crate::lines::lines_of_file;
@@ -66,22 +68,39 @@ fn lines_of_match<K: DroidCore, R: Input>(
     lines_of_file(alloc, core.table(), None, results.hits()).map_err(|_| RunError::OutOfMemory)
 }
 
-/// What is written of a file of this name.
-pub(crate) fn text_of_match<K: DroidCore, R: Input>(
+/// What is written of a file, of how many hits, and how many bytes the file has.
+#[derive(Drop)]
+pub(crate) struct FileAnswer {
+    pub(crate) text: Vec<u8>,
+    pub(crate) hits: usize,
+    pub(crate) bytes: u64,
+}
+
+/// The answer to a file of this name.
+pub(crate) fn answer_of_match<K: DroidCore, R: Input + Drop>(
     alloc: Global,
     core: &K,
     ask: MatchAsk<'_>,
     name: &str,
-    file: &mut R,
-) -> Result<Vec<u8>, RunError>
-    ensures text { IfOk result (λ text. IsTextOfSome ask.entry (K.lists core.now) name.now (R.to_come file.old) text.items) }
+    file: R,
+) -> Result<FileAnswer, RunError>
+    ensures text { IfOk result (λ answer. IsTextOfSome ask.entry (K.lists core.now) name.now (R.to_come file) answer.hits answer.text.items) }
 
     // Each refusal, and when.
-    ensures read { IsErrOf result RunError.Read → R.failed file.new ≡ true }
+    ensures read { IsErrOf result RunError.Read → SomeFailed R.failed }
     ensures never_write { ¬ IsErrOf result RunError.Write }
 {
-    let results = asked_hits(core, ask.all, file)?;
-    text_of_file(alloc, core.table(), ask, name, results.hits()).map_err(|_| RunError::OutOfMemory)
+    let mut file = Counted::new(file);
+    let results = asked_hits(core, ask.all, &mut file)?;
+    let hits = results.hits();
+    match text_of_file(alloc, core.table(), ask, name, hits) {
+        Ok(text) => Ok(FileAnswer {
+            text,
+            hits: hits.len(),
+            bytes: file.bytes,
+        }),
+        Err(_) => Err(RunError::OutOfMemory),
+    }
 }
 
 // The hits of the file, or what is left of them.

@@ -10,11 +10,13 @@
 //! `SystemFiles` ever opens or makes a file: `.ci/program` shows that it does.
 
 ghost use Rattle.std.specs.Prelude.{◌≡◌, ◌≢◌, ℕ, false, IfErr, IfOk, IfSome, List, map, None, Option, option_map, true};
-ghost use Rattle.sig_engines.specs.Stores.{HasFolder, Holding, IsNamed, IsUnlisted, LacksFolder, Lists, Makes, Opens, item_of};
+ghost use Rattle.sig_engines.specs.Stores.{GivesInput, HasFolder, Holding, IsNamed, IsUnlisted, LacksFolder, Lists, Makes, Opens, item_of};
 
 use crate::error::{FileFault, RunError};
+use either::Either;
 use sig_bits::{FromRead, FromWrite, Input, Output};
 use std::alloc::Global;
+use std::io::Read;
 use std::rt::Files;
 use std::{fs, io};
 
@@ -43,6 +45,11 @@ pub trait Store {
         ensures named { IfSome result (λ file. IsNamed (name_of file) name.now) }
         ensures makes { IfSome result (λ file. Makes (held self.now) (Self.Writer.written file)) }
         ensures fresh { IfSome result (λ file. Self.Writer.failed file ≡ false) };
+
+    /// Standard input, from where it is read next.
+    fn standard_input(&self) -> Self::Reader
+        ensures gives { GivesInput (held self.now) (Self.Reader.to_come result) }
+        ensures fresh { Self.Reader.failed result ≡ false };
 
     /// Whether there is a folder of this name, or a link to one.
     fn is_folder(&self, name: &str) -> bool
@@ -86,20 +93,21 @@ pub struct TablePaths<'a> {
     pub priorities: Option<&'a str>,
 }
 
-/// The files of the system.
+/// The files of the system, and standard input.
 #[derive(Clone, Copy)]
-pub struct SystemFiles<'a, R> {
+pub struct SystemFiles<'a, R, I> {
     rt: &'a R,
+    input: I,
 }
 
-impl<'a, R: Files> SystemFiles<'a, R> {
-    pub fn new(rt: &'a R) -> SystemFiles<'a, R> {
-        SystemFiles { rt }
+impl<'a, R: Files, I: Read + Copy + Drop> SystemFiles<'a, R, I> {
+    pub fn new(rt: &'a R, input: I) -> SystemFiles<'a, R, I> {
+        SystemFiles { rt, input }
     }
 }
 
-impl<R: Files> Store for SystemFiles<'_, R> {
-    type Reader = FromRead<R::File>;
+impl<R: Files, I: Read + Copy + Drop> Store for SystemFiles<'_, R, I> {
+    type Reader = FromRead<Either<R::File, I>>;
 
     type Writer = FromWrite<R::File>;
 
@@ -107,9 +115,9 @@ impl<R: Files> Store for SystemFiles<'_, R> {
 
     ghost name_of = { λ _. None };
 
-    fn open(&self, name: &str) -> Option<FromRead<R::File>> {
+    fn open(&self, name: &str) -> Option<FromRead<Either<R::File, I>>> {
         match fs::open(self.rt, name) {
-            Ok(file) => Some(FromRead::new(file)),
+            Ok(file) => Some(FromRead::new(Either::Left(file))),
             Err(_) => None,
         }
     }
@@ -119,6 +127,10 @@ impl<R: Files> Store for SystemFiles<'_, R> {
             Ok(file) => Some(FromWrite::new(file)),
             Err(_) => None,
         }
+    }
+
+    fn standard_input(&self) -> FromRead<Either<R::File, I>> {
+        FromRead::new(Either::Right(self.input))
     }
 
     fn is_folder(&self, name: &str) -> bool {

@@ -391,7 +391,7 @@ fn wants_a_table_and_takes_no_other_flag(rt: HostRuntime) -> Result<(), Fail> {
 fn is_left(rt: &HostRuntime, words: &[String], room: usize, left: usize) -> bool {
     let mut out = Room::of(room);
     let mut err = FromWrite::new(Vec::new(rt.alloc()));
-    let status = command(rt, words, &mut out, &mut err);
+    let status = command(rt, rt.stdin(), words, &mut out, &mut err);
     let line = err.into_inner();
     status == 3 && out.left() == left && line.as_slice() == b"write failed\n".as_slice()
 }
@@ -400,7 +400,7 @@ fn is_left(rt: &HostRuntime, words: &[String], room: usize, left: usize) -> bool
 fn fills(rt: &HostRuntime, words: &[String], room: usize) -> bool {
     let mut out = Room::of(room);
     let mut err = FromWrite::new(Vec::new(rt.alloc()));
-    let status = command(rt, words, &mut out, &mut err);
+    let status = command(rt, rt.stdin(), words, &mut out, &mut err);
     status == 1 && out.left() == 0
 }
 

@@ -159,7 +159,7 @@ fn judges_nothing_of_a_table_that_is_not_loaded(rt: HostRuntime) -> Result<(), F
 fn is_left(rt: &HostRuntime, words: &[String], room: usize, left: usize) -> bool {
     let mut out = Room::of(room);
     let mut err = FromWrite::new(Vec::new(rt.alloc()));
-    let status = command(rt, words, &mut out, &mut err);
+    let status = command(rt, rt.stdin(), words, &mut out, &mut err);
     let line = err.into_inner();
     status == 3 && out.left() == left && line.as_slice() == b"write failed\n".as_slice()
 }

@@ -11,7 +11,7 @@ fn is_unwritten(rt: &HostRuntime, folder: &str, words: &[&str]) -> Result<bool, 
     let words = words_in(rt, folder, words)?;
     let mut out = Broken::new();
     let mut err = FromWrite::new(Vec::new(rt.alloc()));
-    let status = command(rt, words.as_slice(), &mut out, &mut err);
+    let status = command(rt, rt.stdin(), words.as_slice(), &mut out, &mut err);
     let faults = err.into_inner();
     Ok(status == 3 && faults.as_slice() == b"write failed\n".as_slice())
 }
@@ -21,7 +21,7 @@ fn run_unreported(rt: &HostRuntime, folder: &str, words: &[&str]) -> Result<u8, 
     let words = words_in(rt, folder, words)?;
     let mut out = FromWrite::new(Vec::new(rt.alloc()));
     let mut err = Broken::new();
-    Ok(command(rt, words.as_slice(), &mut out, &mut err))
+    Ok(command(rt, rt.stdin(), words.as_slice(), &mut out, &mut err))
 }
 
 const ONE_WORD: Rows = Rows("fmt/1,1,BOF,0,,4142\n", "");

@@ -446,6 +446,12 @@ const RECURSIVE: &[Answered] = &[
         "@/deep/down: is a folder\n",
     ),
     Answered(
+        &["match", "--recursive", "--summary", S, P, "@/deep"],
+        0,
+        "@/deep/down/both.bin\tfmt/2 2\n@/deep/one.bin\tfmt/1 1\n@/deep/z.bin\t-\n",
+        "files 3 identified 2 several 0 none 1 failed 0 bytes 5\n",
+    ),
+    Answered(
         &["match", "--recursive", S, P, "@/deep/down/empty/"],
         0,
         "",
@@ -533,7 +539,7 @@ fn is_unwritten(
     let words = words_in(rt, folder, words)?;
     let mut out = Room::of(0);
     let mut err = FromWrite::new(Vec::new(rt.alloc()));
-    let status = command(rt, words.as_slice(), &mut out, &mut err);
+    let status = command(rt, rt.stdin(), words.as_slice(), &mut out, &mut err);
     let told = err.into_inner();
     Ok(status == 3 && told.as_slice() == faults.as_bytes())
 }

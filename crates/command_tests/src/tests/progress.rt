@@ -149,7 +149,7 @@ fn shows_at_most_a_report_for_a_percent(rt: HostRuntime) -> Result<(), Fail> {
 fn is_decided(rt: &HostRuntime, words: &[String], room: usize) -> bool {
     let mut out = FromWrite::new(Vec::new(rt.alloc()));
     let mut err = Room::of(room);
-    let status = command(rt, words, &mut out, &mut err);
+    let status = command(rt, rt.stdin(), words, &mut out, &mut err);
     let answer = out.into_inner();
     status == 0 && answer.as_slice() == b"decided\n".as_slice()
 }

@@ -5,7 +5,9 @@ ghost use Rattle.std.specs.Prelude.{None};
 use crate::tests::table_of;
 use fixtures::{Failing, Folder, Listed, Memory, Named, Room, Rows};
 use sig_bits::FromWrite;
-use sig_engines::{Entry, EntryKind, FileFault, MatchAsk, RunError, Store, run_match_many};
+use sig_engines::{
+    Entry, EntryKind, FileFault, MatchAsk, MatchRun, RunError, Store, run_match_many,
+};
 use sig_match::WholeCore;
 use std::alloc::Global;
 use std::test::Fail;
@@ -75,6 +77,8 @@ const PLAIN: MatchAsk<'static> = MatchAsk {
     csv: false,
     names: None,
     recursive: false,
+    progress: false,
+    summary: false,
 };
 
 // The names, whether folders are gone through, whether nothing has a fault, the lines, and those of
@@ -131,7 +135,17 @@ fn is_gone<S: Store>(rt: &HostRuntime, store: &S, row: &Gone) -> Result<bool, Fa
     let ask = MatchAsk { recursive, ..PLAIN };
     let mut out = FromWrite::new(Vec::new(rt.alloc()));
     let mut err = FromWrite::new(Vec::new(rt.alloc()));
-    let answer = run_match_many(rt.alloc(), store, &core, ask, names, &mut out, &mut err);
+    let answer = run_match_many(
+        &MatchRun {
+            alloc: rt.alloc(),
+            store: store,
+            core: &core,
+            ask,
+        },
+        names,
+        &mut out,
+        &mut err,
+    );
     let (out, err) = (out.into_inner(), err.into_inner());
     Ok(
         answer == Ok(is_whole)
@@ -178,10 +192,12 @@ fn a_failed_write_ends_the_run_in_a_folder(rt: HostRuntime) -> Result<(), Fail> 
     let mut out = Room::of(15);
     let mut err = FromWrite::new(Vec::new(rt.alloc()));
     let answer = run_match_many(
-        rt.alloc(),
-        &memory(&rt),
-        &core,
-        ask,
+        &MatchRun {
+            alloc: rt.alloc(),
+            store: &memory(&rt),
+            core: &core,
+            ask,
+        },
         &["up", "c"],
         &mut out,
         &mut err,
@@ -213,6 +229,10 @@ impl Store for Endless {
 
     fn create(&self, _name: &str) -> Option<fixtures::Broken> {
         None
+    }
+
+    fn standard_input(&self) -> fixtures::Pieces<'static> {
+        fixtures::Pieces::of(b"")
     }
 
     fn is_folder(&self, _name: &str) -> bool {

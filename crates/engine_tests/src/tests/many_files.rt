@@ -5,7 +5,7 @@ use fixtures::{Broken, Failing, Memory, NO_FOLDER, Named, Pieces, Room, Rows};
 use sig_bits::{FromRead, FromWrite, Input};
 use sig_core::DroidCore;
 use sig_engines::{
-    FormatNames, MatchAsk, NameReader, NamesError, RunError, Store, run_match_listed,
+    FormatNames, MatchAsk, MatchRun, NameReader, NamesError, RunError, Store, run_match_listed,
     run_match_many,
 };
 use sig_match::{StreamCore, WholeCore};
@@ -43,6 +43,8 @@ impl Nameless {
             csv: self.csv,
             names: None,
             recursive: false,
+            progress: false,
+            summary: false,
         }
     }
 }
@@ -126,10 +128,12 @@ fn is_run<S: Store, K: DroidCore>(rt: &HostRuntime, store: &S, core: &K, row: &P
     let mut out = FromWrite::new(Vec::new(rt.alloc()));
     let mut err = FromWrite::new(Vec::new(rt.alloc()));
     let answer = run_match_many(
-        rt.alloc(),
-        store,
-        core,
-        asked.ask(),
+        &MatchRun {
+            alloc: rt.alloc(),
+            store: store,
+            core: core,
+            ask: asked.ask(),
+        },
         names,
         &mut out,
         &mut err,
@@ -199,10 +203,12 @@ fn ends_at_a_write(rt: &HostRuntime, core: &WholeCore, faults: &[u8]) -> bool {
     let mut out = Room::of(0);
     let mut err = FromWrite::new(Vec::new(rt.alloc()));
     let answer = run_match_many(
-        rt.alloc(),
-        FAILING,
-        core,
-        LEFT.ask(),
+        &MatchRun {
+            alloc: rt.alloc(),
+            store: FAILING,
+            core: core,
+            ask: LEFT.ask(),
+        },
         NAMES,
         &mut out,
         &mut err,
@@ -223,10 +229,12 @@ fn goes_on_untold(rt: &HostRuntime, core: &WholeCore, lines: &[u8]) -> bool {
     let mut out = FromWrite::new(Vec::new(rt.alloc()));
     let mut err = Broken::new();
     let answer = run_match_many(
-        rt.alloc(),
-        FAILING,
-        core,
-        LEFT.ask(),
+        &MatchRun {
+            alloc: rt.alloc(),
+            store: FAILING,
+            core: core,
+            ask: LEFT.ask(),
+        },
         NAMES,
         &mut out,
         &mut err,
@@ -336,10 +344,12 @@ fn is_listed<I: Input + Drop>(
     let mut out = FromWrite::new(Vec::new(rt.alloc()));
     let mut err = FromWrite::new(Vec::new(rt.alloc()));
     let answer = run_match_listed(
-        rt.alloc(),
-        &store,
-        core,
-        asked.ask(),
+        &MatchRun {
+            alloc: rt.alloc(),
+            store: &store,
+            core: core,
+            ask: asked.ask(),
+        },
         &mut list,
         &mut out,
         &mut err,
@@ -393,10 +403,12 @@ fn a_list_may_be_longer_than_a_read(rt: HostRuntime) -> Result<(), Fail> {
     let mut out = FromWrite::new(Vec::new(rt.alloc()));
     let mut err = FromWrite::new(Vec::new(rt.alloc()));
     let answer = run_match_listed(
-        rt.alloc(),
-        FAILING,
-        &core,
-        LEFT.ask(),
+        &MatchRun {
+            alloc: rt.alloc(),
+            store: FAILING,
+            core: &core,
+            ask: LEFT.ask(),
+        },
         &mut list,
         &mut out,
         &mut err,
@@ -418,11 +430,23 @@ fn is_named(rt: &HostRuntime, csv: bool, names: &[&str], text: &str) -> Result<b
         all: true,
         csv,
         recursive: false,
+        progress: false,
+        summary: false,
         names: formats.as_ref().ok(),
     };
     let mut out = FromWrite::new(Vec::new(rt.alloc()));
     let mut err = FromWrite::new(Vec::new(rt.alloc()));
-    let answer = run_match_many(rt.alloc(), FAILING, &core, ask, names, &mut out, &mut err);
+    let answer = run_match_many(
+        &MatchRun {
+            alloc: rt.alloc(),
+            store: FAILING,
+            core: &core,
+            ask,
+        },
+        names,
+        &mut out,
+        &mut err,
+    );
     let written = out.into_inner();
     Ok(answer == Ok(true) && written.as_slice() == text.as_bytes())
 }

@@ -26,9 +26,15 @@ returns-clause-line c =
     let list_local : c.help-7.result.global ≡ false = rw c.help-7.ensures c.option-2.ensures.local in
     let nul : rule_of c.help-8.result ≡ null_rule = rw c.help-8.ensures c.null.ensures.rule in
     let nul_local : c.help-8.result.global ≡ false = rw c.help-8.ensures c.null.ensures.local in
+    let progress : rule_of c.help-9.result ≡ given (codes "progress") = rw c.help-9.ensures c.flag-5.ensures.rule in
+    let progress_local : c.help-9.result.global ≡ false = rw c.help-9.ensures c.flag-5.ensures.local in
+    let summary : rule_of c.help-10.result ≡ given (codes "summary") = rw c.help-10.ensures c.flag-6.ensures.rule in
+    let summary_local : c.help-10.result.global ≡ false = rw c.help-10.ensures c.flag-6.ensures.local in
     record {
       is_app =
-          c.in_ok-line.ensures.shape nul_local ∙ ap₂ with_rule (
+          c.in_ok-line.ensures.shape summary_local ∙ ap₂ with_rule (
+          c.in_ok-arg-9.ensures.shape progress_local ∙ ap₂ with_rule (
+          c.in_ok-arg-8.ensures.shape nul_local ∙ ap₂ with_rule (
           c.in_ok-arg-7.ensures.shape list_local ∙ ap₂ with_rule (
           c.in_ok-arg-6.ensures.shape recursive_local ∙ ap₂ with_rule (
           c.in_ok-arg-5.ensures.shape names_local ∙ ap₂ with_rule (
@@ -42,9 +48,11 @@ returns-clause-line c =
           ) names
           ) recursive
           ) list
-          ) nul;
+          ) nul
+          ) progress
+          ) summary;
       has_no_globals =
-          c.in_ok-line.ensures.globals ∙ or_false _ _ nul_local ∙ c.in_ok-arg-7.ensures.globals ∙ or_false _ _ list_local ∙ c.in_ok-arg-6.ensures.globals ∙ or_false _ _ recursive_local
+          c.in_ok-line.ensures.globals ∙ or_false _ _ summary_local ∙ c.in_ok-arg-9.ensures.globals ∙ or_false _ _ progress_local ∙ c.in_ok-arg-8.ensures.globals ∙ or_false _ _ nul_local ∙ c.in_ok-arg-7.ensures.globals ∙ or_false _ _ list_local ∙ c.in_ok-arg-6.ensures.globals ∙ or_false _ _ recursive_local
           ∙ c.in_ok-arg-5.ensures.globals ∙ or_false _ _ names_local
           ∙ c.in_ok-arg-4.ensures.globals ∙ or_false _ _ csv_local ∙ c.in_ok-arg-3.ensures.globals ∙ or_false _ _ with_names_local
           ∙ c.in_ok-arg-2.ensures.globals ∙ or_false _ _ all_local ∙ c.in_ok-arg.ensures.globals ∙ or_false _ _ file_local ∙ table_local;

@@ -1,6 +1,8 @@
-use Rattle.std.proofs.Common.{IfOk, subst, sym}
-use Rattle.sig_command.specs.Requests.{MakesOut, ShowsAsked}
+use Rattle.std.proofs.Common.{◌≢◌, IfErr, IfOk, subst, sym}
+use Rattle.sig_command.specs.Requests.{KeepsOrCuts, MakesOut, ShowsAsked}
 use Rattle.sig_command.specs.declared.args.Request.{Request}
+use Rattle.sig_command.specs.declared.fault.Fault.TheVariants.{FaultyTable}
+use Rattle.sig_command.proofs.SeveralLemmas.{err_weaker}
 use Rattle.sig_command.proofs.requests.answer.Goals as goal
 
 pub returns-in-Find-clause-made : goal.returns-in-Find-clause-made
@@ -20,3 +22,12 @@ returns-in-Conflicts-clause-made g c =
 pub returns-in-Conflicts-clause-progress : goal.returns-in-Conflicts-clause-progress
 returns-in-Conflicts-clause-progress g c = subst (λ (r : Request). IfOk c.settle_pairs.result (λ is_yes. ShowsAsked (g.S.Store.held c.args.store.now) r is_yes (g.W.Output.written c.args.out.now) (g.W.Output.written c.settle_pairs.new.out)
     (g.E.Output.failed c.settle_pairs.new.err) c.args.err.now c.settle_pairs.new.err (g.E.Output.written c.args.err.now) (g.E.Output.written c.settle_pairs.new.err))) (sym c.in-Conflicts.is) c.settle_pairs.ensures.progress
+
+pub returns-in-MatchMany-clause-progress : goal.returns-in-MatchMany-clause-progress
+returns-in-MatchMany-clause-progress g c = subst (λ (r : Request). IfOk c.match_many.result (λ is_yes. ShowsAsked (g.S.Store.held c.args.store.now) r is_yes (g.W.Output.written c.args.out.now) (g.W.Output.written c.match_many.new.out)
+    (g.E.Output.failed c.match_many.new.err) c.args.err.now c.match_many.new.err (g.E.Output.written c.args.err.now) (g.E.Output.written c.match_many.new.err))) (sym c.in-MatchMany.is) c.match_many.ensures.progress
+
+pub returns-in-MatchMany-clause-whole : goal.returns-in-MatchMany-clause-whole
+returns-in-MatchMany-clause-whole g c =
+    subst (λ (r : Request). IfErr c.match_many.result (λ fault. fault ≢ FaultyTable → KeepsOrCuts g.S.Reader.Input.failed (g.S.Store.held c.args.store.now) r g.W.Output.failed g.W.Output.written c.args.out.now c.match_many.new.out)) (sym c.in-MatchMany.is)
+    (err_weaker c.match_many.result _ _ c.match_many.ensures.whole)

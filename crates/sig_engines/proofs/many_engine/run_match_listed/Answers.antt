@@ -1,83 +1,10 @@
-use Rattle.std.proofs.Common.{◌≡◌, Ok, ap, false, refl, subst, [], ◌∷◌, ◌++◌, ◌∙◌}
-use Rattle.std.proofs.lemmas.Bool.{and_parts}
-use Rattle.std.proofs.lemmas.Result.{err_from_is_err_and}
-use Rattle.sig_engines.proofs.ManyLemmas.{files_cut, files_first, files_none, files_stopped, files_then, head_cut, some_visits, visits_more, visits_next, visits_next_more}
-use Rattle.sig_engines.proofs.TakenLemmas.{some_listed, takes_first_more, takes_first_of, takes_more, takes_none}
-use Rattle.sig_engines.specs.Listed.{TakesNames, unread_of}
-use Rattle.sig_engines.specs.ManyFiles.{AddsFiles, CutsFiles, IsPrinted}
-use Rattle.sig_engines.specs.Visits.{AreOf, AreVisits}
+use Rattle.sig_engines.proofs.ManyLemmas.{if_all, if_stopped}
 use Rattle.sig_engines.proofs.many_engine.run_match_listed.Goals as goal
 
-pub names-init : goal.names-init
-names-init g c = record {
-  end = refl;
-  names = ([], takes_none _ _, files_none _ _ _ _ _ _ _ refl c.in_ok-write_head.ensures.adds);
-  quiet = λ whole. refl;
-  sound = c.in_ok-write_head.ensures.sound;
-}
+pub returns-clause-answers : goal.returns-clause-answers
+returns-clause-answers g c =
+    if_all c.args.run.now.ask _ _ _ _ _ _ _ _ _ _ _ c.match_list-matched.result c.finish.result c.show_done.ensures.reports c.match_list-matched.ensures.answers c.match_list-matched.ensures.stays_failed c.finish.ensures.sound c.finish.ensures.whole
 
-pub names-preserved : goal.names-preserved
-names-preserved g c =
-    let before = c.names.invariant in
-    let told = c.in_ok-is_whole.ensures in
-    let parts = and_parts c.names.is_whole c.in_ok-is_whole.field-0 in
-    let held = g.S.Store.held c.args.store.now in
-    let all = c.args.ask.recursive in
-    let name = c.next.new.name.items in
-    let printed = IsPrinted g.S.Reader.Input.failed c.args.ask (g.K.DroidCore.lists c.args.core.now) held in
-    let next = subst (λ e. TakesNames e (unread_of g.I.Input.to_come c.names.list) (name ∷ []) (unread_of g.I.Input.to_come c.next.new.self)) before.end
-    (c.next.ensures.takes (c.in_ok-next.was ∙ ap Ok c.if-branch.true)) in
-    let file = subst (λ n. AddsFiles [] printed (AreOf all held n) (g.W.Output.written c.names.out) (g.W.Output.written c.match_listed.new.out) (g.E.Output.failed c.match_listed.new.err) (g.E.Output.written c.names.err) (g.E.Output.written c.match_listed.new.err) c.in_ok-is_whole.field-0)
-    c.deref.ensures.value told.answers in
-    record {
-      end = c.next.ensures.end ∙ before.end;
-      names = (
-        before.names.0 ++ name ∷ [],
-        takes_more _ _ _ _ before.names.0 (name ∷ []) before.names.1 next,
-        files_then _ printed (AreVisits all held before.names.0) (AreOf all held name) (AreVisits all held (before.names.0 ++ name ∷ [])) c.names.is_whole c.in_ok-is_whole.field-0 _ _ _ _ _ _ _ _
-            (λ v w first second. visits_next all held before.names.0 name v w first second) before.names.2 file c.match_listed.ensures.stays_failed,
-      );
-      quiet = λ whole. told.quiet (ap Ok (parts whole).1) ∙ before.quiet (parts whole).0;
-      sound = told.writes before.sound;
-    }
-
-pub returns-in_err-write_head-clause-cut : goal.returns-in_err-write_head-clause-cut
-returns-in_err-write_head-clause-cut g c =
-    let p = err_from_is_err_and c.from_residual.result c.from_residual.ensures.1 in
-    let some = some_listed c.args.list.now.end (unread_of g.I.Input.to_come c.args.list.now) in
-    let visits = some_visits c.args.ask.recursive (g.S.Store.held c.args.store.now) some.0 in
-    rw p.1 (record { names = some.0; are_listed = some.1; are_cut = head_cut _ _ _ _ _ _ _ visits c.in_err-write_head.ensures.cut })
-
-pub returns-in_err-next-clause-cut : goal.returns-in_err-next-clause-cut
-returns-in_err-next-clause-cut g c =
-    let p = err_from_is_err_and c.from_residual-in_err-next.result c.from_residual-in_err-next.ensures.1 in
-    let before = c.names.invariant in
-    let first = takes_first_of c.args.list.now.end _ _ before.names.0 before.names.1 in
-    rw p.1 (record { names = before.names.0 ++ first.0; are_listed = first.1; are_cut = files_first _ _ _ _ c.names.is_whole _ _ _ _ _ (visits_more c.args.ask.recursive (g.S.Store.held c.args.store.now) before.names.0 first.0) before.names.2 })
-
-pub returns-in_err-is_whole-clause-cut : goal.returns-in_err-is_whole-clause-cut
-returns-in_err-is_whole-clause-cut g c =
-    let p = err_from_is_err_and c.from_residual-in_err-is_whole.result c.from_residual-in_err-is_whole.ensures.1 in
-    let before = c.names.invariant in
-    let held = g.S.Store.held c.args.store.now in
-    let all = c.args.ask.recursive in
-    let name = c.next.new.name.items in
-    let printed = IsPrinted g.S.Reader.Input.failed c.args.ask (g.K.DroidCore.lists c.args.core.now) held in
-    let next = subst (λ e. TakesNames e (unread_of g.I.Input.to_come c.names.list) (name ∷ []) (unread_of g.I.Input.to_come c.next.new.self)) before.end
-    (c.next.ensures.takes (c.in_ok-next.was ∙ ap Ok c.if-branch.true)) in
-    let first = takes_first_more c.args.list.now.end _ _ _ before.names.0 (name ∷ []) before.names.1 next in
-    let cut = subst (λ n. CutsFiles [] printed (AreOf all held n) (g.W.Output.written c.names.out) (g.W.Output.written c.match_listed.new.out) (g.E.Output.failed c.match_listed.new.err) (g.E.Output.written c.names.err) (g.E.Output.written c.match_listed.new.err))
-    c.deref.ensures.value c.in_err-is_whole.ensures.cut in
-    rw p.1 (record {
-      names = before.names.0 ++ (name ∷ []) ++ first.0;
-      are_listed = first.1;
-      are_cut = files_cut _ printed (AreVisits all held before.names.0) (AreOf all held name) (AreVisits all held (before.names.0 ++ (name ∷ []) ++ first.0)) c.names.is_whole _ _ _ _ _ _ _ _
-          (λ v w one two. visits_next_more all held before.names.0 name first.0 v w one two) before.names.2 cut c.match_listed.ensures.stays_failed;
-    })
-
-pub returns-in_err-next-clause-stopped : goal.returns-in_err-next-clause-stopped
-returns-in_err-next-clause-stopped g c =
-    let p = err_from_is_err_and c.from_residual-in_err-next.result c.from_residual-in_err-next.ensures.1 in
-    let before = c.names.invariant in
-    let first = takes_first_of c.args.list.now.end _ _ before.names.0 before.names.1 in
-    rw p.1 (λ other. record { names = before.names.0 ++ first.0; are_listed = first.1; are_stopped = files_stopped _ _ _ _ c.names.is_whole _ _ _ _ _ (visits_more c.args.ask.recursive (g.S.Store.held c.args.store.now) before.names.0 first.0) before.names.2 })
+pub returns-clause-stopped : goal.returns-clause-stopped
+returns-clause-stopped g c =
+    if_stopped c.args.run.now.ask _ _ _ _ _ _ _ _ _ _ _ c.match_list-matched.result c.finish.result c.show_done.ensures.reports c.match_list-matched.ensures.stopped c.match_list-matched.ensures.stays_failed c.finish.ensures.sound c.finish.ensures.fault

@@ -1,0 +1,47 @@
+//! An input that counts the bytes that it gives.
+
+ghost use Rattle.std.specs.Prelude.{◌≡◌, ◌+◌, ◌<◌, ◌≤◌, IfOk, IsErr, IsTrue, OnErr, is_err, length, take};
+ghost use Rattle.sig_bits.specs.Device.{Gives, IsAtEnd};
+ghost use Rattle.sig_engines.specs.Tallies.{plus};
+
+use sig_bits::{DeviceFault, Input};
+
+/// An input, and how many bytes it gave. The count stays where it is full.
+#[derive(Drop)]
+pub(crate) struct Counted<R> {
+    input: R,
+    pub(crate) bytes: u64,
+}
+
+impl<R: Input> Counted<R> {
+    /// Nothing is read yet.
+    pub(crate) fn new(input: R) -> Counted<R>
+        ensures input { result.input ≡ input }
+        ensures none { result.bytes ≡ 0 }
+    {
+        Counted { input, bytes: 0 }
+    }
+}
+
+impl<R: Input> Input for Counted<R> {
+    ghost failed = { λ s. R.failed s.input };
+
+    ghost limit = { λ s. R.limit s.input };
+
+    ghost to_come = { λ s. R.to_come s.input };
+
+    fn read(&mut self, buf: &mut [u8]) -> Result<usize, DeviceFault>
+        ensures fails { R.failed self.new.input ≡ is_err result }
+        ensures stays_failed { IsTrue (R.failed self.old.input) → IsErr result }
+        ensures within { IfOk result (λ n. n ≤ length buf.new) }
+        ensures lowers { IfOk result (λ n. R.limit self.old.input ≡ n + R.limit self.new.input) }
+        ensures gives { IfOk result (λ n. Gives (R.to_come self.old.input) (take n buf.new) (R.to_come self.new.input)) }
+        ensures stays { OnErr result (R.limit self.new.input ≡ R.limit self.old.input) }
+        ensures ends { IfOk result (λ n. n ≡ 0 → 0 < length buf.new → IsAtEnd (R.to_come self.new.input)) }
+        ensures counts { IfOk result (λ n. self.new.bytes ≡ plus self.old.bytes n) }
+    {
+        let count = self.input.read(buf)?;
+        self.bytes = self.bytes.saturating_add(count as u64);
+        Ok(count)
+    }
+}
