@@ -9,7 +9,7 @@ use Rattle.clap.specs.declared.error.kind.ErrorKind.TheVariants as kind
 use Rattle.clap.specs.declared.error.kind.ErrorKind.TheVariants.{DisplayHelp, DisplayVersion}
 use Rattle.sig_bits.specs.Device.{Adds}
 use Rattle.sig_engines.specs.ManyFiles.{run_text, summary_text, tally_of}
-use Rattle.sig_engines.specs.Stores.{Holding}
+use Rattle.sig_engines.specs.Stores.{CannotMake, Holding}
 use Rattle.sig_engines.specs.Tallies.{none_yet}
 use Rattle.sig_engines.specs.declared.error.CutShort.{CutShort as Cut}
 use Rattle.sig_engines.specs.declared.error.CutShort.TheVariants as cut
@@ -96,7 +96,7 @@ later_faulty failed held (MatchMany options table names) (inl is) = let bad : Fa
 later_faulty failed held (MatchMany options table names) (inr (inl is)) = let bad : FaultyTable ≡ Run run.Write = is in cc
 later_faulty failed held (MatchMany options table names) (inr (inr (inl is))) = no_list failed held names FaultyTable (λ error same. cc) (λ name same. cc) (λ name same. cc) is
 later_faulty failed held (MatchMany options table names) (inr (inr (inr is))) = no_names failed held options.names FaultyTable (λ name same. cc) (λ error same. cc) is
-later_faulty failed held (Find table budget out hex progress) (inl is) = let bad : FaultyTable ≡ CannotOpen out = is in cc
+later_faulty failed held (Find table budget out hex progress) (inl is) = let bad : FaultyTable ≡ CannotOpen out = is.0 in cc
 later_faulty failed held (Find table budget out hex progress) (inr is) = let bad : FaultyTable ≡ Run run.Write = is in cc
 later_faulty failed held request is = is
 
@@ -187,8 +187,8 @@ files_are_reported failed held (MatchMany options table names) status before aft
     }
 files_are_reported failed held (Find table budget out hex progress) status before after is_failed err_before mid err_after is joins sound reports = absurd (no_files failed held (Find table budget out hex progress) never is)
   where
-    never : (SomeFiles ≡ CannotOpen out) ⊎ (SomeFiles ≡ Run run.Write) → ⊥
-    never (inl same) = let bad : SomeFiles ≡ CannotOpen out = same in cc
+    never : ((SomeFiles ≡ CannotOpen out) × CannotMake held out.now) ⊎ (SomeFiles ≡ Run run.Write) → ⊥
+    never (inl same) = let bad : SomeFiles ≡ CannotOpen out = same.0 in cc
     never (inr same) = let bad : SomeFiles ≡ Run run.Write = same in cc
 files_are_reported failed held (Conflicts table options progress) status before after is_failed err_before mid err_after is joins sound reports = absurd (no_files failed held (Conflicts table options progress) (λ never. never) is)
 files_are_reported failed held (Dead table budget hex progress) status before after is_failed err_before mid err_after is joins sound reports = absurd (no_files failed held (Dead table budget hex progress) (λ never. never) is)

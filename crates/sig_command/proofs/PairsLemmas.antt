@@ -4,7 +4,7 @@ use Rattle.std.proofs.Common.{◌≡◌, ◌≢◌, ◌⊎◌, ◌∙◌, ℕ, B
 use Rattle.std.specs.Prelude.{is_some}
 use Rattle.clap.specs.Words.{Text}
 use Rattle.sig_table.specs.Views.{TableView}
-use Rattle.sig_engines.specs.Conflicts.{AddsFirstPairs, IsBeforeSearch, Settles, StopsPairs}
+use Rattle.sig_engines.specs.Conflicts.{AddsFirstPairs, IsBeforeSearch, IsUnmade, Settles, StopsPairs}
 use Rattle.sig_engines.specs.Progress.{ShowsIf}
 use Rattle.sig_engines.specs.Stores.{Holding, IsAny, IsTableOf, SomeWriteFailed}
 use Rattle.sig_engines.specs.declared.ask.ConflictsAsk.{ConflictsAsk}
@@ -50,14 +50,14 @@ module _ {R E : Type 0} (failed : R → Bool) (held : Holding) (table : TablePat
 
 module _ {F : Type 0} (made_failed : F → Bool) (held : Holding) (table : TablePaths) (options : ConflictsOptions) (progress : Bool) (t : TableView) (is : IsTableOf held table t) (ask : ConflictsAsk) (asks : AsksPairs options t ask) (is_failed : Bool) (before after : Option (List ℕ)) where
   -- each is one of what is asked for
-  pub pairs_fault_of : {R : Type 0} (failed : R → Bool) (fault : PairsFault) → StopsPairs made_failed fault ask t is_failed before after → IsFaultOf failed held (Conflicts table options progress) (pairs_fault fault)
-  pairs_fault_of failed fault stops = inr (inr (inl ((t, is), go fault stops)))
+  pub pairs_fault_of : {R : Type 0} (failed : R → Bool) (fault : PairsFault) → StopsPairs made_failed fault ask t is_failed before after → IsUnmade held fault → IsFaultOf failed held (Conflicts table options progress) (pairs_fault fault)
+  pairs_fault_of failed fault stops unmade = inr (inr (inl ((t, is), go fault stops unmade)))
     where
-      go : (fault : PairsFault) → StopsPairs made_failed fault ask t is_failed before after → IsConflictsFault held table options (pairs_fault fault)
-      go (pairs.CannotOpen name) (inl files) = inl (sym asks.files ∙ files)
-      go (pairs.CannotOpen name) (inr priorities) = inr (sym asks.priorities ∙ priorities)
-      go (pairs.NoFile folder name) stops = (sym asks.files ∙ stops.0, t, is, stops.1.formats, stops.1.is_named)
-      go (pairs.Cut error) stops = (t, is, ask, asks)
+      go : (fault : PairsFault) → StopsPairs made_failed fault ask t is_failed before after → IsUnmade held fault → IsConflictsFault held table options (pairs_fault fault)
+      go (pairs.CannotOpen name) (inl files) unmade = (inl (sym asks.files ∙ files), unmade)
+      go (pairs.CannotOpen name) (inr priorities) unmade = (inr (sym asks.priorities ∙ priorities), unmade)
+      go (pairs.NoFile folder name) stops unmade = (sym asks.files ∙ stops.0, unmade, t, is, stops.1.formats, stops.1.is_named)
+      go (pairs.Cut error) stops unmade = (t, is, ask, asks)
 
   -- a failed write is told only where one failed
   pub write_has_failed : (fault : PairsFault) → StopsPairs made_failed fault ask t is_failed before after → TellsWrite (pairs_fault fault) → SomeWriteFailed made_failed is_failed

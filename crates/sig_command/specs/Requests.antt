@@ -26,10 +26,10 @@ use Rattle.sig_engines.specs.Linted.{AddsReport}
 use Rattle.sig_engines.specs.ManyFiles.{AddsAll, CutsAll, IsPrinted, Printed, StopsAll}
 use Rattle.sig_engines.specs.Progress.{AddsProgress, ShowsIf}
 use Rattle.sig_engines.specs.Shown.{show_text}
-use Rattle.sig_engines.specs.Stores.{Has, HasFolder, HasPriorities, Holding, Holds, HoldsPriorities, IsAny, IsMade, IsTableFault, IsTableOf, Lacks, SomeFailed}
+use Rattle.sig_engines.specs.Stores.{CannotMake, Has, HasFolder, HasPriorities, Holding, Holds, HoldsPriorities, IsAny, IsMade, IsTableFault, IsTableOf, Lacks, SomeFailed}
 use Rattle.sig_engines.specs.Visits.{Visit}
 use Rattle.sig_engines.specs.Witnessed.{AddsWitness}
-use Rattle.sig_engines.specs.Witnesses.{IsWitnessOf}
+use Rattle.sig_engines.specs.Witnesses.{IsWitnessOf, path_text}
 use Rattle.sig_engines.specs.declared.ask.ConflictsAsk.{ConflictsAsk}
 use Rattle.sig_engines.specs.declared.ask.MatchAsk.{MatchAsk}
 use Rattle.sig_engines.specs.declared.error.FileFault.{FileFault}
@@ -193,9 +193,9 @@ NamesMade options name = (options.files ≡ Some name) ⊎ (options.priorities �
 -- the pairs of formats that are asked for are those of no format of the table; or they are some, and a folder or a file that is asked for can't be made, or the engine stopped before its last line
 abbrev pub IsConflictsFault : Holding → TablePaths → ConflictsOptions → Fault → Type 0
 IsConflictsFault held paths options NotText = ⊥
-IsConflictsFault held paths options (CannotOpen name) = NamesMade options name
+IsConflictsFault held paths options (CannotOpen name) = NamesMade options name × CannotMake held name.now
 IsConflictsFault held paths options (IsFolder name) = ⊥
-IsConflictsFault held paths options (NoFile folder name) = (options.files ≡ Some folder) × (t : TableView) × IsTableOf held paths t × (formats : ℕ × ℕ) × IsWitnessOf t formats name
+IsConflictsFault held paths options (NoFile folder name) = (options.files ≡ Some folder) × CannotMake held (path_text folder.now name) × (t : TableView) × IsTableOf held paths t × (formats : ℕ × ℕ) × IsWitnessOf t formats name
 IsConflictsFault held paths options (Table error) = ⊥
 IsConflictsFault held paths options NotInTable = (t : TableView) × IsTableOf held paths t × NamesNone t options.only
 IsConflictsFault held paths options SummaryOfOne = ⊥
@@ -227,7 +227,7 @@ IsLaterFault failed held (Show table) fault = fault ≡ Run Write
 IsLaterFault failed held (Lint table) fault = ⊥
 IsLaterFault failed held (Match all table file) fault = IsFileFault failed held file fault ⊎ IsFolderFault held file fault
 IsLaterFault failed held (MatchMany options table names) fault = (fault ≡ SomeFiles) ⊎ ((fault ≡ Run Write) ⊎ (IsListFault failed held names fault ⊎ IsNamesFaultOf failed held options.names fault))
-IsLaterFault failed held (Find table budget out hex progress) fault = (fault ≡ CannotOpen out) ⊎ (fault ≡ Run Write)
+IsLaterFault failed held (Find table budget out hex progress) fault = ((fault ≡ CannotOpen out) × CannotMake held out.now) ⊎ (fault ≡ Run Write)
 IsLaterFault failed held (Conflicts table options progress) fault = IsConflictsFault held table options fault
 IsLaterFault failed held (Dead table budget hex progress) fault = IsCutFault fault
 IsLaterFault failed held (Check table certificate) fault = IsFileFault failed held certificate fault

@@ -301,7 +301,9 @@ fn match_file<'a, S: Store, W: Output>(
     }
 }
 
-// Of files by their names: what is asked of each, or of some and the faults of the others.
+// Of files by their names: what is asked of each, or of some and the faults of the others. The core
+// and the names of formats stand in a frame of its own.
+#[inline(never)]
 fn match_many<'m, 'a, S: Store, W: Output, E: Output>(
     store: &S,
     alloc: Global,
@@ -396,7 +398,9 @@ fn answer_of<'a>(matched: Result<bool, RunError>) -> Result<bool, Fault<'a>>
     }
 }
 
-// The names of formats in the file of this name, if there is one.
+// The names of formats in the file of this name, if there is one. Its buffers stand in a frame of its
+// own.
+#[inline(never)]
 fn format_names<'a, S: Store>(
     store: &S,
     alloc: Global,

@@ -23,10 +23,10 @@ use Rattle.sig_engines.specs.declared.note.Note.{Note}
 use Rattle.sig_engines.specs.declared.progress.Things.TheVariants.{Pairs}
 use Rattle.sig_engines.specs.declared.witness_name.WitnessName.{WitnessName}
 use Rattle.sig_engines.specs.Progress.{AddsIf}
-use Rattle.sig_engines.specs.Stores.{SomeMadeFailed}
+use Rattle.sig_engines.specs.Stores.{CannotMake, Holding, SomeMadeFailed}
 use Rattle.sig_engines.specs.Tellings.{Tells}
 use Rattle.sig_engines.specs.Texts.{hex_text, product_text}
-use Rattle.sig_engines.specs.Witnesses.{IsWitnessOf, KeepsWitness}
+use Rattle.sig_engines.specs.Witnesses.{IsWitnessOf, KeepsWitness, path_text}
 
 -- ---- the pairs
 
@@ -245,6 +245,12 @@ StopsPairs failed (CannotOpen name) ask table is_failed before after = (ask.file
 StopsPairs failed (NoFile folder name) ask table is_failed before after = (ask.files ≡ Some folder) × StopsBefore ask table name before after
 StopsPairs failed (Cut Write) ask table is_failed before after = ((is_failed ≡ true) × AddsFrontOfPairs ask table before after) ⊎ (SomeMadeFailed failed × AddsFirstPairs ask table before after)
 StopsPairs failed (Cut OutOfMemory) ask table is_failed before after = AddsFirstPairs ask table before after
+
+-- the folder or the file that is told not to be made may not be
+abbrev pub IsUnmade : Holding → PairsFault → Type 0
+IsUnmade held (CannotOpen name) = CannotMake held name.now
+IsUnmade held (NoFile folder name) = CannotMake held (path_text folder.now name)
+IsUnmade held (Cut cut) = ⊤
 
 -- nothing was searched
 abbrev pub IsBeforeSearch : PairsFault → Type 0

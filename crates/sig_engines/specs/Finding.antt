@@ -9,6 +9,7 @@ use Rattle.sig_table.specs.declared.ids.SigId.{SigId}
 use Rattle.sig_engines.specs.Texts.{signature_text}
 use Rattle.sig_engines.specs.Progress.{AddsIf}
 use Rattle.sig_engines.specs.Witnessed.{pair_text}
+use Rattle.sig_engines.specs.Stores.{CannotMake, Holding}
 use Rattle.sig_engines.specs.declared.error.FileFault.{FileFault}
 use Rattle.sig_engines.specs.declared.error.FileFault.TheVariants.{CannotOpen, Run}
 use Rattle.sig_engines.specs.declared.progress.Things.TheVariants.{Products}
@@ -115,8 +116,8 @@ pub record TellsWhy (progress hex : Bool) (table : TableView) (budget : ℕ) (be
   pub tells : Adds mid reason err_after
 
 -- the file for what is found can't be made, a write failed, or memory ran out
-abbrev pub IsFindFault : FileFault → Type 0
-IsFindFault CannotOpen = ⊤
-IsFindFault (Run Read) = ⊥
-IsFindFault (Run Write) = ⊤
-IsFindFault (Run OutOfMemory) = ⊤
+abbrev pub IsFindFault : Holding → List ℕ → FileFault → Type 0
+IsFindFault held name CannotOpen = CannotMake held name
+IsFindFault held name (Run Read) = ⊥
+IsFindFault held name (Run Write) = ⊤
+IsFindFault held name (Run OutOfMemory) = ⊤

@@ -23,11 +23,12 @@ pub record Item : Type 0 where
 abbrev pub item_of : Entry → Item
 item_of entry = record { name = string_bytes entry.name; kind = entry.kind }
 
--- the bytes of the file of each name, and nothing for a name without a file; what stands in the folder of each name, and nothing for a name without a folder; and the bytes of standard input
+-- the bytes of the file of each name, and nothing for a name without a file; what stands in the folder of each name, and nothing for a name without a folder; the bytes of standard input; and whether a file or a folder of each name is sure to be made
 pub record Files : Type 0 where
   pub bytes : List ℕ → Option (List ℕ)
   pub items : List ℕ → Option (List Item)
   pub input : List ℕ
+  pub makes : List ℕ → Bool
 
 -- the files and folders of a store, where they are known
 abbrev pub Holding : Type 0
@@ -75,6 +76,11 @@ Lists (Some files) name items = files.items name ≡ Some items
 abbrev pub IsUnlisted : Holding → List ℕ → FileFault → Type 0
 IsUnlisted None name fault = fault ≢ Run Write
 IsUnlisted (Some files) name fault = (fault ≡ Run OutOfMemory) ⊎ ((fault ≡ CannotOpen) × (files.items name ≡ None))
+
+-- no file and no folder of this name may be made, where that is known
+abbrev pub CannotMake : Holding → List ℕ → Type 0
+CannotMake None name = ⊤
+CannotMake (Some files) name = files.makes name ≡ false
 
 -- of a file that is made nothing is written yet
 abbrev pub Makes : Holding → Option (List ℕ) → Type 0

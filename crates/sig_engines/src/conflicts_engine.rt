@@ -6,7 +6,7 @@
 //! pairs together, a line for each format and the forced pairs, is made of their notes at the end.
 
 ghost use Rattle.std.specs.Prelude.{◌≡◌, ◌↔◌, ◌+◌, ◌-◌, ◌++◌, ◌^◌, ◌<◌, [], None, Some, All, false, true, IfErr, IfOk, IsSome, IsTrue, OnOk, length, string_bytes};
-ghost use Rattle.sig_engines.specs.Conflicts.{AddsConflicts, IsBeforeSearch, IsClassOf, IsCounted, StopsPairs, asked_line, classes_in, counts_line, pairs_in};
+ghost use Rattle.sig_engines.specs.Conflicts.{AddsConflicts, IsBeforeSearch, IsClassOf, IsCounted, IsUnmade, StopsPairs, asked_line, classes_in, counts_line, pairs_in};
 ghost use Rattle.sig_engines.specs.Forced.{Forces};
 ghost use Rattle.sig_engines.specs.Notes.{noted, summary_if_asked};
 ghost use Rattle.sig_engines.specs.Pairs.{AreTold, IsFileAsked, IsFileFault, IsPairCut, IsRankFault, IsTargetFault, IsTold};
@@ -68,6 +68,7 @@ pub fn run_conflicts<'a, S: Store, W: Output, O: Observer>(
     ensures decided { IfOk result (λ answer. answer.all_decided ≡ true → ask.entry.only ≡ None → Decided table.now) }
     ensures writes { OnOk result (W.failed out.new ≡ false) }
     ensures stops { IfErr result (λ fault. StopsPairs S.Writer.failed fault ask.entry table.now (W.failed out.new) (W.written out.old) (W.written out.new)) }
+    ensures unmade { IfErr result (IsUnmade (S.held store.now)) }
     ensures untouched { IfErr result (λ fault. IsBeforeSearch fault → out.new ≡ out.old) }
     ensures observed { O.becomes observer.old observer.new }
 {
@@ -82,6 +83,7 @@ pub(crate) fn make_targets<'a, S: Store>(
 ) -> Result<Option<S::Writer>, PairsFault<'a>>
     ensures made { IfOk result (IsFileAsked S.name_of S.Writer.written S.Writer.failed (S.held store.now) ask.entry.priorities) }
     ensures faults { IfErr result (λ fault. IsTargetFault fault ask.entry) }
+    ensures unmade { IfErr result (IsUnmade (S.held store.now)) }
 {
     if let Some(folder) = ask.files {
         if !store.make_folder(folder) {
@@ -113,6 +115,7 @@ pub(crate) fn answer_pairs<'a, S: Store, W: Output, O: Observer>(
     ensures decided { IfOk result (λ answer. answer.all_decided ≡ true → ask.entry.only ≡ None → Decided table.now) }
     ensures writes { OnOk result (W.failed out.new ≡ false) }
     ensures stops { IfErr result (λ fault. StopsPairs S.Writer.failed fault ask.entry table.now (W.failed out.new) (W.written out.old) (W.written out.new)) }
+    ensures unmade { IfErr result (IsUnmade (S.held store.now)) }
     ensures searched { IfErr result (λ fault. ¬ IsBeforeSearch fault) }
     ensures observed { O.becomes observer.old observer.new }
 {
@@ -178,6 +181,7 @@ fn write_pairs<'a, S: Store, W: Output, O: Observer>(
     ensures limits { IsTable table.now }
     ensures few { IfOk result (λ told. pairs_in told.counts < 2 ^ 32) }
     ensures stops { IfErr result (λ fault. StopsPairs S.Writer.failed fault ask.entry table.now (W.failed out.new) (W.written out.old) (W.written out.new)) }
+    ensures unmade { IfErr result (IsUnmade (S.held store.now)) }
     ensures searched { IfErr result (λ fault. ¬ IsBeforeSearch fault) }
     ensures observed { O.becomes observer.old observer.new }
 {
@@ -235,6 +239,7 @@ fn write_pair<'a, S: Store, W: Output>(
     ensures told { OnOk result (IsTold (IsMade S.name_of S.Writer.written S.Writer.failed (S.held store.now)) ask.entry table.now (a.0, b.0)
         told.old.counts told.new.counts told.old.notes.items told.new.notes.items (W.written out.old) (W.written out.new)) }
     ensures cut { IfErr result (λ fault. IsPairCut S.Writer.failed fault ask.entry table.now (a.0, b.0) (W.failed out.new) (W.written out.old) (W.written out.new)) }
+    ensures unmade { IfErr result (IsUnmade (S.held store.now)) }
 {
     if are_related(table, a, b) {
         return Ok(());
@@ -308,6 +313,7 @@ fn keep_witness<'a, S: Store>(
     ensures kept { OnOk result (KeepsWitness (IsMade S.name_of S.Writer.written S.Writer.failed (S.held store.now)) table.now ask.entry.files
         (a.0, b.0) (Some decision.now)) }
     ensures faults { IfErr result (λ fault. IsFileFault S.Writer.failed fault ask.entry table.now (a.0, b.0)) }
+    ensures unmade { IfErr result (IsUnmade (S.held store.now)) }
 {
     let Some(folder) = ask.files else {
         return Ok(());
@@ -343,6 +349,7 @@ fn write_forced<'a, S: Store>(
     ensures forces { IfOk result (λ refused. Forces (IsMade S.name_of S.Writer.written S.Writer.failed (S.held store.now)) table.now
         ask.entry.budget ask.entry.priorities notes.now (string_bytes refused)) }
     ensures faults { IfErr result (IsRankFault S.Writer.failed) }
+    ensures unmade { IfErr result (IsUnmade (S.held store.now)) }
 {
     let Some(mut file) = file else {
         return Ok(String::new(alloc));

@@ -63,7 +63,7 @@ pub fn run_find<S: Store, W: Output, E: Output>(
         → TellsWhy progress with_hex table.now budget (W.written out.old) (W.written out.new) (E.written err.old) (E.written err.new)) }
 
     // Each refusal; a failed read is none.
-    ensures faults { IfErr result IsFindFault }
+    ensures faults { IfErr result (IsFindFault (S.held store.now) name.now) }
     ensures write { IfErr result (λ fault. fault ≡ FileFault.Run RunError.Write → SomeWriteFailed S.Writer.failed (W.failed out.new)) }
     ensures untouched { IfErr result (λ fault. fault ≢ FileFault.Run RunError.Write → out.new ≡ out.old) }
     ensures whole { IfErr result (λ fault. W.failed out.new ≡ false → out.new ≡ out.old) }
@@ -193,7 +193,7 @@ fn write_answer<S: Store, W: Output>(
     ensures made { OnOk result (IfSome (found_bytes found.now) (IsMade S.name_of S.Writer.written S.Writer.failed (S.held store.now) name.now)) }
     ensures lines { OnOk result (Adds (W.written out.old) (found_text with_hex table.now found.now) (W.written out.new)) }
     ensures writes { OnOk result (W.failed out.new ≡ false) }
-    ensures faults { IfErr result IsFindFault }
+    ensures faults { IfErr result (IsFindFault (S.held store.now) name.now) }
     ensures write { IfErr result (λ fault. fault ≡ FileFault.Run RunError.Write → SomeWriteFailed S.Writer.failed (W.failed out.new)) }
     ensures untouched { IfErr result (λ fault. fault ≢ FileFault.Run RunError.Write → out.new ≡ out.old) }
     ensures whole { IfErr result (λ fault. W.failed out.new ≡ false → out.new ≡ out.old) }

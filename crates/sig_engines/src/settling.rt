@@ -2,7 +2,7 @@
 //! pairs that are not in the priority file.
 
 ghost use Rattle.std.specs.Prelude.{◌≡◌, ◌⊎◌, None, false, true, IfErr, IfOk, OnOk, string_bytes};
-ghost use Rattle.sig_engines.specs.Conflicts.{AddsConflicts, IsBeforeSearch, Settles, StopsPairs};
+ghost use Rattle.sig_engines.specs.Conflicts.{AddsConflicts, IsBeforeSearch, IsUnmade, Settles, StopsPairs};
 ghost use Rattle.sig_engines.specs.Pairs.{IsFileAsked};
 ghost use Rattle.sig_engines.specs.Progress.{ShowsIf};
 ghost use Rattle.sig_engines.specs.Stores.{IsMade};
@@ -36,6 +36,7 @@ pub fn settle<'a, S: Store, W: Output, E: Output>(
     ensures decided { IfOk result (λ is_yes. is_yes ≡ true → ask.entry.only ≡ None → Decided table.now) }
     ensures writes { OnOk result (W.failed out.new ≡ false) }
     ensures stops { IfErr result (λ fault. StopsPairs S.Writer.failed fault ask.entry table.now (W.failed out.new) (W.written out.old) (W.written out.new)) }
+    ensures unmade { IfErr result (IsUnmade (S.held store.now)) }
     ensures untouched { IfErr result (λ fault. IsBeforeSearch fault → out.new ≡ out.old) }
 
     // The error output: the progress alone, where no priority file is asked for, and before a
@@ -69,6 +70,7 @@ fn search<'a, S: Store, W: Output, E: Output>(
     ensures decided { IfOk result (λ answer. answer.all_decided ≡ true → ask.entry.only ≡ None → Decided table.now) }
     ensures writes { OnOk result (W.failed out.new ≡ false) }
     ensures stops { IfErr result (λ fault. StopsPairs S.Writer.failed fault ask.entry table.now (W.failed out.new) (W.written out.old) (W.written out.new)) }
+    ensures unmade { IfErr result (IsUnmade (S.held store.now)) }
     ensures searched { IfErr result (λ fault. ¬ IsBeforeSearch fault) }
     ensures shown { ShowsIf progress Things.Pairs (E.failed err.new) err.old err.new (E.written err.old) (E.written err.new) }
 {

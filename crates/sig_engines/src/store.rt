@@ -6,11 +6,11 @@
 //! to a file that was made is not part of it.
 //!
 //! The files of the system tell nothing. A folder opens there, and its first read fails, so the
-//! program's line is `read failed`. No clause says when a store refuses a name, nor that
-//! `SystemFiles` ever opens or makes a file: `.ci/program` shows that it does.
+//! program's line is `read failed`. No clause says that `SystemFiles` ever opens or makes a file, nor
+//! that one that is made has its name and is emptied: `.ci/program` and `bench/limits.py` show it.
 
 ghost use Rattle.std.specs.Prelude.{◌≡◌, ◌≢◌, ℕ, false, IfErr, IfOk, IfSome, List, map, None, Option, option_map, true};
-ghost use Rattle.sig_engines.specs.Stores.{GivesInput, HasFolder, Holding, IsNamed, IsUnlisted, LacksFolder, Lists, Makes, Opens, item_of};
+ghost use Rattle.sig_engines.specs.Stores.{CannotMake, GivesInput, HasFolder, Holding, IsNamed, IsUnlisted, LacksFolder, Lists, Makes, Opens, item_of};
 
 use crate::error::{FileFault, RunError};
 use either::Either;
@@ -44,7 +44,8 @@ pub trait Store {
     fn create(&self, name: &str) -> Option<Self::Writer>
         ensures named { IfSome result (λ file. IsNamed (name_of file) name.now) }
         ensures makes { IfSome result (λ file. Makes (held self.now) (Self.Writer.written file)) }
-        ensures fresh { IfSome result (λ file. Self.Writer.failed file ≡ false) };
+        ensures fresh { IfSome result (λ file. Self.Writer.failed file ≡ false) }
+        ensures refused { result ≡ None → CannotMake (held self.now) name.now };
 
     /// Standard input, from where it is read next.
     fn standard_input(&self) -> Self::Reader
@@ -63,7 +64,8 @@ pub trait Store {
 
     /// Makes a folder of this name, and those that it lies in, where they are missing. Answers
     /// whether it is there.
-    fn make_folder(&self, name: &str) -> bool;
+    fn make_folder(&self, name: &str) -> bool
+        ensures refused { result ≡ false → CannotMake (held self.now) name.now };
 }
 
 /// What stands in a folder.
