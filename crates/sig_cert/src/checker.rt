@@ -4,6 +4,7 @@
 //! The first fault ends the pass. Nothing of a table is kept when the next one is judged.
 
 ghost use Rattle.std.specs.Prelude.{◌≡◌, ◌⊎◌, ◌↔◌, ◌<◌, ◌≤◌, if◌then◌else◌, IsErrOf, IsTrue, MatchOption, MatchResult, OnOk, length, []};
+ghost use Rattle.sig_cert.specs.Closed.{Closed};
 ghost use Rattle.sig_cert.specs.Deciding.{Decided};
 ghost use Rattle.sig_cert.specs.Layouts.{version_byte};
 ghost use Rattle.sig_cert.specs.Growing.{CountPassed, HasOpenPair, IsOpenPair, MayGrow, VersionPassed};
@@ -24,6 +25,7 @@ use std::alloc::Global;
 pub fn check(alloc: Global, table: &Table, certificate: &[u8]) -> Result<(), CheckError>
     ensures first_fault { IsErrOf result CheckError.OutOfMemory ⊎ Verdict table.now certificate.now result }
     ensures memory { IsErrOf result CheckError.OutOfMemory → MayGrow table.now certificate.now }
+    ensures closed { OnOk result (Closed table.now certificate.now) }
     ensures decided { OnOk result (Decided table.now) }
 {
     // Called for its clause: a table is within its limits.
