@@ -108,7 +108,14 @@ fn judge_pairs(
     let formats = table.format_count() as u16;
     for i in 0..formats {
         for j in i + 1..formats {
-            judge_pair(alloc, table, version, pair, FormatId(i), FormatId(j), view)?;
+            judge_pair(
+                alloc,
+                table,
+                version,
+                pair,
+                (FormatId(i), FormatId(j)),
+                view,
+            )?;
             pair += 1;
         }
     }
@@ -124,15 +131,14 @@ fn judge_pair(
     table: &Table,
     version: Version,
     pair: u32,
-    a: FormatId,
-    b: FormatId,
+    formats: (FormatId, FormatId),
     view: &mut CertView<'_>,
 ) -> Result<(), CheckError>
     requires { length table.now.signatures ≤ 4000 }
-    ensures judged { Judges (PairJudged version table.now pair (a.0, b.0)) view.old view.new result }
-    ensures memory { IsErrOf result CheckError.OutOfMemory → IsOpenPair table.now (a.0, b.0) }
+    ensures judged { Judges (PairJudged version table.now pair (formats.0.0, formats.1.0)) view.old view.new result }
+    ensures memory { IsErrOf result CheckError.OutOfMemory → IsOpenPair table.now (formats.0.0, formats.1.0) }
 {
-    let related = are_related(table, a, b);
+    let related = are_related(table, formats.0, formats.1);
     let kind = field(view, 1)?;
     if kind[0] != kind_of(related) {
         return Err(CheckError::Kind { pair });
@@ -140,7 +146,7 @@ fn judge_pair(
     if related {
         Ok(())
     } else {
-        judge_tables(alloc, table, version, pair, a, b, view)
+        judge_tables(alloc, table, version, pair, formats, view)
     }
 }
 
@@ -162,19 +168,18 @@ fn judge_tables(
     table: &Table,
     version: Version,
     pair: u32,
-    a: FormatId,
-    b: FormatId,
+    formats: (FormatId, FormatId),
     view: &mut CertView<'_>,
 ) -> Result<(), CheckError>
     requires { length table.now.signatures ≤ 4000 }
-    ensures judged { Judges (TablesJudged version table.now pair 0 (signature_pairs table.now (a.0, b.0))) view.old view.new result }
-    ensures first { IsErrOf result CheckError.OutOfMemory → 0 < length (signatures_of table.now a.0) }
-    ensures second { IsErrOf result CheckError.OutOfMemory → 0 < length (signatures_of table.now b.0) }
+    ensures judged { Judges (TablesJudged version table.now pair 0 (signature_pairs table.now (formats.0.0, formats.1.0))) view.old view.new result }
+    ensures first { IsErrOf result CheckError.OutOfMemory → 0 < length (signatures_of table.now formats.0.0) }
+    ensures second { IsErrOf result CheckError.OutOfMemory → 0 < length (signatures_of table.now formats.1.0) }
 {
     let mut at = Site { pair, table: 0 };
-    for s in table.signatures_of(a) {
-        for t in table.signatures_of(b) {
-            judge_table(alloc, table, version, s, t, at, view)?;
+    for s in table.signatures_of(formats.0) {
+        for t in table.signatures_of(formats.1) {
+            judge_table(alloc, table, version, (s, t), at, view)?;
             at.table += 1;
         }
     }

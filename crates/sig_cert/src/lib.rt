@@ -10,6 +10,7 @@ mod checker;
 mod closed;
 mod error;
 mod fields;
+mod key;
 mod laws;
 mod rows;
 mod search;
