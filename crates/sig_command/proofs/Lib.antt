@@ -3,6 +3,7 @@ pub mod BudgetLemmas
 pub mod EndLemmas
 pub mod FindLemmas
 mod FlagLemmas
+mod LineLemmas
 pub mod OnceLemmas
 mod PairsLemmas
 pub mod RequestLemmas

@@ -1,13 +1,12 @@
 -- What is written of many files.
 use Rattle.std.proofs.Common.{◌≡◌, ◌≢◌, ◌⊎◌, ◌∙◌, ℕ, List, [], ◌∷◌, ◌++◌, Bool, None, Option, Some, Ok, Err, Result, IfErr, IfOk, OnOk, ap, false, inl, inr, true, map, refl, subst, sym}
-use Rattle.std.specs.Prelude.{All, is_ok, option_map, ◌&&◌, ◌||◌, ⊤}
+use Rattle.std.specs.Prelude.{All, is_ok, option_map, ◌&&◌, ◌||◌}
 use Rattle.std.specs.Borrow.{Bor}
 use Rattle.std.proofs.lemmas.Bool.{false≢true}
 use Rattle.std.proofs.lemmas.List.{append-nil}
 use Rattle.std.proofs.lemmas.List.Elements.{All-cons, All-head, All-nil, All-tail}
 use Rattle.sig_bits.specs.Device.{Adds}
 use Rattle.sig_table.specs.Views.{TableView}
-use Rattle.sig_engines.specs.FileTexts.{head_text}
 use Rattle.sig_engines.specs.FormatNames.{NameList}
 use Rattle.sig_engines.specs.Listed.{AreListed}
 use Rattle.sig_engines.specs.ManyFiles.{AddsAll, AreListedVisits, CutsAll, IsPrinted, IsPrintedBy, StopsAll, Printed, PrintedFile, is_whole, out_text, out_texts, run_text, visits_of}
@@ -20,8 +19,8 @@ use Rattle.sig_engines.specs.declared.error.RunError.TheVariants.{OutOfMemory, R
 use Rattle.sig_engines.specs.declared.store.TablePaths.{TablePaths}
 use Rattle.sig_command.proofs.StoreLemmas.{has_opened, lacks_unopened, opened}
 use Rattle.sig_command.specs.Faults.{TellsWrite}
-use Rattle.sig_command.specs.Requests.{Answers, AreNamesOf, AsksEach, CutsMany, IsBeforeRun, IsCutRequest, IsFaultOf, IsFolderFault, IsListFault, IsLoadFault, IsNamesFaultOf, IsRunFault, Joins, KeepsOrCuts, OfTable, Shows, ShowsAsked, TellsMany, TellsOf, TellsRun, answer_of}
-use Rattle.sig_command.specs.Several.{AddsLinesOfEach, AddsTold, AreLinesAt, AreListedIn, AreNamed, AreTexts, AreVisitsOf, IsAnswered, IsList, TellsOfEach}
+use Rattle.sig_command.specs.Requests.{Answers, AreNamesOf, AsksEach, CutsMany, IsBeforeRun, IsCutRequest, IsFaultOf, IsFolderFault, IsListFault, IsLoadFault, IsNamesFaultOf, IsRunFault, Joins, KeepsOrCuts, Shows, ShowsAsked, TellsMany, TellsOf, TellsRun, answer_of}
+use Rattle.sig_command.specs.Several.{AddsLinesOfEach, AddsTold, AreLinesAt, AreListedIn, AreTexts, AreVisitsOf, IsAnswered, IsList, TellsOfEach}
 use Rattle.sig_command.specs.declared.args.FileNames.{FileNames}
 use Rattle.sig_command.specs.declared.args.FileNames.TheVariants.{Input, Words}
 use Rattle.sig_command.specs.declared.args.FileNames.TheVariants as source

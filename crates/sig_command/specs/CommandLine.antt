@@ -66,12 +66,20 @@ named name value = record (new_rule value) { long = Some name }
 abbrev pub null_rule : Rule
 null_rule = record (given (codes "null")) { short = Some 48 }
 
+-- the words of `match` for one file and for several
+abbrev pub files_command : Bool → App
+files_command has_priorities =
+    with_rule (with_rule (with_rule (with_rule (of_table has_priorities (new_app (codes "match"))) (several (codes "FILE"))) (given (codes "all"))) (given (codes "with-names"))) (given (codes "csv"))
+
+-- and those for many files
+abbrev pub of_many : App → App
+of_many app =
+    let with_list = with_rule (with_rule (with_rule (with_rule app (named (codes "names") (codes "FORMATS"))) (given (codes "recursive"))) (named (codes "files-from") (codes "NAMES"))) null_rule in
+    with_rule (with_rule with_list (given (codes "progress"))) (given (codes "summary"))
+
 -- `match [--all] [--with-names] [--csv] [--names FORMATS] [--recursive] [--files-from NAMES [-0]] [--progress] [--summary] SIGS PRIOS [FILE..]`
 abbrev pub match_command : Bool → App
-match_command has_priorities =
-    let of_files = with_rule (with_rule (with_rule (with_rule (of_table has_priorities (new_app (codes "match"))) (several (codes "FILE"))) (given (codes "all"))) (given (codes "with-names"))) (given (codes "csv")) in
-    let with_list = with_rule (with_rule (with_rule (with_rule of_files (named (codes "names") (codes "FORMATS"))) (given (codes "recursive"))) (named (codes "files-from") (codes "NAMES"))) null_rule in
-    with_rule (with_rule with_list (given (codes "progress"))) (given (codes "summary"))
+match_command has_priorities = of_many (files_command has_priorities)
 
 -- `--budget N`, of a number from 1 to 4,294,967,295, and of 100,000 where it is left out
 abbrev pub budget_rule : Rule

@@ -12,7 +12,7 @@ ghost use Rattle.clap.specs.Values.{kind_of};
 ghost use Rattle.clap.specs.Matches.{found_of};
 ghost use Rattle.clap.specs.declared.Command.TheViews.{out-Command as fields_of};
 ghost use Rattle.clap.specs.Words.{all_of, app_of, first_of, new_rule, one_of, rows_of, rule_of, subcommand_rows_of};
-ghost use Rattle.sig_command.specs.CommandLine.{AreTaken, Asks, HasFaultKind, HasFlag, HasNoFiles, IsHelpAsked, IsLine, NamesEach, NamesOptions, NamesTable, asking, budget_rule, check_command, conflicts_command, dead_command, fault_of_words, find_command, given, is_named, lint_command, list_names, match_command, name_end, named, names_priorities, null_rule, of_table, out_rule, program_of, several, show_command, subcommand_of_words, texts_of, wanted, witness_command};
+ghost use Rattle.sig_command.specs.CommandLine.{AreTaken, Asks, HasFaultKind, HasFlag, HasNoFiles, IsHelpAsked, IsLine, NamesEach, NamesOptions, NamesTable, asking, budget_rule, check_command, conflicts_command, dead_command, fault_of_words, files_command, find_command, given, is_named, lint_command, list_names, match_command, name_end, named, names_priorities, null_rule, of_many, of_table, out_rule, program_of, several, show_command, subcommand_of_words, texts_of, wanted, witness_command};
 
 use crate::help::{
     CHECK_HELP, CONFLICTS_HELP, DEAD_HELP, FIND_HELP, LINT_HELP, MATCH_HELP, SHOW_HELP,
@@ -221,13 +221,35 @@ fn match_line<'a>(alloc: Global, has_priorities: bool) -> Result<Command<'a>, Er
     ensures line { IfOk result (IsLine (match_command has_priorities)) }
     ensures memory { IfErr result (λ e. kind_of e ≡ ErrorKind.OutOfMemory) }
 {
+    let line = files_line(alloc, has_priorities)?;
+    with_many_args(alloc, line)
+}
+
+// The words of `match` for one file and for several. All of them in one frame take more stack than any
+// other part of the program.
+#[inline(never)]
+fn files_line<'a>(alloc: Global, has_priorities: bool) -> Result<Command<'a>, Error>
+    ensures line { IfOk result (IsLine (files_command has_priorities)) }
+    ensures memory { IfErr result (λ e. kind_of e ≡ ErrorKind.OutOfMemory) }
+{
     let line = with_table_args(alloc, Command::new(alloc, "match"), has_priorities)?
         .about("Print the formats that match each file, after priorities")
         .after_help(MATCH_HELP)
         .arg(several(alloc, "FILE").help("The files to identify"))?
         .arg(flag(alloc, "all").help("Print all formats that match, before priorities"))?
         .arg(flag(alloc, "with-names").help("Print the file's name also for one FILE"))?
-        .arg(flag(alloc, "csv").help("Print records of CSV, with the files' names"))?
+        .arg(flag(alloc, "csv").help("Print records of CSV, with the files' names"))?;
+    Ok(line)
+}
+
+// The words of `match` for many files.
+#[inline(never)]
+fn with_many_args<'a>(alloc: Global, command: Command<'a>) -> Result<Command<'a>, Error>
+    ensures app { IfOk result (λ r. app_of r ≡ of_many (app_of command.entry)) }
+    ensures local { IfOk result (λ r. (fields_of r).has_globals ≡ (fields_of command.entry).has_globals) }
+    ensures memory { IfErr result (λ e. kind_of e ≡ ErrorKind.OutOfMemory) }
+{
+    let command = command
         .arg(option(alloc, "names", "FORMATS").help(
             "Print the names of formats from this CSV file",
         ))?
@@ -238,7 +260,7 @@ fn match_line<'a>(alloc: Global, has_priorities: bool) -> Result<Command<'a>, Er
         .arg(null(alloc).help("The names in NAMES are ended by NUL"))?
         .arg(flag(alloc, "progress").help("Report on standard error how many files are done"))?
         .arg(flag(alloc, "summary").help("Count the files on standard error at the end"))?;
-    Ok(line)
+    Ok(command)
 }
 
 // `find [--budget N] --out OUT [--hex] [--progress] SIGS PRIOS`

@@ -1,10 +1,10 @@
 -- What waits for its turn while a folder is gone through.
-use Rattle.std.proofs.Common.{◌≡◌, ◌⊎◌, ◌<◌, ◌≤◌, ◌+◌, ◌-◌, ◌*◌, ◌^◌, ℕ, zero, suc, List, [], ◌∷◌, ◌++◌, None, Option, Some, ap, append_assoc, arith, inl, inr, length, map, refl, subst, sym, ◌∙◌}
+use Rattle.std.proofs.Common.{◌≡◌, ◌<◌, ◌+◌, ◌-◌, ◌*◌, ◌^◌, ℕ, zero, suc, List, [], ◌∷◌, ◌++◌, ap, append_assoc, arith, inl, inr, length, map, refl, subst, sym, ◌∙◌}
 use Rattle.std.specs.Prelude.{reverse}
 use Rattle.std.proofs.lemmas.Grind.{reverse_onto}
 use Rattle.std.proofs.lemmas.List.{append-nil, reverse-append, reverse-reverse}
 use Rattle.std.proofs.lemmas.Nat.{mul-le}
-use Rattle.sig_engines.specs.Stores.{Holding, IsUnlisted, Item, Lists, item_of}
+use Rattle.sig_engines.specs.Stores.{Holding, IsUnlisted, Lists, item_of}
 use Rattle.sig_engines.specs.Visits.{AreEach, AreIn, AreMet, AreOfKind, IsOne, Visit, to_match, to_tell}
 use Rattle.sig_engines.specs.Waiting.{AreMetOf, Covers, Leads, Pushes, waiting_in, worth, worth_of}
 use Rattle.sig_engines.specs.declared.error.FileFault.{FileFault}

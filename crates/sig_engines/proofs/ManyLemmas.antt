@@ -1,5 +1,5 @@
 -- What is printed of files, one after another.
-use Rattle.std.proofs.Common.{◌≡◌, ◌⊎◌, ℕ, zero, suc, List, [], ◌∷◌, ◌++◌, ◌+◌, ◌<◌, Bool, None, Option, Ok, Err, Result, IfErr, IfOk, Some, drop, false, inl, inr, true, ap, append_assoc, arith, eqb-true, get_or, length, map, refl, subst, sym, take, ◌∙◌}
+use Rattle.std.proofs.Common.{◌≡◌, ℕ, List, [], ◌∷◌, ◌++◌, ◌+◌, ◌<◌, Bool, None, Option, Ok, Err, Result, IfErr, IfOk, Some, drop, false, inl, inr, true, ap, append_assoc, arith, eqb-true, get_or, length, map, refl, subst, sym, take, ◌∙◌}
 use Rattle.std.specs.Prelude.{◌≢◌, ◌==◌, if◌then◌else◌, is_ok, is_some, ◌&&◌}
 use Rattle.std.proofs.lemmas.Grind.{flat_map-append}
 use Rattle.std.proofs.lemmas.List.{append-nil, map-append, map_more, take-append-drop}
@@ -8,12 +8,11 @@ use Rattle.sig_bits.specs.Device.{Adds, AddsFront}
 use Rattle.sig_engines.specs.FileProgress.{done_text, end_text}
 use Rattle.sig_engines.specs.FileTexts.{head_text}
 use Rattle.sig_engines.specs.ManyFiles.{AddsAll, AddsFiles, Answer, CutsAll, CutsFiles, StopsAll, StopsFiles, Printed, PrintedFile, counted, err_text, err_texts, is_whole, out_text, out_texts, run_text, summary_text, tally_of, visits_of}
-use Rattle.sig_engines.specs.Stores.{Files, Holding, IsUnlisted}
-use Rattle.sig_engines.specs.Tallies.{done_of, none_yet, plus, with_fault, with_file, with_none, with_one, with_several}
+use Rattle.sig_engines.specs.Stores.{Holding, IsUnlisted}
+use Rattle.sig_engines.specs.Tallies.{done_of, none_yet, plus, with_file, with_none, with_one, with_several}
 use Rattle.sig_engines.specs.Visits.{AreEach, AreOf, AreVisits, IsOne, Visit, to_match, to_tell}
 use Rattle.sig_engines.specs.declared.ask.MatchAsk.{MatchAsk}
 use Rattle.sig_engines.specs.declared.error.FileFault.TheVariants.{Run}
-use Rattle.sig_engines.specs.declared.error.NameFault.{NameFault}
 use Rattle.sig_engines.specs.declared.error.NameFault.TheVariants.{File, IsFolder}
 use Rattle.sig_engines.specs.declared.error.RunError.{RunError}
 use Rattle.sig_engines.specs.declared.error.RunError.TheVariants.{OutOfMemory, Write}

@@ -1,7 +1,4 @@
-use Rattle.std.proofs.Common.{Err, ap, refl, sym, ◌∙◌}
-use Rattle.std.specs.Prelude.{⊤}
-use Rattle.sig_engines.specs.ManyFiles.{AreListedVisits, IsPrinted}
-use Rattle.sig_command.proofs.SeveralLemmas.{memory_before, run_answers, run_faults, run_quiet, run_tells, run_write}
+use Rattle.sig_command.proofs.SeveralLemmas.{run_answers}
 use Rattle.sig_command.proofs.requests.match_listed.Goals as goal
 
 pub returns-clause-answers : goal.returns-clause-answers

@@ -1,4 +1,4 @@
-use Rattle.std.proofs.Common.{◌≡◌, ◌∷◌, ◌++◌, [], Err, Ok, Some, ap, arith, false, inl, refl, rules, subst, sym, ◌∙◌}
+use Rattle.std.proofs.Common.{◌≡◌, [], Err, arith, false, inl, refl, rules, subst, ◌∙◌}
 use Rattle.std.proofs.lemmas.Result.{err_from_is_err_and}
 use Rattle.sig_engines.proofs.FolderLemmas.{covers_all, covers_more, covers_then, folder_leads, leads_covers, worth_next}
 use Rattle.sig_engines.proofs.ManyLemmas.{files_as, files_cut, files_none, files_then, first_failed, one_printed}
@@ -6,7 +6,6 @@ use Rattle.sig_engines.proofs.TellingLemmas.{adds_nothing}
 use Rattle.sig_bits.specs.Device.{Adds}
 use Rattle.sig_engines.specs.FileProgress.{told_text}
 use Rattle.sig_engines.specs.ManyFiles.{IsPrinted, file_fault_line}
-use Rattle.sig_engines.specs.Stores.{item_of}
 use Rattle.sig_engines.specs.Tallies.{done_of, with_fault}
 use Rattle.sig_engines.specs.Visits.{AreIn, AreMet, IsOne, greatest_depth, to_tell}
 use Rattle.sig_engines.specs.Waiting.{AreMetOf, Covers, Leads, Pushes}

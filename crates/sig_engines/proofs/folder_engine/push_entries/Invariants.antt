@@ -1,4 +1,4 @@
-use Rattle.std.proofs.Common.{◌≡◌, ◌+◌, ◌≤◌, ◌++◌, List, map, vec_len}
+use Rattle.std.proofs.Common.{◌≡◌, ◌+◌, ◌≤◌, ◌++◌, List, map}
 use Rattle.std.specs.Prelude.{reverse}
 use Rattle.sig_engines.specs.Waiting.{waiting_in}
 use Rattle.sig_engines.specs.declared.store.Entry.{Entry}

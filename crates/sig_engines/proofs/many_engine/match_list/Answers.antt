@@ -1,6 +1,6 @@
-use Rattle.std.proofs.Common.{◌≡◌, Ok, ap, false, refl, subst, [], ◌∷◌, ◌++◌, ◌∙◌}
+use Rattle.std.proofs.Common.{Ok, ap, refl, subst, [], ◌∷◌, ◌++◌, ◌∙◌}
 use Rattle.std.proofs.lemmas.Result.{err_from_is_err_and}
-use Rattle.sig_engines.proofs.ManyLemmas.{cut_as, files_as, files_cut, files_first, files_none, files_stopped, files_then, first_failed, head_cut, some_visits, visits_more, visits_next, visits_next_more}
+use Rattle.sig_engines.proofs.ManyLemmas.{files_as, files_cut, files_first, files_none, files_stopped, files_then, first_failed, head_cut, some_visits, visits_more, visits_next, visits_next_more}
 use Rattle.sig_engines.proofs.TakenLemmas.{some_listed, takes_all, takes_first_more, takes_first_of, takes_more, takes_none}
 use Rattle.sig_engines.specs.Listed.{AreListed, TakesNames, unread_of}
 use Rattle.sig_engines.specs.ManyFiles.{AddsFiles, AreListedVisits, CutsFiles, IsPrinted}

@@ -1,4 +1,4 @@
-use Rattle.std.proofs.Common.{Err, inl, refl}
+use Rattle.std.proofs.Common.{Err, inl}
 use Rattle.sig_engines.proofs.ManyLemmas.{files_as, one_printed}
 use Rattle.sig_engines.proofs.TellingLemmas.{adds_nothing}
 use Rattle.sig_engines.specs.Visits.{AreOf, IsOne, to_match}

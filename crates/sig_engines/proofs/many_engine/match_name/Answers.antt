@@ -1,11 +1,11 @@
-use Rattle.std.proofs.Common.{◌≡◌, Err, false, inl, inr, refl, subst}
+use Rattle.std.proofs.Common.{◌≡◌, Err, false, inr, refl, subst}
 use Rattle.sig_bits.specs.Device.{Adds}
 use Rattle.sig_engines.specs.FileProgress.{told_text}
 use Rattle.sig_engines.specs.ManyFiles.{file_fault_line}
 use Rattle.sig_engines.specs.Tallies.{done_of, with_fault}
-use Rattle.sig_engines.proofs.ManyLemmas.{files_as, if_cut_as, if_files_as, one_printed}
+use Rattle.sig_engines.proofs.ManyLemmas.{files_as, one_printed}
 use Rattle.sig_engines.proofs.TellingLemmas.{adds_nothing}
-use Rattle.sig_engines.specs.Visits.{AreIn, AreMet, AreOf, IsOne, greatest_depth, to_match, to_tell}
+use Rattle.sig_engines.specs.Visits.{AreOf, IsOne, to_tell}
 use Rattle.sig_engines.specs.declared.error.NameFault.TheVariants.{IsFolder}
 use Rattle.sig_engines.proofs.many_engine.match_name.Goals as goal
 

@@ -1,4 +1,4 @@
-use Rattle.std.proofs.Common.{◌≡◌, Ok, ap, false, refl, subst, ◌∙◌}
+use Rattle.std.proofs.Common.{refl, ◌∙◌}
 use Rattle.std.proofs.lemmas.Result.{err_from_is_err_and}
 use Rattle.sig_engines.proofs.ManyLemmas.{files_none, files_off, files_on, first_failed, head_cut, some_visits}
 use Rattle.sig_engines.proofs.many_engine.match_words.Goals as goal

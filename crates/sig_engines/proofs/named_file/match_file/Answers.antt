@@ -1,4 +1,4 @@
-use Rattle.std.proofs.Common.{◌∙◌, Ok, Err, ap, false, subst, sym}
+use Rattle.std.proofs.Common.{◌∙◌, Ok, Err, ap, false, subst}
 use Rattle.std.specs.Prelude.{◌≡◌}
 use Rattle.sig_bits.specs.Device.{Adds, AddsFront}
 use Rattle.sig_engines.proofs.ManyLemmas.{one_cut, one_printed}
