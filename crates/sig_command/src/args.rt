@@ -170,7 +170,9 @@ fn names_priorities(words: &[String]) -> bool
     true
 }
 
-// All subcommands and their words, with a place for a priority file where these words name one.
+// All subcommands and their words, with a place for a priority file where these words name one. They
+// stand in a frame of their own, which is gone when the words are read.
+#[inline(never)]
 fn command_line<'a>(alloc: Global, words: &[String]) -> Result<Command<'a>, Error>
     ensures app { IfOk result (λ command. app_of command ≡ program_of (texts_of words.now)) }
     ensures memory { IfErr result (λ e. kind_of e ≡ ErrorKind.OutOfMemory) }
