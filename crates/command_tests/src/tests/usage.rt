@@ -75,6 +75,7 @@ const OF_FIND: &[&str] = &[
     "or a priority\n    between their formats.\n  over 64 signatures outrank S or T: see conflicts\n",
     "A priority between the formats\n    of S and T settles it; fewer",
     "may, too.\n\nStatuses:\n  0  ",
+    "\n  1  the search gave up\n  2  usage error, or the table is refused\n",
     "  --budget <N>     States that one search may visit [default: 100000]\n",
     "Also print the bytes of OUT in hexadecimal\n",
 ];

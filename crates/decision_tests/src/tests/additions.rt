@@ -1,3 +1,6 @@
+//! One pair of priorities more: safe, without effect, or the end of a format. On small tables
+//! worked out by hand, such as three formats of which two together have the files of the third.
+
 use crate::tests::finding::table;
 use sig_find::{Addition, try_addition};
 use sig_table::{FormatId, Ranking, Table};

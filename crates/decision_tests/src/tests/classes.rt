@@ -1,3 +1,6 @@
+//! The class of two formats: which of the two must have priority, or neither, or either. On small
+//! tables worked out by hand.
+
 use crate::tests::finding::table;
 use sig_find::{PairClass, class_of_pair, lives_of_table};
 use sig_table::{FormatId, Table};

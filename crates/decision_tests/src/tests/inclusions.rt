@@ -1,3 +1,6 @@
+//! Whether each file of one signature is one of some others. On three signatures worked out by
+//! hand.
+
 use crate::tests::finding::table;
 use sig_find::{Inclusion, decide_inclusion};
 use sig_table::{SigId, Table};

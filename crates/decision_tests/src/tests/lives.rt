@@ -1,3 +1,6 @@
+//! Whether a format, and each of its signatures, is reported for some file, and the shortest one.
+//! Up to the greatest number of signatures above one.
+
 use crate::tests::finding::table;
 use sig_find::{Fate, Life, SignatureLife, decide_format, decide_signature};
 use sig_table::{FormatId, SigId, Table};

@@ -1,3 +1,6 @@
+//! Texts of expressions: the first fault of each, the items of those that have none, and their
+//! shortest spelling. Up to the greatest length.
+
 use sig_bits::FromWrite;
 use sig_expr::ExprError::{
     BracketTooLong, ClassEmpty, GapEmpty, GapNumber, GapOrder, RangeLength, RangeOrder, Syntax,
