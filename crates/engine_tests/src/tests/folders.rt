@@ -72,14 +72,17 @@ const LOWER: Folder = Folder {
     ],
 };
 
-const PLAIN: MatchAsk<'static> = MatchAsk {
-    all: false,
-    csv: false,
-    names: None,
-    recursive: false,
-    progress: false,
-    summary: false,
-};
+// What is asked of each file: its line.
+fn asked<'n>(recursive: bool) -> MatchAsk<'n> {
+    MatchAsk {
+        all: false,
+        csv: false,
+        names: None,
+        recursive,
+        progress: false,
+        summary: false,
+    }
+}
 
 // The names, whether folders are gone through, whether nothing has a fault, the lines, and those of
 // the faults.
@@ -132,13 +135,13 @@ fn memory(rt: &HostRuntime) -> Memory {
 fn is_gone<S: Store>(rt: &HostRuntime, store: &S, row: &Gone) -> Result<bool, Fail> {
     let Gone(names, recursive, is_whole, lines, faults) = *row;
     let core = WholeCore::new(rt.alloc(), table_of(rt, ONE.0, ONE.1)?);
-    let ask = MatchAsk { recursive, ..PLAIN };
+    let ask = asked(recursive);
     let mut out = FromWrite::new(Vec::new(rt.alloc()));
     let mut err = FromWrite::new(Vec::new(rt.alloc()));
     let answer = run_match_many(
         &MatchRun {
             alloc: rt.alloc(),
-            store: store,
+            store,
             core: &core,
             ask,
         },
@@ -185,18 +188,15 @@ fn a_folder_that_is_not_read_has_a_line(rt: HostRuntime) -> Result<(), Fail> {
 #[test]
 fn a_failed_write_ends_the_run_in_a_folder(rt: HostRuntime) -> Result<(), Fail> {
     let core = WholeCore::new(rt.alloc(), table_of(&rt, ONE.0, ONE.1)?);
-    let ask = MatchAsk {
-        recursive: true,
-        ..PLAIN
-    };
+    let store = memory(&rt);
     let mut out = Room::of(15);
     let mut err = FromWrite::new(Vec::new(rt.alloc()));
     let answer = run_match_many(
         &MatchRun {
             alloc: rt.alloc(),
-            store: &memory(&rt),
+            store: &store,
             core: &core,
-            ask,
+            ask: asked(true),
         },
         &["up", "c"],
         &mut out,

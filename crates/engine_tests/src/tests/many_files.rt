@@ -37,7 +37,7 @@ struct Nameless {
 }
 
 impl Nameless {
-    fn ask(self) -> MatchAsk<'static> {
+    fn ask<'n>(self) -> MatchAsk<'n> {
         MatchAsk {
             all: self.all,
             csv: self.csv,
@@ -130,8 +130,8 @@ fn is_run<S: Store, K: DroidCore>(rt: &HostRuntime, store: &S, core: &K, row: &P
     let answer = run_match_many(
         &MatchRun {
             alloc: rt.alloc(),
-            store: store,
-            core: core,
+            store,
+            core,
             ask: asked.ask(),
         },
         names,
@@ -206,7 +206,7 @@ fn ends_at_a_write(rt: &HostRuntime, core: &WholeCore, faults: &[u8]) -> bool {
         &MatchRun {
             alloc: rt.alloc(),
             store: FAILING,
-            core: core,
+            core,
             ask: LEFT.ask(),
         },
         NAMES,
@@ -232,7 +232,7 @@ fn goes_on_untold(rt: &HostRuntime, core: &WholeCore, lines: &[u8]) -> bool {
         &MatchRun {
             alloc: rt.alloc(),
             store: FAILING,
-            core: core,
+            core,
             ask: LEFT.ask(),
         },
         NAMES,
@@ -347,7 +347,7 @@ fn is_listed<I: Input + Drop>(
         &MatchRun {
             alloc: rt.alloc(),
             store: &store,
-            core: core,
+            core,
             ask: asked.ask(),
         },
         &mut list,

@@ -29,14 +29,14 @@ const EMPTY: Named = Named {
 
 // What is asked, before priorities or behind them.
 #[derive(Clone, Copy)]
-struct Told {
+struct Asked {
     all: bool,
     progress: bool,
     summary: bool,
 }
 
-impl Told {
-    fn ask(self) -> MatchAsk<'static> {
+impl Asked {
+    fn ask<'n>(self) -> MatchAsk<'n> {
         MatchAsk {
             all: self.all,
             csv: false,
@@ -48,25 +48,25 @@ impl Told {
     }
 }
 
-const COUNTED: Told = Told {
+const COUNTED: Asked = Asked {
     all: false,
     progress: false,
     summary: true,
 };
 
-const ALL_COUNTED: Told = Told {
+const ALL_COUNTED: Asked = Asked {
     all: true,
     progress: false,
     summary: true,
 };
 
-const REPORTED: Told = Told {
+const REPORTED: Asked = Asked {
     all: false,
     progress: true,
     summary: false,
 };
 
-const BOTH: Told = Told {
+const BOTH: Asked = Asked {
     all: false,
     progress: true,
     summary: true,
@@ -74,7 +74,7 @@ const BOTH: Told = Told {
 
 // The names of files, what is asked of them, whether no file has a fault, and what is told.
 #[derive(Clone, Copy)]
-struct Row(&'static [&'static str], Told, bool, &'static str);
+struct Row(&'static [&'static str], Asked, bool, &'static str);
 
 const ROWS: &[Row] = &[
     Row(
@@ -131,7 +131,7 @@ fn told<S: Store, W: Output>(
     rt: &HostRuntime,
     store: &S,
     names: &[&str],
-    asked: Told,
+    asked: Asked,
     out: &mut W,
 ) -> Result<(Result<bool, RunError>, Vec<u8>), Fail> {
     let core = core_below(rt)?;
