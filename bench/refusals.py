@@ -257,7 +257,7 @@ FILES = ("file", "other")
 # Command lines that open nothing, or nothing that is there, with their status.
 LINES = [(["--version"], 0), (["--help"], 0), (["find", "--help"], 0), (["conflicts", "--help"], 0), (["dead", "--help"], 0), ([], 2), (["nothing"], 2),
          (["match", "none"], 2), (["find", "--budget", "0", "--out", "out", "none", "none"], 2), (["find", "none", "none"], 2),
-         (["match", "none", "none", "none"], 3), (["match", "--with-names", "none", "none", "none"], 3), (["dead", "none", "none"], 3), (["dead", "--no-priorities", "none"], 3)]
+         (["match", "none", "none", "none"], 3), (["match", "--with-names", "none", "none", "none"], 3), (["match", "--summary", "--progress", "none", "none", "none"], 3), (["dead", "none", "none"], 3), (["dead", "--no-priorities", "none"], 3)]
 
 
 class Program:
