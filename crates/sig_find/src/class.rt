@@ -19,6 +19,7 @@ use crate::decision::first_that_hits;
 use crate::inclusion::{Inclusion, decide_inclusion};
 use crate::life::{Life, SignatureLife};
 use crate::lives::TableLives;
+use crate::task::PairTask;
 use sig_product::all_blockers;
 use sig_table::{FormatId, SigId, Table};
 use std::alloc::{AllocError, Global};
@@ -110,11 +111,12 @@ fn contain_format(
     requires { AreLives table.now budget a.0 lives.now }
     ensures { IfOk result (IsContainment table.now budget a.0 b.0) }
 {
+    let task = PairTask { a, b, budget };
     let others = signatures_in(alloc, table, b)?;
-    if some_file_stands_alone(alloc, table, lives, a, b, budget, &others)? {
+    if some_file_stands_alone(alloc, table, lives, task, &others)? {
         Ok(Containment::Alone)
     } else {
-        contain_each(alloc, table, lives, a, b, budget, &others)
+        contain_each(alloc, table, lives, task, &others)
     }
 }
 
@@ -139,14 +141,12 @@ fn some_file_stands_alone(
     alloc: Global,
     table: &Table,
     lives: &[SignatureLife],
-    a: FormatId,
-    b: FormatId,
-    budget: u32,
+    task: PairTask,
     others: &[SigId],
 ) -> Result<bool, AllocError>
-    requires lives { AreLives table.now budget a.0 lives.now }
-    requires others { others.now ≡ places_of b.0 0 table.now.signatures }
-    ensures { IfOk result (λ alone. IsTrue alone → StandsAlone table.now a.0 b.0) }
+    requires lives { AreLives table.now task.budget task.a.0 lives.now }
+    requires others { others.now ≡ places_of task.b.0 0 table.now.signatures }
+    ensures { IfOk result (λ alone. IsTrue alone → StandsAlone table.now task.a.0 task.b.0) }
 {
     for own in lives {
         if let Life::Alive(file) = &own.life {
@@ -163,18 +163,16 @@ fn contain_each(
     alloc: Global,
     table: &Table,
     lives: &[SignatureLife],
-    a: FormatId,
-    b: FormatId,
-    budget: u32,
+    task: PairTask,
     others: &[SigId],
 ) -> Result<Containment, AllocError>
-    requires lives { AreLives table.now budget a.0 lives.now }
-    requires others { others.now ≡ places_of b.0 0 table.now.signatures }
-    ensures { IfOk result (IsContainment table.now budget a.0 b.0) }
+    requires lives { AreLives table.now task.budget task.a.0 lives.now }
+    requires others { others.now ≡ places_of task.b.0 0 table.now.signatures }
+    ensures { IfOk result (IsContainment table.now task.budget task.a.0 task.b.0) }
 {
     let mut open = false;
     for own in lives {
-        match contain_signature(alloc, table, own, a, b, budget, others)? {
+        match contain_signature(alloc, table, own, task, others)? {
             Containment::Contained => {}
             Containment::Alone => return Ok(Containment::Alone),
             Containment::Open => open = true,
@@ -192,15 +190,13 @@ fn contain_signature(
     alloc: Global,
     table: &Table,
     own: &SignatureLife,
-    a: FormatId,
-    b: FormatId,
-    budget: u32,
+    task: PairTask,
     others: &[SigId],
 ) -> Result<Containment, AllocError>
-    requires of { IsOfFormat table.now a.0 own.now.signature.0 }
-    requires life { IsLifeOf table.now budget a.0 own.now.signature.0 own.now.life }
-    requires others { others.now ≡ places_of b.0 0 table.now.signatures }
-    ensures { IfOk result (IsContainmentOf table.now budget a.0 b.0 own.now.signature.0) }
+    requires of { IsOfFormat table.now task.a.0 own.now.signature.0 }
+    requires life { IsLifeOf table.now task.budget task.a.0 own.now.signature.0 own.now.life }
+    requires others { others.now ≡ places_of task.b.0 0 table.now.signatures }
+    ensures { IfOk result (IsContainmentOf table.now task.budget task.a.0 task.b.0 own.now.signature.0) }
 {
     if let Life::Dead = &own.life {
         return Ok(Containment::Contained);
@@ -209,7 +205,7 @@ fn contain_signature(
     let _signatures = table.signature_count();
     let s = own.signature;
     let takers = takers_of(alloc, table, s, others)?;
-    match decide_inclusion(alloc, table, s, &takers, budget)? {
+    match decide_inclusion(alloc, table, s, &takers, task.budget)? {
         Inclusion::Included => Ok(Containment::Contained),
         Inclusion::Counterexample(_) => Ok(Containment::Alone),
         Inclusion::Unknown => Ok(Containment::Open),

@@ -24,6 +24,7 @@ mod pair;
 mod search;
 mod simple;
 mod tally;
+mod task;
 mod writer;
 
 pub use addition::{Addition, try_addition};
