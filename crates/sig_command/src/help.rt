@@ -57,8 +57,9 @@ record in that name. FORMATS is a CSV file with the header puid,name.
 
 With --progress standard error shows how many files are done, and with
 --summary its last line counts them, and the bytes that were read:
-  files F identified .. several .. none .. failed .. bytes ..
-The first is how many files left one format, the next how many left more.
+  files F identified I several S none N failed E bytes B
+I files left one format, S more than one and N none, and E have a fault. With
+--all the formats before priorities are counted.
 
 With these five the file's name is printed also if there is only one FILE.
 

@@ -61,7 +61,7 @@ const OF_MATCH: &[&str] = &[
     "FORMATS is a CSV file with the header puid,name.\n",
     "Print the file's name also for one FILE\n",
     "Print records of CSV, with the files' names\n",
-    "its last line counts them, and the bytes that were read:\n  files F identified ..",
+    "its last line counts them, and the bytes that were read:\n  files F identified I several S none N failed E bytes B\n",
     "Report on standard error how many files are done\n",
     "Count the files on standard error at the end\n",
 ];
