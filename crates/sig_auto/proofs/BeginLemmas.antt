@@ -1,5 +1,10 @@
 -- The bytes with which words begin: of rows, of parts and items, and of a whole tree.
-use Rattle.sig_auto.proofs.Common.{◌≡◌, ◌↔◌, ◌⊎◌, ℕ, ◌+◌, ◌-◌, ◌<◌, ◌≤◌, ◌&&◌, Bool, true, false, nat_eq, cond, List, [], ◌∷◌, ◌++◌, length, drop, get_or, IsTrue, slice_index, Option, subst, sym, ◌∙◌, refl, inl, inr, arith, and_parts, eq-eqb, eqb-true, false≢true, lt-ltb, ltb-true, get_or-append_right, get_or-replicate, get_or_append_left, AlternativesSound, AtomSound, AtomsSound, ItemSound, IsBefore, Atom, Item, InOrder, IsSequence, SequenceView, Position, Class, Within, Outside, Begins, BeginsOutside, InClass, any, is_nullable, above, behind, below, between, lower_at, rest, upper_at, BeginsOn, Accepting, Follows, IsBefore-cases, Tree, Never, Empty, Slot, Gap, Then, Or, alternatives_tree, atom_tree, atoms_tree, back_tree, bracket_tree, front_tree, item_tree, items_tree, row_tree, rows_tree, whole_tree, Takes, class_of, classes_of, is_first, slots_of, IsTrim}
+use Rattle.sig_auto.proofs.Common.{◌≡◌, ◌↔◌, ◌⊎◌, ℕ, ◌+◌, ◌-◌, ◌<◌, ◌≤◌, ◌&&◌, Bool, true, false, nat_eq, cond, List, [], ◌∷◌, ◌++◌, length, drop, get_or,
+    IsTrue, slice_index, Option, subst, sym, ◌∙◌, refl, inl, inr, arith, and_parts, eq-eqb, eqb-true, false≢true, lt-ltb, ltb-true, get_or-append_right,
+    get_or-replicate, get_or_append_left, AlternativesSound, AtomSound, AtomsSound, ItemSound, IsBefore, Atom, Item, InOrder, IsSequence, SequenceView,
+    Position, Class, Within, Outside, Begins, BeginsOutside, InClass, any, is_nullable, above, behind, below, between, lower_at, rest, upper_at, BeginsOn,
+    Accepting, Follows, IsBefore-cases, Tree, Never, Empty, Slot, Gap, Then, Or, alternatives_tree, atom_tree, atoms_tree, back_tree, bracket_tree, front_tree,
+    item_tree, items_tree, row_tree, rows_tree, whole_tree, Takes, class_of, classes_of, is_first, slots_of, IsTrim}
 use Rattle.sig_expr.specs.declared.item.Atom.TheVariants as atom
 use Rattle.sig_expr.specs.declared.item.Item.TheVariants as item
 use Rattle.sig_table.specs.declared.position.Position.TheVariants as position
@@ -12,21 +17,28 @@ use Rattle.sig_auto.proofs.WholeLemmas.{Long, Long-append, long_above, long_belo
 -- ---- a whole tree
 
 -- what is so of a branch's slot, and its class, is so in the tree
-class_joined : (tree a b : Tree) (before byte q : ℕ) {P A B : Type 0} → classes_of tree ≡ classes_of a ++ classes_of b → (A → IsSlot a before q) → (B → IsSlot b (before + slots_of a) q) → (P ↔ (A ⊎ B)) → (P × InClass (class_of tree (q - before)) byte) ↔ ((A × InClass (class_of a (q - before)) byte) ⊎ (B × InClass (class_of b (q - (before + slots_of a))) byte))
+class_joined : (tree a b : Tree) (before byte q : ℕ) {P A B : Type 0} → classes_of tree ≡ classes_of a ++ classes_of b → (A → IsSlot a before q)
+    → (B → IsSlot b (before + slots_of a) q) → (P ↔ (A ⊎ B)) → (P × InClass (class_of tree (q - before)) byte)
+    ↔ ((A × InClass (class_of a (q - before)) byte) ⊎ (B × InClass (class_of b (q - (before + slots_of a))) byte))
 class_joined tree a b before byte q classes left right either = grind (arith, get_or_append_left, length_classes, get_or-append_right)
 
 -- one branch after the other
-begins_then : (a b : Tree) (before byte q : ℕ) → BeginsOn (Then a b) before byte q ↔ (BeginsOn a before byte q ⊎ ((((is_nullable a ≡ true) × (is_first b (before + slots_of a) q ≡ true))) × InClass (class_of b (q - (before + slots_of a))) byte))
-begins_then a b before byte q = class_joined (Then a b) a b before byte q refl (is_first-slot a before q) (λ h. is_first-slot b (before + slots_of a) q h.1) (first_then a b before q)
+begins_then : (a b : Tree) (before byte q : ℕ) → BeginsOn (Then a b) before byte q
+    ↔ (BeginsOn a before byte q ⊎ ((((is_nullable a ≡ true) × (is_first b (before + slots_of a) q ≡ true)))
+    × InClass (class_of b (q - (before + slots_of a))) byte))
+begins_then a b before byte q = class_joined (Then a b) a b before byte q refl (is_first-slot a before q) (λ h. is_first-slot b (before + slots_of a) q h.1)
+    (first_then a b before q)
 
 -- one of two branches
 begins_or : (a b : Tree) (before byte q : ℕ) → BeginsOn (Or a b) before byte q ↔ (BeginsOn a before byte q ⊎ BeginsOn b (before + slots_of a) byte q)
-begins_or a b before byte q = class_joined (Or a b) a b before byte q refl (is_first-slot a before q) (is_first-slot b (before + slots_of a) q) (first_or a b before q)
+begins_or a b before byte q = class_joined (Or a b) a b before byte q refl (is_first-slot a before q) (is_first-slot b (before + slots_of a) q)
+    (first_or a b before q)
 
 -- the bytes that begin a tree are those that some first slot takes
 begins_slot : (c : Class) (before b : ℕ) → Begins (Slot c) b ↔ ((q : ℕ) × BeginsOn (Slot c) before b q)
 begins_slot c before b = (
-  λ h. (before + 1, (eq-eqb (before + 1) (before + 1) refl, (let one : 0 ≡ before + 1 - before - 1 = omega arith in subst (λ i. InClass (get_or (c ∷ []) i any) b) one h))),
+  λ h. (before + 1, (eq-eqb (before + 1) (before + 1) refl, (let one : 0 ≡ before + 1 - before - 1 = omega arith in
+      subst (λ i. InClass (get_or (c ∷ []) i any) b) one h))),
   λ h. (let at = eqb-true h.0 (before + 1) h.1.0 in let one : h.0 - before - 1 ≡ 0 = omega arith in subst (λ i. InClass (get_or (c ∷ []) i any) b) one h.1.1),
 )
 
@@ -64,19 +76,23 @@ begins_behind : (x : ℕ) (rs : List (List Class)) (b : ℕ) → Begins (rows_tr
 begins_behind x [] b = (λ h. absurd h, λ h. let some = h.1 in absurd (omega arith))
 begins_behind x (r ∷ rs) b = grind (arith, begins_row (Within x x) r b, is_only x b, begins_behind x rs b)
 
-begins_if : (t : Bool) (low high b : ℕ) (xs : List ℕ) → Begins (rows_tree (cond t ((Within low high ∷ rest xs) ∷ []) [])) b ↔ ((t ≡ true) × (low ≤ b) × (b ≤ high))
+begins_if : (t : Bool) (low high b : ℕ) (xs : List ℕ) → Begins (rows_tree (cond t ((Within low high ∷ rest xs) ∷ []) [])) b
+    ↔ ((t ≡ true) × (low ≤ b) × (b ≤ high))
 begins_if true low high b xs = grind (arith, begins_row (Within low high) (rest xs) b)
 begins_if false low high b xs = (λ h. absurd h, λ h. absurd (false≢true h.0))
 
-begins_between : (a b : List ℕ) (c : ℕ) → length a ≡ length b → IsBefore a b → Begins (rows_tree (between a b)) c ↔ ((slice_index a 0 ≤ c) × (c ≤ slice_index b 0))
+begins_between : (a b : List ℕ) (c : ℕ) → length a ≡ length b → IsBefore a b → Begins (rows_tree (between a b)) c
+    ↔ ((slice_index a 0 ≤ c) × (c ≤ slice_index b 0))
 begins_between [] [] c same order = absurd (cc)
 begins_between [] (y ∷ ys) c same order = absurd (omega arith)
 begins_between (x ∷ xs) [] c same order = absurd (cc)
-begins_between (x ∷ xs) (y ∷ ys) c same order = grind (arith, IsBefore-cases, between_split, some_between, begins_behind, between_same, begins_rows, begins_row, is_only, begins_if, ltb-true, lt-ltb)
+begins_between (x ∷ xs) (y ∷ ys) c same order = grind (arith, IsBefore-cases, between_split, some_between, begins_behind, between_same, begins_rows, begins_row,
+    is_only, begins_if, ltb-true, lt-ltb)
 
 -- ---- parts
 
-begins_by : (t : Bool) (one : Class) (rows : List (List Class)) (b : ℕ) (P : Type 0) → (t ≡ true → InClass one b ↔ P) → (Begins (rows_tree rows) b ↔ P) → Begins (cond t (Slot one) (rows_tree rows)) b ↔ P
+begins_by : (t : Bool) (one : Class) (rows : List (List Class)) (b : ℕ) (P : Type 0) → (t ≡ true → InClass one b ↔ P) → (Begins (rows_tree rows) b ↔ P)
+    → Begins (cond t (Slot one) (rows_tree rows)) b ↔ P
 begins_by true one rows b P h k = h refl
 begins_by false one rows b P h k = k
 
@@ -89,17 +105,22 @@ none_behind (x ∷ y ∷ xs) h = absurd (omega arith)
 outside_one : (a b : List ℕ) (c : ℕ) → length a ≡ 1 → length b ≡ 1 → c < 256 → InClass (Outside (slice_index a 0) (slice_index b 0)) c ↔ BeginsOutside a b c
 outside_one a b c one two small = grind (arith, none_behind a one, none_behind b two)
 
-begins_past : (a b : List ℕ) (c : ℕ) → length a ≡ length b → 0 < length a → c < 256 → Begins (bracket_tree a (Outside (slice_index a 0) (slice_index b 0)) (below a ++ above b)) c ↔ BeginsOutside a b c
+begins_past : (a b : List ℕ) (c : ℕ) → length a ≡ length b → 0 < length a → c < 256
+    → Begins (bracket_tree a (Outside (slice_index a 0) (slice_index b 0)) (below a ++ above b)) c ↔ BeginsOutside a b c
 begins_past a b c same some small =
-    grind (arith, begins_by (nat_eq (length a) 1) (Outside (slice_index a 0) (slice_index b 0)) (below a ++ above b) c (BeginsOutside a b c), eqb-true, outside_one a b c, begins_rows, lower_at, behind, below, begins_behind, begins_if, ltb-true, lt-ltb, above, upper_at)
+    grind (arith, begins_by (nat_eq (length a) 1) (Outside (slice_index a 0) (slice_index b 0)) (below a ++ above b) c (BeginsOutside a b c), eqb-true,
+        outside_one a b c, begins_rows, lower_at, behind, below, begins_behind, begins_if, ltb-true, lt-ltb, above, upper_at)
 
-pub range_answer : {H : Type 0} (p : Atom) (a b x y : List ℕ) (c : ℕ) → p ≡ atom.Range a b → x ≡ a → y ≡ b → AtomSound p → (H ↔ ((slice_index x 0 ≤ c) × (c ≤ slice_index y 0))) → H ↔ Begins (atom_tree p) c
+pub range_answer : {H : Type 0} (p : Atom) (a b x y : List ℕ) (c : ℕ) → p ≡ atom.Range a b → x ≡ a → y ≡ b → AtomSound p
+    → (H ↔ ((slice_index x 0 ≤ c) × (c ≤ slice_index y 0))) → H ↔ Begins (atom_tree p) c
 range_answer {H} p a b x y c is first second sound h = grind (arith, begins_by, begins_between)
 
-pub outside_answer : {H : Type 0} (p : Atom) (a b x y : List ℕ) (c : ℕ) → p ≡ atom.NotRange a b → x ≡ a → y ≡ b → c < 256 → AtomSound p → (H ↔ BeginsOutside x y c) → H ↔ Begins (atom_tree p) c
+pub outside_answer : {H : Type 0} (p : Atom) (a b x y : List ℕ) (c : ℕ) → p ≡ atom.NotRange a b → x ≡ a → y ≡ b → c < 256 → AtomSound p
+    → (H ↔ BeginsOutside x y c) → H ↔ Begins (atom_tree p) c
 outside_answer {H} p a b x y c is first second small sound h = grind (arith, begins_past)
 
-pub not_answer : {H : Type 0} (p : Atom) (a x y : List ℕ) (c : ℕ) → p ≡ atom.Not a → x ≡ a → y ≡ a → c < 256 → AtomSound p → (H ↔ BeginsOutside x y c) → H ↔ Begins (atom_tree p) c
+pub not_answer : {H : Type 0} (p : Atom) (a x y : List ℕ) (c : ℕ) → p ≡ atom.Not a → x ≡ a → y ≡ a → c < 256 → AtomSound p → (H ↔ BeginsOutside x y c) → H
+    ↔ Begins (atom_tree p) c
 not_answer {H} p a x y c is first second small sound h = grind (arith, begins_past)
 
 -- ---- what can be skipped
@@ -145,7 +166,8 @@ nullable_begins (item.NotRange x y) b sound h = absurd (false≢true (sym (atom_
 
 -- ---- what the code tells
 
-pub atoms_answer : {H : Type 0} (all : List Atom) (p : Atom) (ps : List Atom) (b : ℕ) → all ≡ p ∷ ps → AtomsSound all → (H ↔ Begins (atom_tree p) b) → H ↔ Begins (atoms_tree all) b
+pub atoms_answer : {H : Type 0} (all : List Atom) (p : Atom) (ps : List Atom) (b : ℕ) → all ≡ p ∷ ps → AtomsSound all → (H ↔ Begins (atom_tree p) b) → H
+    ↔ Begins (atoms_tree all) b
 atoms_answer {H} all p ps b is sound h = grind (arith, atoms_tree, begins_atoms p ps b)
 
 none_before : (position : Position) → InOrder position → (0 < slots_of (front_tree position) → ⊥) → is_nullable (front_tree position) ≡ true
@@ -153,24 +175,34 @@ none_before (position.Bof min max) order none = grind (arith, eq-eqb)
 none_before (position.Eof min max) order none = absurd (none (omega arith))
 none_before position.Variable order none = absurd (none (omega arith))
 
-pub before_answer : {H : Type 0} (s : SequenceView) (position : Position) (b : ℕ) → position ≡ s.position → IsSequence s → b < 256 → 0 < slots_of (front_tree position) → H → H ↔ ((q : ℕ) × Follows (whole_tree s) 0 q × Takes (whole_tree s) q b)
-before_answer s position b is sequence small some held = grind (arith, begins_follow (whole_tree s) b (whole_is_trim s sequence) small, whole_is_trim s sequence)
+pub before_answer : {H : Type 0} (s : SequenceView) (position : Position) (b : ℕ) → position ≡ s.position → IsSequence s → b < 256
+    → 0 < slots_of (front_tree position) → H → H ↔ ((q : ℕ) × Follows (whole_tree s) 0 q × Takes (whole_tree s) q b)
+before_answer s position b is sequence small some held = grind
+    (arith, begins_follow (whole_tree s) b (whole_is_trim s sequence) small, whole_is_trim s sequence)
 
-begins_whole : (s : SequenceView) (i : Item) (is : List Item) (b : ℕ) → s.items ≡ i ∷ is → IsSequence s → (0 < slots_of (front_tree s.position) → ⊥) → Begins (whole_tree s) b ↔ Begins (item_tree i) b
+begins_whole : (s : SequenceView) (i : Item) (is : List Item) (b : ℕ) → s.items ≡ i ∷ is → IsSequence s → (0 < slots_of (front_tree s.position) → ⊥)
+    → Begins (whole_tree s) b ↔ Begins (item_tree i) b
 begins_whole s i is b items sequence none = grind (arith, none_before, nullable_begins)
 
-pub first_answer : {H : Type 0} (s : SequenceView) (position : Position) (i : Item) (is : List Item) (t : Bool) (b : ℕ) → position ≡ s.position → s.items ≡ i ∷ is → IsSequence s → b < 256 → (IsTrue t ↔ 0 < slots_of (front_tree position)) → t ≡ false → (H ↔ Begins (item_tree i) b) → H ↔ ((q : ℕ) × Follows (whole_tree s) 0 q × Takes (whole_tree s) q b)
+pub first_answer : {H : Type 0} (s : SequenceView) (position : Position) (i : Item) (is : List Item) (t : Bool) (b : ℕ) → position ≡ s.position
+    → s.items ≡ i ∷ is → IsSequence s → b < 256 → (IsTrue t ↔ 0 < slots_of (front_tree position)) → t ≡ false → (H ↔ Begins (item_tree i) b) → H
+    ↔ ((q : ℕ) × Follows (whole_tree s) 0 q × Takes (whole_tree s) q b)
 first_answer s position i is t b at items sequence small told refused h =
     grind (arith, false≢true, begins_whole s i is b items sequence, begins_follow (whole_tree s) b (whole_is_trim s sequence) small, whole_is_trim s sequence)
 
-pub accepts_items : (s : SequenceView) (position : Position) (items : List Item) (ends r : Bool) → position ≡ s.position → items ≡ s.items → IsSequence s → ends ≡ (is_nullable (front_tree position) && is_nullable (back_tree position)) → ends ≡ true → ((last : Tree) → is_nullable (items_tree items last) ≡ (r && is_nullable last)) → IsTrue r ↔ Accepting (whole_tree s) 0
-accepts_items s position items ends r at is sequence told shown all = grind (arith, accepts_nullable (whole_tree s) r (whole_is_trim s sequence), whole_is_trim s sequence, false≢true)
+pub accepts_items : (s : SequenceView) (position : Position) (items : List Item) (ends r : Bool) → position ≡ s.position → items ≡ s.items → IsSequence s
+    → ends ≡ (is_nullable (front_tree position) && is_nullable (back_tree position)) → ends ≡ true
+    → ((last : Tree) → is_nullable (items_tree items last) ≡ (r && is_nullable last)) → IsTrue r ↔ Accepting (whole_tree s) 0
+accepts_items s position items ends r at is sequence told shown all =
+    grind (arith, accepts_nullable (whole_tree s) r (whole_is_trim s sequence), whole_is_trim s sequence, false≢true)
 
 -- items that can be skipped end with what can be
 last_nullable : (items : List Item) (last : Tree) → is_nullable (items_tree items last) ≡ true → is_nullable last ≡ true
 last_nullable [] last h = h
 last_nullable (i ∷ items) last h = last_nullable items last (and_parts (is_nullable (item_tree i)) (is_nullable (items_tree items last)) h).1
 
-pub accepts_ends : (s : SequenceView) (position : Position) (ends : Bool) → position ≡ s.position → IsSequence s → ends ≡ (is_nullable (front_tree position) && is_nullable (back_tree position)) → ends ≡ false → IsTrue ends ↔ Accepting (whole_tree s) 0
+pub accepts_ends : (s : SequenceView) (position : Position) (ends : Bool) → position ≡ s.position → IsSequence s
+    → ends ≡ (is_nullable (front_tree position) && is_nullable (back_tree position)) → ends ≡ false → IsTrue ends ↔ Accepting (whole_tree s) 0
 accepts_ends s position ends at sequence told refused =
-    grind (arith, accepts_nullable (whole_tree s) (is_nullable (whole_tree s)) (whole_is_trim s sequence) refl, whole_is_trim s sequence, false≢true, last_nullable s.items (back_tree s.position))
+    grind (arith, accepts_nullable (whole_tree s) (is_nullable (whole_tree s)) (whole_is_trim s sequence) refl, whole_is_trim s sequence, false≢true,
+        last_nullable s.items (back_tree s.position))

@@ -1,5 +1,8 @@
 -- Cells that are made one after the other.
-use Rattle.sig_auto.proofs.Common.{◌≡◌, ℕ, zero, suc, ◌+◌, ◌-◌, ◌<◌, ◌≤◌, ◌==◌, if◌then◌else◌, Bool, true, false, List, [], ◌∷◌, ◌++◌, drop, get_or, length, map, refl, sym, ap, ◌∙◌, subst, arith, append_assoc, length-append, cond-false, cond-true, eqb-false, eqb-true, false≢true, Class, any, Tree, Slot, Then, alternatives_tree, atom_tree, atoms_tree, row_tree, rows_tree, slots_of, Atom, AlternativesSound, AtomSound, AtomsSound, Cell, Puts, cells_in, cells_of, middle}
+use Rattle.sig_auto.proofs.Common.{◌≡◌, ℕ, zero, suc, ◌+◌, ◌-◌, ◌<◌, ◌≤◌, ◌==◌, if◌then◌else◌, Bool, true, false, List, [], ◌∷◌, ◌++◌, drop, get_or, length,
+    map, refl, sym, ap, ◌∙◌, subst, arith, append_assoc, length-append, cond-false, cond-true, eqb-false, eqb-true, false≢true, Class, any, Tree, Slot, Then,
+    alternatives_tree, atom_tree, atoms_tree, row_tree, rows_tree, slots_of, Atom, AlternativesSound, AtomSound, AtomsSound, Cell, Puts, cells_in, cells_of,
+    middle}
 use Rattle.sig_auto.proofs.WholeLemmas.{atom_has_track}
 use Rattle.sig_auto.proofs.BeginLemmas.{atom_not_nullable}
 use Rattle.sig_auto.proofs.JoinLemmas.{drop_past, here_of}
@@ -16,7 +19,8 @@ pub puts_length : (t : Tree) (n front behind : ℕ) (old new : List Cell) (slots
 puts_length t n front behind old new slots h = grind (arith, length-append, length_of t (length old) n front behind)
 
 pub comes_then : (t a b : Tree) (n front behind : ℕ) (old new next : List Cell) (slots from more mid : ℕ) →
-    Comes t (Then a b) n front behind old new slots from → mid ≡ middle from behind (length new) (cells_in a) (cells_in b) → Puts a slots from mid new next more → Comes t b n front behind old next more mid
+    Comes t (Then a b) n front behind old new slots from → mid ≡ middle from behind (length new) (cells_in a) (cells_in b) → Puts a slots from mid new next more
+        → Comes t b n front behind old next more mid
 comes_then t a b n front behind old new next slots from more mid h is put = grind (arith, puts_length a slots from mid new next more put, append_assoc)
 
 -- ---- rows
@@ -32,43 +36,57 @@ length_drop (x ∷ xs) zero = omega arith
 length_drop (x ∷ xs) (suc j) = let more = length_drop xs j in omega arith
 
 -- the joint behind a part of a row or of an alternative
-pub joint_is : (from behind i j k next : ℕ) (last : Bool) → 0 < j → (last ≡ true → k ≡ 0) → (last ≡ false → 0 < k) → next ≡ (if last then behind else i + j) → next ≡ middle from behind i j k
+pub joint_is : (from behind i j k next : ℕ) (last : Bool) → 0 < j → (last ≡ true → k ≡ 0) → (last ≡ false → 0 < k) → next ≡ (if last then behind else i + j)
+    → next ≡ middle from behind i j k
 joint_is from behind i j k next last some ended more is = grind (arith, cond-true, mid_right, cond-false, mid_inner)
 
-pub row_steps : (t : Tree) (row : List Class) (j n front behind : ℕ) (old new next : List Cell) (slots from more mid : ℕ) (list : List Cell) (c d : Class) (last : Bool) →
-    Comes t (row_tree (drop j row)) n front behind old new slots from → j < length row → c ≡ get_or row j d → last ≡ (j + 1 == length row) → list ≡ new → mid ≡ (if last then behind else length list + 1) → Puts (Slot c) slots from mid new next more →
+pub row_steps : (t : Tree) (row : List Class) (j n front behind : ℕ) (old new next : List Cell) (slots from more mid : ℕ) (list : List Cell) (c d : Class)
+    (last : Bool) →
+    Comes t (row_tree (drop j row)) n front behind old new slots from → j < length row → c ≡ get_or row j d → last ≡ (j + 1 == length row) → list ≡ new
+        → mid ≡ (if last then behind else length list + 1) → Puts (Slot c) slots from mid new next more →
     Comes t (row_tree (drop (j + 1) row)) n front behind old next more mid
 row_steps t row j n front behind old new next slots from more mid list c d last h less is told same mid_is put =
-    grind (arith, here_of row j d less, comes_then t (Slot (get_or row j d)) (row_tree (drop (j + 1) row)) n front behind old new next slots from more mid, row_cells, length_drop, joint_is, eqb-true, eqb-false)
+    grind (arith, here_of row j d less, comes_then t (Slot (get_or row j d)) (row_tree (drop (j + 1) row)) n front behind old new next slots from more mid,
+        row_cells, length_drop, joint_is, eqb-true, eqb-false)
 
 -- there is room for the next part
-pub part_room : (t a b : Tree) (n front behind : ℕ) (old new : List Cell) (slots from : ℕ) → Comes t (Then a b) n front behind old new slots from → n + slots_of t ≤ 65535 → length old + cells_in t ≤ 65535 → (slots + slots_of a ≤ 65535) × (length new + cells_in a ≤ 65535)
+pub part_room : (t a b : Tree) (n front behind : ℕ) (old new : List Cell) (slots from : ℕ) → Comes t (Then a b) n front behind old new slots from
+    → n + slots_of t ≤ 65535 → length old + cells_in t ≤ 65535 → (slots + slots_of a ≤ 65535) × (length new + cells_in a ≤ 65535)
 part_room t a b n front behind old new slots from h few short = grind arith
 
-pub row_room : (t : Tree) (row : List Class) (j n front behind : ℕ) (old new list : List Cell) (slots from : ℕ) → Comes t (row_tree (drop j row)) n front behind old new slots from → j < length row → list ≡ new → n + slots_of t ≤ 65535 → length old + cells_in t ≤ 65535 → (slots < 65535) × (length list + 1 ≤ 65535)
+pub row_room : (t : Tree) (row : List Class) (j n front behind : ℕ) (old new list : List Cell) (slots from : ℕ)
+    → Comes t (row_tree (drop j row)) n front behind old new slots from → j < length row → list ≡ new → n + slots_of t ≤ 65535 → length old + cells_in t ≤ 65535
+    → (slots < 65535) × (length list + 1 ≤ 65535)
 row_room t row j n front behind old new list slots from h less is few short =
     grind (arith, here_of row j any less, part_room t (Slot (get_or row j any)) (row_tree (drop (j + 1) row)) n front behind old new slots from)
 
 -- ---- the rows and the alternatives
 
-pub rows_on : {X : Type 0} (items : X → List Class) (t : Tree) (rows : List X) (j n front behind : ℕ) (old new next : List Cell) (slots more : ℕ) (x : X) (row : List Class) →
-    Comes t (rows_tree (map items (drop j rows))) n front behind old new slots front → j < length rows → x ≡ get_or rows j x → row ≡ items x → Puts (row_tree row) slots front behind new next more →
+pub rows_on : {X : Type 0} (items : X → List Class) (t : Tree) (rows : List X) (j n front behind : ℕ) (old new next : List Cell) (slots more : ℕ) (x : X)
+    (row : List Class) →
+    Comes t (rows_tree (map items (drop j rows))) n front behind old new slots front → j < length rows → x ≡ get_or rows j x → row ≡ items x
+        → Puts (row_tree row) slots front behind new next more →
     Comes t (rows_tree (map items (drop (j + 1) rows))) n front behind old next more front
 rows_on items t rows j n front behind old new next slots more x row h less is value put =
     grind (arith, here_of rows j x less, puts_length, append_assoc)
 
-pub alternatives_on : {X : Type 0} (items : X → List Atom) (t : Tree) (rows : List X) (j n front behind : ℕ) (old new next : List Cell) (slots more : ℕ) (x : X) (row : List Atom) →
-    Comes t (alternatives_tree (map items (drop j rows))) n front behind old new slots front → j < length rows → x ≡ get_or rows j x → row ≡ items x → Puts (atoms_tree row) slots front behind new next more →
+pub alternatives_on : {X : Type 0} (items : X → List Atom) (t : Tree) (rows : List X) (j n front behind : ℕ) (old new next : List Cell) (slots more : ℕ) (x : X)
+    (row : List Atom) →
+    Comes t (alternatives_tree (map items (drop j rows))) n front behind old new slots front → j < length rows → x ≡ get_or rows j x → row ≡ items x
+        → Puts (atoms_tree row) slots front behind new next more →
     Comes t (alternatives_tree (map items (drop (j + 1) rows))) n front behind old next more front
 alternatives_on items t rows j n front behind old new next slots more x row h less is value put =
     grind (arith, here_of rows j x less, puts_length, append_assoc)
 
-pub alternative_is_sound : {X : Type 0} (items : X → List Atom) (rows : List X) (j : ℕ) (x : X) (row : List Atom) → j < length rows → AlternativesSound (map items rows) → x ≡ get_or rows j x → row ≡ items x → AtomsSound row
+pub alternative_is_sound : {X : Type 0} (items : X → List Atom) (rows : List X) (j : ℕ) (x : X) (row : List Atom) → j < length rows
+    → AlternativesSound (map items rows) → x ≡ get_or rows j x → row ≡ items x → AtomsSound row
 alternative_is_sound items [] j x row less sound is value = absurd (omega arith)
 alternative_is_sound items (y ∷ rows) zero x row less sound is value = subst AtomsSound (sym (value ∙ ap items is)) sound.0
 alternative_is_sound items (y ∷ rows) (suc j) x row less sound is value = alternative_is_sound items rows j x row (omega arith) sound.1 is value
 
-pub rows_more : {X : Type 0} (items : X → List Class) (rows : List X) (j count all more : ℕ) (x : X) → count + cells_in (rows_tree (map items (drop j rows))) ≡ all → j < length rows → x ≡ get_or rows j x → more ≡ length (items x) → count + more + cells_in (rows_tree (map items (drop (j + 1) rows))) ≡ all
+pub rows_more : {X : Type 0} (items : X → List Class) (rows : List X) (j count all more : ℕ) (x : X)
+    → count + cells_in (rows_tree (map items (drop j rows))) ≡ all → j < length rows → x ≡ get_or rows j x → more ≡ length (items x)
+    → count + more + cells_in (rows_tree (map items (drop (j + 1) rows))) ≡ all
 rows_more items rows j count all more x h less is told = grind (arith, here_of rows j x less, row_cells (items x))
 
 -- ---- the parts of an alternative
@@ -86,8 +104,10 @@ later_cells [] j less h = absurd (omega arith)
 later_cells (x ∷ atoms) zero less h = let some = atom_cells x h.0 in omega arith
 later_cells (x ∷ atoms) (suc j) less h = later_cells atoms j (omega arith) h.1
 
-pub atoms_on : (t part : Tree) (atoms : List Atom) (j n front behind : ℕ) (old new next list : List Cell) (slots from more mid count : ℕ) (x : Atom) (last : Bool) →
-    Comes t (atoms_tree (drop j atoms)) n front behind old new slots from → j < length atoms → AtomsSound atoms → x ≡ get_or atoms j x → part ≡ atom_tree x → count ≡ cells_in part → last ≡ (j + 1 == length atoms) → list ≡ new → mid ≡ (if last then behind else length list + count) →
+pub atoms_on : (t part : Tree) (atoms : List Atom) (j n front behind : ℕ) (old new next list : List Cell) (slots from more mid count : ℕ) (x : Atom)
+    (last : Bool) →
+    Comes t (atoms_tree (drop j atoms)) n front behind old new slots from → j < length atoms → AtomsSound atoms → x ≡ get_or atoms j x → part ≡ atom_tree x
+        → count ≡ cells_in part → last ≡ (j + 1 == length atoms) → list ≡ new → mid ≡ (if last then behind else length list + count) →
     Puts part slots from mid new next more → Comes t (atoms_tree (drop (j + 1) atoms)) n front behind old next more mid
 atoms_on t part atoms j n front behind old new next list slots from more mid count x last h less sound here is counted told same mid_is put =
     let puts = comes_then t part (atoms_tree (drop (j + 1) atoms)) n front behind old new next slots from more mid in

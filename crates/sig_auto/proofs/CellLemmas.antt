@@ -1,5 +1,9 @@
 -- What is known of cells that spell a sequence.
-use Rattle.sig_auto.proofs.Common.{◌||◌, ◌≡◌, ◌↔◌, ℕ, ◌+◌, ◌<◌, ◌≤◌, ◌/◌, ◌==◌, if◌then◌else◌, Bool, true, false, List, drop, get_or, length, IfSome, Option, Some, None, refl, sym, ap, ◌∙◌, subst, inl, inr, arith, option_eq, eqb-true, cases_eq, cases_lt, cond-false, cond-true, eq-eqb, false_from_ne_true, false≢true, ne_eqb, follows, is_first, is_last, is_nullable, Tree, Never, Empty, Slot, Gap, Then, Or, whole_tree, class_of, set_len, slots_of, Accepting, Follows, HasTrack, IsTrim, SequenceView, IsSequence, Behind, Cell, AreReady, EndsAt, IsBehind, IsCellOf, LiesBehind, ComesBehind, is_own, slots_in, HasBit, cells_in, cells_of, cells_of_sequence, IsFlat, Bounded, Lined, Spells, entered_first, is_joint, entered, exit, gone, land}
+use Rattle.sig_auto.proofs.Common.{◌||◌, ◌≡◌, ◌↔◌, ℕ, ◌+◌, ◌<◌, ◌≤◌, ◌/◌, ◌==◌, if◌then◌else◌, Bool, true, false, List, drop, get_or, length, IfSome, Option,
+    Some, None, refl, sym, ap, ◌∙◌, subst, inl, inr, arith, option_eq, eqb-true, cases_eq, cases_lt, cond-false, cond-true, eq-eqb, false_from_ne_true,
+    false≢true, ne_eqb, follows, is_first, is_last, is_nullable, Tree, Never, Empty, Slot, Gap, Then, Or, whole_tree, class_of, set_len, slots_of, Accepting,
+    Follows, HasTrack, IsTrim, SequenceView, IsSequence, Behind, Cell, AreReady, EndsAt, IsBehind, IsCellOf, LiesBehind, ComesBehind, is_own, slots_in, HasBit,
+    cells_in, cells_of, cells_of_sequence, IsFlat, Bounded, Lined, Spells, entered_first, is_joint, entered, exit, gone, land}
 use lib.Dec.{eqb}
 use Rattle.sig_auto.proofs.TrimLemmas.{accepting_slot, follows_slot, follows_start}
 use Rattle.sig_auto.proofs.BeginLemmas.{accepts_nullable}
@@ -40,11 +44,13 @@ spelled_cells cells s h = grind (arith, spelled_length cells s h, spelled_slots 
 pub ready : (cells list : List Cell) (s : SequenceView) → Spells cells s → list ≡ cells → AreReady list
 ready cells list s h is = grind (arith, lined, spelled_lined cells s h, spelled_cells cells s h, spelled_slots, whole_slots)
 
-pub slots_are : (cells list : List Cell) (s now : SequenceView) (n : ℕ) → Spells cells s → s ≡ now → list ≡ cells → n ≡ slots_in list → n ≡ slots_of (whole_tree now)
+pub slots_are : (cells list : List Cell) (s now : SequenceView) (n : ℕ) → Spells cells s → s ≡ now → list ≡ cells → n ≡ slots_in list
+    → n ≡ slots_of (whole_tree now)
 slots_are cells list s now n h same is told = told ∙ ap slots_in is ∙ spelled_slots cells s h ∙ ap (λ x. slots_of (whole_tree x)) same
 
 -- a state is the start or a slot of the cells
-pub within : (cells list : List Cell) (s now : SequenceView) (p : ℕ) → Spells cells s → s ≡ now → list ≡ cells → p ≤ slots_of (whole_tree now) → p ≤ slots_in list
+pub within : (cells list : List Cell) (s now : SequenceView) (p : ℕ) → Spells cells s → s ≡ now → list ≡ cells → p ≤ slots_of (whole_tree now)
+    → p ≤ slots_in list
 within cells list s now p h same is most = grind (arith, spelled_slots cells s h)
 
 -- ---- the start
@@ -56,7 +62,8 @@ start_goes cells s q h =
 
 start_ends : (t : Tree) → IsTrim t → HasTrack t → IsFlat t → is_joint (land (Some 0) (cells_of t 0 0 0 (cells_in t))) (cells_in t) ≡ is_nullable t
 start_ends t trim some flat =
-    grind (arith, lands t 0 0 0 (cells_in t) trim flat (whole_fits t), whole_fits t, eq-eqb, stops t 0 0 0 (cells_in t) trim flat (whole_fits t), false≢true, null_of_none t some, ne_eqb)
+    grind (arith, lands t 0 0 0 (cells_in t) trim flat (whole_fits t), whole_fits t, eq-eqb, stops t 0 0 0 (cells_in t) trim flat (whole_fits t), false≢true,
+        null_of_none t some, ne_eqb)
 
 -- ---- the slots
 
@@ -71,7 +78,8 @@ slot_ends t p trim flat low high = grind (arith, ends, whole_fits, eq-eqb, stays
 
 -- ---- what follows a state, and where a track ends
 
-pub behind_follows : (cells : List Cell) (s now : SequenceView) (p q : ℕ) (b : Behind) (own enters : Bool) → Spells cells s → s ≡ now → p ≤ slots_in cells → IsBehind cells p b →
+pub behind_follows : (cells : List Cell) (s now : SequenceView) (p q : ℕ) (b : Behind) (own enters : Bool) → Spells cells s → s ≡ now → p ≤ slots_in cells
+    → IsBehind cells p b →
     own ≡ is_own b.own q → enters ≡ entered_first (drop b.enters cells) q → ((own || enters) ≡ true) ↔ Follows (whole_tree now) p q
 behind_follows cells s now p q b own enters h same within is own_is enters_is =
     let trim = whole_is_trim s h.sequence in
@@ -94,10 +102,12 @@ accepts_where cells s now p r h same within is =
     ]
 
 -- a number above all slots is no state
-pub none_follows : (cells : List Cell) (s now : SequenceView) (p q : ℕ) → Spells cells s → s ≡ now → slots_of (whole_tree now) < p → (false ≡ true) ↔ Follows (whole_tree now) p q
+pub none_follows : (cells : List Cell) (s now : SequenceView) (p q : ℕ) → Spells cells s → s ≡ now → slots_of (whole_tree now) < p → (false ≡ true)
+    ↔ Follows (whole_tree now) p q
 none_follows cells s now p q h same above = (λ e. absurd (false≢true e), λ f. (let most = followed_is_state (whole_tree now) p q f in absurd (omega arith)))
 
-pub none_accepts : (cells : List Cell) (s now : SequenceView) (p : ℕ) → Spells cells s → s ≡ now → slots_of (whole_tree now) < p → (false ≡ true) ↔ Accepting (whole_tree now) p
+pub none_accepts : (cells : List Cell) (s now : SequenceView) (p : ℕ) → Spells cells s → s ≡ now → slots_of (whole_tree now) < p → (false ≡ true)
+    ↔ Accepting (whole_tree now) p
 none_accepts cells s now p h same above =
     let sequence : IsSequence now = subst IsSequence same h.sequence in
     accepting_slot (whole_tree now) (whole_is_trim now sequence) p false (ne_eqb p 0 (λ e. absurd (omega arith)))
@@ -105,30 +115,39 @@ none_accepts cells s now p h same above =
 
 -- ---- the class of a slot
 
-pub class_told : (cells list : List Cell) (s now : SequenceView) (q k : ℕ) (c : Cell) → Spells cells s → s ≡ now → list ≡ cells → c ≡ get_or cells k c → IsCellOf list q k → c.class ≡ class_of (whole_tree now) q
+pub class_told : (cells list : List Cell) (s now : SequenceView) (q k : ℕ) (c : Cell) → Spells cells s → s ≡ now → list ≡ cells → c ≡ get_or cells k c
+    → IsCellOf list q k → c.class ≡ class_of (whole_tree now) q
 class_told cells list s now q k c h same is here at =
     let found = class_at cells (drop (k + 1) cells) 0 k q in
-    grind (arith, is_in list q k at, here_of cells k c, slot_parts at.cell q at.slot, found, spelled_lined cells s h, spread_of (whole_tree s) 0 0 0 (cells_in (whole_tree s)))
+    grind (arith, is_in list q k at, here_of cells k c, slot_parts at.cell q at.slot, found, spelled_lined cells s h,
+        spread_of (whole_tree s) 0 0 0 (cells_in (whole_tree s)))
 
-pub behind_told : (cells list other : List Cell) (s now : SequenceView) (p q : ℕ) (b : Behind) (own enters : Bool) → Spells cells s → s ≡ now → list ≡ cells → other ≡ cells → p ≤ slots_of (whole_tree now) → IsBehind list p b →
+pub behind_told : (cells list other : List Cell) (s now : SequenceView) (p q : ℕ) (b : Behind) (own enters : Bool) → Spells cells s → s ≡ now → list ≡ cells
+    → other ≡ cells → p ≤ slots_of (whole_tree now) → IsBehind list p b →
     own ≡ is_own b.own q → enters ≡ entered_first (drop b.enters other) q → ((own || enters) ≡ true) ↔ Follows (whole_tree now) p q
 behind_told cells list other s now p q b own enters h same is is_other most told own_is enters_is =
-    behind_follows cells s now p q b own enters h same (within cells cells s now p h same refl most) (subst (λ x. IsBehind x p b) is told) own_is (enters_is ∙ ap (λ x. entered_first (drop b.enters x) q) is_other)
+    behind_follows cells s now p q b own enters h same (within cells cells s now p h same refl most) (subst (λ x. IsBehind x p b) is told) own_is
+        (enters_is ∙ ap (λ x. entered_first (drop b.enters x) q) is_other)
 
-pub out_of_slots : (cells list : List Cell) (s now : SequenceView) (p n : ℕ) → Spells cells s → s ≡ now → list ≡ cells → n ≡ slots_in list → n < p → slots_of (whole_tree now) < p
+pub out_of_slots : (cells list : List Cell) (s now : SequenceView) (p n : ℕ) → Spells cells s → s ≡ now → list ≡ cells → n ≡ slots_in list → n < p
+    → slots_of (whole_tree now) < p
 out_of_slots cells list s now p n h same is told above = grind (arith, slots_are cells list s now n h same is told)
 
-pub in_slots : (cells list : List Cell) (s now : SequenceView) (p n : ℕ) → Spells cells s → s ≡ now → list ≡ cells → n ≡ slots_in list → p ≤ n → p ≤ slots_of (whole_tree now)
+pub in_slots : (cells list : List Cell) (s now : SequenceView) (p n : ℕ) → Spells cells s → s ≡ now → list ≡ cells → n ≡ slots_in list → p ≤ n
+    → p ≤ slots_of (whole_tree now)
 in_slots cells list s now p n h same is told most = grind (arith, slots_are cells list s now n h same is told)
 
-pub follows_then : (cells list : List Cell) (s now : SequenceView) (p q : ℕ) (b : Behind) (own : Bool) → Spells cells s → s ≡ now → list ≡ cells → p ≤ slots_of (whole_tree now) → IsBehind list p b →
+pub follows_then : (cells list : List Cell) (s now : SequenceView) (p q : ℕ) (b : Behind) (own : Bool) → Spells cells s → s ≡ now → list ≡ cells
+    → p ≤ slots_of (whole_tree now) → IsBehind list p b →
     own ≡ is_own b.own q → own ≡ true → (own ≡ true) ↔ Follows (whole_tree now) p q
 follows_then cells list s now p q b own h same is most told own_is so = grind (arith, behind_told)
 
-pub follows_else : (cells list : List Cell) (s now : SequenceView) (p q : ℕ) (b : Behind) (own enters : Bool) → Spells cells s → s ≡ now → list ≡ cells → p ≤ slots_of (whole_tree now) → IsBehind list p b →
+pub follows_else : (cells list : List Cell) (s now : SequenceView) (p q : ℕ) (b : Behind) (own enters : Bool) → Spells cells s → s ≡ now → list ≡ cells
+    → p ≤ slots_of (whole_tree now) → IsBehind list p b →
     own ≡ is_own b.own q → enters ≡ entered_first (drop b.enters list) q → own ≡ false → (enters ≡ true) ↔ Follows (whole_tree now) p q
 follows_else cells list s now p q b own enters h same is most told own_is enters_is not =
-    subst (λ x. ((x || enters) ≡ true) ↔ Follows (whole_tree now) p q) not (behind_told cells list list s now p q b own enters h same is is most told own_is enters_is)
+    subst (λ x. ((x || enters) ≡ true) ↔ Follows (whole_tree now) p q) not
+        (behind_told cells list list s now p q b own enters h same is is most told own_is enters_is)
 
 pub same_own : (a b : Option ℕ) (r : Bool) → r ≡ option_eq eqb a b → r ≡ true → a ≡ b
 same_own None None r is h = refl
@@ -174,7 +193,8 @@ of_sequence s h = record { sequence = h; same = refl }
 pub spelled_are : (cells list : List Cell) (s now : SequenceView) → Spells cells s → s ≡ now → list ≡ cells → list ≡ cells_of_sequence now
 spelled_are cells list s now h same is = is ∙ h.same ∙ ap cells_of_sequence same
 
-pub comes_behind : (cells list : List Cell) (s now : SequenceView) (p : ℕ) (b : Behind) → Spells cells s → s ≡ now → list ≡ cells → p ≤ slots_of (whole_tree now) → IsBehind list p b
+pub comes_behind : (cells list : List Cell) (s now : SequenceView) (p : ℕ) (b : Behind) → Spells cells s → s ≡ now → list ≡ cells
+    → p ≤ slots_of (whole_tree now) → IsBehind list p b
     → IfSome b.own (λ q. LiesBehind q (drop b.enters list)) → IfSome b.own (λ q. IsCellOf list q b.cell) → ComesBehind now p b
 comes_behind cells list s now p b h same is state told order cell =
     let sequence : IsSequence now = subst IsSequence same h.sequence in
@@ -188,13 +208,16 @@ comes_behind cells list s now p b h same is state told order cell =
       cell = subst (λ x. IfSome b.own (λ q. IsCellOf x q b.cell)) here cell;
     }
 
-pub cell_there : (list : List Cell) (s : SequenceView) (p : ℕ) (b : Behind) → list ≡ cells_of_sequence s → ComesBehind s p b → IfSome b.own (λ q. IsCellOf list q b.cell)
+pub cell_there : (list : List Cell) (s : SequenceView) (p : ℕ) (b : Behind) → list ≡ cells_of_sequence s → ComesBehind s p b
+    → IfSome b.own (λ q. IsCellOf list q b.cell)
 cell_there list s p b here h = subst (λ x. IfSome b.own (λ q. IsCellOf x q b.cell)) (sym here) h.cell
 
-pub comes_follows : (s : SequenceView) (p q : ℕ) (b : Behind) → ComesBehind s p b → ((is_own b.own q || entered_first (drop b.enters (cells_of_sequence s)) q) ≡ true) ↔ Follows (whole_tree s) p q
+pub comes_follows : (s : SequenceView) (p q : ℕ) (b : Behind) → ComesBehind s p b
+    → ((is_own b.own q || entered_first (drop b.enters (cells_of_sequence s)) q) ≡ true) ↔ Follows (whole_tree s) p q
 comes_follows s p q b h =
     let cells : List Cell = cells_of_sequence s in
-    behind_told cells cells cells s s p q b (is_own b.own q) (entered_first (drop b.enters cells) q) (of_sequence s h.sequence) refl refl refl h.state h.is refl refl
+    behind_told cells cells cells s s p q b (is_own b.own q) (entered_first (drop b.enters cells) q) (of_sequence s h.sequence) refl refl refl h.state h.is refl
+        refl
 
 pub alike : (s : SequenceView) (p q : ℕ) (one other : Behind) → ComesBehind s p one → ComesBehind s q other → one.own ≡ other.own → one.enters ≡ other.enters
     → (next : ℕ) → Follows (whole_tree s) p next ↔ Follows (whole_tree s) q next

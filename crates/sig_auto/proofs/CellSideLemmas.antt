@@ -1,5 +1,10 @@
 -- Bytes that all cells take alike are those that all slots do, and bytes on which cells are entered.
-use Rattle.sig_auto.proofs.Common.{◌≡◌, ◌↔◌, ◌⊎◌, ◌∙◌, ℕ, suc, ◌+◌, ◌-◌, ◌<◌, ◌≤◌, inl, inr, List, [], ◌∷◌, drop, get_or, IfSome, is_some, length, length-append, None, Option, replicate, Some, true, ap, arith, refl, subst, sym, Contains, slice_get, cases_Bool, cases_lt, eqb-true, false≢true, or_cases, or_left, or_right, get_or_append_left, get_or-append_right, get_or-replicate, length-replicate, get_or_from_slice_get, slice_get_within, ByteClass, AddsCuts, AddsLive, in_class, InClass, any, EachSide, EnteredOn, OwnOn, SlotOn, FollowsOn, TakesAlike, SameSide, Class, Outside, Within, class_in, spread, taken_first, whole_tree, class_of, slots_of, cells_in, Cell, Joint, Joints, ComesBehind, IsCellOf, is_own, cells_of_sequence, Behind, Lined, Spells, AreJoints, SequenceView}
+use Rattle.sig_auto.proofs.Common.{◌≡◌, ◌↔◌, ◌⊎◌, ◌∙◌, ℕ, suc, ◌+◌, ◌-◌, ◌<◌, ◌≤◌, inl, inr, List, [], ◌∷◌, drop, get_or, IfSome, is_some, length,
+    length-append, None, Option, replicate, Some, true, ap, arith, refl, subst, sym, Contains, slice_get, cases_Bool, cases_lt, eqb-true, false≢true, or_cases,
+    or_left, or_right, get_or_append_left, get_or-append_right, get_or-replicate, length-replicate, get_or_from_slice_get, slice_get_within, ByteClass,
+    AddsCuts, AddsLive, in_class, InClass, any, EachSide, EnteredOn, OwnOn, SlotOn, FollowsOn, TakesAlike, SameSide, Class, Outside, Within, class_in, spread,
+    taken_first, whole_tree, class_of, slots_of, cells_in, Cell, Joint, Joints, ComesBehind, IsCellOf, is_own, cells_of_sequence, Behind, Lined, Spells,
+    AreJoints, SequenceView}
 use Rattle.sig_auto.specs.Classes.{IsSpelled}
 use Rattle.sig_bits.specs.Groups.{InSpan, SameSide as SpanSide}
 use Rattle.sig_auto.proofs.CellLemmas.{comes_follows, of_sequence, spelled_lined, spelled_slots}
@@ -56,7 +61,8 @@ spread_many cells list s now h same is = grind (arith, spread_of (whole_tree s) 
 -- so all cells take two bytes alike exactly where all slots do
 pub sides_told : (cells list : List Cell) (s now : SequenceView) (a b : ℕ) → Spells cells s → s ≡ now → list ≡ cells → EachSide list a b
     → TakesAlike (whole_tree now) a b
-sides_told cells list s now a b h same is each q low high = grind (arith, spread_many cells list s now h same is, class_is cells s now q h same, each_slot list a b each (q - 1))
+sides_told cells list s now a b h same is each q low high = grind
+    (arith, spread_many cells list s now h same is, class_is cells s now q h same, each_slot list a b each (q - 1))
 
 pub sides_found : (cells list : List Cell) (s now : SequenceView) (a b : ℕ) → Spells cells s → s ≡ now → list ≡ cells
     → TakesAlike (whole_tree now) a b → EachSide list a b
@@ -126,15 +132,19 @@ own_on_slot : (cells : List Cell) (own : Option ℕ) (q k : ℕ) (d : Cell) → 
 own_on_slot cells own q k d lined at is b x = grind (arith, class_here cells q k d lined at)
 
 -- what the class of its cell adds
-pub own_live : (cells : List Cell) (own : Option ℕ) (k : ℕ) (d : Cell) (old new : ByteClass) → Lined 0 cells → IfSome own (λ q. IsCellOf cells q k) → is_some own ≡ true
+pub own_live : (cells : List Cell) (own : Option ℕ) (k : ℕ) (d : Cell) (old new : ByteClass) → Lined 0 cells → IfSome own (λ q. IsCellOf cells q k)
+    → is_some own ≡ true
     → ((q : ℕ) → AddsLive old new (SlotOn (get_or cells k d).class q)) → AddsLive old new (OwnOn cells own)
 own_live cells None k d old new lined at some adds = absurd (false≢true some)
-own_live cells (Some q) k d old new lined at some adds = live_as old new (OwnOn cells (Some q)) (SlotOn (get_or cells k d).class q) (own_on_slot cells (Some q) q k d lined at refl) (adds q)
+own_live cells (Some q) k d old new lined at some adds = live_as old new (OwnOn cells (Some q)) (SlotOn (get_or cells k d).class q)
+    (own_on_slot cells (Some q) q k d lined at refl) (adds q)
 
-pub own_cuts : (cells : List Cell) (own : Option ℕ) (k : ℕ) (d : Cell) (old new : ByteClass) → Lined 0 cells → IfSome own (λ q. IsCellOf cells q k) → is_some own ≡ true
+pub own_cuts : (cells : List Cell) (own : Option ℕ) (k : ℕ) (d : Cell) (old new : ByteClass) → Lined 0 cells → IfSome own (λ q. IsCellOf cells q k)
+    → is_some own ≡ true
     → ((q : ℕ) → AddsCuts old new (SlotOn (get_or cells k d).class q)) → AddsCuts old new (OwnOn cells own)
 own_cuts cells None k d old new lined at some adds = absurd (false≢true some)
-own_cuts cells (Some q) k d old new lined at some adds = cuts_as old new (OwnOn cells (Some q)) (SlotOn (get_or cells k d).class q) (own_on_slot cells (Some q) q k d lined at refl) (adds q)
+own_cuts cells (Some q) k d old new lined at some adds = cuts_as old new (OwnOn cells (Some q)) (SlotOn (get_or cells k d).class q)
+    (own_on_slot cells (Some q) q k d lined at refl) (adds q)
 
 own_from : (own : Option ℕ) (q : ℕ) → is_own own q ≡ true → own ≡ Some q
 own_from None q is = absurd (false≢true is)

@@ -13,8 +13,10 @@ live_as old new R A same adds b small = grind arith
 pub cuts_as : (old new : ByteClass) (R A : ℕ → ℕ → Type 0) → ((b q : ℕ) → R b q ↔ A b q) → AddsCuts old new A → AddsCuts old new R
 cuts_as old new R A same adds b small out = grind arith
 
-pub live_both : (old mid new : ByteClass) (R A B : ℕ → ℕ → Type 0) → ((b q : ℕ) → R b q ↔ (A b q ⊎ B b q)) → AddsLive old mid A → AddsLive mid new B → AddsLive old new R
+pub live_both : (old mid new : ByteClass) (R A B : ℕ → ℕ → Type 0) → ((b q : ℕ) → R b q ↔ (A b q ⊎ B b q)) → AddsLive old mid A → AddsLive mid new B
+    → AddsLive old new R
 live_both old mid new R A B either first second b small = grind arith
 
-pub cuts_both : (old mid new : ByteClass) (R A B : ℕ → ℕ → Type 0) → ((b q : ℕ) → R b q ↔ (A b q ⊎ B b q)) → AddsCuts old mid A → AddsCuts mid new B → AddsCuts old new R
+pub cuts_both : (old mid new : ByteClass) (R A B : ℕ → ℕ → Type 0) → ((b q : ℕ) → R b q ↔ (A b q ⊎ B b q)) → AddsCuts old mid A → AddsCuts mid new B
+    → AddsCuts old new R
 cuts_both old mid new R A B either first second b small out = grind arith

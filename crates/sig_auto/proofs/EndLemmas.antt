@@ -1,5 +1,6 @@
 -- Where the runs of a file end, byte by byte.
-use Rattle.sig_auto.proofs.Common.{◌≡◌, ℕ, ◌≤◌, List, [], ◌∷◌, ◌++◌, subst, sym, ap, refl, arith, eq-eqb, ne_eqb, EndsIn, Run, Steps, Follows, Tree, Takes, slots_of}
+use Rattle.sig_auto.proofs.Common.{◌≡◌, ℕ, ◌≤◌, List, [], ◌∷◌, ◌++◌, subst, sym, ap, refl, arith, eq-eqb, ne_eqb, EndsIn, Run, Steps, Follows, Tree, Takes,
+    slots_of}
 use Rattle.sig_auto.proofs.LocalLemmas.{IsSlot, is_first-slot, follows-slots}
 use Rattle.sig_auto.proofs.RunLemmas.{follows_shown, only_last, run_states}
 
@@ -10,7 +11,8 @@ begin_only tree q (p ∷ []) run = absurd run.1
 begin_only tree q (p ∷ (x ∷ front)) run = absurd run.1
 
 -- one more byte, and one more state
-one_more : (tree : Tree) (p : ℕ) (file states front : List ℕ) (r b q : ℕ) → Steps tree p file states → p ∷ states ≡ front ++ r ∷ [] → Follows tree r q → Takes tree q b → Steps tree p (file ++ b ∷ []) (states ++ q ∷ [])
+one_more : (tree : Tree) (p : ℕ) (file states front : List ℕ) (r b q : ℕ) → Steps tree p file states → p ∷ states ≡ front ++ r ∷ [] → Follows tree r q
+    → Takes tree q b → Steps tree p (file ++ b ∷ []) (states ++ q ∷ [])
 one_more tree p [] [] front r b q steps e follows takes = (subst (λ x. Follows tree x q) (only_last p r front e) follows, takes, tt)
 one_more tree p [] (x ∷ states) front r b q steps e follows takes = absurd steps
 one_more tree p (c ∷ file) [] front r b q steps e follows takes = absurd steps
@@ -35,7 +37,8 @@ record Before (tree : Tree) (p : ℕ) (file : List ℕ) (b q : ℕ) : Type 0 whe
   follows : Follows tree last q
   takes : Takes tree q b
 
-one_less : (tree : Tree) (p : ℕ) (file states front : List ℕ) (b q : ℕ) → Steps tree p (file ++ b ∷ []) states → p ∷ states ≡ front ++ q ∷ [] → Before tree p file b q
+one_less : (tree : Tree) (p : ℕ) (file states front : List ℕ) (b q : ℕ) → Steps tree p (file ++ b ∷ []) states → p ∷ states ≡ front ++ q ∷ []
+    → Before tree p file b q
 one_less tree p [] [] front b q steps e = absurd steps
 one_less tree p [] (x ∷ []) [] b q steps e = absurd (cc)
 one_less tree p [] (x ∷ []) (y ∷ front) b q steps e =
@@ -78,7 +81,8 @@ pub next_is_slot : (tree : Tree) (p q : ℕ) → Follows tree p q → IsSlot tre
 next_is_slot tree p q f = grind (arith, is_first-slot tree 0 q, eq-eqb, follows_shown tree p q f, follows-slots tree 0 p q, ne_eqb)
 
 -- so the last state is one, or the first
-pub last_is_slot : (tree : Tree) (p : ℕ) (file states front : List ℕ) (q : ℕ) → p ≤ slots_of tree → Steps tree p file states → p ∷ states ≡ front ++ q ∷ [] → q ≤ slots_of tree
+pub last_is_slot : (tree : Tree) (p : ℕ) (file states front : List ℕ) (q : ℕ) → p ≤ slots_of tree → Steps tree p file states → p ∷ states ≡ front ++ q ∷ []
+    → q ≤ slots_of tree
 last_is_slot tree p [] [] front q within steps e = subst (λ x. x ≤ slots_of tree) (sym (only_last p q front e)) within
 last_is_slot tree p [] (x ∷ states) front q within steps e = absurd steps
 last_is_slot tree p (c ∷ file) [] front q within steps e = absurd steps

@@ -1,5 +1,6 @@
 -- A file has a run that ends in a state, or it has none: which of the two is told by a search over the states before.
-use Rattle.sig_auto.proofs.Common.{◌⊎◌, ℕ, zero, suc, ◌+◌, ◌/◌, ◌%◌, ◌<◌, ◌≤◌, List, [], ◌∷◌, ◌++◌, slice_index, append_assoc, subst, sym, inl, inr, arith, bit_at, cases_eq, false≢true, ne_eqb, append-nil, EndsIn, FollowsOn, IsStepOf, Accepting, Follows, Tree, Takes, class_of, slots_of, IsTrim, HasBit}
+use Rattle.sig_auto.proofs.Common.{◌⊎◌, ℕ, zero, suc, ◌+◌, ◌/◌, ◌%◌, ◌<◌, ◌≤◌, List, [], ◌∷◌, ◌++◌, slice_index, append_assoc, subst, sym, inl, inr, arith,
+    bit_at, cases_eq, false≢true, ne_eqb, append-nil, EndsIn, FollowsOn, IsStepOf, Accepting, Follows, Tree, Takes, class_of, slots_of, IsTrim, HasBit}
 use Rattle.sig_auto.proofs.EndLemmas.{begin_only, ends_before, ends_further}
 use Rattle.sig_auto.proofs.LocalLemmas.{follows-slots}
 use Rattle.sig_auto.proofs.RunLemmas.{follows_shown}
@@ -41,7 +42,8 @@ leads_or_not tree P b q p trim own = grind (arith, follows_or_not tree p b q tri
 pub followed_is_state : (tree : Tree) (p q : ℕ) → Follows tree p q → p ≤ slots_of tree
 followed_is_state tree p q f = grind (arith, follows-slots tree 0 p q, ne_eqb, follows_shown tree p q f)
 
-some_leads_or_not : (tree : Tree) (P : ℕ → Type 0) (b q : ℕ) → IsTrim tree → ((p : ℕ) → P p ⊎ ¬ P p) → ((p : ℕ) × P p × Follows tree p q × Takes tree q b) ⊎ ¬ ((p : ℕ) × P p × Follows tree p q × Takes tree q b)
+some_leads_or_not : (tree : Tree) (P : ℕ → Type 0) (b q : ℕ) → IsTrim tree → ((p : ℕ) → P p ⊎ ¬ P p) → ((p : ℕ) × P p × Follows tree p q × Takes tree q b)
+    ⊎ ¬ ((p : ℕ) × P p × Follows tree p q × Takes tree q b)
 some_leads_or_not tree P b q trim each = elim (some_or_none (Leads tree P b q) (λ p. leads_or_not tree P b q p trim (each p)) (slots_of tree + 1)) [
   | inl found ↦ inl (found.number, found.holds.0, found.holds.1, found.holds.2)
   | inr none ↦ inr (λ h. none (let state = followed_is_state tree h.0 q h.2 in record { number = h.0; within = omega arith; holds = (h.1, h.2, h.3) }))

@@ -1,5 +1,7 @@
 -- One pass from the last cell to the first.
-use Rattle.sig_auto.proofs.Common.{◌≡◌, ◌≢◌, ℕ, zero, suc, ◌+◌, ◌<◌, ◌≤◌, ◌==◌, ◌&&◌, Bool, false, List, [], ◌∷◌, drop, get_or, length, Some, refl, ap, ◌∙◌, inl, inr, arith, get_or-set_other, get_or-set_same, set, length-set, and_left, cases_eq, cond-false, cond-true, eq-eqb, ne_eqb, get_or_default, Cell, Joint, Bounded, is_joint, joint_past, seek, Joints, drop-cons, AreJoints, IsJoint, is_skipped, land, onward}
+use Rattle.sig_auto.proofs.Common.{◌≡◌, ◌≢◌, ℕ, zero, suc, ◌+◌, ◌<◌, ◌≤◌, ◌==◌, ◌&&◌, Bool, false, List, [], ◌∷◌, drop, get_or, length, Some, refl, ap, ◌∙◌,
+    inl, inr, arith, get_or-set_other, get_or-set_same, set, length-set, and_left, cases_eq, cond-false, cond-true, eq-eqb, ne_eqb, get_or_default, Cell, Joint,
+    Bounded, is_joint, joint_past, seek, Joints, drop-cons, AreJoints, IsJoint, is_skipped, land, onward}
 
 -- the cells from place k on are joined
 pub record Joining (cells : List Cell) (k : ℕ) (first : List ℕ) (lands : List Bool) (joints : List Joint) : Type 0 where
@@ -38,7 +40,8 @@ onward_other c j other = cond-false (c.front == j && is_skipped c) (Some c.behin
 past_bounded : (c : Cell) (n : ℕ) → c.front ≤ n → c.behind ≤ n → joint_past c ≤ n
 past_bounded c n front behind = grind (arith, cond-true, cond-false)
 
-pub joining_steps : (cells rest : List Cell) (k : ℕ) (c : Cell) (first new_first : List ℕ) (lands new_lands : List Bool) (joints new_joints : List Joint) (joint : Joint) →
+pub joining_steps : (cells rest : List Cell) (k : ℕ) (c : Cell) (first new_first : List ℕ) (lands new_lands : List Bool) (joints new_joints : List Joint)
+    (joint : Joint) →
     Bounded (length cells) cells → Joining cells (k + 1) first lands joints → drop k cells ≡ c ∷ drop (k + 1) cells →
     joint.enters ≡ get_or first c.behind 0 → joint.beside ≡ get_or first (joint_past c) 0 → joint.ends ≡ get_or lands c.behind false →
     new_joints ≡ set joints k joint → new_lands ≡ set lands c.front (get_or lands (joint_past c) false) → new_first ≡ set first c.front k →
@@ -72,15 +75,19 @@ joining_steps cells rest k c first new_first lands new_lands joints new_joints j
 pub here_of : {A : Type 0} (xs : List A) (m : ℕ) (d : A) → m < length xs → drop m xs ≡ get_or xs m d ∷ drop (m + 1) xs
 here_of xs m d h = drop-cons xs m d h ∙ ap (λ n. get_or xs m d ∷ drop n xs) (let e : suc m ≡ m + 1 = omega arith in e)
 
-pub joining_at : (cells : List Cell) (n m : ℕ) (first new_first : List ℕ) (lands new_lands : List Bool) (joints new_joints : List Joint) (joint : Joint) (d : Cell) →
+pub joining_at : (cells : List Cell) (n m : ℕ) (first new_first : List ℕ) (lands new_lands : List Bool) (joints new_joints : List Joint) (joint : Joint)
+    (d : Cell) →
     Bounded (length cells) cells → Joining cells n first lands joints → n ≡ m + 1 →
-    joint.enters ≡ get_or first (get_or cells m d).behind 0 → joint.beside ≡ get_or first (joint_past (get_or cells m d)) 0 → joint.ends ≡ get_or lands (get_or cells m d).behind false →
-    new_joints ≡ set joints m joint → new_lands ≡ set lands (get_or cells m d).front (get_or lands (joint_past (get_or cells m d)) false) → new_first ≡ set first (get_or cells m d).front m →
+    joint.enters ≡ get_or first (get_or cells m d).behind 0 → joint.beside ≡ get_or first (joint_past (get_or cells m d)) 0
+        → joint.ends ≡ get_or lands (get_or cells m d).behind false →
+    new_joints ≡ set joints m joint → new_lands ≡ set lands (get_or cells m d).front (get_or lands (joint_past (get_or cells m d)) false)
+        → new_first ≡ set first (get_or cells m d).front m →
     Joining cells m new_first new_lands new_joints
 joining_at cells n m first new_first lands new_lands joints new_joints joint d all h is enters beside ends joints_are lands_are first_are =
     grind (arith, joining_steps cells [] m (get_or cells m d) first new_first lands new_lands joints new_joints joint all, here_of cells m d)
 
-pub joined : (cells : List Cell) (joints : Joints) (k : ℕ) (first : List ℕ) (lands : List Bool) → Joining cells k first lands joints.each.items → k ≤ 0 → joints.start ≡ get_or first 0 joints.start → joints.nullable ≡ get_or lands 0 joints.nullable → AreJoints cells joints
+pub joined : (cells : List Cell) (joints : Joints) (k : ℕ) (first : List ℕ) (lands : List Bool) → Joining cells k first lands joints.each.items → k ≤ 0
+    → joints.start ≡ get_or first 0 joints.start → joints.nullable ≡ get_or lands 0 joints.nullable → AreJoints cells joints
 joined cells joints k first lands h low start nullable =
     let is : k ≡ 0 = omega arith in
     let first_len = h.first_len in
@@ -88,9 +95,11 @@ joined cells joints k first lands h low start nullable =
     record {
       many = h.joints_len;
       start = start ∙ get_or_default first 0 joints.start 0 (omega arith) ∙ h.firsts 0 (omega arith) ∙ ap (λ x. seek 0 (drop x cells) x) is;
-      nullable = nullable ∙ get_or_default lands 0 joints.nullable false (omega arith) ∙ h.landed 0 (omega arith) ∙ ap (λ x. is_joint (land (Some 0) (drop x cells)) (length cells)) is;
+      nullable = nullable ∙ get_or_default lands 0 joints.nullable false (omega arith) ∙ h.landed 0 (omega arith) ∙ ap
+          (λ x. is_joint (land (Some 0) (drop x cells)) (length cells)) is;
       each = λ i c rest d at. h.done i c rest d (omega arith) at;
     }
 
-pub joints_room : (cells : List Cell) (n m : ℕ) (first : List ℕ) (lands : List Bool) (joints : List Joint) (d : Cell) → Bounded (length cells) cells → Joining cells n first lands joints → n ≡ m + 1 → ((get_or cells m d).front < length first) × ((get_or cells m d).behind < length first)
+pub joints_room : (cells : List Cell) (n m : ℕ) (first : List ℕ) (lands : List Bool) (joints : List Joint) (d : Cell) → Bounded (length cells) cells
+    → Joining cells n first lands joints → n ≡ m + 1 → ((get_or cells m d).front < length first) × ((get_or cells m d).behind < length first)
 joints_room cells n m first lands joints d all h is = grind (arith, bounded_at, here_of)

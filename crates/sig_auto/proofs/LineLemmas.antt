@@ -1,5 +1,8 @@
 -- The cells of a tree in order: their slots, classes and joints.
-use Rattle.sig_auto.proofs.Common.{◌||◌, ◌≡◌, ℕ, zero, suc, ◌+◌, ◌-◌, ◌<◌, ◌≤◌, true, List, [], ◌∷◌, ◌++◌, drop, get_or, length, replicate, refl, sym, ap, ◌∙◌, subst, arith, append_assoc, length-append, lit<, and_parts, cond-false, cond-true, eqb-true, leb-true, ltb-true, append-nil, get_or_append_left, get_or-append_right, get_or-replicate, length-replicate, any, Tree, Never, Empty, Slot, Gap, Then, Or, classes_of, slots_of, Cell, cells_in, cells_of, middle, slots_in, Bounded, Lined, spread, entered, exit, gone, has_slot, land, leave, own}
+use Rattle.sig_auto.proofs.Common.{◌||◌, ◌≡◌, ℕ, zero, suc, ◌+◌, ◌-◌, ◌<◌, ◌≤◌, true, List, [], ◌∷◌, ◌++◌, drop, get_or, length, replicate, refl, sym, ap, ◌∙◌,
+    subst, arith, append_assoc, length-append, lit<, and_parts, cond-false, cond-true, eqb-true, leb-true, ltb-true, append-nil, get_or_append_left,
+    get_or-append_right, get_or-replicate, length-replicate, any, Tree, Never, Empty, Slot, Gap, Then, Or, classes_of, slots_of, Cell, cells_in, cells_of,
+    middle, slots_in, Bounded, Lined, spread, entered, exit, gone, has_slot, land, leave, own}
 use Rattle.sig_auto.proofs.ShapeLemmas.{gap_positive, gap_some, mid_inner, mid_left, mid_right}
 
 total_append : (u v : List Cell) → slots_in (u ++ v) ≡ slots_in u + slots_in v
@@ -52,7 +55,8 @@ bounded (Then t u) i n a b most front behind h =
     Bounded-append most (cells_of t i n a m) (cells_of u (i + cells_in t) (n + slots_of t) m b)
     (bounded t i n a m most front mid (omega arith)) (bounded u (i + cells_in t) (n + slots_of t) m b most mid behind (omega arith))
 bounded (Or t u) i n a b most front behind h =
-    grind (arith, Bounded-append most (cells_of t i n a b) (cells_of u (i + cells_in t) (n + slots_of t) a b), bounded t i n a b most front behind, bounded u (i + cells_in t) (n + slots_of t) a b most front behind)
+    grind (arith, Bounded-append most (cells_of t i n a b) (cells_of u (i + cells_in t) (n + slots_of t) a b), bounded t i n a b most front behind,
+        bounded u (i + cells_in t) (n + slots_of t) a b most front behind)
 
 -- ---- classes
 
@@ -73,20 +77,23 @@ spread_of (Or t u) i n a b = grind (arith, spread_append, spread_of t i n a b, s
 pub slot_parts : (c : Cell) (p : ℕ) → has_slot c p ≡ true → (c.before < p) × (p ≤ c.before + c.count)
 slot_parts c p h = grind (arith, and_parts, ltb-true, leb-true)
 
-pub lined_later : (cs rest : List Cell) (n k : ℕ) (c : Cell) → Lined n cs → drop k cs ≡ c ∷ rest → (n ≤ c.before) × (0 < c.count) × Lined (c.before + c.count) rest × (c.before + c.count + slots_in rest ≡ n + slots_in cs)
+pub lined_later : (cs rest : List Cell) (n k : ℕ) (c : Cell) → Lined n cs → drop k cs ≡ c ∷ rest → (n ≤ c.before) × (0 < c.count)
+    × Lined (c.before + c.count) rest × (c.before + c.count + slots_in rest ≡ n + slots_in cs)
 lined_later [] rest n zero c h is = absurd (cc)
 lined_later [] rest n (suc k) c h is = absurd (cc)
 lined_later (d ∷ cs) rest n zero c h is = grind arith
 lined_later (d ∷ cs) rest n (suc k) c h is = grind (arith, lined_later cs rest (n + d.count) k c h.2 is)
 
-pub class_at : (cs rest : List Cell) (n k q : ℕ) (c : Cell) → Lined n cs → drop k cs ≡ c ∷ rest → c.before < q → q ≤ c.before + c.count → get_or (spread cs) (q - (n + 1)) any ≡ c.class
+pub class_at : (cs rest : List Cell) (n k q : ℕ) (c : Cell) → Lined n cs → drop k cs ≡ c ∷ rest → c.before < q → q ≤ c.before + c.count
+    → get_or (spread cs) (q - (n + 1)) any ≡ c.class
 class_at [] rest n zero q c h is low high = absurd (cc)
 class_at [] rest n (suc k) q c h is low high = absurd (cc)
 class_at (d ∷ cs) rest n zero q c h is low high = grind (arith, length-replicate, get_or_append_left, get_or-replicate)
 class_at (d ∷ cs) rest n (suc k) q c h is low high =
     grind (arith, lined_later cs rest (n + d.count) k c h.2 is, get_or-append_right, length-replicate, class_at cs rest (n + d.count) k q c h.2 is low high)
 
-pub gone_at : (cs rest : List Cell) (n k p q : ℕ) (c : Cell) → Lined n cs → drop k cs ≡ c ∷ rest → has_slot c p ≡ true → gone cs p q ≡ (own c p q || entered (leave c p) rest q)
+pub gone_at : (cs rest : List Cell) (n k p q : ℕ) (c : Cell) → Lined n cs → drop k cs ≡ c ∷ rest → has_slot c p ≡ true
+    → gone cs p q ≡ (own c p q || entered (leave c p) rest q)
 gone_at [] rest n zero p q c h is slot = absurd (cc)
 gone_at [] rest n (suc k) p q c h is slot = absurd (cc)
 gone_at (d ∷ cs) rest n zero p q c h is slot = grind (arith, cond-true)

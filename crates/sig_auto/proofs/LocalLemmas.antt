@@ -1,5 +1,7 @@
 -- The tracks of a tree are the lists whose first slot begins, whose neighbours go next to each other, and whose last slot ends.
-use Rattle.sig_auto.proofs.Common.{◌||◌, ◌≡◌, ◌⊎◌, ◌↔◌, ℕ, zero, suc, ◌+◌, ◌<◌, ◌≤◌, ◌==◌, Bool, true, nat_lt, List, [], ◌∷◌, ◌++◌, replicate, Option, Some, None, subst, sym, ap, ◌∙◌, refl, inl, inr, arith, and_from, and_parts, cases_lt, eq-eqb, eqb-true, false≢true, le-leb, leb-true, lt-ltb, ltb-true, or_cases, or_left, or_right, append-nil, is_first, is_last, follows, is_nullable, slots_from, Track, Tree, Never, Empty, Slot, Gap, Then, Or, slots_of, gap_slots}
+use Rattle.sig_auto.proofs.Common.{◌||◌, ◌≡◌, ◌⊎◌, ◌↔◌, ℕ, zero, suc, ◌+◌, ◌<◌, ◌≤◌, ◌==◌, Bool, true, nat_lt, List, [], ◌∷◌, ◌++◌, replicate, Option, Some,
+    None, subst, sym, ap, ◌∙◌, refl, inl, inr, arith, and_from, and_parts, cases_lt, eq-eqb, eqb-true, false≢true, le-leb, leb-true, lt-ltb, ltb-true, or_cases,
+    or_left, or_right, append-nil, is_first, is_last, follows, is_nullable, slots_from, Track, Tree, Never, Empty, Slot, Gap, Then, Or, slots_of, gap_slots}
 
 -- behind p these slots may stand, up to the end of a track
 abbrev pub Chain : Tree → ℕ → ℕ → List ℕ → Type 0
@@ -22,13 +24,16 @@ wide_right : (before x y q : ℕ) → (before + x < q) × (q ≤ before + x + y)
 wide_right before x y q h = (omega arith, omega arith)
 
 -- the tests of a gap
-pub gap_ends : (min : ℕ) (max : Option ℕ) (before p : ℕ) → is_last (Gap min max) before p ≡ true → (before < p) × (before + min ≤ p) × (p ≤ before + gap_slots min max)
+pub gap_ends : (min : ℕ) (max : Option ℕ) (before p : ℕ) → is_last (Gap min max) before p ≡ true → (before < p) × (before + min ≤ p)
+    × (p ≤ before + gap_slots min max)
 gap_ends min max before p h = grind (arith, and_parts, ltb-true, leb-true)
 
-pub gap_ends-from : (min : ℕ) (max : Option ℕ) (before p : ℕ) → before < p → before + min ≤ p → p ≤ before + gap_slots min max → is_last (Gap min max) before p ≡ true
+pub gap_ends-from : (min : ℕ) (max : Option ℕ) (before p : ℕ) → before < p → before + min ≤ p → p ≤ before + gap_slots min max
+    → is_last (Gap min max) before p ≡ true
 gap_ends-from min max before p low least greatest = grind (arith, and_from, lt-ltb, le-leb)
 
-pub gap_goes_none : (min before p q : ℕ) → follows (Gap min None) before p q ≡ true → ((before < p) × (p < before + (min + 1)) × (q ≡ p + 1)) ⊎ ((p ≡ before + min + 1) × (q ≡ p))
+pub gap_goes_none : (min before p q : ℕ) → follows (Gap min None) before p q ≡ true → ((before < p) × (p < before + (min + 1)) × (q ≡ p + 1))
+    ⊎ ((p ≡ before + min + 1) × (q ≡ p))
 gap_goes_none min before p q h = grind (arith, or_cases, and_parts, eqb-true, ltb-true)
 
 pub gap_goes_some : (min max before p q : ℕ) → follows (Gap min (Some max)) before p q ≡ true → (before < p) × (p < before + max) × (q ≡ p + 1)
@@ -42,13 +47,16 @@ gap_next min max before p low high = grind (arith, or_left, and_from, lt-ltb, eq
 pub either : (x y : Bool) → ((x || y) ≡ true) ↔ ((x ≡ true) ⊎ (y ≡ true))
 either x y = (or_cases x y, λ h. elim h [ inl one ↦ or_left x y one | inr other ↦ or_right x y other ])
 
-pub first_then : (a b : Tree) (before q : ℕ) → (is_first (Then a b) before q ≡ true) ↔ ((is_first a before q ≡ true) ⊎ ((is_nullable a ≡ true) × (is_first b (before + slots_of a) q ≡ true)))
+pub first_then : (a b : Tree) (before q : ℕ) → (is_first (Then a b) before q ≡ true)
+    ↔ ((is_first a before q ≡ true) ⊎ ((is_nullable a ≡ true) × (is_first b (before + slots_of a) q ≡ true)))
 first_then a b before q = grind (arith, either (is_first a before q), and_parts, and_from)
 
 pub first_or : (a b : Tree) (before q : ℕ) → (is_first (Or a b) before q ≡ true) ↔ ((is_first a before q ≡ true) ⊎ (is_first b (before + slots_of a) q ≡ true))
 first_or a b before q = either (is_first a before q) (is_first b (before + slots_of a) q)
 
-pub follows_then : (a b : Tree) (before p q : ℕ) → (follows (Then a b) before p q ≡ true) ↔ ((follows a before p q ≡ true) ⊎ ((follows b (before + slots_of a) p q ≡ true) ⊎ ((is_last a before p ≡ true) × (is_first b (before + slots_of a) q ≡ true))))
+pub follows_then : (a b : Tree) (before p q : ℕ) → (follows (Then a b) before p q ≡ true)
+    ↔ ((follows a before p q ≡ true) ⊎ ((follows b (before + slots_of a) p q ≡ true)
+    ⊎ ((is_last a before p ≡ true) × (is_first b (before + slots_of a) q ≡ true))))
 follows_then a b before p q = grind (arith, either, and_parts, and_from)
 
 -- the slots that begin, end and go are slots of the tree
@@ -58,7 +66,8 @@ is_first-slot Empty before q h = absurd (false≢true h)
 is_first-slot (Slot c) before q h = let e = eqb-true q (before + 1) h in (omega arith, omega arith)
 is_first-slot (Gap min max) before q h = grind (arith, and_parts, ltb-true, eqb-true)
 is_first-slot (Then a b) before q h =
-    grind (arith, first_then a b before q, wide_left before (slots_of a) (slots_of b) q, wide_right before (slots_of a) (slots_of b) q, is_first-slot a before q, is_first-slot b (before + slots_of a) q)
+    grind (arith, first_then a b before q, wide_left before (slots_of a) (slots_of b) q, wide_right before (slots_of a) (slots_of b) q,
+        is_first-slot a before q, is_first-slot b (before + slots_of a) q)
 is_first-slot (Or a b) before q h = grind (arith, first_or, wide_left, wide_right, is_first-slot a before q, is_first-slot b (before + slots_of a) q)
 
 pub is_last-slot : (tree : Tree) (before p : ℕ) → is_last tree before p ≡ true → IsSlot tree before p
@@ -66,8 +75,10 @@ is_last-slot Never before p h = absurd (false≢true h)
 is_last-slot Empty before p h = absurd (false≢true h)
 is_last-slot (Slot c) before p h = let e = eqb-true p (before + 1) h in (omega arith, omega arith)
 is_last-slot (Gap min max) before p h = let is = gap_ends min max before p h in (is.0, is.2)
-is_last-slot (Then a b) before p h = grind (arith, wide_left, wide_right, is_last-slot a before p, is_last-slot b (before + slots_of a) p, either, and_parts, and_from)
-is_last-slot (Or a b) before p h = grind (arith, wide_left, wide_right, is_last-slot a before p, is_last-slot b (before + slots_of a) p, either, is_last, slots_of)
+is_last-slot (Then a b) before p h = grind (arith, wide_left, wide_right, is_last-slot a before p, is_last-slot b (before + slots_of a) p, either, and_parts,
+    and_from)
+is_last-slot (Or a b) before p h = grind (arith, wide_left, wide_right, is_last-slot a before p, is_last-slot b (before + slots_of a) p, either, is_last,
+    slots_of)
 
 pub follows-slots : (tree : Tree) (before p q : ℕ) → follows tree before p q ≡ true → IsSlot tree before p × IsSlot tree before q
 follows-slots Never before p q h = absurd (false≢true h)
@@ -76,9 +87,12 @@ follows-slots (Slot c) before p q h = absurd (false≢true h)
 follows-slots (Gap min None) before p q h = grind (arith, gap_goes_none min before p q h)
 follows-slots (Gap min (Some max)) before p q h = grind (arith, gap_goes_some min max before p q h)
 follows-slots (Then a b) before p q h =
-    grind (arith, follows_then a b before p q, wide_left before (slots_of a) (slots_of b) p, wide_left before (slots_of a) (slots_of b) q, wide_right before (slots_of a) (slots_of b) p, wide_right before (slots_of a) (slots_of b) q, is_last-slot a before p, is_first-slot b (before + slots_of a) q, follows-slots a before p q, follows-slots b (before + slots_of a) p q)
+    grind (arith, follows_then a b before p q, wide_left before (slots_of a) (slots_of b) p, wide_left before (slots_of a) (slots_of b) q,
+        wide_right before (slots_of a) (slots_of b) p, wide_right before (slots_of a) (slots_of b) q, is_last-slot a before p,
+        is_first-slot b (before + slots_of a) q, follows-slots a before p q, follows-slots b (before + slots_of a) p q)
 follows-slots (Or a b) before p q h =
-    grind (arith, wide_left before (slots_of a) (slots_of b) p, wide_left before (slots_of a) (slots_of b) q, wide_right before (slots_of a) (slots_of b) p, wide_right before (slots_of a) (slots_of b) q, follows-slots a before p q, follows-slots b (before + slots_of a) p q, either, follows, slots_of)
+    grind (arith, wide_left before (slots_of a) (slots_of b) p, wide_left before (slots_of a) (slots_of b) q, wide_right before (slots_of a) (slots_of b) p,
+        wide_right before (slots_of a) (slots_of b) q, follows-slots a before p q, follows-slots b (before + slots_of a) p q, either, follows, slots_of)
 
 -- a branch's chains are the tree's
 pub Chain-or_left : (a b : Tree) (before p : ℕ) (t : List ℕ) → Chain a before p t → Chain (Or a b) before p t
@@ -123,7 +137,8 @@ gap_tail min before zero some = gap_ends-from min None before (before + min) (om
 gap_tail min before (suc k) some = (gap_next min None before (before + min) (omega arith) (omega arith), gap_stay min before k)
 
 -- the slots of a gap follow each other
-pub gap_climb : (min : ℕ) (max : Option ℕ) (before p n : ℕ) (rest : List ℕ) → before < p → p + n ≤ before + gap_slots min max → Chain (Gap min max) before (p + n) rest → Chain (Gap min max) before p (slots_from (p + 1) n ++ rest)
+pub gap_climb : (min : ℕ) (max : Option ℕ) (before p n : ℕ) (rest : List ℕ) → before < p → p + n ≤ before + gap_slots min max
+    → Chain (Gap min max) before (p + n) rest → Chain (Gap min max) before p (slots_from (p + 1) n ++ rest)
 gap_climb min max before p zero rest low high h = grind arith
 gap_climb min max before p (suc n) rest low high h = grind (arith, gap_next min max before p low, gap_climb min max before (p + 1) n rest)
 
@@ -133,12 +148,14 @@ gap_begins min max before some = grind (arith, and_from, lt-ltb, eq-eqb)
 pub gap_local_none : (min before k : ℕ) → IsLocal (Gap min None) before (slots_from (before + 1) min ++ replicate k (before + min + 1))
 gap_local_none zero before zero = refl
 gap_local_none zero before (suc k) = grind (arith, gap_begins 0 None before, gap_stay 0 before k)
-gap_local_none (suc m) before k = grind (arith, gap_begins (suc m) None before, gap_climb (suc m) None before (before + 1) m (replicate k (before + suc m + 1)), gap_tail (suc m) before k)
+gap_local_none (suc m) before k = grind (arith, gap_begins (suc m) None before, gap_climb (suc m) None before (before + 1) m (replicate k (before + suc m + 1)),
+    gap_tail (suc m) before k)
 
 pub gap_local_some : (min max before k : ℕ) → min ≤ k → k ≤ max → IsLocal (Gap min (Some max)) before (slots_from (before + 1) k)
 gap_local_some min max before zero least greatest = eq-eqb min 0 (omega arith)
 gap_local_some min max before (suc n) least greatest =
-    grind (arith, gap_begins min (Some max) before, append-nil, gap_climb min (Some max) before (before + 1) n [], gap_ends-from min (Some max) before (before + 1 + n))
+    grind (arith, gap_begins min (Some max) before, append-nil, gap_climb min (Some max) before (before + 1) n [],
+        gap_ends-from min (Some max) before (before + 1 + n))
 
 -- a track begins, goes on and ends so
 pub track_local : (tree : Tree) (before : ℕ) (t : List ℕ) → Track tree before t → IsLocal tree before t
@@ -147,11 +164,13 @@ track_local Empty before t h = subst (λ l. IsLocal Empty before l) (sym h) refl
 track_local (Slot c) before t h = subst (λ l. IsLocal (Slot c) before l) (sym h) (eq-eqb (before + 1) (before + 1) refl, eq-eqb (before + 1) (before + 1) refl)
 track_local (Gap min None) before t h = subst (λ l. IsLocal (Gap min None) before l) (sym h.1) (gap_local_none min before h.0)
 track_local (Gap min (Some max)) before t h = subst (λ l. IsLocal (Gap min (Some max)) before l) (sym h.3) (gap_local_some min max before h.0 h.1 h.2)
-track_local (Then a b) before t h = subst (λ l. IsLocal (Then a b) before l) (sym h.2) (IsLocal-then a b before h.0 h.1 (track_local a before h.0 h.3) (track_local b (before + slots_of a) h.1 h.4))
+track_local (Then a b) before t h = subst (λ l. IsLocal (Then a b) before l) (sym h.2)
+    (IsLocal-then a b before h.0 h.1 (track_local a before h.0 h.3) (track_local b (before + slots_of a) h.1 h.4))
 track_local (Or a b) before t h = grind (arith, IsLocal-or_left, IsLocal-or_right, track_local a before t, track_local b (before + slots_of a) t)
 
 -- the chains of a gap are its slots in order
-gap_chain_some : (min max before p : ℕ) (t : List ℕ) → Chain (Gap min (Some max)) before p t → (n : ℕ) × (before + min ≤ p + n) × (p + n ≤ before + max) × (t ≡ slots_from (p + 1) n)
+gap_chain_some : (min max before p : ℕ) (t : List ℕ) → Chain (Gap min (Some max)) before p t → (n : ℕ) × (before + min ≤ p + n) × (p + n ≤ before + max)
+    × (t ≡ slots_from (p + 1) n)
 gap_chain_some min max before p [] h = grind (arith, gap_ends min (Some max) before p h)
 gap_chain_some min max before p (q ∷ t) h =
     let step = gap_goes_some min max before p q h.0 in
@@ -172,7 +191,8 @@ gap_chain_stay min before (q ∷ t) h =
           (suc more.0, cc)
     ]
 
-gap_chain_none : (min before p : ℕ) (t : List ℕ) → p ≤ before + min → Chain (Gap min None) before p t → (n k : ℕ) × (p + n ≡ before + min) × (t ≡ slots_from (p + 1) n ++ replicate k (before + min + 1))
+gap_chain_none : (min before p : ℕ) (t : List ℕ) → p ≤ before + min → Chain (Gap min None) before p t → (n k : ℕ) × (p + n ≡ before + min)
+    × (t ≡ slots_from (p + 1) n ++ replicate k (before + min + 1))
 gap_chain_none min before p [] low h =
     let is = gap_ends min None before p h in
     (0, 0, omega arith, refl)
@@ -184,7 +204,8 @@ gap_chain_none min before p (q ∷ t) low h =
             | inl inside ↦
                 let more = gap_chain_none min before q t (omega arith) h.1 in
                 let sum : q + more.0 ≡ before + min = more.2 in
-                let rest : t ≡ slots_from (p + 1 + 1) more.0 ++ replicate more.1 (before + min + 1) = subst (λ x. t ≡ slots_from (x + 1) more.0 ++ replicate more.1 (before + min + 1)) next more.3 in
+                let rest : t ≡ slots_from (p + 1 + 1) more.0 ++ replicate more.1 (before + min + 1) =
+                    subst (λ x. t ≡ slots_from (x + 1) more.0 ++ replicate more.1 (before + min + 1)) next more.3 in
                 (suc more.0, more.1, omega arith, cc)
             | inr last ↦
                 let same : q ≡ before + min + 1 = omega arith in
@@ -209,7 +230,8 @@ Chain-then_right_from a b before p [] high h = grind (arith, is_last-slot a befo
 Chain-then_right_from a b before p (q ∷ t) high h = grind (arith, follows_then, follows-slots, is_last-slot, Chain-then_right_from a b before q t)
 
 -- a chain from a slot of the first branch is one of that branch, and then a list of the second
-pub Chain-then_cut : (a b : Tree) (before p : ℕ) (t : List ℕ) → p ≤ before + slots_of a → Chain (Then a b) before p t → (u v : List ℕ) × (t ≡ u ++ v) × Chain a before p u × IsLocal b (before + slots_of a) v
+pub Chain-then_cut : (a b : Tree) (before p : ℕ) (t : List ℕ) → p ≤ before + slots_of a → Chain (Then a b) before p t → (u v : List ℕ) × (t ≡ u ++ v)
+    × Chain a before p u × IsLocal b (before + slots_of a) v
 Chain-then_cut a b before p [] low h = grind (arith, is_last-slot b (before + slots_of a) p, either, and_parts, and_from)
 Chain-then_cut a b before p (q ∷ t) low h =
     elim ((follows_then a b before p q).0 h.0) [
@@ -247,7 +269,8 @@ local_track (Then a b) before (q ∷ t) h =
     ]
 local_track (Or a b) before [] h = grind (arith, either, local_track a before [], local_track b (before + slots_of a) [])
 local_track (Or a b) before (q ∷ t) h =
-    grind (arith, first_or a b before q, Chain-or_left_from a b before q t, is_first-slot a before q, is_first-slot b (before + slots_of a) q, Chain-or_right_from a b before q t, local_track a before (q ∷ t), local_track b (before + slots_of a) (q ∷ t))
+    grind (arith, first_or a b before q, Chain-or_left_from a b before q t, is_first-slot a before q, is_first-slot b (before + slots_of a) q,
+        Chain-or_right_from a b before q t, local_track a before (q ∷ t), local_track b (before + slots_of a) (q ∷ t))
 
 -- what a track shows
 Chain-is_last : (tree : Tree) (before x p : ℕ) (u : List ℕ) → Chain tree before x (u ++ p ∷ []) → is_last tree before p ≡ true

@@ -1,5 +1,6 @@
 -- The runs that accept a file are the tracks whose slots take its bytes.
-use Rattle.sig_auto.proofs.Common.{◌≡◌, ◌↔◌, ℕ, ◌<◌, ◌==◌, if◌then◌else◌, true, List, [], ◌∷◌, ◌++◌, append_assoc, subst, sym, ap, refl, arith, eq-eqb, ne_eqb, is_first, is_last, follows, is_nullable, Accepts, Run, Steps, Accepting, Follows, Track, Tree, TakesAll}
+use Rattle.sig_auto.proofs.Common.{◌≡◌, ◌↔◌, ℕ, ◌<◌, ◌==◌, if◌then◌else◌, true, List, [], ◌∷◌, ◌++◌, append_assoc, subst, sym, ap, refl, arith, eq-eqb, ne_eqb,
+    is_first, is_last, follows, is_nullable, Accepts, Run, Steps, Accepting, Follows, Track, Tree, TakesAll}
 use Rattle.sig_auto.proofs.LocalLemmas.{Chain, IsLocal, follows-slots, is_first-slot, local_track, track_ends, track_goes, track_local, track_slot}
 
 -- behind the start a slot begins, behind another it goes
@@ -33,20 +34,24 @@ only_last p last (x ∷ []) e = absurd (cc)
 only_last p last (x ∷ (y ∷ front)) e = absurd (cc)
 
 -- the states behind a slot
-steps_local : (tree : Tree) (p last : ℕ) (file states front : List ℕ) → 0 < p → Steps tree p file states → p ∷ states ≡ front ++ last ∷ [] → Accepting tree last → Chain tree 0 p states × TakesAll tree states file
+steps_local : (tree : Tree) (p last : ℕ) (file states front : List ℕ) → 0 < p → Steps tree p file states → p ∷ states ≡ front ++ last ∷ [] → Accepting tree last
+    → Chain tree 0 p states × TakesAll tree states file
 steps_local tree p last [] [] front some steps e a = grind (arith, only_last p last front e, accepting_slot tree)
 steps_local tree p last [] (q ∷ states) front some steps e a = absurd steps
 steps_local tree p last (byte ∷ bytes) [] front some steps e a = absurd steps
 steps_local tree p last (byte ∷ bytes) (q ∷ states) [] some steps e a = absurd (cc)
-steps_local tree p last (byte ∷ bytes) (q ∷ states) (x ∷ front) some steps e a = grind (arith, follows_slot tree, follows-slots tree 0 p q, steps_local tree q last bytes states front)
+steps_local tree p last (byte ∷ bytes) (q ∷ states) (x ∷ front) some steps e a =
+    grind (arith, follows_slot tree, follows-slots tree 0 p q, steps_local tree q last bytes states front)
 
 -- and those behind the start
-start_local : (tree : Tree) (last : ℕ) (file states front : List ℕ) → Steps tree 0 file states → 0 ∷ states ≡ front ++ last ∷ [] → Accepting tree last → IsLocal tree 0 states × TakesAll tree states file
+start_local : (tree : Tree) (last : ℕ) (file states front : List ℕ) → Steps tree 0 file states → 0 ∷ states ≡ front ++ last ∷ [] → Accepting tree last
+    → IsLocal tree 0 states × TakesAll tree states file
 start_local tree last [] [] front steps e a = grind (arith, only_last 0 last front e, accepting_start tree)
 start_local tree last [] (q ∷ states) front steps e a = absurd steps
 start_local tree last (byte ∷ bytes) [] front steps e a = absurd steps
 start_local tree last (byte ∷ bytes) (q ∷ states) [] steps e a = absurd (cc)
-start_local tree last (byte ∷ bytes) (q ∷ states) (x ∷ front) steps e a = grind (arith, follows_start tree, steps_local tree q last bytes states front, is_first-slot tree 0 q)
+start_local tree last (byte ∷ bytes) (q ∷ states) (x ∷ front) steps e a =
+    grind (arith, follows_start tree, steps_local tree q last bytes states front, is_first-slot tree 0 q)
 
 -- a run begins with the start
 pub run_states : (tree : Tree) (file states : List ℕ) → Run tree file states → (behind : List ℕ) × (0 ∷ behind ≡ states) × Steps tree 0 file behind
@@ -61,7 +66,8 @@ last_of p (q ∷ t) =
     (p ∷ more.0, more.1, ap (λ l. p ∷ l) more.2)
 
 -- a track's slots follow each other
-steps_of : (tree : Tree) (track front : List ℕ) (p : ℕ) (t file : List ℕ) → Track tree 0 track → 0 ∷ track ≡ front ++ p ∷ t → TakesAll tree t file → Steps tree p file t
+steps_of : (tree : Tree) (track front : List ℕ) (p : ℕ) (t file : List ℕ) → Track tree 0 track → 0 ∷ track ≡ front ++ p ∷ t → TakesAll tree t file
+    → Steps tree p file t
 steps_of tree track front p [] [] is e takes = tt
 steps_of tree track front p [] (byte ∷ bytes) is e takes = absurd takes
 steps_of tree track front p (q ∷ t) [] is e takes = absurd takes

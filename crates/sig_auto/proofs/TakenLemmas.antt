@@ -1,5 +1,7 @@
 -- The words of a tree, by its tracks and the classes of their slots.
-use Rattle.sig_auto.proofs.Common.{◌≡◌, ◌↔◌, ℕ, zero, suc, ◌+◌, ◌-◌, ◌<◌, ◌≤◌, List, [], ◌∷◌, ◌++◌, length, get_or, replicate, refl, sym, ap, subst, ◌∙◌, inl, inr, arith, Option, Some, None, length-append, ⊤, length-replicate, get_or-replicate, get_or_append_left, get_or-append_right, Class, InClass, any, Tree, Never, Empty, Slot, Gap, Then, Or, slots_of, classes_of, class_of, GapTrack, slots_from, Track, TakesAll, TreeWord, IsBytes, gap_slots}
+use Rattle.sig_auto.proofs.Common.{◌≡◌, ◌↔◌, ℕ, zero, suc, ◌+◌, ◌-◌, ◌<◌, ◌≤◌, List, [], ◌∷◌, ◌++◌, length, get_or, replicate, refl, sym, ap, subst, ◌∙◌, inl,
+    inr, arith, Option, Some, None, length-append, ⊤, length-replicate, get_or-replicate, get_or_append_left, get_or-append_right, Class, InClass, any, Tree,
+    Never, Empty, Slot, Gap, Then, Or, slots_of, classes_of, class_of, GapTrack, slots_from, Track, TakesAll, TreeWord, IsBytes, gap_slots}
 use Rattle.sig_auto.proofs.ByteLemmas.{IsBytes-nil, IsBytes-cons, IsBytes-head, IsBytes-tail, IsBytes-append}
 
 -- each slot takes the byte in its place, where f gives the classes
@@ -21,13 +23,15 @@ TakesBy-split f (q ∷ s) t [] h = absurd h
 TakesBy-split f (q ∷ s) t (b ∷ w) h = let r = TakesBy-split f s t w h.1 in (b ∷ r.0, r.1, ap (λ l. b ∷ l) r.2, (h.0, r.3), r.4)
 
 -- the bytes that slots of all bytes take, one after the other
-TakesBy-run : (f : ℕ → Class) (k first : ℕ) (w : List ℕ) → ((q : ℕ) → first ≤ q → q < first + k → f q ≡ any) → IsBytes w → length w ≡ k → TakesBy f (slots_from first k) w
+TakesBy-run : (f : ℕ → Class) (k first : ℕ) (w : List ℕ) → ((q : ℕ) → first ≤ q → q < first + k → f q ≡ any) → IsBytes w → length w ≡ k
+    → TakesBy f (slots_from first k) w
 TakesBy-run f zero first [] h bytes len = tt
 TakesBy-run f zero first (b ∷ w) h bytes len = absurd (omega arith)
 TakesBy-run f (suc k) first [] h bytes len = absurd (omega arith)
 TakesBy-run f (suc k) first (b ∷ w) h bytes len = grind (arith, IsBytes-head b w bytes, IsBytes-tail b w bytes, TakesBy-run f k (first + 1) w)
 
-run_taken : (f : ℕ → Class) (k first : ℕ) (w : List ℕ) → ((q : ℕ) → first ≤ q → q < first + k → f q ≡ any) → TakesBy f (slots_from first k) w → IsBytes w × (length w ≡ k)
+run_taken : (f : ℕ → Class) (k first : ℕ) (w : List ℕ) → ((q : ℕ) → first ≤ q → q < first + k → f q ≡ any) → TakesBy f (slots_from first k) w → IsBytes w
+    × (length w ≡ k)
 run_taken f zero first [] h taken = (IsBytes-nil, refl)
 run_taken f zero first (b ∷ w) h taken = absurd taken
 run_taken f (suc k) first [] h taken = absurd taken
@@ -74,17 +78,20 @@ Reads-left f a b before h k q below is = grind (arith, length_classes a, get_or_
 Reads-right : (f : ℕ → Class) (a b : Tree) (before : ℕ) → Reads f (Then a b) before → Reads f b (before + slots_of a)
 Reads-right f a b before h k q below is =
     let same : slots_of a + k - slots_of a ≡ k = omega arith in
-    h (slots_of a + k) q (omega arith) (omega arith) ∙ get_or-append_right (classes_of a) (classes_of b) (slots_of a) (slots_of a + k) any (length_classes a) (omega arith) ∙ ap (λ i. get_or (classes_of b) i any) same
+    h (slots_of a + k) q (omega arith) (omega arith) ∙ get_or-append_right (classes_of a) (classes_of b) (slots_of a) (slots_of a + k) any (length_classes a)
+        (omega arith) ∙ ap (λ i. get_or (classes_of b) i any) same
 
 -- all slots of a gap take all bytes
 Reads-gap : (f : ℕ → Class) (min : ℕ) (max : Option ℕ) (before q : ℕ) → Reads f (Gap min max) before → before < q → q ≤ before + gap_slots min max → f q ≡ any
-Reads-gap f min max before q h low high = h (q - before - 1) q (omega arith) (omega arith) ∙ get_or-replicate (gap_slots min max) (q - before - 1) any any (omega arith)
+Reads-gap f min max before q h low high = h (q - before - 1) q (omega arith) (omega arith) ∙ get_or-replicate (gap_slots min max) (q - before - 1) any any
+    (omega arith)
 
 -- some track takes the word
 abbrev Taken : (ℕ → Class) → Tree → ℕ → List ℕ → Type 0
 Taken f tree before w = (t : List ℕ) × Track tree before t × TakesBy f t w
 
-gap_is_taken : (f : ℕ → Class) (min : ℕ) (max : Option ℕ) (before : ℕ) (w : List ℕ) → Reads f (Gap min max) before → TreeWord (Gap min max) w → Taken f (Gap min max) before w
+gap_is_taken : (f : ℕ → Class) (min : ℕ) (max : Option ℕ) (before : ℕ) (w : List ℕ) → Reads f (Gap min max) before → TreeWord (Gap min max) w
+    → Taken f (Gap min max) before w
 gap_is_taken f min None before w h word =
     let c = cut_at min w word.0 word.1 in
     let first = TakesBy-run f min (before + 1) c.0 (λ q low high. Reads-gap f min None before q h (omega arith) (omega arith)) c.4 c.3 in
@@ -94,7 +101,8 @@ gap_is_taken f min None before w h word =
     (t, (length c.1, refl), subst (TakesBy f t) (sym c.2) all)
 gap_is_taken f min (Some max) before w h word = grind (arith, TakesBy-run f (length w) (before + 1) w, Reads-gap f min (Some max) before)
 
-gap_taken : (f : ℕ → Class) (min : ℕ) (max : Option ℕ) (before : ℕ) (w t : List ℕ) → Reads f (Gap min max) before → GapTrack min max before t → TakesBy f t w → TreeWord (Gap min max) w
+gap_taken : (f : ℕ → Class) (min : ℕ) (max : Option ℕ) (before : ℕ) (w t : List ℕ) → Reads f (Gap min max) before → GapTrack min max before t → TakesBy f t w
+    → TreeWord (Gap min max) w
 gap_taken f min None before w t h track taken =
     let s = TakesBy-split f (slots_from (before + 1) min) (replicate track.0 (before + min + 1)) w (rw track.1 at taken) in
     let first = run_taken f min (before + 1) s.0 (λ q low high. Reads-gap f min None before q h (omega arith) (omega arith)) s.3 in
@@ -128,7 +136,8 @@ taken_word f (Slot c) before (b ∷ []) t h track taken =
 taken_word f (Slot c) before (b ∷ d ∷ w) t h track taken = let k = rw track at taken in absurd k.1
 taken_word f (Gap min max) before w t h track taken = gap_taken f min max before w t h track taken
 taken_word f (Then a b) before w t h track taken =
-    grind (arith, TakesBy-split f track.0 track.1 w, Reads-left f a b before h, Reads-right f a b before h, taken_word f a before, taken_word f b (before + slots_of a))
+    grind (arith, TakesBy-split f track.0 track.1 w, Reads-left f a b before h, Reads-right f a b before h, taken_word f a before,
+        taken_word f b (before + slots_of a))
 taken_word f (Or a b) before w t h (inl track) taken = inl (taken_word f a before w t (Reads-left f a b before h) track taken)
 taken_word f (Or a b) before w t h (inr track) taken = inr (taken_word f b (before + slots_of a) w t (Reads-right f a b before h) track taken)
 

@@ -1,5 +1,6 @@
 -- Cells one after the other.
-use Rattle.sig_auto.proofs.Common.{◌||◌, ◌≡◌, ℕ, ◌&&◌, true, false, List, [], ◌∷◌, ◌++◌, Option, Some, None, refl, sym, ap, ◌∙◌, arith, ⊤, or_assoc, and_left, and_right, cond-false, cond-true, false≢true, or_from, or_parts, Cell, entered, exit, gone, has, has_slot, is_skipped, land, leave, meets, onward}
+use Rattle.sig_auto.proofs.Common.{◌||◌, ◌≡◌, ℕ, ◌&&◌, true, false, List, [], ◌∷◌, ◌++◌, Option, Some, None, refl, sym, ap, ◌∙◌, arith, ⊤, or_assoc, and_left,
+    and_right, cond-false, cond-true, false≢true, or_from, or_parts, Cell, entered, exit, gone, has, has_slot, is_skipped, land, leave, meets, onward}
 
 -- no cell begins behind the joint
 abbrev pub Passes : Option ℕ → List Cell → Type 0
@@ -25,7 +26,8 @@ NoSkips (c ∷ cs) = (is_skipped c ≡ false) × NoSkips cs
 
 pub land_firm : (cs : List Cell) (j : Option ℕ) → NoSkips cs → land j cs ≡ j
 land_firm [] j h = refl
-land_firm (c ∷ cs) j h = ap (λ x. land x cs) (cond-false (meets c j && is_skipped c) (Some c.behind) j (and_right (meets c j) (is_skipped c) h.0)) ∙ land_firm cs j h.1
+land_firm (c ∷ cs) j h = ap (λ x. land x cs) (cond-false (meets c j && is_skipped c) (Some c.behind) j (and_right (meets c j) (is_skipped c) h.0)) ∙ land_firm
+    cs j h.1
 
 pub NoSkips-append : (u v : List Cell) → NoSkips u → NoSkips v → NoSkips (u ++ v)
 NoSkips-append [] v a b = b

@@ -1,5 +1,10 @@
 -- The words of a sequence's tree are the files in which the sequence stands.
-use Rattle.sig_auto.proofs.Common.{◌≡◌, ◌⊎◌, ◌↔◌, ℕ, ◌<◌, List, [], ◌∷◌, ◌++◌, length, refl, sym, ap, subst, ◌∙◌, inl, inr, arith, append_assoc, Contains, slice_index, cases_order, Contains-append_cases, Contains-append_left, Contains-append_right, Contains-push, Contains-push_cases, Class, Outside, Within, above, below, Tree, Slot, Then, alternatives_tree, atom_tree, atoms_tree, back_tree, bracket_tree, front_tree, item_tree, items_tree, rows_tree, whole_tree, TreeWord, IsBytes, IsBefore-cases, IsBefore-either, IsBefore-lower, IsUpTo-before, IsUpTo-first, IsUpTo-same, not_before_itself, Atom, Item, AlternativesSound, AtomsSound, IsExpression, ItemSound, ItemsSound, RangeSound, AlternativeWord, IsBefore, IsBytesOf, IsUpTo, Lang, PartWord, Word, Position, SequenceView, Cut, Stands, StandsAt, IsSequence}
+use Rattle.sig_auto.proofs.Common.{◌≡◌, ◌⊎◌, ◌↔◌, ℕ, ◌<◌, List, [], ◌∷◌, ◌++◌, length, refl, sym, ap, subst, ◌∙◌, inl, inr, arith, append_assoc, Contains,
+    slice_index, cases_order, Contains-append_cases, Contains-append_left, Contains-append_right, Contains-push, Contains-push_cases, Class, Outside, Within,
+    above, below, Tree, Slot, Then, alternatives_tree, atom_tree, atoms_tree, back_tree, bracket_tree, front_tree, item_tree, items_tree, rows_tree, whole_tree,
+    TreeWord, IsBytes, IsBefore-cases, IsBefore-either, IsBefore-lower, IsUpTo-before, IsUpTo-first, IsUpTo-same, not_before_itself, Atom, Item,
+    AlternativesSound, AtomsSound, IsExpression, ItemSound, ItemsSound, RangeSound, AlternativeWord, IsBefore, IsBytesOf, IsUpTo, Lang, PartWord, Word,
+    Position, SequenceView, Cut, Stands, StandsAt, IsSequence}
 use Rattle.sig_auto.proofs.ByteLemmas.{IsBytes-nil, IsBytes-cons, IsBytes-head, IsBytes-left, IsBytes-right}
 use Rattle.sig_auto.proofs.RowLemmas.{above_is, below_is, between_is, rows_append}
 use Rattle.sig_expr.specs.declared.item.Atom.TheVariants as atom
@@ -27,7 +32,8 @@ one_range x y w byte = grind (arith, one_byte, of_one w, cases_order, IsUpTo-sam
 one_not_range : (x y : ℕ) (w : List ℕ) → TreeWord (Slot (Outside x y)) w ↔ (IsBytesOf 1 w × (IsBefore w (x ∷ []) ⊎ IsBefore (y ∷ []) w))
 one_not_range x y w = grind (arith, one_byte, IsBefore-lower y, of_one w, IsBefore-cases)
 
-by_bracket : (a : List ℕ) (one : Class) (rows : List (List Class)) (w : List ℕ) (P : Type 0) → (length a ≡ 1 → TreeWord (Slot one) w ↔ P) → TreeWord (rows_tree rows) w ↔ P → TreeWord (bracket_tree a one rows) w ↔ P
+by_bracket : (a : List ℕ) (one : Class) (rows : List (List Class)) (w : List ℕ) (P : Type 0) → (length a ≡ 1 → TreeWord (Slot one) w ↔ P)
+    → TreeWord (rows_tree rows) w ↔ P → TreeWord (bracket_tree a one rows) w ↔ P
 by_bracket a one rows w P f g = grind arith
 
 not_word : (a w : List ℕ) → IsBytes a → TreeWord (atom_tree (atom.Not a)) w ↔ PartWord (atom.Not a) w
@@ -41,8 +47,10 @@ not_range_word a b w sound =
     let here = one_not_range (slice_index a 0) (slice_index b 0) w in
     let is_a = single a one in
     let is_b = single b other in (
-      λ h. (let k = here.0 h in (rw one k.0, elim k.1 [ inl before ↦ inl (subst (IsBefore w) (sym is_a) before) | inr after ↦ inr (subst (λ (e : List ℕ). IsBefore e w) (sym is_b) after) ])),
-      λ h. here.1 (rw one at h.0, elim h.1 [ inl before ↦ inl (subst (IsBefore w) is_a before) | inr after ↦ inr (subst (λ (e : List ℕ). IsBefore e w) is_b after) ]),
+      λ h. (let k = here.0 h in (rw one k.0, elim k.1 [ inl before ↦ inl (subst (IsBefore w) (sym is_a) before) | inr after ↦
+          inr (subst (λ (e : List ℕ). IsBefore e w) (sym is_b) after) ])),
+      λ h. here.1 (rw one at h.0, elim h.1 [ inl before ↦ inl (subst (IsBefore w) is_a before) | inr after ↦
+          inr (subst (λ (e : List ℕ). IsBefore e w) is_b after) ]),
     )) (
       λ h. grind (arith, rows_append, below_is, above_is),
       λ h. grind (arith, rows_append, below_is, above_is),
@@ -64,9 +72,11 @@ SomeWord-later : (a : List Atom) (rest : List (List Atom)) (w : List ℕ) → So
 SomeWord-later a rest w h = (h.0, Contains-append_right (a ∷ []) rest h.0 h.1, h.2)
 
 -- one of the alternatives
-pub alternatives_is : (alternatives : List (List Atom)) (w : List ℕ) → AlternativesSound alternatives → TreeWord (alternatives_tree alternatives) w ↔ SomeWord alternatives w
+pub alternatives_is : (alternatives : List (List Atom)) (w : List ℕ) → AlternativesSound alternatives → TreeWord (alternatives_tree alternatives) w
+    ↔ SomeWord alternatives w
 alternatives_is [] w sound = (λ h. absurd h, λ h. (let below = h.1.1 in absurd (omega arith)))
-alternatives_is (a ∷ rest) w sound = grind (arith, atoms_is, SomeWord-later, alternatives_is rest w sound.1, Contains-append_left, Contains-push, Contains-append_cases, Contains-push_cases)
+alternatives_is (a ∷ rest) w sound = grind (arith, atoms_is, SomeWord-later, alternatives_is rest w sound.1, Contains-append_left, Contains-push,
+    Contains-append_cases, Contains-push_cases)
 
 -- an item
 pub item_is : (i : Item) (w : List ℕ) → ItemSound i → TreeWord (item_tree i) w ↔ Word i w
@@ -97,12 +107,14 @@ items_word (i ∷ is) last u v sound h k = grind (arith, append_assoc, item_is i
 abbrev CutBy : Tree → List Item → Tree → List ℕ → Type 0
 CutBy front items back file = (c : Cut items file) × TreeWord front c.front × TreeWord back c.back
 
-of_whole : (front : Tree) (items : List Item) (back : Tree) (file : List ℕ) → IsExpression items → TreeWord (Then front (items_tree items back)) file → CutBy front items back file
+of_whole : (front : Tree) (items : List Item) (back : Tree) (file : List ℕ) → IsExpression items → TreeWord (Then front (items_tree items back)) file
+    → CutBy front items back file
 of_whole front items back file e h =
     let r = of_items items back h.1 e.sound h.4 in
     (record { front = h.0; word = r.0; back = r.1; cut = h.2 ∙ ap (λ l. h.0 ++ l) r.2 ∙ sym (append_assoc h.0 r.0 r.1); is_word = r.3 }, h.3, r.4)
 
-whole_word : (front : Tree) (items : List Item) (back : Tree) (file : List ℕ) → IsExpression items → CutBy front items back file → TreeWord (Then front (items_tree items back)) file
+whole_word : (front : Tree) (items : List Item) (back : Tree) (file : List ℕ) → IsExpression items → CutBy front items back file
+    → TreeWord (Then front (items_tree items back)) file
 whole_word front items back file e h = grind (arith, append_assoc, items_word items back)
 
 -- what is before the word and behind it, in a file of bytes
@@ -112,18 +124,22 @@ front_bytes items file c h = IsBytes-left c.front c.word (IsBytes-left (c.front 
 back_bytes : (items : List Item) (file : List ℕ) (c : Cut items file) → IsBytes file → IsBytes c.back
 back_bytes items file c h = IsBytes-right (c.front ++ c.word) c.back (subst IsBytes c.cut h)
 
-by_place : (p : Position) (items : List Item) (file : List ℕ) → IsExpression items → IsBytes file → TreeWord (Then (front_tree p) (items_tree items (back_tree p))) file ↔ StandsAt p items file
+by_place : (p : Position) (items : List Item) (file : List ℕ) → IsExpression items → IsBytes file
+    → TreeWord (Then (front_tree p) (items_tree items (back_tree p))) file ↔ StandsAt p items file
 by_place (position.Bof min max) items file e bytes = (
   λ h. (let r = of_whole (front_tree (position.Bof min max)) items (back_tree (position.Bof min max)) file e h in (r.0, r.1.1, r.1.2)),
-  λ h. whole_word (front_tree (position.Bof min max)) items (back_tree (position.Bof min max)) file e (h.0, (front_bytes items file h.0 bytes, h.1, h.2), (back_bytes items file h.0 bytes, omega arith, tt)),
+  λ h. whole_word (front_tree (position.Bof min max)) items (back_tree (position.Bof min max)) file e
+      (h.0, (front_bytes items file h.0 bytes, h.1, h.2), (back_bytes items file h.0 bytes, omega arith, tt)),
 )
 by_place (position.Eof min max) items file e bytes = (
   λ h. (let r = of_whole (front_tree (position.Eof min max)) items (back_tree (position.Eof min max)) file e h in (r.0, r.2.1, r.2.2)),
-  λ h. whole_word (front_tree (position.Eof min max)) items (back_tree (position.Eof min max)) file e (h.0, (front_bytes items file h.0 bytes, omega arith, tt), (back_bytes items file h.0 bytes, h.1, h.2)),
+  λ h. whole_word (front_tree (position.Eof min max)) items (back_tree (position.Eof min max)) file e
+      (h.0, (front_bytes items file h.0 bytes, omega arith, tt), (back_bytes items file h.0 bytes, h.1, h.2)),
 )
 by_place position.Variable items file e bytes = (
   λ h. (of_whole (front_tree position.Variable) items (back_tree position.Variable) file e h).0,
-  λ c. whole_word (front_tree position.Variable) items (back_tree position.Variable) file e (c, (front_bytes items file c bytes, omega arith, tt), (back_bytes items file c bytes, omega arith, tt)),
+  λ c. whole_word (front_tree position.Variable) items (back_tree position.Variable) file e
+      (c, (front_bytes items file c bytes, omega arith, tt), (back_bytes items file c bytes, omega arith, tt)),
 )
 
 -- a file of bytes is a word of the whole tree exactly where the sequence stands in it

@@ -1,10 +1,12 @@
 -- Bits of bytes, and of lists of bytes.
-use Rattle.std.proofs.Common.{◌≡◌, ◌≢◌, ◌↔◌, ◌⊎◌, inl, inr, ⊎_elim, ℕ, ◌+◌, ◌-◌, ◌*◌, ◌/◌, ◌%◌, ◌^◌, ◌<◌, ◌≤◌, min, max, List, length, get_or, set, get_or-set_same, get_or-set_other, replicate, refl, sym, ap, ◌∙◌, arith, subst, w8, bit_and, bit_or}
+use Rattle.std.proofs.Common.{◌≡◌, ◌≢◌, ◌↔◌, ◌⊎◌, inl, inr, ⊎_elim, ℕ, ◌+◌, ◌-◌, ◌*◌, ◌/◌, ◌%◌, ◌^◌, ◌<◌, ◌≤◌, min, max, List, length, get_or, set,
+    get_or-set_same, get_or-set_other, replicate, refl, sym, ap, ◌∙◌, arith, subst, w8, bit_and, bit_or}
 use Rattle.std.specs.Int.{bit_at, bit_not, trailing_zeros}
 use Rattle.std.proofs.lemmas.List.{get_or_past, get_or-replicate, length-replicate}
 use Rattle.std.proofs.Math.Nat.{div-one}
 use Rattle.std.proofs.lemmas.Nat.{and_le_l, shr-shr, shr_le}
-use Rattle.std.proofs.lemmas.Nat.Bits.{bit_at_and, bit_at_or, bit_at_not, bit_at-zero, bit_at-lt, bit_at_above, bit_at-trailing_zeros, bit_at_ones, bit_at_set_same, bit_at_set_other}
+use Rattle.std.proofs.lemmas.Nat.Bits.{bit_at_and, bit_at_or, bit_at_not, bit_at-zero, bit_at-lt, bit_at_above, bit_at-trailing_zeros, bit_at_ones,
+    bit_at_set_same, bit_at_set_other}
 use Rattle.std.proofs.lemmas.Bool.{cases_eq, cases_lt}
 use Rattle.sig_bits.specs.BitSets.{HasBit}
 
@@ -75,7 +77,8 @@ HasBit-in_byte bits k j within h =
 pub HasBit-within : (bits : List ℕ) (i : ℕ) → HasBit bits i → i < 8 * length bits
 unfolding HasBit
 HasBit-within bits i h =
-    ⊎_elim (λ within. omega arith) (λ past. absurd (let e = rw (get_or_past bits (i / 8) 0 past) at h in omega (arith, bit_at-zero (i % 8)))) (cases_lt (i / 8) (length bits))
+    ⊎_elim (λ within. omega arith) (λ past. absurd (let e = rw (get_or_past bits (i / 8) 0 past) at h in omega (arith, bit_at-zero (i % 8))))
+        (cases_lt (i / 8) (length bits))
 
 -- zeros have no bit
 pub zeros_have_no_bit : (n i : ℕ) → HasBit (replicate n 0) i → ⊥
@@ -91,23 +94,28 @@ every_bit_in_ones n i within =
     rw (get_or-replicate {A = ℕ} n (i / 8) 255 0 (omega arith)) (bit_at_ones 8 (i % 8) (omega arith))
 
 -- bytes that are joined one by one have the bits of either
-pub HasBit-joined : (joined old src : List ℕ) → length joined ≡ length src → length old ≡ length src → ((k : ℕ) → k < length src → get_or joined k 0 ≡ bit_or (get_or old k 0) (get_or src k 0)) → (i : ℕ) → HasBit joined i ↔ (HasBit old i ⊎ HasBit src i)
+pub HasBit-joined : (joined old src : List ℕ) → length joined ≡ length src → length old ≡ length src
+    → ((k : ℕ) → k < length src → get_or joined k 0 ≡ bit_or (get_or old k 0) (get_or src k 0)) → (i : ℕ) → HasBit joined i ↔ (HasBit old i ⊎ HasBit src i)
 unfolding HasBit
 HasBit-joined joined old src len len' each i =
     let read : get_or joined (i / 8) 0 ≡ bit_or (get_or old (i / 8) 0) (get_or src (i / 8) 0) =
-    ⊎_elim (each (i / 8)) (λ past. rw (get_or_past joined (i / 8) 0 (omega arith), get_or_past old (i / 8) 0 (omega arith), get_or_past src (i / 8) 0 past) refl) (cases_lt (i / 8) (length src)) in
+    ⊎_elim (each (i / 8)) (λ past. rw (get_or_past joined (i / 8) 0 (omega arith), get_or_past old (i / 8) 0 (omega arith), get_or_past src (i / 8) 0 past)
+        refl) (cases_lt (i / 8) (length src)) in
     rw read (bit_at_or-iff (get_or old (i / 8) 0) (get_or src (i / 8) 0) (i % 8))
 
 -- bytes of which the common bits are kept one by one have the bits of both
-pub HasBit-common : (common old src : List ℕ) → length common ≡ length src → length old ≡ length src → ((k : ℕ) → k < length src → get_or common k 0 ≡ bit_and (get_or old k 0) (get_or src k 0)) → (i : ℕ) → HasBit common i ↔ (HasBit old i × HasBit src i)
+pub HasBit-common : (common old src : List ℕ) → length common ≡ length src → length old ≡ length src
+    → ((k : ℕ) → k < length src → get_or common k 0 ≡ bit_and (get_or old k 0) (get_or src k 0)) → (i : ℕ) → HasBit common i ↔ (HasBit old i × HasBit src i)
 unfolding HasBit
 HasBit-common common old src len len' each i =
     let read : get_or common (i / 8) 0 ≡ bit_and (get_or old (i / 8) 0) (get_or src (i / 8) 0) =
-    ⊎_elim (each (i / 8)) (λ past. rw (get_or_past common (i / 8) 0 (omega arith), get_or_past old (i / 8) 0 (omega arith)) refl) (cases_lt (i / 8) (length src)) in
+    ⊎_elim (each (i / 8)) (λ past. rw (get_or_past common (i / 8) 0 (omega arith), get_or_past old (i / 8) 0 (omega arith)) refl)
+        (cases_lt (i / 8) (length src)) in
     rw read (bit_at_and-iff (get_or old (i / 8) 0) (get_or src (i / 8) 0) (i % 8))
 
 -- bytes that are turned one by one have the bits that the list lacks
-pub HasBit-turned : (turned old : List ℕ) → ((k : ℕ) → k < length turned → get_or turned k 0 ≡ bit_not w8 (get_or old k 0)) → ((k : ℕ) → get_or old k 0 < 256) → (i : ℕ) → i < 8 * length turned → HasBit turned i ↔ (HasBit old i → ⊥)
+pub HasBit-turned : (turned old : List ℕ) → ((k : ℕ) → k < length turned → get_or turned k 0 ≡ bit_not w8 (get_or old k 0)) → ((k : ℕ) → get_or old k 0 < 256)
+    → (i : ℕ) → i < 8 * length turned → HasBit turned i ↔ (HasBit old i → ⊥)
 unfolding HasBit
 HasBit-turned turned old each small i within =
     rw (each (i / 8) (omega arith)) (bit_at_not-iff (get_or old (i / 8) 0) (i % 8) (small (i / 8)) (omega arith))
@@ -116,11 +124,13 @@ HasBit-turned turned old each small i within =
 bit_at_set-iff : (x i j : ℕ) → i < 8 → (bit_at (bit_or x (1 * 2 ^ i % 256)) j ≡ 1) ↔ ((j ≡ i) ⊎ (bit_at x j ≡ 1))
 bit_at_set-iff x i j within =
     ⊎_elim (λ same. (λ _. inl same, λ _. rw same (bit_at_set_same w8 x i within)))
-    (λ other. let kept : bit_at (bit_or x (1 * 2 ^ i % 256)) j ≡ bit_at x j = bit_at_set_other w8 x i within j other in (λ h. inr (sym kept ∙ h), λ h. kept ∙ ⊎_elim (λ same. absurd (other same)) (λ had. had) h))
+    (λ other. let kept : bit_at (bit_or x (1 * 2 ^ i % 256)) j ≡ bit_at x j = bit_at_set_other w8 x i within j other in
+        (λ h. inr (sym kept ∙ h), λ h. kept ∙ ⊎_elim (λ same. absurd (other same)) (λ had. had) h))
     (cases_eq j i)
 
 -- a bit that is set joins the others
-pub HasBit-set : (bits : List ℕ) (i j : ℕ) → i < 8 * length bits → HasBit (set bits (i / 8) (bit_or (get_or bits (i / 8) 0) (1 * 2 ^ (i % 8) % 256))) j ↔ ((j ≡ i) ⊎ HasBit bits j)
+pub HasBit-set : (bits : List ℕ) (i j : ℕ) → i < 8 * length bits → HasBit (set bits (i / 8) (bit_or (get_or bits (i / 8) 0) (1 * 2 ^ (i % 8) % 256))) j
+    ↔ ((j ≡ i) ⊎ HasBit bits j)
 unfolding HasBit
 HasBit-set bits i j within =
     let old : ℕ = get_or bits (i / 8) 0 in
@@ -133,7 +143,8 @@ HasBit-set bits i j within =
     let law = bit_at_set-iff old (i % 8) (j % 8) (omega arith) in
     rw (read, had)
     (λ h. ⊎_elim (λ e. inl (omega arith)) (λ e. inr e) (law.0 h), λ h. law.1 (⊎_elim (λ e. inl (ap (λ n. n % 8) e)) (λ e. inr e) h)))
-    (λ (other : j / 8 ≢ i / 8). rw (get_or-set_other bits (i / 8) (j / 8) new 0 other) (λ h. inr h, λ h. ⊎_elim (λ e. absurd (other (ap (λ n. n / 8) e))) (λ e. e) h))
+    (λ (other : j / 8 ≢ i / 8). rw (get_or-set_other bits (i / 8) (j / 8) new 0 other)
+        (λ h. inr h, λ h. ⊎_elim (λ e. absurd (other (ap (λ n. n / 8) e))) (λ e. e) h))
     (cases_eq (j / 8) (i / 8))
 
 -- the bits of a list and those of another at one byte
@@ -154,11 +165,13 @@ some_bit_in_both a b k small some =
     (8 * k + found.0, (HasBit-in_byte a k found.0 found.1 found.2, HasBit-in_byte b k found.0 found.1 found.3))
 
 -- one byte's bits in the first list are all in the second
-every_bit_at_one_byte : (a b : List ℕ) (i : ℕ) → get_or b (i / 8) 0 < 256 → bit_and (get_or a (i / 8) 0) (bit_not w8 (get_or b (i / 8) 0)) ≡ 0 → HasBit a i → HasBit b i
+every_bit_at_one_byte : (a b : List ℕ) (i : ℕ) → get_or b (i / 8) 0 < 256 → bit_and (get_or a (i / 8) 0) (bit_not w8 (get_or b (i / 8) 0)) ≡ 0 → HasBit a i
+    → HasBit b i
 unfolding HasBit
 every_bit_at_one_byte a b i small none h =
     let turned = bit_at_not-iff (get_or b (i / 8) 0) (i % 8) small (omega arith) in
-    ⊎_elim (λ has. has) (λ lacks. absurd (no_common_bit (get_or a (i / 8) 0) _ (i % 8) none h (turned.1 lacks))) (cases_eq (bit_at (get_or b (i / 8) 0) (i % 8)) 1)
+    ⊎_elim (λ has. has) (λ lacks. absurd (no_common_bit (get_or a (i / 8) 0) _ (i % 8) none h (turned.1 lacks)))
+        (cases_eq (bit_at (get_or b (i / 8) 0) (i % 8)) 1)
 
 -- a byte of zeros has no bit
 pub no_bit_at_zero : (bits : List ℕ) (i : ℕ) → get_or bits (i / 8) 0 ≡ 0 → HasBit bits i → ⊥
@@ -168,7 +181,8 @@ no_bit_at_zero bits i none h =
     omega (arith, bit_at-zero (i % 8))
 
 -- a list whose bits are all in another
-pub every_bit : (a b : List ℕ) → ((k : ℕ) → get_or b k 0 < 256) → ((k : ℕ) → k < length a → bit_and (get_or a k 0) (bit_not w8 (get_or b k 0)) ≡ 0) → (i : ℕ) → HasBit a i → HasBit b i
+pub every_bit : (a b : List ℕ) → ((k : ℕ) → get_or b k 0 < 256) → ((k : ℕ) → k < length a → bit_and (get_or a k 0) (bit_not w8 (get_or b k 0)) ≡ 0) → (i : ℕ)
+    → HasBit a i → HasBit b i
 every_bit a b small none i h =
     let within : i < 8 * length a = HasBit-within a i h in
     every_bit_at_one_byte a b i (small (i / 8)) (none (i / 8) (omega arith)) h
@@ -182,7 +196,8 @@ bit_in_byte bits k j within h =
     rw (byte, bit) at h
 
 -- a byte with a bit that the second list lacks
-pub not_every_bit : (a b : List ℕ) (k : ℕ) → get_or a k 0 < 256 → get_or b k 0 < 256 → bit_and (get_or a k 0) (bit_not w8 (get_or b k 0)) ≢ 0 → ((i : ℕ) → HasBit a i → HasBit b i) → ⊥
+pub not_every_bit : (a b : List ℕ) (k : ℕ) → get_or a k 0 < 256 → get_or b k 0 < 256 → bit_and (get_or a k 0) (bit_not w8 (get_or b k 0)) ≢ 0
+    → ((i : ℕ) → HasBit a i → HasBit b i) → ⊥
 not_every_bit a b k small small' some every =
     let found = some_common_bit (get_or a k 0) (bit_not w8 (get_or b k 0)) small some in
     let turned = bit_at_not-iff (get_or b k 0) found.0 small' found.1 in
@@ -203,7 +218,8 @@ bit_from_here bits b a from same h =
 
 -- the lowest bit of what is left of the byte at b
 pub lowest_from_here : (bits : List ℕ) (b : ℕ) → ((k : ℕ) → get_or bits k 0 < 256) → get_or bits (b / 8) 0 / 2 ^ (b % 8) ≢ 0
-    → (HasBit bits (b + trailing_zeros w8 (get_or bits (b / 8) 0 / 2 ^ (b % 8)))) × ((a : ℕ) → b ≤ a → a < b + trailing_zeros w8 (get_or bits (b / 8) 0 / 2 ^ (b % 8)) → HasBit bits a → ⊥)
+    → (HasBit bits (b + trailing_zeros w8 (get_or bits (b / 8) 0 / 2 ^ (b % 8))))
+        × ((a : ℕ) → b ≤ a → a < b + trailing_zeros w8 (get_or bits (b / 8) 0 / 2 ^ (b % 8)) → HasBit bits a → ⊥)
 lowest_from_here bits b small some =
     let x : ℕ = get_or bits (b / 8) 0 in
     let rest : ℕ = x / 2 ^ (b % 8) in
@@ -233,7 +249,8 @@ lowest_of_byte bits k small some =
         rw (place, first) (div-one (get_or bits k 0))
 
 -- nothing is left of the byte at b, and nothing is in those from the next one up to another
-pub none_up_to : (bits : List ℕ) (b k a : ℕ) → get_or bits (b / 8) 0 / 2 ^ (b % 8) ≡ 0 → ((j : ℕ) → b / 8 + 1 ≤ j → j < k → get_or bits j 0 ≡ 0) → b ≤ a → a / 8 < k → HasBit bits a → ⊥
+pub none_up_to : (bits : List ℕ) (b k a : ℕ) → get_or bits (b / 8) 0 / 2 ^ (b % 8) ≡ 0 → ((j : ℕ) → b / 8 + 1 ≤ j → j < k → get_or bits j 0 ≡ 0) → b ≤ a
+    → a / 8 < k → HasBit bits a → ⊥
 none_up_to bits b k a none empty from below h =
     ⊎_elim (λ (here : a / 8 ≡ b / 8). let one = rw none at (bit_from_here bits b a from here h) in omega (arith, bit_at-zero (a - b)))
     (λ (past : a / 8 ≢ b / 8). no_bit_at_zero bits a (empty (a / 8) (omega arith) below) h)

@@ -1,5 +1,6 @@
 -- Groups of bytes that a span of bytes splits.
-use Rattle.std.proofs.Common.{◌≡◌, ◌≢◌, ◌↔◌, ◌∙◌, ◌⊎◌, ℕ, ◌+◌, ◌<◌, ◌≤◌, inl, inr, List, length, slice_index, get_or-set_other, get_or-set_same, set, replicate, refl, sym, ap, subst, arith}
+use Rattle.std.proofs.Common.{◌≡◌, ◌≢◌, ◌↔◌, ◌∙◌, ◌⊎◌, ℕ, ◌+◌, ◌<◌, ◌≤◌, inl, inr, List, length, slice_index, get_or-set_other, get_or-set_same, set, replicate,
+    refl, sym, ap, subst, arith}
 use Rattle.std.proofs.Math.ListN.{length-set}
 use Rattle.std.proofs.lemmas.Bool.{cases_eq, cases_lt}
 use Rattle.std.proofs.lemmas.List.{get_or-replicate, get_or_past, length-replicate}
@@ -8,11 +9,13 @@ use Rattle.sig_bits.specs.Groups.{AreLeads, InSpan, SameSide, Together}
 -- what became of byte b: its lead on its lead's side, and otherwise the other lead of its group
 pub record IsSplit (old split others : List ℕ) (first last b : ℕ) : Type 0 where
   pub same : SameSide first last b (slice_index old b) → slice_index split b ≡ slice_index old b
-  pub other : (SameSide first last b (slice_index old b) → ⊥) → (slice_index split b ≡ slice_index others (slice_index old b)) × (slice_index others (slice_index old b) ≢ 0) × (slice_index others (slice_index old b) ≤ b)
+  pub other : (SameSide first last b (slice_index old b) → ⊥) → (slice_index split b ≡ slice_index others (slice_index old b))
+      × (slice_index others (slice_index old b) ≢ 0) × (slice_index others (slice_index old b) ≤ b)
 
 -- the other lead of a lead is a byte of its group below b, on the other side
 abbrev pub IsOther : List ℕ → List ℕ → ℕ → ℕ → ℕ → ℕ → Type 0
-IsOther old others first last b lead = slice_index others lead ≢ 0 → (slice_index others lead < b) × (slice_index old (slice_index others lead) ≡ lead) × (SameSide first last (slice_index others lead) lead → ⊥)
+IsOther old others first last b lead = slice_index others lead ≢ 0 → (slice_index others lead < b) × (slice_index old (slice_index others lead) ≡ lead)
+    × (SameSide first last (slice_index others lead) lead → ⊥)
 
 in_or_not : (first last b : ℕ) → InSpan first last b ⊎ (InSpan first last b → ⊥)
 in_or_not first last b = elim (cases_lt b first) [
@@ -53,12 +56,14 @@ same_back first last a b h = (h.1, h.0)
 same_further : (first last a b c : ℕ) → SameSide first last a b → SameSide first last b c → SameSide first last a c
 same_further first last a b c h k = (λ x. k.0 (h.0 x), λ x. h.1 (k.1 x))
 
-module _ (old split others : List ℕ) (first last : ℕ) (leads : AreLeads old) (done : (b : ℕ) → b < 256 → IsSplit old split others first last b) (found : (lead : ℕ) → lead < 256 → IsOther old others first last 256 lead) where
+module _ (old split others : List ℕ) (first last : ℕ) (leads : AreLeads old) (done : (b : ℕ) → b < 256 → IsSplit old split others first last b)
+    (found : (lead : ℕ) → lead < 256 → IsOther old others first last 256 lead) where
   lead_within : (b : ℕ) → b < 256 → slice_index old b < 256
   lead_within b low = omega (arith, leads.low b low)
 
   -- a byte of a group that has no byte on the other side than its lead, and one that is there
-  apart : (a b : ℕ) → a < 256 → b < 256 → SameSide first last a (slice_index old a) → (SameSide first last b (slice_index old b) → ⊥) → slice_index split a ≡ slice_index split b → ⊥
+  apart : (a b : ℕ) → a < 256 → b < 256 → SameSide first last a (slice_index old a) → (SameSide first last b (slice_index old b) → ⊥)
+      → slice_index split a ≡ slice_index split b → ⊥
   apart a b in_a in_b one two both =
       let of_first = (done a in_a).same one in
       let of_second = (done b in_b).other two in
@@ -74,7 +79,8 @@ module _ (old split others : List ℕ) (first last : ℕ) (leads : AreLeads old)
     | inl one ↦ elim (same_or_not first last b (slice_index old b)) [
       | inl two ↦ (
         λ both. let same : slice_index old a ≡ slice_index old b = sym ((done a in_a).same one) ∙ both ∙ (done b in_b).same two in
-            (same, same_further first last a (slice_index old a) b one (same_back first last b (slice_index old a) (subst (SameSide first last b) (sym same) two))),
+            (same, same_further first last a (slice_index old a) b one (same_back first last b (slice_index old a)
+                (subst (SameSide first last b) (sym same) two))),
         λ k. (done a in_a).same one ∙ k.0 ∙ sym ((done b in_b).same two),
       )
       | inr two ↦ (
@@ -149,10 +155,12 @@ pub record SplitSoFar (old split others : List ℕ) (first last b : ℕ) : Type 
   pub found : (lead : ℕ) → IsOther old others first last b lead
 
 pub none_split : (old : List ℕ) (first last : ℕ) → length old ≡ 256 → SplitSoFar old old (replicate 256 0) first last 0
-none_split old first last long = record { long = long; wide = length-replicate {A = ℕ} 256 0; done = λ a low. absurd (omega arith); later = λ a low. refl; found = λ lead some. absurd (some (led_by_zero lead)) }
+none_split old first last long = record { long = long; wide = length-replicate {A = ℕ} 256 0; done = λ a low. absurd (omega arith); later =
+    λ a low. refl; found = λ lead some. absurd (some (led_by_zero lead)) }
 
 -- a byte on its lead's side
-pub same_split : (old split others : List ℕ) (first last b : ℕ) → SplitSoFar old split others first last b → SameSide first last b (slice_index old b) → SplitSoFar old split others first last (b + 1)
+pub same_split : (old split others : List ℕ) (first last b : ℕ) → SplitSoFar old split others first last b → SameSide first last b (slice_index old b)
+    → SplitSoFar old split others first last (b + 1)
 same_split old split others first last b so side = record {
   long = so.long;
   wide = so.wide;
@@ -174,10 +182,13 @@ pub record HasOther (others new : List ℕ) (lead b : ℕ) : Type 0 where
   pub some : slice_index new lead ≢ 0
   pub low : slice_index new lead ≤ b
 
-pub had_other : (old split others : List ℕ) (first last b lead : ℕ) → SplitSoFar old split others first last b → slice_index others lead ≢ 0 → HasOther others others lead b
-had_other old split others first last b lead so some = record { wide = so.wide; kept = λ g _. refl; fresh = λ g _. inl refl; some = some; low = omega (arith, (so.found lead some).0) }
+pub had_other : (old split others : List ℕ) (first last b lead : ℕ) → SplitSoFar old split others first last b → slice_index others lead ≢ 0
+    → HasOther others others lead b
+had_other old split others first last b lead so some = record
+    { wide = so.wide; kept = λ g _. refl; fresh = λ g _. inl refl; some = some; low = omega (arith, (so.found lead some).0) }
 
-pub got_other : (others : List ℕ) (lead b : ℕ) → length others ≡ 256 → lead < 256 → slice_index others lead ≡ 0 → b ≢ 0 → HasOther others (set others lead b) lead b
+pub got_other : (others : List ℕ) (lead b : ℕ) → length others ≡ 256 → lead < 256 → slice_index others lead ≡ 0 → b ≢ 0
+    → HasOther others (set others lead b) lead b
 got_other others lead b wide low none some =
     let here : slice_index (set others lead b) lead ≡ b = get_or-set_same others lead b 0 (omega (arith, wide)) in
     record {
@@ -195,7 +206,8 @@ got_other others lead b wide low none some =
     }
 
 -- a byte on the other side than its lead
-pub other_split : (old split others new : List ℕ) (first last b : ℕ) → SplitSoFar old split others first last b → b < 256 → (SameSide first last b (slice_index old b) → ⊥) → HasOther others new (slice_index old b) b
+pub other_split : (old split others new : List ℕ) (first last b : ℕ) → SplitSoFar old split others first last b → b < 256
+    → (SameSide first last b (slice_index old b) → ⊥) → HasOther others new (slice_index old b) b
     → SplitSoFar old (set split b (slice_index new (slice_index old b))) new first last (b + 1)
 other_split old split others new first last b so low no_side has = record {
   long = length-set split b to ∙ so.long;
@@ -221,7 +233,8 @@ other_split old split others new first last b so low no_side has = record {
     | inl same ↦
         let k = so.found lead (λ zero. some (same ∙ zero)) in
         (omega (arith, same, k.0), ap (slice_index old) same ∙ k.1, λ side. k.2 (subst (λ n. SameSide first last n lead) same side))
-    | inr here ↦ (omega (arith, here.1), ap (slice_index old) here.1 ∙ sym here.0, λ side. no_side (subst (SameSide first last b) here.0 (subst (λ n. SameSide first last n lead) here.1 side)))
+    | inr here ↦ (omega (arith, here.1), ap (slice_index old) here.1 ∙ sym here.0,
+        λ side. no_side (subst (SameSide first last b) here.0 (subst (λ n. SameSide first last n lead) here.1 side)))
   ];
 }
   where

@@ -23,7 +23,8 @@ joined_more f from to joined order h = record {
 }
 
 -- what comes after zeros alone
-pub joined_on : (f : ℕ → ℕ) (from between to joined : ℕ) → from ≤ between → between ≤ to → IsJoined f from between 0 → IsJoined f between to joined → IsJoined f from to joined
+pub joined_on : (f : ℕ → ℕ) (from between to joined : ℕ) → from ≤ between → between ≤ to → IsJoined f from between 0 → IsJoined f between to joined
+    → IsJoined f from to joined
 joined_on f from between to joined low high zeros later = record {
   none = λ none k more less. ⊎_elim (λ before. zeros.none refl k more before) (λ behind. later.none none k behind less) (cases_lt k between);
   some = λ ne. let found = later.some ne in (found.0, (omega arith, found.1.1, found.1.2));

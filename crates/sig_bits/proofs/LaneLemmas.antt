@@ -1,5 +1,6 @@
 -- Vectors of 32 bytes, lane by lane.
-use Rattle.std.proofs.Common.{◌≡◌, ◌↔◌, ⊎_elim, ℕ, zero, suc, ◌+◌, ◌-◌, ◌%◌, ◌/◌, ◌^◌, ◌<◌, ◌≤◌, ◌≢◌, Bool, true, false, not, cond, eqb, eqb-true, List, [], ◌∷◌, length, map, get_or, replicate, refl, sym, ap, subst, ◌∙◌, arith, w8, w64}
+use Rattle.std.proofs.Common.{◌≡◌, ◌↔◌, ⊎_elim, ℕ, zero, suc, ◌+◌, ◌-◌, ◌%◌, ◌/◌, ◌^◌, ◌<◌, ◌≤◌, ◌≢◌, Bool, true, false, not, cond, eqb, eqb-true, List, [],
+    ◌∷◌, length, map, get_or, replicate, refl, sym, ap, subst, ◌∙◌, arith, w8, w64}
 use Rattle.std.specs.Int.{bit_at, trailing_zeros}
 use Rattle.std.specs.Simd.Lanes.{zip2, mask_l, top}
 use Rattle.std.proofs.lemmas.Bool.{cases_eq, cases_lt, eqb-false}
@@ -42,9 +43,11 @@ joined_by_mask (x ∷ xs) =
           (cases_eq x 0);
     }
 
-pub joined_of_mask : (lanes : List ℕ) → length lanes ≡ 32 → IsJoined (λ k. get_or lanes k 0) 0 32 (mask_l (map (top 7) (zip2 differs lanes (replicate 32 0))) % 2 ^ 64)
+pub joined_of_mask : (lanes : List ℕ) → length lanes ≡ 32 → IsJoined (λ k. get_or lanes k 0) 0 32
+    (mask_l (map (top 7) (zip2 differs lanes (replicate 32 0))) % 2 ^ 64)
 joined_of_mask lanes len =
-    let bits : length (map (top 7) (zip2 differs lanes (replicate 32 0))) ≡ 32 = length-map (zip2 differs lanes (replicate 32 0)) (top 7) ∙ length-zip2 differs lanes (replicate 32 0) len ∙ len in
+    let bits : length (map (top 7) (zip2 differs lanes (replicate 32 0))) ≡ 32 =
+        length-map (zip2 differs lanes (replicate 32 0)) (top 7) ∙ length-zip2 differs lanes (replicate 32 0) len ∙ len in
     let whole = mask_l-mod (map (top 7) (zip2 differs lanes (replicate 32 0))) 64 (omega arith) in
     subst (IsJoined (λ k. get_or lanes k 0) 0 32) (sym whole)
     (subst (λ n. IsJoined (λ k. get_or lanes k 0) 0 n (mask_l (map (top 7) (zip2 differs lanes (replicate n 0))))) len (joined_by_mask lanes))
@@ -55,11 +58,13 @@ HasLanes-zip2 f a b g h one two =
     let len : length a ≡ length b = one.len ∙ sym two.len in
     record {
       len = length-zip2 f a b len ∙ one.len;
-      each = λ k low. get_or-zip2 f a b k 0 0 0 (omega (arith, one.len)) (omega (arith, two.len)) ∙ ap (λ x. f x (get_or b k 0)) (one.each k low) ∙ ap (f (g k)) (two.each k low);
+      each = λ k low. get_or-zip2 f a b k 0 0 0 (omega (arith, one.len)) (omega (arith, two.len)) ∙ ap (λ x. f x (get_or b k 0)) (one.each k low) ∙ ap (f (g k))
+          (two.each k low);
     }
 
 -- the lanes that stand from one place on, joined
-pub joined_lanes : (lanes : List ℕ) (f : ℕ → ℕ) (from joined : ℕ) → HasLanes lanes (λ k. f (from + k)) → IsJoined (λ k. get_or lanes k 0) 0 32 joined → IsJoined f from (from + 32) joined
+pub joined_lanes : (lanes : List ℕ) (f : ℕ → ℕ) (from joined : ℕ) → HasLanes lanes (λ k. f (from + k)) → IsJoined (λ k. get_or lanes k 0) 0 32 joined
+    → IsJoined f from (from + 32) joined
 joined_lanes lanes f from joined stand h = record {
   none = λ zeros k low high.
       let same : from + (k - from) ≡ k = omega arith in
@@ -92,19 +97,23 @@ some_is x = by_test (eqb x 0) refl
     by_test false e = (λ _. eqb-false x 0 e, λ _. refl)
 
 -- bit k is set exactly where lane k is not 0
-pub bits_of_mask : (lanes : List ℕ) → length lanes ≡ 32 → (k : ℕ) → k < 32 → (bit_at (mask_l (map (top 7) (zip2 differs lanes (replicate 32 0))) % 2 ^ 64) k ≡ 1) ↔ (get_or lanes k 0 ≢ 0)
+pub bits_of_mask : (lanes : List ℕ) → length lanes ≡ 32 → (k : ℕ) → k < 32
+    → (bit_at (mask_l (map (top 7) (zip2 differs lanes (replicate 32 0))) % 2 ^ 64) k ≡ 1) ↔ (get_or lanes k 0 ≢ 0)
 bits_of_mask lanes len k low =
     let read : bit_at (mask_l (map (top 7) (zip2 differs lanes (replicate 32 0))) % 2 ^ 64) k ≡ cond (some (get_or lanes k 0)) 1 0 =
-    ap (λ m. bit_at m k) (mask_is lanes len) ∙ bit_mask_l (map some lanes) k ∙ ap (λ (t : Bool). cond t 1 0) (get_or-map some lanes k 0 false (omega (arith, len))) in
+    ap (λ m. bit_at m k) (mask_is lanes len) ∙ bit_mask_l (map some lanes) k ∙ ap (λ (t : Bool). cond t 1 0)
+        (get_or-map some lanes k 0 false (omega (arith, len))) in
     let law = some_is (get_or lanes k 0) in
     (λ one. law.0 (sym read ∙ one), λ ne. read ∙ law.1 ne)
 
 -- and no bit stands past the lanes
 pub mask_is_short : (lanes : List ℕ) → length lanes ≡ 32 → mask_l (map (top 7) (zip2 differs lanes (replicate 32 0))) % 2 ^ 64 < 2 ^ 32
-mask_is_short lanes len = subst (λ m. m < 2 ^ 32) (sym (mask_is lanes len)) (subst (λ n. mask_l (map some lanes) < 2 ^ n) (length-map lanes some ∙ len) (mask_l-lt (map some lanes)))
+mask_is_short lanes len = subst (λ m. m < 2 ^ 32) (sym (mask_is lanes len))
+    (subst (λ n. mask_l (map some lanes) < 2 ^ n) (length-map lanes some ∙ len) (mask_l-lt (map some lanes)))
 
 -- nothing is left of the mask
-pub none_is_left : (numbers : List ℕ) (mask from : ℕ) → length numbers ≡ 32 → ((k : ℕ) → k < 32 → (bit_at mask k ≡ 1) ↔ (get_or numbers k 0 ≢ 0)) → mask / 2 ^ from ≡ 0
+pub none_is_left : (numbers : List ℕ) (mask from : ℕ) → length numbers ≡ 32 → ((k : ℕ) → k < 32 → (bit_at mask k ≡ 1) ↔ (get_or numbers k 0 ≢ 0))
+    → mask / 2 ^ from ≡ 0
     → (k : ℕ) → from ≤ k → get_or numbers k 0 ≡ 0
 none_is_left numbers mask from len each none k low =
     ⊎_elim (λ (within : k < 32). ⊎_elim (λ zero. zero) (λ ne. absurd (zero_bit (each k within).1 ne)) (cases_eq (get_or numbers k 0) 0))
@@ -119,7 +128,8 @@ none_is_left numbers mask from len each none k low =
         omega (arith, bit_at-zero (k - from))
 
 -- the lowest bit of what is left of the mask
-pub first_is_left : (numbers : List ℕ) (mask from : ℕ) → length numbers ≡ 32 → ((k : ℕ) → k < 32 → (bit_at mask k ≡ 1) ↔ (get_or numbers k 0 ≢ 0)) → mask < 2 ^ 32 → mask / 2 ^ from < 2 ^ 64 → mask / 2 ^ from ≢ 0
+pub first_is_left : (numbers : List ℕ) (mask from : ℕ) → length numbers ≡ 32 → ((k : ℕ) → k < 32 → (bit_at mask k ≡ 1) ↔ (get_or numbers k 0 ≢ 0))
+    → mask < 2 ^ 32 → mask / 2 ^ from < 2 ^ 64 → mask / 2 ^ from ≢ 0
     → (from + trailing_zeros w64 (mask / 2 ^ from) < length numbers) × (get_or numbers (from + trailing_zeros w64 (mask / 2 ^ from)) 0 ≢ 0)
     × ((j : ℕ) → from ≤ j → j < from + trailing_zeros w64 (mask / 2 ^ from) → get_or numbers j 0 ≡ 0)
 first_is_left numbers mask from len each short small ne =

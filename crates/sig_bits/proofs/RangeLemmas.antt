@@ -1,5 +1,6 @@
 -- Ranges of bits, and what moves a place up.
-use Rattle.std.proofs.Common.{◌≡◌, ◌≢◌, ◌↔◌, ◌⊎◌, inl, inr, ⊎_elim, ℕ, zero, suc, ◌+◌, ◌-◌, ◌*◌, ◌/◌, ◌%◌, ◌^◌, ◌<◌, ◌≤◌, List, get_or, refl, sym, ap, ◌∙◌, arith, bit_or}
+use Rattle.std.proofs.Common.{◌≡◌, ◌≢◌, ◌↔◌, ◌⊎◌, inl, inr, ⊎_elim, ℕ, zero, suc, ◌+◌, ◌-◌, ◌*◌, ◌/◌, ◌%◌, ◌^◌, ◌<◌, ◌≤◌, List, get_or, refl, sym, ap, ◌∙◌,
+    arith, bit_or}
 use Rattle.std.specs.Int.{bit_at}
 use Rattle.std.proofs.lemmas.Nat.Bits.{bit_at_above, bit_at-zero, bit_at_cat_low, bit_at_lowest, bit_at-suc}
 use Rattle.std.proofs.lemmas.Bool.{cases_eq, cases_lt}
@@ -20,7 +21,9 @@ pub none_shifted : (bits : List ℕ) (a j : ℕ) → IsShiftedBit bits a a j →
 none_shifted bits a j (i, h) = omega arith
 
 -- three shifts in a row
-pub shifted_thrice : (d0 d1 d2 d3 bits : List ℕ) (a b c d : ℕ) → a ≤ b → b ≤ c → c ≤ d → ((j : ℕ) → HasBit d1 j ↔ (HasBit d0 j ⊎ IsShiftedBit bits a b j)) → ((j : ℕ) → HasBit d2 j ↔ (HasBit d1 j ⊎ IsShiftedBit bits b c j)) → ((j : ℕ) → HasBit d3 j ↔ (HasBit d2 j ⊎ IsShiftedBit bits c d j)) → (j : ℕ) → HasBit d3 j ↔ (HasBit d0 j ⊎ IsShiftedBit bits a d j)
+pub shifted_thrice : (d0 d1 d2 d3 bits : List ℕ) (a b c d : ℕ) → a ≤ b → b ≤ c → c ≤ d → ((j : ℕ) → HasBit d1 j ↔ (HasBit d0 j ⊎ IsShiftedBit bits a b j))
+    → ((j : ℕ) → HasBit d2 j ↔ (HasBit d1 j ⊎ IsShiftedBit bits b c j)) → ((j : ℕ) → HasBit d3 j ↔ (HasBit d2 j ⊎ IsShiftedBit bits c d j)) → (j : ℕ)
+    → HasBit d3 j ↔ (HasBit d0 j ⊎ IsShiftedBit bits a d j)
 shifted_thrice d0 d1 d2 d3 bits a b c d ab bc cd one two three j =
     let first = shifted_joined bits a b d j ab (omega arith) in
     let second = shifted_joined bits b c d j bc cd in (
@@ -30,7 +33,8 @@ shifted_thrice d0 d1 d2 d3 bits a b c d ab bc cd one two three j =
           ((three j).0 h),
       λ h. ⊎_elim
           (λ h0. (three j).1 (inl ((two j).1 (inl ((one j).1 (inl h0))))))
-          (λ s. ⊎_elim (λ s1. (three j).1 (inl ((two j).1 (inl ((one j).1 (inr s1)))))) (λ r. ⊎_elim (λ s2. (three j).1 (inl ((two j).1 (inr s2)))) (λ s3. (three j).1 (inr s3)) (second.0 r)) (first.0 s))
+          (λ s. ⊎_elim (λ s1. (three j).1 (inl ((two j).1 (inl ((one j).1 (inr s1))))))
+              (λ r. ⊎_elim (λ s2. (three j).1 (inl ((two j).1 (inr s2)))) (λ s3. (three j).1 (inr s3)) (second.0 r)) (first.0 s))
           h,
     )
 
@@ -64,7 +68,8 @@ highest y (suc i) small =
     (λ h. absurd (omega arith), λ h. absurd (omega arith))
 
 -- a byte that moved up, with the highest bit of the byte before it
-shifted_byte : (x y j : ℕ) → y < 256 → j < 8 → (bit_at (bit_or (x * 2 % 256) (y / 128)) j ≡ 1) ↔ (((i : ℕ) × ((j ≡ i + 1) × (bit_at x i ≡ 1))) ⊎ ((j ≡ 0) × (bit_at y 7 ≡ 1)))
+shifted_byte : (x y j : ℕ) → y < 256 → j < 8 → (bit_at (bit_or (x * 2 % 256) (y / 128)) j ≡ 1)
+    ↔ (((i : ℕ) × ((j ≡ i + 1) × (bit_at x i ≡ 1))) ⊎ ((j ≡ 0) × (bit_at y 7 ≡ 1)))
 shifted_byte x y j small within =
     let either = bit_at_or-iff (x * 2 % 256) (y / 128) j in
     let up = moved_up x j within in
@@ -79,7 +84,8 @@ shifted_byte x y j small within =
 unfoldable pub shifted_at : List ℕ → ℕ → ℕ
 shifted_at src m = bit_or (get_or src m 0 * 2 % 256) (get_or src (m - 1) 0 / 128)
 
-shifted_at-iff : (src : List ℕ) (m r : ℕ) → 0 < m → r < 8 → get_or src (m - 1) 0 < 256 → (bit_at (shifted_at src m) r ≡ 1) ↔ ((i : ℕ) × ((8 * m + r ≡ i + 1) × HasBit src i))
+shifted_at-iff : (src : List ℕ) (m r : ℕ) → 0 < m → r < 8 → get_or src (m - 1) 0 < 256 → (bit_at (shifted_at src m) r ≡ 1)
+    ↔ ((i : ℕ) × ((8 * m + r ≡ i + 1) × HasBit src i))
 unfolding shifted_at
 shifted_at-iff src m r some within small =
     let law = shifted_byte (get_or src m 0) (get_or src (m - 1) 0) r small within in (
@@ -94,7 +100,8 @@ shifted_at-iff src m r some within small =
     )
 
 -- a byte's bits after a shift into it
-HasBit-joined_byte : (new old : List ℕ) (v j : ℕ) → get_or new (j / 8) 0 ≡ bit_or (get_or old (j / 8) 0) v → HasBit new j ↔ (HasBit old j ⊎ (bit_at v (j % 8) ≡ 1))
+HasBit-joined_byte : (new old : List ℕ) (v j : ℕ) → get_or new (j / 8) 0 ≡ bit_or (get_or old (j / 8) 0) v → HasBit new j
+    ↔ (HasBit old j ⊎ (bit_at v (j % 8) ≡ 1))
 unfolding HasBit
 HasBit-joined_byte new old v j e = rw e (bit_at_or-iff (get_or old (j / 8) 0) v (j % 8))
 
@@ -103,7 +110,9 @@ unfolding HasBit
 HasBit-same_byte new old j e = rw e (λ h. h, λ h. h)
 
 -- whole bytes that are shifted
-pub HasBit-shifted : (new old src : List ℕ) (first last : ℕ) → 0 < first → ((m : ℕ) → get_or src m 0 < 256) → ((m : ℕ) → first ≤ m → m < last → get_or new m 0 ≡ bit_or (get_or old m 0) (shifted_at src m)) → ((m : ℕ) → m < first → get_or new m 0 ≡ get_or old m 0) → ((m : ℕ) → last ≤ m → get_or new m 0 ≡ get_or old m 0) → (j : ℕ) → HasBit new j ↔ (HasBit old j ⊎ IsShiftedBit src (8 * first - 1) (8 * last - 1) j)
+pub HasBit-shifted : (new old src : List ℕ) (first last : ℕ) → 0 < first → ((m : ℕ) → get_or src m 0 < 256)
+    → ((m : ℕ) → first ≤ m → m < last → get_or new m 0 ≡ bit_or (get_or old m 0) (shifted_at src m)) → ((m : ℕ) → m < first → get_or new m 0 ≡ get_or old m 0)
+    → ((m : ℕ) → last ≤ m → get_or new m 0 ≡ get_or old m 0) → (j : ℕ) → HasBit new j ↔ (HasBit old j ⊎ IsShiftedBit src (8 * first - 1) (8 * last - 1) j)
 HasBit-shifted new old src first last some small each below above j =
     ⊎_elim
     (λ low. let same = HasBit-same_byte new old j (below (j / 8) low) in (λ h. inl (same.0 h), λ h. ⊎_elim (λ e. same.1 e) (λ (i, e). absurd (omega arith)) h))
@@ -113,7 +122,8 @@ HasBit-shifted new old src first last some small each below above j =
       λ h. ⊎_elim (λ e. inl e) (λ e. inr (let found = law.0 e in (found.0, (omega arith, omega arith, omega arith, found.1.1)))) (joined.0 h),
       λ h. joined.1 (⊎_elim (λ e. inl e) (λ (i, e). inr (law.1 (i, (omega arith, e.3)))) h),
     ))
-    (λ past. let same = HasBit-same_byte new old j (above (j / 8) past) in (λ h. inl (same.0 h), λ h. ⊎_elim (λ e. same.1 e) (λ (i, e). absurd (omega arith)) h))
+    (λ past. let same = HasBit-same_byte new old j (above (j / 8) past) in
+        (λ h. inl (same.0 h), λ h. ⊎_elim (λ e. same.1 e) (λ (i, e). absurd (omega arith)) h))
     (cases_lt (j / 8) last))
     (cases_lt (j / 8) first)
 
@@ -134,7 +144,8 @@ none_between bits first last zeros (i, h) =
     omega (arith, bit_at-zero (i % 8))
 
 -- a byte that is not 0 has a bit
-pub some_between : (bits : List ℕ) (first last k : ℕ) → first ≤ k → k < last → get_or bits k 0 < 256 → get_or bits k 0 ≢ 0 → HasBitBetween bits (8 * first) (8 * last)
+pub some_between : (bits : List ℕ) (first last k : ℕ) → first ≤ k → k < last → get_or bits k 0 < 256 → get_or bits k 0 ≢ 0
+    → HasBitBetween bits (8 * first) (8 * last)
 some_between bits first last k low high small some =
     let found = some_bit (get_or bits k 0) small some in
     (8 * k + found.0, (omega arith, omega arith, HasBit-in_byte bits k found.0 found.1 found.2))

@@ -14,13 +14,16 @@ use Rattle.sig_table.specs.Tables.{IsTable}
 use Rattle.sig_table.specs.Views.{TableView}
 
 -- only a closed certificate is accepted
-pub closed_if_accepted : (table : TableView) (certificate view after : List ℕ) (result : Result Unit CheckError) → IsBytes certificate → view ≡ certificate → Judges (CertificateJudged table) view after result → MatchResult result (λ done. after ≡ []) (λ e. Unit {0}) → OnOk result (Closed table certificate)
+pub closed_if_accepted : (table : TableView) (certificate view after : List ℕ) (result : Result Unit CheckError) → IsBytes certificate → view ≡ certificate
+    → Judges (CertificateJudged table) view after result → MatchResult result (λ done. after ≡ []) (λ e. Unit {0}) → OnOk result (Closed table certificate)
 closed_if_accepted table certificate view after (Ok done) bytes same judged end =
-    accepted_is_closed table certificate bytes (subst (λ c. CertificateJudged table c (Ok [])) same (subst (λ a. CertificateJudged table view (Ok a)) end judged))
+    accepted_is_closed table certificate bytes (subst (λ c. CertificateJudged table c (Ok [])) same
+        (subst (λ a. CertificateJudged table view (Ok a)) end judged))
 closed_if_accepted table certificate view after (Err e) bytes same judged end = tt
 
 -- where only a closed certificate is accepted, an accepted one decides its table
-pub decided_if_closed : (table : TableView) (certificate : List ℕ) (result : Result Unit CheckError) → IsTable table → OnOk result (Closed table certificate) → OnOk result (Decided table)
+pub decided_if_closed : (table : TableView) (certificate : List ℕ) (result : Result Unit CheckError) → IsTable table → OnOk result (Closed table certificate)
+    → OnOk result (Decided table)
 decided_if_closed table certificate (Ok done) is_table closed = closed_decides table certificate is_table closed
 decided_if_closed table certificate (Err e) is_table closed = tt
 

@@ -1,5 +1,6 @@
 -- Two formats that are left for a file: signatures of both hit it, and no format that is hit outranks one of them.
-use Rattle.std.proofs.Common.{◌≡◌, ℕ, ◌<◌, ◌≤◌, ◌&&◌, ◌||◌, Bool, true, false, not, List, [], ◌∷◌, All, AllPairs, Contains, get_or, length, nat_eq, inl, inr, refl, sym, ap, ◌∙◌, subst, arith}
+use Rattle.std.proofs.Common.{◌≡◌, ℕ, ◌<◌, ◌≤◌, ◌&&◌, ◌||◌, Bool, true, false, not, List, [], ◌∷◌, All, AllPairs, Contains, get_or, length, nat_eq, inl, inr,
+    refl, sym, ap, ◌∙◌, subst, arith}
 use Rattle.std.specs.List.{list_any}
 use Rattle.std.proofs.lemmas.Bool.{false≢true}
 use Rattle.std.proofs.lemmas.Bool.Decides.{Decides-and, Decides-eqb}
@@ -44,11 +45,13 @@ or_right : (a b : Bool) → b ≡ true → (a || b) ≡ true
 or_right true b h = refl
 or_right false b h = h
 
-found_later : (table : TableView) (h : Hit) (hits : List Hit) (lower : ℕ) → list_any (λ other. is_listed table other.format.0 lower) hits ≡ true → list_any (λ other. is_listed table other.format.0 lower) (h ∷ hits) ≡ true
+found_later : (table : TableView) (h : Hit) (hits : List Hit) (lower : ℕ) → list_any (λ other. is_listed table other.format.0 lower) hits ≡ true
+    → list_any (λ other. is_listed table other.format.0 lower) (h ∷ hits) ≡ true
 found_later table h hits lower is = or_right (is_listed table h.format.0 lower) (list_any (λ other. is_listed table other.format.0 lower) hits) is
 
 -- so is a hit that outranks
-found_above : (table : TableView) (hits : List Hit) (higher lower : ℕ) → Contains (formats_of hits) higher → is_listed table higher lower ≡ true → list_any (λ other. is_listed table other.format.0 lower) hits ≡ true
+found_above : (table : TableView) (hits : List Hit) (higher lower : ℕ) → Contains (formats_of hits) higher → is_listed table higher lower ≡ true
+    → list_any (λ other. is_listed table other.format.0 lower) hits ≡ true
 found_above table [] higher lower c is = absurd (none_is_there higher c)
 found_above table (h ∷ hits) higher lower c is = elim (first_or_later h.format.0 (formats_of hits) higher c) [
   | inl same ↦ rw (subst (λ format. is_listed table format lower ≡ true) (sym same) is) refl
@@ -59,9 +62,11 @@ found_above table (h ∷ hits) higher lower c is = elim (first_or_later h.format
 abbrev is_kept : TableView → List Hit → Hit → Bool
 is_kept table hits hit = not (list_any (λ other. is_listed table other.format.0 hit.format.0) hits)
 
-kept_stays : (table : TableView) (file : List ℕ) (hits : List Hit) (hit : Hit) → HitFormats table file hits → is_kept table hits hit ≡ true → NoneOutranks table file hit.format.0
+kept_stays : (table : TableView) (file : List ℕ) (hits : List Hit) (hit : Hit) → HitFormats table file hits → is_kept table hits hit ≡ true
+    → NoneOutranks table file hit.format.0
 kept_stays table file hits hit all kept higher place there listed =
-    let above : list_any (λ other. is_listed table other.format.0 hit.format.0) hits ≡ true = found_above table hits higher hit.format.0 (all.none_missing higher place there) (listed_is_found table higher hit.format.0 listed) in
+    let above : list_any (λ other. is_listed table other.format.0 hit.format.0) hits ≡ true =
+        found_above table hits higher hit.format.0 (all.none_missing higher place there) (listed_is_found table higher hit.format.0 listed) in
     false≢true (sym (ap not above) ∙ kept)
 
 -- the formats of hits rise
@@ -77,10 +82,14 @@ pub two_of : (table : TableView) (file : List ℕ) (left : List Hit) → Left ta
 two_of table file [] is two = absurd (omega arith)
 two_of table file (a ∷ []) is two = absurd (omega arith)
 two_of table file (a ∷ (b ∷ more)) is two =
-    let rise = AllPairs-filter (λ (x y : Hit). x.format.0 < y.format.0) (is_kept table is.hits) is.hits (hits_rise is.hits (AllPairs-from_increasing (formats_of is.hits) is.all_hits.in_order)) in
-    let each : All (IsFirstHit table file) (a ∷ (b ∷ more)) = subst (All (IsFirstHit table file)) (sym is.kept) (All-filter (is_kept table is.hits) (IsFirstHit table file) is.hits is.all_hits.each) in
-    let kept : All (λ hit. is_kept table is.hits hit ≡ true) (a ∷ (b ∷ more)) = subst (All (λ hit. is_kept table is.hits hit ≡ true)) (sym is.kept) (filter_passes (is_kept table is.hits) is.hits) in
-    let order : AllPairs (λ (x y : Hit). x.format.0 < y.format.0) (a ∷ (b ∷ more)) = subst (AllPairs (λ (x y : Hit). x.format.0 < y.format.0)) (sym is.kept) rise in
+    let rise = AllPairs-filter (λ (x y : Hit). x.format.0 < y.format.0) (is_kept table is.hits) is.hits
+        (hits_rise is.hits (AllPairs-from_increasing (formats_of is.hits) is.all_hits.in_order)) in
+    let each : All (IsFirstHit table file) (a ∷ (b ∷ more)) = subst (All (IsFirstHit table file)) (sym is.kept)
+        (All-filter (is_kept table is.hits) (IsFirstHit table file) is.hits is.all_hits.each) in
+    let kept : All (λ hit. is_kept table is.hits hit ≡ true) (a ∷ (b ∷ more)) =
+        subst (All (λ hit. is_kept table is.hits hit ≡ true)) (sym is.kept) (filter_passes (is_kept table is.hits) is.hits) in
+    let order : AllPairs (λ (x y : Hit). x.format.0 < y.format.0) (a ∷ (b ∷ more)) =
+        subst (AllPairs (λ (x y : Hit). x.format.0 < y.format.0)) (sym is.kept) rise in
     record {
       first = a.format.0;
       second = b.format.0;

@@ -1,5 +1,6 @@
 -- Members of lists that are made of others.
-use Rattle.std.proofs.Common.{◌≡◌, ◌⊎◌, ℕ, zero, suc, ◌+◌, ◌-◌, ◌<◌, ◌≤◌, List, [], ◌∷◌, Contains, Some, flat_map, map, slice_get, inl, inr, sym, ap, ◌∙◌, subst, arith}
+use Rattle.std.proofs.Common.{◌≡◌, ◌⊎◌, ℕ, zero, suc, ◌+◌, ◌-◌, ◌<◌, ◌≤◌, List, [], ◌∷◌, Contains, Some, flat_map, map, slice_get, inl, inr, sym, ap, ◌∙◌,
+    subst, arith}
 use Rattle.std.specs.List.{AllZip, range_with_len}
 use Rattle.std.proofs.lemmas.Bool.{cases_eq, eq-eqb, ne_eqb}
 use Rattle.std.proofs.lemmas.List.Elements.{Contains-append_left, Contains-append_right}
@@ -37,7 +38,8 @@ joined_is_there f (y ∷ ys) x z c d = elim (first_or_later y ys x c) [
 ]
 
 -- a member of the first list has a partner in the second
-pub partner_of : {A B : Type 0} (R S : A → B → Type 0) (xs : List A) (ys : List B) (x : A) → AllZip R xs ys → AllZip S xs ys → Contains xs x → (y : B) × R x y × S x y
+pub partner_of : {A B : Type 0} (R S : A → B → Type 0) (xs : List A) (ys : List B) (x : A) → AllZip R xs ys → AllZip S xs ys → Contains xs x → (y : B) × R x y
+    × S x y
 partner_of R S [] ys x h k c = absurd (none_is_there x c)
 partner_of R S (a ∷ xs) [] x h k c = absurd h
 partner_of {A} {B} R S (a ∷ xs) (b ∷ ys) x h k c = elim (first_or_later a xs x c) [
@@ -59,7 +61,8 @@ is_format_pair formats i j order known =
     (mapped_is_there pair (range_with_len (i + 1) (formats - (i + 1))) j (in_range (i + 1) (formats - (i + 1)) j (omega arith) (omega arith)))
 
 -- a signature of the format stands among its signatures
-place_is_there : (format at : ℕ) (signatures : List SignatureView) (k : ℕ) (s : SignatureView) → slice_get signatures k ≡ Some s → s.format ≡ format → Contains (map (λ place. place.0) (places_of format at signatures)) (at + k)
+place_is_there : (format at : ℕ) (signatures : List SignatureView) (k : ℕ) (s : SignatureView) → slice_get signatures k ≡ Some s → s.format ≡ format
+    → Contains (map (λ place. place.0) (places_of format at signatures)) (at + k)
 place_is_there format at [] k s found of = absurd (cc)
 place_is_there format at (first ∷ later) zero s found of =
     let is : first ≡ s = cc in
@@ -74,13 +77,15 @@ place_is_there format at (first ∷ later) (suc k) s found of =
       | inr other ↦ rw (ne_eqb first.format format other) rest
     ]
 
-pub is_signature_of : (table : TableView) (format k : ℕ) (s : SignatureView) → slice_get table.signatures k ≡ Some s → s.format ≡ format → Contains (signatures_of table format) k
+pub is_signature_of : (table : TableView) (format k : ℕ) (s : SignatureView) → slice_get table.signatures k ≡ Some s → s.format ≡ format
+    → Contains (signatures_of table format) k
 is_signature_of table format k s found of =
     let same : 0 + k ≡ k = omega arith in
     subst (λ n. Contains (signatures_of table format) n) same (place_is_there format 0 table.signatures k s found of)
 
 -- signatures of two formats are one of their pairs
-pub is_signature_pair : (table : TableView) (i j s t : ℕ) → Contains (signatures_of table i) s → Contains (signatures_of table j) t → Contains (signature_pairs table (i, j)) (s, t)
+pub is_signature_pair : (table : TableView) (i j s t : ℕ) → Contains (signatures_of table i) s → Contains (signatures_of table j) t
+    → Contains (signature_pairs table (i, j)) (s, t)
 is_signature_pair table i j s t c d =
     let pairs : ℕ → List (ℕ × ℕ) = λ a. map (λ b. (a, b)) (signatures_of table j) in
     let pair : ℕ → ℕ × ℕ = λ b. (s, b) in

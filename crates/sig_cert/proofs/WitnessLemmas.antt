@@ -21,7 +21,9 @@ is_format table file format index is hit =
     subst (λ (f : ℕ). f < length table.formats) hit.of_format (signature_at table is index hit.signature hit.at).known
 
 -- so is each format that is left
-pub left_are_formats : (table : TableView) (file : List ℕ) (left : List Hit) → IsTable table → Left table file left → All (λ hit. hit.format.0 < length table.formats) left
+pub left_are_formats : (table : TableView) (file : List ℕ) (left : List Hit) → IsTable table → Left table file left
+    → All (λ hit. hit.format.0 < length table.formats) left
 left_are_formats table file left is hits = λ k d within.
-    let each : All (IsFirstHit table file) left = subst (All (IsFirstHit table file)) (sym hits.kept) (All-filter _ (IsFirstHit table file) hits.hits hits.all_hits.each) in
+    let each : All (IsFirstHit table file) left = subst (All (IsFirstHit table file)) (sym hits.kept)
+        (All-filter _ (IsFirstHit table file) hits.hits hits.all_hits.each) in
     is_format table file _ _ is (each k d within).hits

@@ -23,7 +23,9 @@ use Rattle.sig_table.specs.declared.error.TableError.TheVariants as table
 use Rattle.sig_command.specs.CommandLine.{AreTaken, Asks, HasFaultKind, IsHelpAsked, fault_of_words, subcommand_of_words}
 use Rattle.sig_command.specs.Endings.{AnswersBy, EndsByFault, KeepsErrors, KeepsOutput, ReportsMemory, TellsBy}
 use Rattle.sig_command.specs.Faults.{Reports, ReportsLine, TellsWrite}
-use Rattle.sig_command.specs.Requests.{Behind, CutsSomeWords, CutsWords, IsCutRequest, IsFaultOf, IsFirstFault, IsFolderFault, IsLaterFault, IsListFault, IsNamesFaultOf, Joins, KeepsOrCuts, ListsIf, ListsRequest, ListsSomeWords, ListsWords, ReportsFaultOf, ReportsLineOf, Shows, ShowsBefore, ShowsSomeWords, ShowsWords, TellsOf}
+use Rattle.sig_command.specs.Requests.{Behind, CutsSomeWords, CutsWords, IsCutRequest, IsFaultOf, IsFirstFault, IsFolderFault, IsLaterFault, IsListFault,
+    IsNamesFaultOf, Joins, KeepsOrCuts, ListsIf, ListsRequest, ListsSomeWords, ListsWords, ReportsFaultOf, ReportsLineOf, Shows, ShowsBefore, ShowsSomeWords,
+    ShowsWords, TellsOf}
 use Rattle.sig_command.specs.Several.{ReportsFiles}
 use Rattle.sig_command.proofs.SeveralLemmas.{memory_before}
 use Rattle.sig_command.specs.Statuses.{kind_status, names_status, status_of, table_status}
@@ -33,14 +35,16 @@ use Rattle.sig_command.specs.declared.args.FileNames.TheVariants as source
 use Rattle.sig_command.specs.declared.args.Request.{Request}
 use Rattle.sig_command.specs.declared.args.Request.TheVariants.{Check, Conflicts, Dead, Find, Lint, Match, MatchMany, Show, Witness}
 use Rattle.sig_command.specs.declared.fault.Fault.{Fault}
-use Rattle.sig_command.specs.declared.fault.Fault.TheVariants.{CannotOpen, CutShort, FaultyTable, IsFolder, Names, NoFile, NotInTable, NotText, Run, SomeFiles, SummaryOfOne, Table}
+use Rattle.sig_command.specs.declared.fault.Fault.TheVariants.{CannotOpen, CutShort, FaultyTable, IsFolder, Names, NoFile, NotInTable, NotText, Run, SomeFiles,
+    SummaryOfOne, Table}
 
 -- memory can run out for whatever is asked
 pub memory_of : {R : Type 0} (failed : R → Bool) (held : Holding) (request : Request) → IsFaultOf failed held request (Run run.OutOfMemory)
 memory_of failed held request = inr (inl refl)
 
 -- and then nothing is shown before that is told
-pub memory_first : {R : Type 0} (failed : R → Bool) (held : Holding) (request : Request) (before after err : Option (List ℕ)) → ShowsBefore failed held request (Run run.OutOfMemory) before after err err
+pub memory_first : {R : Type 0} (failed : R → Bool) (held : Holding) (request : Request) (before after err : Option (List ℕ))
+    → ShowsBefore failed held request (Run run.OutOfMemory) before after err err
 memory_first failed held request before after err = (inl refl, go request)
   where
     go : (request : Request) → Joins failed held request (Run run.OutOfMemory) before after false err err
@@ -57,20 +61,23 @@ memory_first failed held request before after err = (inl refl, go request)
 -- ---- a fault of two kinds, which tells more than its line
 
 -- a fault is none of these
-no_such : {R : Type 0} (failed : R → Bool) (held : Holding) (request : Request) (reason : Fault) → reason ≢ Run run.OutOfMemory → reason ≢ SummaryOfOne → (IsFirstFault failed held request reason → ⊥) → (IsLaterFault failed held request reason → ⊥) → IsFaultOf failed held request reason → ⊥
+no_such : {R : Type 0} (failed : R → Bool) (held : Holding) (request : Request) (reason : Fault) → reason ≢ Run run.OutOfMemory → reason ≢ SummaryOfOne
+    → (IsFirstFault failed held request reason → ⊥) → (IsLaterFault failed held request reason → ⊥) → IsFaultOf failed held request reason → ⊥
 no_such failed held request reason memory two first later (inl is) = first is
 no_such failed held request reason memory two first later (inr (inl is)) = memory is
 no_such failed held request reason memory two first later (inr (inr (inl is))) = later is.1
 no_such failed held request reason memory two first later (inr (inr (inr is))) = two is.0
 
 -- names of formats have faults of two kinds
-no_names : {R : Type 0} (failed : R → Bool) (held : Holding) (path : Option (Bor Text)) (reason : Fault) → ((name : Bor Text) → reason ≢ CannotOpen name) → ((error : NamesError) → reason ≢ Names error) → IsNamesFaultOf failed held path reason → ⊥
+no_names : {R : Type 0} (failed : R → Bool) (held : Holding) (path : Option (Bor Text)) (reason : Fault) → ((name : Bor Text) → reason ≢ CannotOpen name)
+    → ((error : NamesError) → reason ≢ Names error) → IsNamesFaultOf failed held path reason → ⊥
 no_names failed held None reason unopened names is = is
 no_names failed held (Some path) reason unopened names (inl is) = unopened path is.0
 no_names failed held (Some path) reason unopened names (inr is) = names is.0 is.1
 
 -- a list of names has faults of three kinds
-no_list : {R : Type 0} (failed : R → Bool) (held : Holding) (names : FileNames) (reason : Fault) → ((e : RunError) → reason ≢ Run e) → ((name : Bor Text) → reason ≢ CannotOpen name) → ((name : Bor Text) → reason ≢ IsFolder name) → IsListFault failed held names reason → ⊥
+no_list : {R : Type 0} (failed : R → Bool) (held : Holding) (names : FileNames) (reason : Fault) → ((e : RunError) → reason ≢ Run e)
+    → ((name : Bor Text) → reason ≢ CannotOpen name) → ((name : Bor Text) → reason ≢ IsFolder name) → IsListFault failed held names reason → ⊥
 no_list failed held (Words words) reason ended unopened folder is = is
 no_list failed held (source.List list end) reason ended unopened folder (inr is) = folder list is.0
 no_list failed held (source.List list end) NotText ended unopened folder (inl is) = is
@@ -94,53 +101,77 @@ later_faulty failed held (Match all table file) (inl is) = is
 later_faulty failed held (Match all table file) (inr is) = let bad : FaultyTable ≡ IsFolder file = is.0 in cc
 later_faulty failed held (MatchMany options table names) (inl is) = let bad : FaultyTable ≡ SomeFiles = is in cc
 later_faulty failed held (MatchMany options table names) (inr (inl is)) = let bad : FaultyTable ≡ Run run.Write = is in cc
-later_faulty failed held (MatchMany options table names) (inr (inr (inl is))) = no_list failed held names FaultyTable (λ error same. cc) (λ name same. cc) (λ name same. cc) is
-later_faulty failed held (MatchMany options table names) (inr (inr (inr is))) = no_names failed held options.names FaultyTable (λ name same. cc) (λ error same. cc) is
+later_faulty failed held (MatchMany options table names) (inr (inr (inl is))) =
+    no_list failed held names FaultyTable (λ error same. cc) (λ name same. cc) (λ name same. cc) is
+later_faulty failed held (MatchMany options table names) (inr (inr (inr is))) =
+    no_names failed held options.names FaultyTable (λ name same. cc) (λ error same. cc) is
 later_faulty failed held (Find table budget out hex progress) (inl is) = let bad : FaultyTable ≡ CannotOpen out = is.0 in cc
 later_faulty failed held (Find table budget out hex progress) (inr is) = let bad : FaultyTable ≡ Run run.Write = is in cc
 later_faulty failed held request is = is
 
 -- they are told where `lint` is asked for, and only there
-faults_are_listed : {R : Type 0} (failed : R → Bool) (held : Holding) (request : Request) (is_failed : Bool) (before after : Option (List ℕ)) → IsFaultOf failed held request FaultyTable → ListsIf held request FaultyTable is_failed before after → (is_failed ≡ false) × ListsRequest held request before after
+faults_are_listed : {R : Type 0} (failed : R → Bool) (held : Holding) (request : Request) (is_failed : Bool) (before after : Option (List ℕ))
+    → IsFaultOf failed held request FaultyTable → ListsIf held request FaultyTable is_failed before after → (is_failed ≡ false)
+    × ListsRequest held request before after
 faults_are_listed failed held (Lint table) is_failed before after is lists = let told = lists refl in (told.0, (table, refl, told.1))
 faults_are_listed failed held request is_failed before after is lists =
-    absurd (no_such failed held request FaultyTable (λ same. let bad : FaultyTable ≡ Run run.OutOfMemory = same in cc) (λ same. let bad : FaultyTable ≡ SummaryOfOne = same in cc) (λ never. never) (later_faulty failed held request) is)
+    absurd (no_such failed held request FaultyTable (λ same. let bad : FaultyTable ≡ Run run.OutOfMemory = same in cc)
+        (λ same. let bad : FaultyTable ≡ SummaryOfOne = same in cc) (λ never. never) (later_faulty failed held request) is)
 
 -- so where this is the fault
-pub listed : {R : Type 0} (failed : R → Bool) (held : Holding) (request : Request) (reason : Fault) (is_failed : Bool) (before after : Option (List ℕ)) → IsFaultOf failed held request reason → ListsIf held request reason is_failed before after → reason ≡ FaultyTable → (is_failed ≡ false) × ListsRequest held request before after
+pub listed : {R : Type 0} (failed : R → Bool) (held : Holding) (request : Request) (reason : Fault) (is_failed : Bool) (before after : Option (List ℕ))
+    → IsFaultOf failed held request reason → ListsIf held request reason is_failed before after → reason ≡ FaultyTable → (is_failed ≡ false)
+    × ListsRequest held request before after
 listed failed held request reason is_failed before after is lists same =
-    faults_are_listed failed held request is_failed before after (subst (IsFaultOf failed held request) same is) (subst (λ fault. ListsIf held request fault is_failed before after) same lists)
+    faults_are_listed failed held request is_failed before after (subst (IsFaultOf failed held request) same is)
+        (subst (λ fault. ListsIf held request fault is_failed before after) same lists)
 
 -- ---- a fault is reported
 
 -- behind what the request shows
-pub line_is_reported : {R E : Type 0} (failed : R → Bool) (held : Holding) (request : Request) (reason : Fault) (status : ℕ) (is_failed : E → Bool) (written : E → Option (List ℕ)) (err mid : E) (before after err_after : Option (List ℕ)) → TellsOf failed held request false is_failed written err mid → Joins failed held request reason before after (is_failed mid) (written err) (written mid) → is_failed mid ≡ false → Reports reason status (written mid) err_after → ReportsLineOf failed held request reason status before after (written err) err_after
+pub line_is_reported : {R E : Type 0} (failed : R → Bool) (held : Holding) (request : Request) (reason : Fault) (status : ℕ) (is_failed : E → Bool)
+    (written : E → Option (List ℕ)) (err mid : E) (before after err_after : Option (List ℕ)) → TellsOf failed held request false is_failed written err mid
+    → Joins failed held request reason before after (is_failed mid) (written err) (written mid) → is_failed mid ≡ false
+    → Reports reason status (written mid) err_after → ReportsLineOf failed held request reason status before after (written err) err_after
 line_is_reported failed held request reason status is_failed written err mid before after err_after told joins sound reports =
     (written mid, (shown told, subst (λ b. Joins failed held request reason before after b (written err) (written mid)) sound joins), reports)
   where
-    shown : (mid ≡ err) ⊎ Shows failed held request false (is_failed mid) (written err) (written mid) → (written mid ≡ written err) ⊎ Shows failed held request false false (written err) (written mid)
+    shown : (mid ≡ err) ⊎ Shows failed held request false (is_failed mid) (written err) (written mid) → (written mid ≡ written err)
+        ⊎ Shows failed held request false false (written err) (written mid)
     shown (inl same) = inl (ap written same)
     shown (inr shows) = inr (subst (λ b. Shows failed held request false b (written err) (written mid)) sound shows)
 
-pub fault_is_reported : {R E : Type 0} (failed : R → Bool) (WriteFailed : Type 0) (held : Holding) (request : Request) (reason : Fault) (status : ℕ) (is_failed : E → Bool) (written : E → Option (List ℕ)) (err mid last : E) (before after : Option (List ℕ)) (out_failed : Bool) → IsFaultOf failed held request reason → (TellsWrite reason → WriteFailed) → ListsIf held request reason out_failed before after → TellsOf failed held request false is_failed written err mid → Joins failed held request reason before after (is_failed mid) (written err) (written mid) → status ≡ status_of reason → (is_failed last ≡ false → is_failed mid ≡ false) → (is_failed last ≡ false → Reports reason status (written mid) (written last)) → ReportsFaultOf failed WriteFailed held request status before after (is_failed last) (written err) (written last)
-fault_is_reported failed WriteFailed held request reason status is_failed written err mid last before after out_failed is write lists told joins ends sound reports = record {
+pub fault_is_reported : {R E : Type 0} (failed : R → Bool) (WriteFailed : Type 0) (held : Holding) (request : Request) (reason : Fault) (status : ℕ)
+    (is_failed : E → Bool) (written : E → Option (List ℕ)) (err mid last : E) (before after : Option (List ℕ)) (out_failed : Bool)
+    → IsFaultOf failed held request reason → (TellsWrite reason → WriteFailed) → ListsIf held request reason out_failed before after
+    → TellsOf failed held request false is_failed written err mid → Joins failed held request reason before after (is_failed mid) (written err) (written mid)
+    → status ≡ status_of reason → (is_failed last ≡ false → is_failed mid ≡ false)
+    → (is_failed last ≡ false → Reports reason status (written mid) (written last))
+    → ReportsFaultOf failed WriteFailed held request status before after (is_failed last) (written err) (written last)
+fault_is_reported failed WriteFailed held request reason status is_failed written err mid last before after out_failed is write lists told joins ends sound
+    reports = record {
   reason = reason;
   is = is;
   write = write;
   ends = ends;
   lists = λ same. (listed failed held request reason out_failed before after is lists same).1;
-  line = λ whole. line_is_reported failed held request reason status is_failed written err mid before after (written last) told joins (sound whole) (reports whole);
+  line = λ whole. line_is_reported failed held request reason status is_failed written err mid before after (written last) told joins (sound whole)
+      (reports whole);
 }
 
 -- before there is a request to look at, memory ran out
-pub memory_is_reported : {R E : Type 0} (failed : R → Bool) (WriteFailed : Type 0) (held : Holding) (request : Request) (status : ℕ) (is_failed : E → Bool) (written : E → Option (List ℕ)) (err last : E) (before after : Option (List ℕ)) → status ≡ 3 → (is_failed last ≡ false → ReportsMemory (written err) (written last)) → ReportsFaultOf failed WriteFailed held request status before after (is_failed last) (written err) (written last)
+pub memory_is_reported : {R E : Type 0} (failed : R → Bool) (WriteFailed : Type 0) (held : Holding) (request : Request) (status : ℕ) (is_failed : E → Bool)
+    (written : E → Option (List ℕ)) (err last : E) (before after : Option (List ℕ)) → status ≡ 3
+    → (is_failed last ≡ false → ReportsMemory (written err) (written last))
+    → ReportsFaultOf failed WriteFailed held request status before after (is_failed last) (written err) (written last)
 memory_is_reported failed WriteFailed held request status is_failed written err last before after ends reports = record {
   reason = Run run.OutOfMemory;
   is = memory_of failed held request;
   write = λ tells. absurd (no_write tells);
   ends = ends;
   lists = λ same. let bad : Run run.OutOfMemory ≡ FaultyTable = same in cc;
-  line = λ whole. (written err, memory_first failed held request before after (written err), subst (λ (s : ℕ). Reports (Run run.OutOfMemory) s (written err) (written last)) (sym ends) (reports whole));
+  line = λ whole. (written err, memory_first failed held request before after (written err),
+      subst (λ (s : ℕ). Reports (Run run.OutOfMemory) s (written err) (written last)) (sym ends) (reports whole));
 }
   where
     no_write : TellsWrite (Run run.OutOfMemory) → ⊥
@@ -161,20 +192,29 @@ first_files : {R : Type 0} (failed : R → Bool) (held : Holding) (request : Req
 first_files failed held (Lint table) is = is
 first_files failed held request is = is
 
-no_files : {R : Type 0} (failed : R → Bool) (held : Holding) (request : Request) → (IsLaterFault failed held request SomeFiles → ⊥) → IsFaultOf failed held request SomeFiles → ⊥
+no_files : {R : Type 0} (failed : R → Bool) (held : Holding) (request : Request) → (IsLaterFault failed held request SomeFiles → ⊥)
+    → IsFaultOf failed held request SomeFiles → ⊥
 no_files failed held request never is =
-    no_such failed held request SomeFiles (λ same. let bad : SomeFiles ≡ Run run.OutOfMemory = same in cc) (λ same. let bad : SomeFiles ≡ SummaryOfOne = same in cc) (first_files failed held request) never is
+    no_such failed held request SomeFiles (λ same. let bad : SomeFiles ≡ Run run.OutOfMemory = same in cc)
+        (λ same. let bad : SomeFiles ≡ SummaryOfOne = same in cc) (first_files failed held request) never is
 
 -- and then each fault is told
-files_are_reported : {R : Type 0} (failed : R → Bool) (held : Holding) (request : Request) (status : ℕ) (before after : Option (List ℕ)) (is_failed : Bool) (err_before mid err_after : Option (List ℕ)) → IsFaultOf failed held request SomeFiles → Joins failed held request SomeFiles before after is_failed err_before mid → is_failed ≡ false → Reports SomeFiles status mid err_after → ReportsFiles err_before err_after
-files_are_reported failed held (Show table) status before after is_failed err_before mid err_after is joins sound reports = absurd (no_files failed held (Show table) (λ same. let bad : SomeFiles ≡ Run run.Write = same in cc) is)
-files_are_reported failed held (Lint table) status before after is_failed err_before mid err_after is joins sound reports = absurd (no_files failed held (Lint table) (λ never. never) is)
-files_are_reported failed held (Match all table file) status before after is_failed err_before mid err_after is joins sound reports = absurd (no_files failed held (Match all table file) never is)
+files_are_reported : {R : Type 0} (failed : R → Bool) (held : Holding) (request : Request) (status : ℕ) (before after : Option (List ℕ)) (is_failed : Bool)
+    (err_before mid err_after : Option (List ℕ)) → IsFaultOf failed held request SomeFiles
+    → Joins failed held request SomeFiles before after is_failed err_before mid → is_failed ≡ false → Reports SomeFiles status mid err_after
+    → ReportsFiles err_before err_after
+files_are_reported failed held (Show table) status before after is_failed err_before mid err_after is joins sound reports =
+    absurd (no_files failed held (Show table) (λ same. let bad : SomeFiles ≡ Run run.Write = same in cc) is)
+files_are_reported failed held (Lint table) status before after is_failed err_before mid err_after is joins sound reports =
+    absurd (no_files failed held (Lint table) (λ never. never) is)
+files_are_reported failed held (Match all table file) status before after is_failed err_before mid err_after is joins sound reports =
+    absurd (no_files failed held (Match all table file) never is)
   where
     never : ⊥ ⊎ IsFolderFault held file SomeFiles → ⊥
     never (inl is) = is
     never (inr is) = let bad : SomeFiles ≡ IsFolder file = is.0 in cc
-files_are_reported failed held (MatchMany options table names) status before after is_failed err_before mid err_after is (inl quiet) sound reports = absurd (quiet.0.files refl)
+files_are_reported failed held (MatchMany options table names) status before after is_failed err_before mid err_after is (inl quiet) sound reports =
+    absurd (quiet.0.files refl)
 files_are_reported failed held (MatchMany options table names) status before after is_failed err_before mid err_after is (inr joins) sound reports =
     let ask = joins.2 in
     let added = joins.4 in
@@ -183,33 +223,51 @@ files_are_reported failed held (MatchMany options table names) status before aft
       is = sym added.is;
       progress = ask.progress;
       summary = ask.summary;
-      adds = nothing_behind err_before mid err_after (run_text ask.progress added.files ++ summary_text ask.summary (tally_of none_yet added.files)) (added.reports sound) reports.adds;
+      adds = nothing_behind err_before mid err_after (run_text ask.progress added.files ++ summary_text ask.summary (tally_of none_yet added.files))
+          (added.reports sound) reports.adds;
     }
-files_are_reported failed held (Find table budget out hex progress) status before after is_failed err_before mid err_after is joins sound reports = absurd (no_files failed held (Find table budget out hex progress) never is)
+files_are_reported failed held (Find table budget out hex progress) status before after is_failed err_before mid err_after is joins sound reports =
+    absurd (no_files failed held (Find table budget out hex progress) never is)
   where
     never : ((SomeFiles ≡ CannotOpen out) × CannotMake held out.now) ⊎ (SomeFiles ≡ Run run.Write) → ⊥
     never (inl same) = let bad : SomeFiles ≡ CannotOpen out = same.0 in cc
     never (inr same) = let bad : SomeFiles ≡ Run run.Write = same in cc
-files_are_reported failed held (Conflicts table options progress) status before after is_failed err_before mid err_after is joins sound reports = absurd (no_files failed held (Conflicts table options progress) (λ never. never) is)
-files_are_reported failed held (Dead table budget hex progress) status before after is_failed err_before mid err_after is joins sound reports = absurd (no_files failed held (Dead table budget hex progress) (λ never. never) is)
-files_are_reported failed held (Check table certificate) status before after is_failed err_before mid err_after is joins sound reports = absurd (no_files failed held (Check table certificate) (λ never. never) is)
-files_are_reported failed held (Witness table file) status before after is_failed err_before mid err_after is joins sound reports = absurd (no_files failed held (Witness table file) (λ never. never) is)
+files_are_reported failed held (Conflicts table options progress) status before after is_failed err_before mid err_after is joins sound reports =
+    absurd (no_files failed held (Conflicts table options progress) (λ never. never) is)
+files_are_reported failed held (Dead table budget hex progress) status before after is_failed err_before mid err_after is joins sound reports =
+    absurd (no_files failed held (Dead table budget hex progress) (λ never. never) is)
+files_are_reported failed held (Check table certificate) status before after is_failed err_before mid err_after is joins sound reports =
+    absurd (no_files failed held (Check table certificate) (λ never. never) is)
+files_are_reported failed held (Witness table file) status before after is_failed err_before mid err_after is joins sound reports =
+    absurd (no_files failed held (Witness table file) (λ never. never) is)
 
 -- some line stands behind what the words show
-some_line : {R E : Type 0} (failed : R → Bool) (held : Holding) (words : List Text) (request : Request) (reason : Fault) (status : ℕ) (is_failed : E → Bool) (written : E → Option (List ℕ)) (err mid : E) (before after err_after : Option (List ℕ)) → Asks (subcommand_of_words words) request → IsFaultOf failed held request reason → TellsOf failed held request false is_failed written err mid → Joins failed held request reason before after (is_failed mid) (written err) (written mid) → is_failed mid ≡ false → Reports reason status (written mid) err_after → Behind (ShowsWords failed held words false false) (ReportsLine status) (written err) err_after ⊎ ReportsFiles (written err) err_after
+some_line : {R E : Type 0} (failed : R → Bool) (held : Holding) (words : List Text) (request : Request) (reason : Fault) (status : ℕ) (is_failed : E → Bool)
+    (written : E → Option (List ℕ)) (err mid : E) (before after err_after : Option (List ℕ)) → Asks (subcommand_of_words words) request
+    → IsFaultOf failed held request reason → TellsOf failed held request false is_failed written err mid
+    → Joins failed held request reason before after (is_failed mid) (written err) (written mid) → is_failed mid ≡ false
+    → Reports reason status (written mid) err_after → Behind (ShowsWords failed held words false false) (ReportsLine status) (written err) err_after
+    ⊎ ReportsFiles (written err) err_after
 some_line failed held words request reason status is_failed written err mid before after err_after asks is told joins sound reports = go reason is joins reports
   where
-    shown : (mid : Option (List ℕ)) → (mid ≡ written err) ⊎ Shows failed held request false false (written err) mid → (mid ≡ written err) ⊎ ShowsWords failed held words false false (written err) mid
+    shown : (mid : Option (List ℕ)) → (mid ≡ written err) ⊎ Shows failed held request false false (written err) mid → (mid ≡ written err)
+        ⊎ ShowsWords failed held words false false (written err) mid
     shown mid (inl same) = inl same
     shown mid (inr shows) = inr (request, asks, shows)
 
-    one : (reason : Fault) → reason ≢ SomeFiles → Joins failed held request reason before after (is_failed mid) (written err) (written mid) → Reports reason status (written mid) err_after → Behind (ShowsWords failed held words false false) (ReportsLine status) (written err) err_after ⊎ ReportsFiles (written err) err_after
+    one : (reason : Fault) → reason ≢ SomeFiles → Joins failed held request reason before after (is_failed mid) (written err) (written mid)
+        → Reports reason status (written mid) err_after → Behind (ShowsWords failed held words false false) (ReportsLine status) (written err) err_after
+        ⊎ ReportsFiles (written err) err_after
     one reason other joins reports =
-        let line : ReportsLineOf failed held request reason status before after (written err) err_after = line_is_reported failed held request reason status is_failed written err mid before after err_after told joins sound reports in
+        let line : ReportsLineOf failed held request reason status before after (written err) err_after =
+            line_is_reported failed held request reason status is_failed written err mid before after err_after told joins sound reports in
         inl (record { mid = line.0; shown = shown line.0 line.1.0; rest = (reason, other, line.2) })
 
-    go : (reason : Fault) → IsFaultOf failed held request reason → Joins failed held request reason before after (is_failed mid) (written err) (written mid) → Reports reason status (written mid) err_after → Behind (ShowsWords failed held words false false) (ReportsLine status) (written err) err_after ⊎ ReportsFiles (written err) err_after
-    go SomeFiles is joins reports = inr (files_are_reported failed held request status before after (is_failed mid) (written err) (written mid) err_after is joins sound reports)
+    go : (reason : Fault) → IsFaultOf failed held request reason → Joins failed held request reason before after (is_failed mid) (written err) (written mid)
+        → Reports reason status (written mid) err_after → Behind (ShowsWords failed held words false false) (ReportsLine status) (written err) err_after
+        ⊎ ReportsFiles (written err) err_after
+    go SomeFiles is joins reports = inr (files_are_reported failed held request status before after (is_failed mid) (written err) (written mid) err_after is
+        joins sound reports)
     go NotText is joins reports = one NotText (λ same. let bad : NotText ≡ SomeFiles = same in cc) joins reports
     go (CannotOpen name) is joins reports = one (CannotOpen name) (λ same. let bad : CannotOpen name ≡ SomeFiles = same in cc) joins reports
     go (IsFolder name) is joins reports = one (IsFolder name) (λ same. let bad : IsFolder name ≡ SomeFiles = same in cc) joins reports
@@ -250,16 +308,25 @@ high_status (Names error) = high_names error
 never_low : (status : ℕ) (reason : Fault) → status ≡ status_of reason → status < 2 → ⊥
 never_low status reason ends low = let high = high_status reason in omega (arith, low, high, ends)
 
-pub fault_keeps_errors : {R E : Type 0} (failed : R → Bool) (held : Holding) (words : List Text) (request : Request) (reason : Fault) (status : ℕ) (is_failed : E → Bool) (written : E → Option (List ℕ)) (err mid last : E) (before after : Option (List ℕ)) → Asks (subcommand_of_words words) request → IsFaultOf failed held request reason → TellsOf failed held request false is_failed written err mid → Joins failed held request reason before after (is_failed mid) (written err) (written mid) → status ≡ status_of reason → (is_failed last ≡ false → is_failed mid ≡ false) → (is_failed last ≡ false → Reports reason status (written mid) (written last)) → KeepsErrors (ShowsWords failed held words) status (is_failed last) err last (written err) (written last)
+pub fault_keeps_errors : {R E : Type 0} (failed : R → Bool) (held : Holding) (words : List Text) (request : Request) (reason : Fault) (status : ℕ)
+    (is_failed : E → Bool) (written : E → Option (List ℕ)) (err mid last : E) (before after : Option (List ℕ)) → Asks (subcommand_of_words words) request
+    → IsFaultOf failed held request reason → TellsOf failed held request false is_failed written err mid
+    → Joins failed held request reason before after (is_failed mid) (written err) (written mid) → status ≡ status_of reason
+    → (is_failed last ≡ false → is_failed mid ≡ false) → (is_failed last ≡ false → Reports reason status (written mid) (written last))
+    → KeepsErrors (ShowsWords failed held words) status (is_failed last) err last (written err) (written last)
 fault_keeps_errors failed held words request reason status is_failed written err mid last before after asks is told joins ends sound reports = record {
   quiet = λ low. absurd (never_low status reason ends low);
   reported = λ three whole.
-      subst (λ (s : ℕ). Behind (ShowsWords failed held words false false) (ReportsLine s) (written err) (written last) ⊎ ReportsFiles (written err) (written last)) three
-      (some_line failed held words request reason status is_failed written err mid before after (written last) asks is told joins (sound whole) (reports whole));
+      subst (λ (s : ℕ). Behind (ShowsWords failed held words false false) (ReportsLine s) (written err) (written last)
+          ⊎ ReportsFiles (written err) (written last)) three
+      (some_line failed held words request reason status is_failed written err mid before after (written last) asks is told joins (sound whole)
+          (reports whole));
 }
 
 -- where nothing is shown, whatever may be shown
-pub nothing_is_shown : {E : Type 0} (Shown : Bool → Bool → Option (List ℕ) → Option (List ℕ) → Type 0) (status : ℕ) (is_failed : Bool) (before after : E) (written written_after : Option (List ℕ)) → KeepsErrors (λ is_answered fails first last. ⊥) status is_failed before after written written_after → KeepsErrors Shown status is_failed before after written written_after
+pub nothing_is_shown : {E : Type 0} (Shown : Bool → Bool → Option (List ℕ) → Option (List ℕ) → Type 0) (status : ℕ) (is_failed : Bool) (before after : E)
+    (written written_after : Option (List ℕ)) → KeepsErrors (λ is_answered fails first last. ⊥) status is_failed before after written written_after
+    → KeepsErrors Shown status is_failed before after written written_after
 nothing_is_shown Shown status is_failed before after written written_after keeps = record {
   quiet = λ low. inl (same (keeps.quiet low));
   reported = λ three whole. behind (keeps.reported three whole);
@@ -269,7 +336,8 @@ nothing_is_shown Shown status is_failed before after written written_after keeps
     same (inl is) = is
     same (inr never) = absurd never
 
-    behind : Behind (λ first last. ⊥) (ReportsLine 3) written written_after ⊎ ReportsFiles written written_after → Behind (Shown false false) (ReportsLine 3) written written_after ⊎ ReportsFiles written written_after
+    behind : Behind (λ first last. ⊥) (ReportsLine 3) written written_after ⊎ ReportsFiles written written_after
+        → Behind (Shown false false) (ReportsLine 3) written written_after ⊎ ReportsFiles written written_after
     behind (inl b) = inl record { mid = b.mid; shown = first b.shown; rest = b.rest }
       where
         first : {m : Option (List ℕ)} → (m ≡ written) ⊎ ⊥ → (m ≡ written) ⊎ Shown false false written m
@@ -278,7 +346,14 @@ nothing_is_shown Shown status is_failed before after written written_after keeps
     behind (inr files) = inr files
 
 -- with 2 the output is as it was, or has the faults of a table; with 3 an answer may be cut short
-pub fault_keeps_output : {R W : Type 0} (failed : R → Bool) (held : Holding) (words : List Text) (request : Request) (reason : Fault) (status : ℕ) (is_failed : W → Bool) (written : W → Option (List ℕ)) (before after : W) → Asks (subcommand_of_words words) request → IsFaultOf failed held request reason → status ≡ status_of reason → (((e : RunError) → reason ≢ Run e) → ((e : Cut) → reason ≢ CutShort e) → ((folder : Bor Text) (name : WitnessName) → reason ≢ NoFile folder name) → reason ≢ SomeFiles → reason ≢ FaultyTable → after ≡ before) → ListsIf held request reason (is_failed after) (written before) (written after) → (reason ≢ FaultyTable → KeepsOrCuts failed held request is_failed written before after) → KeepsOutput (CutsWords failed held words (written before) (written after)) (ListsWords held words (written before) (written after)) status (is_failed after) before after
+pub fault_keeps_output : {R W : Type 0} (failed : R → Bool) (held : Holding) (words : List Text) (request : Request) (reason : Fault) (status : ℕ)
+    (is_failed : W → Bool) (written : W → Option (List ℕ)) (before after : W) → Asks (subcommand_of_words words) request → IsFaultOf failed held request reason
+    → status ≡ status_of reason → (((e : RunError) → reason ≢ Run e) → ((e : Cut) → reason ≢ CutShort e)
+    → ((folder : Bor Text) (name : WitnessName) → reason ≢ NoFile folder name) → reason ≢ SomeFiles → reason ≢ FaultyTable → after ≡ before)
+    → ListsIf held request reason (is_failed after) (written before) (written after)
+    → (reason ≢ FaultyTable → KeepsOrCuts failed held request is_failed written before after)
+    → KeepsOutput (CutsWords failed held words (written before) (written after)) (ListsWords held words (written before) (written after)) status
+    (is_failed after) before after
 fault_keeps_output failed held words request reason status is_failed written before after asks is ends untouched lists keeps = record {
   shown = λ low. absurd (never_low status reason ends low);
   refused = λ two. refused reason is (sym two ∙ ends) untouched lists;
@@ -286,13 +361,17 @@ fault_keeps_output failed held words request reason status is_failed written bef
 }
   where
     Untouched : Fault → Type 0
-    Untouched reason = ((e : RunError) → reason ≢ Run e) → ((e : Cut) → reason ≢ CutShort e) → ((folder : Bor Text) (name : WitnessName) → reason ≢ NoFile folder name) → reason ≢ SomeFiles → reason ≢ FaultyTable → after ≡ before
+    Untouched reason = ((e : RunError) → reason ≢ Run e) → ((e : Cut) → reason ≢ CutShort e)
+        → ((folder : Bor Text) (name : WitnessName) → reason ≢ NoFile folder name) → reason ≢ SomeFiles → reason ≢ FaultyTable → after ≡ before
 
-    whole : (after ≡ before) ⊎ IsCutRequest failed held request (written before) (written after) → (after ≡ before) ⊎ CutsWords failed held words (written before) (written after)
+    whole : (after ≡ before) ⊎ IsCutRequest failed held request (written before) (written after) → (after ≡ before)
+        ⊎ CutsWords failed held words (written before) (written after)
     whole (inl same) = inl same
     whole (inr cut) = inr (request, asks, cut)
 
-    refused : (reason : Fault) → IsFaultOf failed held request reason → 2 ≡ status_of reason → Untouched reason → ListsIf held request reason (is_failed after) (written before) (written after) → (after ≡ before) ⊎ ((is_failed after ≡ false) × ListsWords held words (written before) (written after))
+    refused : (reason : Fault) → IsFaultOf failed held request reason → 2 ≡ status_of reason → Untouched reason
+        → ListsIf held request reason (is_failed after) (written before) (written after) → (after ≡ before)
+        ⊎ ((is_failed after ≡ false) × ListsWords held words (written before) (written after))
     refused FaultyTable is two untouched lists =
         let told = faults_are_listed failed held request (is_failed after) (written before) (written after) is lists in
         inr (told.0, (request, asks, told.1))
@@ -309,7 +388,9 @@ fault_keeps_output failed held words request reason status is_failed written bef
     refused SummaryOfOne is two untouched lists = inl (untouched (λ e same. cc) (λ e same. cc) (λ folder name same. cc) (λ same. cc) (λ same. cc))
 
 -- nor is want of memory
-pub memory_tells : {E : Type 0} (held : Holding) (words : List Text) (status : ℕ) (out_before out_after : Option (List ℕ)) (is_failed : Bool) (err last : E) (written written_after : Option (List ℕ)) → (AreTaken words → status ≡ 3) → TellsBy held words status out_before out_after is_failed err last written written_after
+pub memory_tells : {E : Type 0} (held : Holding) (words : List Text) (status : ℕ) (out_before out_after : Option (List ℕ)) (is_failed : Bool) (err last : E)
+    (written written_after : Option (List ℕ)) → (AreTaken words → status ≡ 3)
+    → TellsBy held words status out_before out_after is_failed err last written written_after
 memory_tells held words status out_before out_after is_failed err last written written_after refused = record {
   yes = λ taken zero. let three = refused taken in absurd (omega (arith, zero, three));
   no = λ taken one. let three = refused taken in absurd (omega (arith, one, three));
@@ -327,19 +408,23 @@ help_status k (inl is) = ap kind_status is
 help_status k (inr is) = ap kind_status is
 
 -- the status is that of the kind of the error, or 3
-by_kind : (status : ℕ) (k : ErrorKind) → (status ≡ 0) ⊎ ((status ≡ 2) ⊎ (status ≡ 3)) → (status ≡ 0 → (k ≡ DisplayHelp) ⊎ (k ≡ DisplayVersion)) → (status ≡ 2 → (k ≢ DisplayHelp) × (k ≢ DisplayVersion)) → (status ≡ 3) ⊎ (status ≡ kind_status k)
+by_kind : (status : ℕ) (k : ErrorKind) → (status ≡ 0) ⊎ ((status ≡ 2) ⊎ (status ≡ 3)) → (status ≡ 0 → (k ≡ DisplayHelp) ⊎ (k ≡ DisplayVersion))
+    → (status ≡ 2 → (k ≢ DisplayHelp) × (k ≢ DisplayVersion)) → (status ≡ 3) ⊎ (status ≡ kind_status k)
 by_kind status k (inl is) help usage = inr (is ∙ sym (help_status k (help is)))
 by_kind status k (inr (inl is)) help usage = let no = usage is in inr (is ∙ sym (usage_status k no.0 no.1))
 by_kind status k (inr (inr is)) help usage = inl is
 
-pub ends_by_fault : (words : List Text) (e : Error) (status : ℕ) → HasFaultKind words e → (status ≡ 0) ⊎ ((status ≡ 2) ⊎ (status ≡ 3)) → (kind_of e ≡ kind.OutOfMemory → status ≡ 3) → (status ≡ 0 → (kind_of e ≡ DisplayHelp) ⊎ (kind_of e ≡ DisplayVersion)) → (status ≡ 2 → (kind_of e ≢ DisplayHelp) × (kind_of e ≢ DisplayVersion)) → EndsByFault words status
+pub ends_by_fault : (words : List Text) (e : Error) (status : ℕ) → HasFaultKind words e → (status ≡ 0) ⊎ ((status ≡ 2) ⊎ (status ≡ 3))
+    → (kind_of e ≡ kind.OutOfMemory → status ≡ 3) → (status ≡ 0 → (kind_of e ≡ DisplayHelp) ⊎ (kind_of e ≡ DisplayVersion))
+    → (status ≡ 2 → (kind_of e ≢ DisplayHelp) × (kind_of e ≢ DisplayVersion)) → EndsByFault words status
 ends_by_fault words e status kinds known memory help usage = λ some. go (kinds some)
   where
     go : HasKind (fault_of_words words) e → (status ≡ 3) ⊎ ((k : ErrorKind) × IsAmong k (fault_of_words words) × (status ≡ kind_status k))
     go (inl is) = inl (memory is)
     go (inr among) = of_kind among (by_kind status (kind_of e) known help usage)
       where
-        of_kind : IsAmong (kind_of e) (fault_of_words words) → (status ≡ 3) ⊎ (status ≡ kind_status (kind_of e)) → (status ≡ 3) ⊎ ((k : ErrorKind) × IsAmong k (fault_of_words words) × (status ≡ kind_status k))
+        of_kind : IsAmong (kind_of e) (fault_of_words words) → (status ≡ 3) ⊎ (status ≡ kind_status (kind_of e)) → (status ≡ 3)
+            ⊎ ((k : ErrorKind) × IsAmong k (fault_of_words words) × (status ≡ kind_status k))
         of_kind among (inl is) = inl is
         of_kind among (inr is) = inr (kind_of e, among, is)
 
@@ -349,7 +434,10 @@ never_one status (inl is) one = omega (arith, is, one)
 never_one status (inr (inl is)) one = omega (arith, is, one)
 never_one status (inr (inr is)) one = omega (arith, is, one)
 
-pub help_answers : (held : Holding) (words : List Text) (status : ℕ) (before after : Option (List ℕ)) (e : Error) → (status ≡ 0) ⊎ ((status ≡ 2) ⊎ (status ≡ 3)) → (AreTaken words → kind_of e ≡ kind.OutOfMemory) → (kind_of e ≡ kind.OutOfMemory → status ≡ 3) → (status ≡ 0 → (kind_of e ≡ DisplayHelp) ⊎ (kind_of e ≡ DisplayVersion)) → ((kind_of e ≡ DisplayHelp) ⊎ (kind_of e ≡ DisplayVersion) → IsHelpAsked words) → AnswersBy held words status before after
+pub help_answers : (held : Holding) (words : List Text) (status : ℕ) (before after : Option (List ℕ)) (e : Error) → (status ≡ 0) ⊎ ((status ≡ 2) ⊎ (status ≡ 3))
+    → (AreTaken words → kind_of e ≡ kind.OutOfMemory) → (kind_of e ≡ kind.OutOfMemory → status ≡ 3)
+    → (status ≡ 0 → (kind_of e ≡ DisplayHelp) ⊎ (kind_of e ≡ DisplayVersion)) → ((kind_of e ≡ DisplayHelp) ⊎ (kind_of e ≡ DisplayVersion) → IsHelpAsked words)
+    → AnswersBy held words status before after
 help_answers held words status before after e known refused memory help asked = record {
   answered = λ zero. inl (asked (help zero));
   denied = λ one. absurd (never_one status known one);
@@ -360,10 +448,15 @@ help_answers held words status before after e known refused memory help asked = 
 
 -- ---- of words that are not known
 
-pub output_of_some : {R W : Type 0} (failed : R → Bool) (words : List Text) (status : ℕ) (is_failed : Bool) (before after : W) (written written_after : Option (List ℕ)) → KeepsOutput (CutsWords failed None words written written_after) (ListsWords None words written written_after) status is_failed before after → KeepsOutput (CutsSomeWords failed written written_after) (ListsSomeWords written written_after) status is_failed before after
-output_of_some failed words status is_failed before after written written_after keeps = record { shown = keeps.shown; refused = λ two. refused (keeps.refused two); whole = λ three sound. whole (keeps.whole three sound) }
+pub output_of_some : {R W : Type 0} (failed : R → Bool) (words : List Text) (status : ℕ) (is_failed : Bool) (before after : W)
+    (written written_after : Option (List ℕ)) → KeepsOutput (CutsWords failed None words written written_after) (ListsWords None words written written_after)
+    status is_failed before after → KeepsOutput (CutsSomeWords failed written written_after) (ListsSomeWords written written_after) status is_failed before
+    after
+output_of_some failed words status is_failed before after written written_after keeps =
+    record { shown = keeps.shown; refused = λ two. refused (keeps.refused two); whole = λ three sound. whole (keeps.whole three sound) }
   where
-    refused : (after ≡ before) ⊎ ((is_failed ≡ false) × ListsWords None words written written_after) → (after ≡ before) ⊎ ((is_failed ≡ false) × ListsSomeWords written written_after)
+    refused : (after ≡ before) ⊎ ((is_failed ≡ false) × ListsWords None words written written_after) → (after ≡ before)
+        ⊎ ((is_failed ≡ false) × ListsSomeWords written written_after)
     refused (inl same) = inl same
     refused (inr lists) = inr (lists.0, (words, lists.1))
 
@@ -371,17 +464,23 @@ output_of_some failed words status is_failed before after written written_after 
     whole (inl same) = inl same
     whole (inr cut) = inr (words, cut)
 
-pub errors_of_some : {R E : Type 0} (failed : R → Bool) (words : List Text) (status : ℕ) (is_failed : Bool) (before after : E) (written written_after : Option (List ℕ)) → KeepsErrors (ShowsWords failed None words) status is_failed before after written written_after → KeepsErrors (ShowsSomeWords failed) status is_failed before after written written_after
-errors_of_some failed words status is_failed before after written written_after keeps = record { quiet = λ low. quiet (keeps.quiet low); reported = λ three whole. reported (keeps.reported three whole) }
+pub errors_of_some : {R E : Type 0} (failed : R → Bool) (words : List Text) (status : ℕ) (is_failed : Bool) (before after : E)
+    (written written_after : Option (List ℕ)) → KeepsErrors (ShowsWords failed None words) status is_failed before after written written_after
+    → KeepsErrors (ShowsSomeWords failed) status is_failed before after written written_after
+errors_of_some failed words status is_failed before after written written_after keeps =
+    record { quiet = λ low. quiet (keeps.quiet low); reported = λ three whole. reported (keeps.reported three whole) }
   where
-    quiet : (after ≡ before) ⊎ ShowsWords failed None words true is_failed written written_after → (after ≡ before) ⊎ ShowsSomeWords failed true is_failed written written_after
+    quiet : (after ≡ before) ⊎ ShowsWords failed None words true is_failed written written_after → (after ≡ before)
+        ⊎ ShowsSomeWords failed true is_failed written written_after
     quiet (inl same) = inl same
     quiet (inr shows) = inr (words, shows)
 
-    shown : (mid : Option (List ℕ)) → (mid ≡ written) ⊎ ShowsWords failed None words false false written mid → (mid ≡ written) ⊎ ShowsSomeWords failed false false written mid
+    shown : (mid : Option (List ℕ)) → (mid ≡ written) ⊎ ShowsWords failed None words false false written mid → (mid ≡ written)
+        ⊎ ShowsSomeWords failed false false written mid
     shown mid (inl same) = inl same
     shown mid (inr shows) = inr (words, shows)
 
-    reported : Behind (ShowsWords failed None words false false) (ReportsLine 3) written written_after ⊎ ReportsFiles written written_after → Behind (ShowsSomeWords failed false false) (ReportsLine 3) written written_after ⊎ ReportsFiles written written_after
+    reported : Behind (ShowsWords failed None words false false) (ReportsLine 3) written written_after ⊎ ReportsFiles written written_after
+        → Behind (ShowsSomeWords failed false false) (ReportsLine 3) written written_after ⊎ ReportsFiles written written_after
     reported (inl line) = inl (record { mid = line.mid; shown = shown line.mid line.shown; rest = line.rest })
     reported (inr files) = inr files

@@ -1,5 +1,6 @@
 -- The values of an argument, by the rows of a parse.
-use Rattle.std.proofs.Common.{◌≡◌, ◌<◌, ◌≤◌, Bool, true, false, not, ◌||◌, ◌⊎◌, List, [], ◌∷◌, Option, Some, None, ap, arith, codes, get_or, inl, inr, length, map, refl, subst, sym, ◌∙◌}
+use Rattle.std.proofs.Common.{◌≡◌, ◌<◌, ◌≤◌, Bool, true, false, not, ◌||◌, ◌⊎◌, List, [], ◌∷◌, Option, Some, None, ap, arith, codes, get_or, inl, inr, length,
+    map, refl, subst, sym, ◌∙◌}
 use Rattle.std.specs.Prelude.{IsSomeAnd, find, is_some, option_and_then, option_map, slice_get}
 use Rattle.std.specs.Borrow.{Bor}
 use Rattle.std.specs.Str.{bytes_eq}
@@ -18,7 +19,8 @@ first_text (v ∷ vs) = refl
 
 -- the first value that the entries have under an id
 abbrev value_in : List Entry → Text → Option Text
-value_in entries id = option_and_then (λ a. option_map (λ s. s.now) (slice_get a.vals.items 0)) (option_map (λ e. e.1) (find (λ e. bytes_eq e.0.now id) entries))
+value_in entries id = option_and_then (λ a. option_map (λ s. s.now) (slice_get a.vals.items 0))
+    (option_map (λ e. e.1) (find (λ e. bytes_eq e.0.now id) entries))
 
 first_of-entries : (entries : List Entry) (id : Text) → first_of id (map row_of entries) ≡ value_in entries id
 first_of-entries [] id = refl
@@ -49,13 +51,15 @@ pub all_of-rows : (found : Found) (id : Text) → all_of id (rows_of found) ≡ 
 all_of-rows found id = all_of-entries found.entries.items id
 
 -- and as a getter reads it
-read_text : (reading : Reading) (values : List (Bor Text)) → option_map (read_as reading) (slice_get (texts values) 0) ≡ option_map (λ s. read_as reading s.now) (slice_get values 0)
+read_text : (reading : Reading) (values : List (Bor Text)) → option_map (read_as reading) (slice_get (texts values) 0) ≡ option_map (λ s. read_as reading s.now)
+    (slice_get values 0)
 read_text reading [] = refl
 read_text reading (v ∷ vs) = refl
 
 -- what is read of the first value that the entries have under an id
 abbrev read_in : List Entry → Text → Option Text
-read_in entries id = option_and_then (λ a. option_map (λ s. read_as a.reading s.now) (slice_get a.vals.items 0)) (option_map (λ e. e.1) (find (λ e. bytes_eq e.0.now id) entries))
+read_in entries id = option_and_then (λ a. option_map (λ s. read_as a.reading s.now) (slice_get a.vals.items 0))
+    (option_map (λ e. e.1) (find (λ e. bytes_eq e.0.now id) entries))
 
 one_of-entries : (entries : List Entry) (id : Text) → one_of id (map row_of entries) ≡ read_in entries id
 one_of-entries [] id = refl
@@ -69,7 +73,8 @@ pub one_of-rows : (found : Found) (id : Text) → one_of id (rows_of found) ≡ 
 one_of-rows found id = one_of-entries found.entries.items id
 
 -- an optional pair, by its two parts
-pub pair_of_parts : {A B C : Type 0} (f : A → B) (g : A → C) (o : Option A) (x : B) (y : C) → option_map f o ≡ Some x → option_map (λ (p : B × C). p.1) (option_map {U = B × C} (λ a. (f a, g a)) o) ≡ Some y → option_map {U = B × C} (λ a. (f a, g a)) o ≡ Some (x, y)
+pub pair_of_parts : {A B C : Type 0} (f : A → B) (g : A → C) (o : Option A) (x : B) (y : C) → option_map f o ≡ Some x
+    → option_map (λ (p : B × C). p.1) (option_map {U = B × C} (λ a. (f a, g a)) o) ≡ Some y → option_map {U = B × C} (λ a. (f a, g a)) o ≡ Some (x, y)
 pair_of_parts f g None x y first second = cc
 pair_of_parts f g (Some a) x y first second = cc
 
@@ -79,7 +84,8 @@ or_false true b is = refl
 or_false false b is = is
 
 -- whether a flag is among the words, as its getter reads it
-pub flag_is_read : (found : Found) (name : Text) (is_given : Bool) → (one_text found name ≡ Some (codes "true") → is_given ≡ true) → (one_text found name ≡ Some (codes "false") → is_given ≡ false) → (one_text found name ≡ None → is_given ≡ false) → HasFlag name is_given (rows_of found)
+pub flag_is_read : (found : Found) (name : Text) (is_given : Bool) → (one_text found name ≡ Some (codes "true") → is_given ≡ true)
+    → (one_text found name ≡ Some (codes "false") → is_given ≡ false) → (one_text found name ≡ None → is_given ≡ false) → HasFlag name is_given (rows_of found)
 flag_is_read found name is_given value other none = record {
   given = λ h. value (sym (one_of-rows found name) ∙ h);
   left_out = λ h. other (sym (one_of-rows found name) ∙ h);
@@ -96,19 +102,28 @@ some_of None x is = absurd is
 some_of (Some y) x is = ap Some is
 
 -- the names of files that a getter gives: none, one, or several
-pub none_named : (found : Found) (names : List (Bor Text)) → length names < 1 → Some (map (λ n. n.now) names) ≡ option_map raw_values (matched_of found (codes "FILE")) → (text : Text) (texts : List Text) → all_of (codes "FILE") (rows_of found) ≡ Some (text ∷ texts) → ⊥
+pub none_named : (found : Found) (names : List (Bor Text)) → length names < 1
+    → Some (map (λ n. n.now) names) ≡ option_map raw_values (matched_of found (codes "FILE")) → (text : Text) (texts : List Text)
+    → all_of (codes "FILE") (rows_of found) ≡ Some (text ∷ texts) → ⊥
 none_named found [] few is text texts are = let bad : Some [] ≡ Some (text ∷ texts) = is ∙ sym (all_of-rows found (codes "FILE")) ∙ are in cc
 none_named found (n ∷ ns) few is text texts are = absurd (omega (arith, few))
 
-pub one_named : (found : Found) (names : List (Bor Text)) (d : Bor Text) → 1 ≤ length names → length names < 2 → Some (map (λ n. n.now) names) ≡ option_map raw_values (matched_of found (codes "FILE")) → all_of (codes "FILE") (rows_of found) ≡ Some ((get_or names 0 d).now ∷ [])
+pub one_named : (found : Found) (names : List (Bor Text)) (d : Bor Text) → 1 ≤ length names → length names < 2
+    → Some (map (λ n. n.now) names) ≡ option_map raw_values (matched_of found (codes "FILE"))
+    → all_of (codes "FILE") (rows_of found) ≡ Some ((get_or names 0 d).now ∷ [])
 one_named found [] d some one is = absurd (omega (arith, some))
 one_named found (n ∷ []) d some one is = all_of-rows found (codes "FILE") ∙ sym is
 one_named found (n ∷ m ∷ ns) d some one is = absurd (omega (arith, one))
 
-pub many_named : (found : Found) (names : List (Bor Text)) (options : MatchOptions) (is_given : Bool) → 0 < length names → (1 < length names) ⊎ ((is_given ≡ true) ⊎ (is_named options ≡ true)) → HasFlag (codes "with-names") is_given (rows_of found) → Some (map (λ n. n.now) names) ≡ option_map raw_values (matched_of found (codes "FILE")) → first_of (codes "NAMES") (rows_of found) ≡ None → NamesMany names options (rows_of found)
-many_named found names options is_given some several flag is unlisted = record { are = all_of-rows found (codes "FILE") ∙ sym is; some = some; unlisted = unlisted; named = by several }
+pub many_named : (found : Found) (names : List (Bor Text)) (options : MatchOptions) (is_given : Bool) → 0 < length names → (1 < length names)
+    ⊎ ((is_given ≡ true) ⊎ (is_named options ≡ true)) → HasFlag (codes "with-names") is_given (rows_of found)
+    → Some (map (λ n. n.now) names) ≡ option_map raw_values (matched_of found (codes "FILE")) → first_of (codes "NAMES") (rows_of found) ≡ None
+    → NamesMany names options (rows_of found)
+many_named found names options is_given some several flag is unlisted =
+    record { are = all_of-rows found (codes "FILE") ∙ sym is; some = some; unlisted = unlisted; named = by several }
   where
-    by : (1 < length names) ⊎ ((is_given ≡ true) ⊎ (is_named options ≡ true)) → (1 < length names) ⊎ (HasFlag (codes "with-names") true (rows_of found) ⊎ (is_named options ≡ true))
+    by : (1 < length names) ⊎ ((is_given ≡ true) ⊎ (is_named options ≡ true)) → (1 < length names)
+        ⊎ (HasFlag (codes "with-names") true (rows_of found) ⊎ (is_named options ≡ true))
     by (inl many) = inl many
     by (inr (inl given)) = inr (inl (subst (λ b. HasFlag (codes "with-names") b (rows_of found)) given flag))
     by (inr (inr has)) = inr (inr has)

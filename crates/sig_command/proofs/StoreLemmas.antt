@@ -16,7 +16,8 @@ use Rattle.sig_engines.specs.Lines.{AddsLinesOfSome}
 use Rattle.sig_command.specs.Faults.{TellsWrite}
 use Rattle.sig_command.specs.Requests.{Answers, IsFileFault}
 use Rattle.sig_command.specs.Requests.{file_fault as fault_of_file}
-use Rattle.sig_engines.specs.Stores.{Files, Has, HasPriorities, Holding, Holds, HoldsPriorities, IsTableFault, IsTableOf, Lacks, Opens, OpensPriorities, ReadsAs, SomeFailed, no_priorities}
+use Rattle.sig_engines.specs.Stores.{Files, Has, HasPriorities, Holding, Holds, HoldsPriorities, IsTableFault, IsTableOf, Lacks, Opens, OpensPriorities,
+    ReadsAs, SomeFailed, no_priorities}
 use Rattle.sig_engines.specs.PriorityInputs.{has_failed}
 use Rattle.sig_engines.specs.declared.priority_input.PriorityInput.{PriorityInput}
 use Rattle.sig_engines.specs.declared.priority_input.PriorityInput.TheVariants.{File, Header}
@@ -63,7 +64,8 @@ lacks_unopened (Some files) name opens = go (files.bytes name) refl opens
     go (Some bytes) is same = cc
 
 -- the bytes that were to come are those of the file
-pub holds_read : (held : Holding) (name : List ℕ) (to_come : Option (List ℕ)) (file : List ℕ) → Opens held name (Some to_come) → IfSome to_come (λ bytes. file ≡ bytes) → Holds held name file
+pub holds_read : (held : Holding) (name : List ℕ) (to_come : Option (List ℕ)) (file : List ℕ) → Opens held name (Some to_come)
+    → IfSome to_come (λ bytes. file ≡ bytes) → Holds held name file
 holds_read None name to_come file opens is = tt
 holds_read (Some files) name to_come file opens is =
     let o = opened files name to_come opens in
@@ -71,13 +73,15 @@ holds_read (Some files) name to_come file opens is =
     o.has ∙ ap Some (sym same)
 
 -- why an engine gives no answer of a file that was opened
-pub file_fault : {R : Type 0} (failed : R → Bool) (held : Holding) (name : Bor (List ℕ)) (to_come : Option (List ℕ)) (error : RunError) → Opens held name.now (Some to_come) → (error ≡ Read → SomeFailed failed) → IsFileFault failed held name (Run error)
+pub file_fault : {R : Type 0} (failed : R → Bool) (held : Holding) (name : Bor (List ℕ)) (to_come : Option (List ℕ)) (error : RunError)
+    → Opens held name.now (Some to_come) → (error ≡ Read → SomeFailed failed) → IsFileFault failed held name (Run error)
 file_fault failed held name to_come Read opens unread = (has_opened held name.now to_come opens, unread refl)
 file_fault failed held name to_come Write opens unread = has_opened held name.now to_come opens
 file_fault failed held name to_come OutOfMemory opens unread = tt
 
 -- what is told of the file that a search makes
-pub file_write : (name : Bor (List ℕ)) (fault : FileFault) (reason : Fault) (P : Type 0) → reason ≡ fault_of_file name fault → (fault ≡ file.Run Write → P) → TellsWrite reason → P
+pub file_write : (name : Bor (List ℕ)) (fault : FileFault) (reason : Fault) (P : Type 0) → reason ≡ fault_of_file name fault → (fault ≡ file.Run Write → P)
+    → TellsWrite reason → P
 file_write name fault reason P same write tells = go fault (subst TellsWrite same tells) write
   where
     go : (fault : FileFault) → TellsWrite (fault_of_file name fault) → (fault ≡ file.Run Write → P) → P
@@ -97,7 +101,8 @@ record OpenedPriorities (files : Files) (name : Option (Bor (List ℕ))) (to_com
   pub has : HoldsPriorities (Some files) name bytes
   pub comes : to_come ≡ Some bytes
 
-opened_priorities : (files : Files) (name : Option (Bor (List ℕ))) (to_come : Option (List ℕ)) → OpensPriorities (Some files) name to_come → OpenedPriorities files name to_come
+opened_priorities : (files : Files) (name : Option (Bor (List ℕ))) (to_come : Option (List ℕ)) → OpensPriorities (Some files) name to_come
+    → OpenedPriorities files name to_come
 opened_priorities files None to_come opens = record { bytes = no_priorities; has = refl; comes = opens }
 opened_priorities files (Some name) to_come opens = let o = opened files name.now to_come opens in record { bytes = o.bytes; has = o.has; comes = o.comes }
 
@@ -105,15 +110,20 @@ has_priorities : (held : Holding) (name : Option (Bor (List ℕ))) (to_come : Op
 has_priorities held None to_come opens = tt
 has_priorities held (Some name) to_come opens = has_opened held name.now to_come opens
 
-reads_as : (held : Holding) (paths : TablePaths) (first second : Option (List ℕ)) (read : Result TableView TableError) → Opens held paths.signatures.now (Some first) → OpensPriorities held paths.priorities second → ((s p : List ℕ) → first ≡ Some s → second ≡ Some p → table_of (records_of s) (records_of p) ≡ read) → ReadsAs held paths read
+reads_as : (held : Holding) (paths : TablePaths) (first second : Option (List ℕ)) (read : Result TableView TableError)
+    → Opens held paths.signatures.now (Some first) → OpensPriorities held paths.priorities second
+    → ((s p : List ℕ) → first ≡ Some s → second ≡ Some p → table_of (records_of s) (records_of p) ≡ read) → ReadsAs held paths read
 reads_as None paths first second read opens_first opens_second exact = tt
 reads_as (Some files) paths first second read opens_first opens_second exact =
     let one = opened files paths.signatures.now first opens_first in
     let two = opened_priorities files paths.priorities second opens_second in
     (one.bytes, two.bytes, one.has, two.has, exact one.bytes two.bytes one.comes two.comes)
 
-pub table_read : (held : Holding) (paths : TablePaths) (first second : Option (List ℕ)) (table : TableView) → Opens held paths.signatures.now (Some first) → OpensPriorities held paths.priorities second → IsTable table → ((s p : List ℕ) → first ≡ Some s → second ≡ Some p → table_of (records_of s) (records_of p) ≡ Ok table) → IsTableOf held paths table
-table_read held paths first second table opens_first opens_second limits exact = record { limits = limits; read = reads_as held paths first second (Ok table) opens_first opens_second exact }
+pub table_read : (held : Holding) (paths : TablePaths) (first second : Option (List ℕ)) (table : TableView) → Opens held paths.signatures.now (Some first)
+    → OpensPriorities held paths.priorities second → IsTable table
+    → ((s p : List ℕ) → first ≡ Some s → second ≡ Some p → table_of (records_of s) (records_of p) ≡ Ok table) → IsTableOf held paths table
+table_read held paths first second table opens_first opens_second limits exact =
+    record { limits = limits; read = reads_as held paths first second (Ok table) opens_first opens_second exact }
 
 on_false : (b : Bool) (P : Type 0) → OnFalse b P → not b ≡ true → P
 on_false true P is judged = cc
@@ -125,7 +135,8 @@ priorities_failed failed (File file) is = record { reader = file; has_failed = i
 priorities_failed failed (Header rest) is = let bad : false ≡ true = is in cc
 
 -- a failed read is one of the reader of its file
-reader_failed : {R : Type 0} (failed : R → Bool) (one : R) (two : PriorityInput R) (error : TableError) → (error ≡ table.Read Signatures → failed one ≡ true) → (error ≡ table.Read Priorities → has_failed failed two ≡ true) → is_read error ≡ true → SomeFailed failed
+reader_failed : {R : Type 0} (failed : R → Bool) (one : R) (two : PriorityInput R) (error : TableError) → (error ≡ table.Read Signatures → failed one ≡ true)
+    → (error ≡ table.Read Priorities → has_failed failed two ≡ true) → is_read error ≡ true → SomeFailed failed
 reader_failed failed one two (table.Read Signatures) first second is = record { reader = one; has_failed = first refl }
 reader_failed failed one two (table.Read Priorities) first second is = priorities_failed failed two (second refl)
 reader_failed failed one two (table.Header f) first second is = cc
@@ -145,24 +156,38 @@ reader_failed failed one two (table.PriorityTwice n) first second is = cc
 reader_failed failed one two (table.PriorityCycle n) first second is = cc
 reader_failed failed one two table.OutOfMemory first second is = cc
 
-pub table_fault : {R : Type 0} (failed : R → Bool) (held : Holding) (paths : TablePaths) (first second : Option (List ℕ)) (one : R) (two : PriorityInput R) (error : TableError) → Opens held paths.signatures.now (Some first) → OpensPriorities held paths.priorities second → ((s p : List ℕ) → first ≡ Some s → second ≡ Some p → OnFalse (is_read error || is_memory error) (table_of (records_of s) (records_of p) ≡ Err error)) → (error ≡ table.Read Signatures → failed one ≡ true) → (error ≡ table.Read Priorities → has_failed failed two ≡ true) → IsTableFault failed held paths error
+pub table_fault : {R : Type 0} (failed : R → Bool) (held : Holding) (paths : TablePaths) (first second : Option (List ℕ)) (one : R) (two : PriorityInput R)
+    (error : TableError) → Opens held paths.signatures.now (Some first) → OpensPriorities held paths.priorities second
+    → ((s p : List ℕ) → first ≡ Some s → second ≡ Some p → OnFalse (is_read error || is_memory error) (table_of (records_of s) (records_of p) ≡ Err error))
+    → (error ≡ table.Read Signatures → failed one ≡ true) → (error ≡ table.Read Priorities → has_failed failed two ≡ true)
+    → IsTableFault failed held paths error
 table_fault failed held paths first second one two error opens_first opens_second exact read_first read_second = record {
   has_signatures = has_opened held paths.signatures.now first opens_first;
   has_priorities = has_priorities held paths.priorities second opens_second;
-  judged = λ judged. reads_as held paths first second (Err error) opens_first opens_second (λ s p one two. on_false (is_read error || is_memory error) (table_of (records_of s) (records_of p) ≡ Err error) (exact s p one two) judged);
+  judged = λ judged. reads_as held paths first second (Err error) opens_first opens_second
+      (λ s p one two. on_false (is_read error || is_memory error) (table_of (records_of s) (records_of p) ≡ Err error) (exact s p one two) judged);
   unread = reader_failed failed one two error read_first read_second;
 }
 
 -- ---- what is written of one file
 
-pub match_is_answered : (held : Holding) (request : Request) (all : Bool) (paths : TablePaths) (name : Bor (List ℕ)) (table : TableView) (to_come before after : Option (List ℕ)) → request ≡ Match all paths name → IsTableOf held paths table → Opens held name.now (Some to_come) → AddsLinesOfSome all table to_come before after → Answers held request true before after
+pub match_is_answered : (held : Holding) (request : Request) (all : Bool) (paths : TablePaths) (name : Bor (List ℕ)) (table : TableView)
+    (to_come before after : Option (List ℕ)) → request ≡ Match all paths name → IsTableOf held paths table → Opens held name.now (Some to_come)
+    → AddsLinesOfSome all table to_come before after → Answers held request true before after
 match_is_answered held request all paths name table to_come before after same is opens adds =
-    subst (λ r. Answers held r true before after) (sym same) (refl, table, is, adds.file, adds.bytes, holds_read held name.now to_come adds.file opens adds.is_to_come, adds.adds_lines)
+    subst (λ r. Answers held r true before after) (sym same) (refl, table, is, adds.file, adds.bytes,
+        holds_read held name.now to_come adds.file opens adds.is_to_come, adds.adds_lines)
 
-pub check_is_answered : (held : Holding) (request : Request) (paths : TablePaths) (name : Bor (List ℕ)) (table : TableView) (to_come before after : Option (List ℕ)) (is_yes : Bool) → request ≡ Check paths name → IsTableOf held paths table → Opens held name.now (Some to_come) → AddsVerdictOfSome is_yes table to_come before after → Answers held request is_yes before after
+pub check_is_answered : (held : Holding) (request : Request) (paths : TablePaths) (name : Bor (List ℕ)) (table : TableView)
+    (to_come before after : Option (List ℕ)) (is_yes : Bool) → request ≡ Check paths name → IsTableOf held paths table → Opens held name.now (Some to_come)
+    → AddsVerdictOfSome is_yes table to_come before after → Answers held request is_yes before after
 check_is_answered held request paths name table to_come before after is_yes same is opens adds =
-    subst (λ r. Answers held r is_yes before after) (sym same) (table, is, adds.certificate, adds.bytes, holds_read held name.now to_come adds.certificate opens adds.is_to_come, adds.adds_verdict)
+    subst (λ r. Answers held r is_yes before after) (sym same) (table, is, adds.certificate, adds.bytes,
+        holds_read held name.now to_come adds.certificate opens adds.is_to_come, adds.adds_verdict)
 
-pub witness_is_answered : (held : Holding) (request : Request) (paths : TablePaths) (name : Bor (List ℕ)) (table : TableView) (to_come before after : Option (List ℕ)) (is_yes : Bool) → request ≡ Witness paths name → IsTableOf held paths table → Opens held name.now (Some to_come) → AddsWitnessOfSome is_yes table to_come before after → Answers held request is_yes before after
+pub witness_is_answered : (held : Holding) (request : Request) (paths : TablePaths) (name : Bor (List ℕ)) (table : TableView)
+    (to_come before after : Option (List ℕ)) (is_yes : Bool) → request ≡ Witness paths name → IsTableOf held paths table → Opens held name.now (Some to_come)
+    → AddsWitnessOfSome is_yes table to_come before after → Answers held request is_yes before after
 witness_is_answered held request paths name table to_come before after is_yes same is opens adds =
-    subst (λ r. Answers held r is_yes before after) (sym same) (table, is, adds.file, adds.bytes, holds_read held name.now to_come adds.file opens adds.is_to_come, adds.adds_witness)
+    subst (λ r. Answers held r is_yes before after) (sym same) (table, is, adds.file, adds.bytes,
+        holds_read held name.now to_come adds.file opens adds.is_to_come, adds.adds_witness)

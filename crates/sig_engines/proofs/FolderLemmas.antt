@@ -1,5 +1,6 @@
 -- What waits for its turn while a folder is gone through.
-use Rattle.std.proofs.Common.{◌≡◌, ◌<◌, ◌+◌, ◌-◌, ◌*◌, ◌^◌, ℕ, zero, suc, List, [], ◌∷◌, ◌++◌, ap, append_assoc, arith, inl, inr, length, map, refl, subst, sym, ◌∙◌}
+use Rattle.std.proofs.Common.{◌≡◌, ◌<◌, ◌+◌, ◌-◌, ◌*◌, ◌^◌, ℕ, zero, suc, List, [], ◌∷◌, ◌++◌, ap, append_assoc, arith, inl, inr, length, map, refl, subst, sym,
+    ◌∙◌}
 use Rattle.std.specs.Prelude.{reverse}
 use Rattle.std.proofs.lemmas.Grind.{reverse_onto}
 use Rattle.std.proofs.lemmas.List.{append-nil, reverse-append, reverse-reverse}
@@ -19,7 +20,8 @@ use Rattle.sig_engines.proofs.ManyLemmas.{each_some, no_memory}
 
 -- ---- visits
 
-each_split : {X : Type 0} (A : X → List Visit → Type 0) (xs ys : List X) (v : List Visit) → AreEach A (xs ++ ys) v → (first : List Visit) × (rest : List Visit) × (v ≡ first ++ rest) × AreEach A xs first × AreEach A ys rest
+each_split : {X : Type 0} (A : X → List Visit → Type 0) (xs ys : List X) (v : List Visit) → AreEach A (xs ++ ys) v → (first : List Visit) × (rest : List Visit)
+    × (v ≡ first ++ rest) × AreEach A xs first × AreEach A ys rest
 each_split A [] ys v each = ([], v, refl, refl, each)
 each_split A (x ∷ xs) ys v each =
     let more = each_split A xs ys each.1 each.4 in
@@ -38,12 +40,14 @@ some_met held waiting = some_of_kind held waiting.room (item_of waiting.entry).n
 
 -- ---- what waits
 
-same_each : (held : Holding) (room : ℕ) (entries : List Entry) (v : List Visit) → AreEach (AreMetOf held) (map (waiting_in room) entries) v → AreEach (AreMet held room) (map item_of entries) v
+same_each : (held : Holding) (room : ℕ) (entries : List Entry) (v : List Visit) → AreEach (AreMetOf held) (map (waiting_in room) entries) v
+    → AreEach (AreMet held room) (map item_of entries) v
 same_each held room [] v each = each
 same_each held room (e ∷ es) v each = (each.0, each.1, each.2, each.3, same_each held room es each.1 each.4)
 
 -- all that stands in a folder waits
-pub folder_leads : (held : Holding) (room : ℕ) (name : List ℕ) (entries : List Entry) (before after : List Waiting) → Lists held name (map item_of entries) → Pushes room entries before after → Leads held (AreIn (AreMet held room) held name) [] before after
+pub folder_leads : (held : Holding) (room : ℕ) (name : List ℕ) (entries : List Entry) (before after : List Waiting) → Lists held name (map item_of entries)
+    → Pushes room entries before after → Leads held (AreIn (AreMet held room) held name) [] before after
 folder_leads held room name entries before after lists pushes = record {
   added = map (waiting_in room) entries;
   are = pushes.are;
@@ -51,7 +55,8 @@ folder_leads held room name entries before after lists pushes = record {
 }
 
 -- nothing more waits
-pub nothing_leads : (held : Holding) (Are : List Visit → Type 0) (v : List Visit) (before after : List Waiting) → after ≡ before → Are v → Leads held Are v before after
+pub nothing_leads : (held : Holding) (Are : List Visit → Type 0) (v : List Visit) (before after : List Waiting) → after ≡ before → Are v
+    → Leads held Are v before after
 nothing_leads held Are v before after same is = record {
   added = [];
   are = same ∙ sym (append-nil before);
@@ -63,12 +68,15 @@ reverse_both added before = reverse-append before (reverse added) ∙ ap (λ l. 
 
 -- at first what stands in the folder waits
 pub leads_covers : (held : Holding) (Are : List Visit → Type 0) (after : List Waiting) → Leads held Are [] [] after → Covers held Are [] after
-leads_covers held Are after leads = λ rest each. leads.leads rest (subst (λ l. AreEach (AreMetOf held) l rest) (ap reverse leads.are ∙ reverse-reverse leads.added) each)
+leads_covers held Are after leads = λ rest each. leads.leads rest
+    (subst (λ l. AreEach (AreMetOf held) l rest) (ap reverse leads.are ∙ reverse-reverse leads.added) each)
 
 -- the next one had its turn
-pub covers_then : (held : Holding) (Are : List Visit → Type 0) (next : Waiting) (mid waiting after : List Waiting) (v w : List Visit) → waiting ≡ mid ++ next ∷ [] → Covers held Are v waiting → Leads held (AreMetOf held next) w mid after → Covers held Are (v ++ w) after
+pub covers_then : (held : Holding) (Are : List Visit → Type 0) (next : Waiting) (mid waiting after : List Waiting) (v w : List Visit)
+    → waiting ≡ mid ++ next ∷ [] → Covers held Are v waiting → Leads held (AreMetOf held next) w mid after → Covers held Are (v ++ w) after
 covers_then held Are next mid waiting after v w popped covers leads = λ rest each.
-    let parts = each_split (AreMetOf held) leads.added (reverse mid) rest (subst (λ l. AreEach (AreMetOf held) l rest) (ap reverse leads.are ∙ reverse_both leads.added mid) each) in
+    let parts = each_split (AreMetOf held) leads.added (reverse mid) rest
+        (subst (λ l. AreEach (AreMetOf held) l rest) (ap reverse leads.are ∙ reverse_both leads.added mid) each) in
     let first = parts.0 in
     let later = parts.1 in
     let all : AreEach (AreMetOf held) (next ∷ reverse mid) ((w ++ first) ++ later) = (w ++ first, later, refl, leads.leads first parts.3, parts.4) in
@@ -78,7 +86,8 @@ covers_then held Are next mid waiting after v w popped covers leads = λ rest ea
     subst Are same (covers ((w ++ first) ++ later) (subst (λ l. AreEach (AreMetOf held) l ((w ++ first) ++ later)) turned all))
 
 -- the run ends in the middle of the next one
-pub covers_more : (held : Holding) (Are : List Visit → Type 0) (next : Waiting) (mid waiting : List Waiting) (v w : List Visit) → waiting ≡ mid ++ next ∷ [] → Covers held Are v waiting → AreMetOf held next w → (more : List Visit) × Are (v ++ w ++ more)
+pub covers_more : (held : Holding) (Are : List Visit → Type 0) (next : Waiting) (mid waiting : List Waiting) (v w : List Visit) → waiting ≡ mid ++ next ∷ []
+    → Covers held Are v waiting → AreMetOf held next w → (more : List Visit) × Are (v ++ w ++ more)
 covers_more held Are next mid waiting v w popped covers is =
     let some = each_some (AreMetOf held) (some_met held) (reverse mid) in
     let all : AreEach (AreMetOf held) (next ∷ reverse mid) (w ++ some.0) = (w, some.0, refl, is, some.1) in
@@ -92,7 +101,8 @@ covers_all held Are waiting v none covers = subst Are (append-nil v) (covers [] 
 -- ---- what is met in a folder
 
 -- a file
-pub file_met : (held : Holding) (room : ℕ) (name : List ℕ) (k : EntryKind) (v : List Visit) → k ≡ kind.File → IsOne (to_match name) v → AreOfKind held room name k v
+pub file_met : (held : Holding) (room : ℕ) (name : List ℕ) (k : EntryKind) (v : List Visit) → k ≡ kind.File → IsOne (to_match name) v
+    → AreOfKind held room name k v
 file_met held room name k v is one = rw is one
 
 -- a folder below too many others
@@ -100,7 +110,8 @@ pub deep_met : (held : Holding) (room : ℕ) (name : List ℕ) (k : EntryKind) �
 deep_met held room name k none is = rw (none, is) refl
 
 -- a folder that can't be listed
-pub unlisted_met : (held : Holding) (room : ℕ) (name : List ℕ) (k : EntryKind) (fault : FileFault) → 0 < room → k ≡ kind.Folder → IsUnlisted held name fault → AreOfKind held room name k (to_tell name (File fault) ∷ [])
+pub unlisted_met : (held : Holding) (room : ℕ) (name : List ℕ) (k : EntryKind) (fault : FileFault) → 0 < room → k ≡ kind.Folder → IsUnlisted held name fault
+    → AreOfKind held room name k (to_tell name (File fault) ∷ [])
 unlisted_met held zero name k fault some is unlisted = absurd (omega (arith, some))
 unlisted_met held (suc room) name k fault some is unlisted = rw is (inl (fault, unlisted, refl))
 
@@ -112,18 +123,22 @@ one_less : (room : ℕ) → suc room - 1 ≡ room
 one_less room = omega arith
 
 -- a folder that is listed
-pub folder_met : (held : Holding) (room : ℕ) (name : List ℕ) (k : EntryKind) (v : List Visit) → 0 < room → k ≡ kind.Folder → AreIn (AreMet held (room - 1)) held name v → AreOfKind held room name k v
+pub folder_met : (held : Holding) (room : ℕ) (name : List ℕ) (k : EntryKind) (v : List Visit) → 0 < room → k ≡ kind.Folder
+    → AreIn (AreMet held (room - 1)) held name v → AreOfKind held room name k v
 folder_met held zero name k v some is are = absurd (omega (arith, some))
 folder_met held (suc room) name k v some is are = rw is (subst (λ r. AreIn (AreMet held r) held name v) (one_less room) are)
 
-pub leads_as : (held : Holding) (A B : List Visit → Type 0) (v : List Visit) (before after : List Waiting) → ((w : List Visit) → A w → B w) → Leads held A v before after → Leads held B v before after
+pub leads_as : (held : Holding) (A B : List Visit → Type 0) (v : List Visit) (before after : List Waiting) → ((w : List Visit) → A w → B w)
+    → Leads held A v before after → Leads held B v before after
 leads_as held A B v before after are leads = record { added = leads.added; are = leads.are; leads = λ rest each. are (v ++ rest) (leads.leads rest each) }
 
 -- ---- entries that are pushed
 
 -- one more of them
-pub pushed_more : (room : ℕ) (entry : Entry) (moved : List Entry) (before : List Waiting) → (before ++ reverse (map (waiting_in room) moved)) ++ waiting_in room entry ∷ [] ≡ before ++ reverse (map (waiting_in room) (entry ∷ moved))
-pushed_more room entry moved before = append_assoc before (reverse (map (waiting_in room) moved)) (waiting_in room entry ∷ []) ∙ ap (λ l. before ++ l) (sym (reverse_onto (map (waiting_in room) moved) (waiting_in room entry) []))
+pub pushed_more : (room : ℕ) (entry : Entry) (moved : List Entry) (before : List Waiting)
+    → (before ++ reverse (map (waiting_in room) moved)) ++ waiting_in room entry ∷ [] ≡ before ++ reverse (map (waiting_in room) (entry ∷ moved))
+pushed_more room entry moved before = append_assoc before (reverse (map (waiting_in room) moved)) (waiting_in room entry ∷ []) ∙ ap (λ l. before ++ l)
+    (sym (reverse_onto (map (waiting_in room) moved) (waiting_in room entry) []))
 
 -- ---- that it ends
 
@@ -141,13 +156,15 @@ worth_some (suc room) = omega arith
 
 worth_of-reverse : (xs : List Waiting) → worth_of (reverse xs) ≡ worth_of xs
 worth_of-reverse [] = refl
-worth_of-reverse (x ∷ xs) = let more = worth_of-reverse xs in let both = ap worth_of (reverse_onto xs x []) ∙ worth_of-append (reverse xs) (x ∷ []) in omega (arith, more, both)
+worth_of-reverse (x ∷ xs) = let more = worth_of-reverse xs in let both = ap worth_of (reverse_onto xs x []) ∙ worth_of-append (reverse xs) (x ∷ []) in
+    omega (arith, more, both)
 
 worth_of_all : (room : ℕ) (entries : List Entry) → worth_of (map (waiting_in room) entries) ≡ length entries * worth room
 worth_of_all room [] = omega arith
 worth_of_all room (e ∷ es) = let more = worth_of_all room es in omega (arith, more)
 
-pub pushes_lower : (room : ℕ) (entries : List Entry) (before after : List Waiting) → Pushes room entries before after → worth_of after < worth_of before + worth (suc room)
+pub pushes_lower : (room : ℕ) (entries : List Entry) (before after : List Waiting) → Pushes room entries before after
+    → worth_of after < worth_of before + worth (suc room)
 unfolding worth
 pushes_lower room entries before after pushes =
     let added = map (waiting_in room) entries in
@@ -162,6 +179,8 @@ pushes_lower room entries before after pushes =
 pub worth_less : (waiting : List Waiting) (room : ℕ) → worth_of waiting < worth_of waiting + worth room
 worth_less waiting room = let some = worth_some room in omega (arith, some)
 
-pub folder_lowers : (room : ℕ) (entries : List Entry) (before after : List Waiting) → 0 < room → Pushes (room - 1) entries before after → worth_of after < worth_of before + worth room
+pub folder_lowers : (room : ℕ) (entries : List Entry) (before after : List Waiting) → 0 < room → Pushes (room - 1) entries before after
+    → worth_of after < worth_of before + worth room
 folder_lowers zero entries before after some pushes = absurd (omega (arith, some))
-folder_lowers (suc room) entries before after some pushes = pushes_lower room entries before after (subst (λ r. Pushes r entries before after) (one_less room) pushes)
+folder_lowers (suc room) entries before after some pushes = pushes_lower room entries before after
+    (subst (λ r. Pushes r entries before after) (one_less room) pushes)

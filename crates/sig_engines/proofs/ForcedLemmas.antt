@@ -1,6 +1,7 @@
 -- The forced pairs are tried one after another, and no format loses its last file by those that are added.
 use Rattle.std.specs.Borrow.{Bor}
-use Rattle.std.proofs.Common.{◌≡◌, ◌∙◌, ℕ, ◌+◌, ◌<◌, Bool, List, [], ◌∷◌, ◌++◌, None, Option, Some, ap, append_assoc, false, get_or, length, refl, subst, sym, take}
+use Rattle.std.proofs.Common.{◌≡◌, ◌∙◌, ℕ, ◌+◌, ◌<◌, Bool, List, [], ◌∷◌, ◌++◌, None, Option, Some, ap, append_assoc, false, get_or, length, refl, subst, sym,
+    take}
 use Rattle.std.proofs.lemmas.Grind.{flat_map-append}
 use Rattle.std.proofs.lemmas.List.{append-nil, map-append, take_more}
 use Rattle.sig_find.specs.Additions.{IsAddition}
@@ -36,7 +37,8 @@ keeps_same table pairs more same is = record {
 }
 
 module _ (table : TableView) (budget : ℕ) (is_table : IsTable table) where
-  one_keeps : (pairs : List (ℕ × ℕ)) (pair : ℕ × ℕ) (does : Addition) → IsTable (ranked table pairs) → IsAddition table pairs pair budget does → Keeps table pairs (pairs ++ pair_if pair does)
+  one_keeps : (pairs : List (ℕ × ℕ)) (pair : ℕ × ℕ) (does : Addition) → IsTable (ranked table pairs) → IsAddition table pairs pair budget does
+      → Keeps table pairs (pairs ++ pair_if pair does)
   one_keeps pairs pair addition.Safe is safe =
       let more = ranked_is_table table (pairs ++ pair ∷ []) is_table safe.0 in
       record { is_table = more; alive = λ format alive. additions_keep_formats_alive table pairs pair format more safe.1 alive }
@@ -44,7 +46,8 @@ module _ (table : TableView) (budget : ℕ) (is_table : IsTable table) where
   one_keeps pairs pair addition.Dead is dead = keeps_same table pairs (pairs ++ []) (append-nil pairs) is
   one_keeps pairs pair addition.Unknown is unknown = keeps_same table pairs (pairs ++ []) (append-nil pairs) is
 
-  all_keep : (pairs : List (ℕ × ℕ)) (trials : List Trial) → IsTable (ranked table pairs) → AreTried table budget pairs trials → Keeps table pairs (pairs ++ added trials)
+  all_keep : (pairs : List (ℕ × ℕ)) (trials : List Trial) → IsTable (ranked table pairs) → AreTried table budget pairs trials
+      → Keeps table pairs (pairs ++ added trials)
   all_keep pairs [] is are = keeps_same table pairs (pairs ++ []) (append-nil pairs) is
   all_keep pairs (t ∷ trials) is are =
       let one = one_keeps pairs t.pair t.does is are.0 in
@@ -66,15 +69,18 @@ module _ (table : TableView) (budget : ℕ) (is_table : IsTable table) where
 
 -- ---- one pair more
 
-tried_more : (table : TableView) (budget : ℕ) (pairs : List (ℕ × ℕ)) (trials : List Trial) (t : Trial) → AreTried table budget pairs trials → IsAddition table (pairs ++ added trials) t.pair budget t.does → AreTried table budget pairs (trials ++ t ∷ [])
+tried_more : (table : TableView) (budget : ℕ) (pairs : List (ℕ × ℕ)) (trials : List Trial) (t : Trial) → AreTried table budget pairs trials
+    → IsAddition table (pairs ++ added trials) t.pair budget t.does → AreTried table budget pairs (trials ++ t ∷ [])
 tried_more table budget pairs [] t are is = (subst (λ p. IsAddition table p t.pair budget t.does) (append-nil pairs) is, tt)
 tried_more table budget pairs (u ∷ trials) t are is = (
   are.0,
-  tried_more table budget (pairs ++ pair_if u.pair u.does) trials t are.1 (subst (λ p. IsAddition table p t.pair budget t.does) (sym (append_assoc pairs (pair_if u.pair u.does) (added trials))) is),
+  tried_more table budget (pairs ++ pair_if u.pair u.does) trials t are.1
+      (subst (λ p. IsAddition table p t.pair budget t.does) (sym (append_assoc pairs (pair_if u.pair u.does) (added trials))) is),
 )
 
 -- before the first one
-pub none_ranked : (table : TableView) (budget : ℕ) (ranking : RankingView) (refused : List ℕ) → ranking ≡ record { format_count = length table.formats; pairs = table.priorities } → refused ≡ [] → AreRanked table budget [] ranking refused
+pub none_ranked : (table : TableView) (budget : ℕ) (ranking : RankingView) (refused : List ℕ)
+    → ranking ≡ record { format_count = length table.formats; pairs = table.priorities } → refused ≡ [] → AreRanked table budget [] ranking refused
 none_ranked table budget ranking refused is none = record {
   trials = [];
   all = refl;
@@ -84,12 +90,14 @@ none_ranked table budget ranking refused is none = record {
   lines = none;
 }
 
-module _ (table : TableView) (budget : ℕ) (notes : List Note) (note : Note) (ranking : RankingView) (refused : List ℕ) (are : AreRanked table budget notes ranking refused) where
+module _ (table : TableView) (budget : ℕ) (notes : List Note) (note : Note) (ranking : RankingView) (refused : List ℕ)
+    (are : AreRanked table budget notes ranking refused) where
   forced_more : (pairs : List (ℕ × ℕ)) → forced_by note ≡ pairs → forced_pairs (notes ++ note ∷ []) ≡ forced_pairs notes ++ pairs
   forced_more pairs is = flat_map-append forced_by notes (note ∷ []) ∙ ap (λ l. forced_pairs notes ++ l) (append-nil (forced_by note) ∙ is)
 
   -- a note forces a pair, which is tried
-  pub ranked_more : (pair : ℕ × ℕ) (new : RankingView) (new_refused : List ℕ) → forced_by note ≡ pair ∷ [] → IsTrialMade table budget pair ranking refused new new_refused → AreRanked table budget (notes ++ note ∷ []) new new_refused
+  pub ranked_more : (pair : ℕ × ℕ) (new : RankingView) (new_refused : List ℕ) → forced_by note ≡ pair ∷ []
+      → IsTrialMade table budget pair ranking refused new new_refused → AreRanked table budget (notes ++ note ∷ []) new new_refused
   ranked_more pair new new_refused forces made =
       let t : Trial = record { pair = pair; does = made.does } in
       record {
@@ -98,9 +106,11 @@ module _ (table : TableView) (budget : ℕ) (notes : List Note) (note : Note) (r
         tried = tried_more table budget table.priorities are.trials t are.tried (subst (λ p. IsAddition table p pair budget made.does) are.pairs made.tried);
         count = made.count ∙ are.count;
         pairs = made.pairs ∙ ap (λ l. l ++ pair_if pair made.does) are.pairs ∙ append_assoc table.priorities (added are.trials) (pair_if pair made.does)
-            ∙ ap (λ l. table.priorities ++ l) (ap (λ l. added are.trials ++ l) (sym (append-nil (pair_if pair made.does))) ∙ sym (flat_map-append (λ (t : Trial). pair_if t.pair t.does) are.trials (t ∷ [])));
+            ∙ ap (λ l. table.priorities ++ l) (ap (λ l. added are.trials ++ l) (sym (append-nil (pair_if pair made.does))) ∙ sym
+                (flat_map-append (λ (t : Trial). pair_if t.pair t.does) are.trials (t ∷ [])));
         lines = made.lines ∙ ap (λ l. l ++ trial_line table t) are.lines
-            ∙ ap (λ l. refused_lines table are.trials ++ l) (sym (append-nil (trial_line table t))) ∙ sym (flat_map-append (trial_line table) are.trials (t ∷ []));
+            ∙ ap (λ l. refused_lines table are.trials ++ l) (sym (append-nil (trial_line table t))) ∙ sym
+                (flat_map-append (trial_line table) are.trials (t ∷ []));
       }
 
   -- it forces none
@@ -115,16 +125,20 @@ module _ (table : TableView) (budget : ℕ) (notes : List Note) (note : Note) (r
   }
 
 -- the next of some notes
-module _ (table : TableView) (budget : ℕ) (notes : List Note) (i : ℕ) (d : Note) (ranking : RankingView) (refused : List ℕ) (within : i < length notes) (are : AreRanked table budget (take i notes) ranking refused) where
-  pub next_ranked : (pair : ℕ × ℕ) (new : RankingView) (new_refused : List ℕ) → forced_by (get_or notes i d) ≡ pair ∷ [] → IsTrialMade table budget pair ranking refused new new_refused → AreRanked table budget (take (i + 1) notes) new new_refused
-  next_ranked pair new new_refused forces made = rw (take_more notes i d within) (ranked_more table budget (take i notes) (get_or notes i d) ranking refused are pair new new_refused forces made)
+module _ (table : TableView) (budget : ℕ) (notes : List Note) (i : ℕ) (d : Note) (ranking : RankingView) (refused : List ℕ) (within : i < length notes)
+    (are : AreRanked table budget (take i notes) ranking refused) where
+  pub next_ranked : (pair : ℕ × ℕ) (new : RankingView) (new_refused : List ℕ) → forced_by (get_or notes i d) ≡ pair ∷ []
+      → IsTrialMade table budget pair ranking refused new new_refused → AreRanked table budget (take (i + 1) notes) new new_refused
+  next_ranked pair new new_refused forces made = rw (take_more notes i d within)
+      (ranked_more table budget (take i notes) (get_or notes i d) ranking refused are pair new new_refused forces made)
 
   pub next_passed : forced_by (get_or notes i d) ≡ [] → AreRanked table budget (take (i + 1) notes) ranking refused
   next_passed forces = rw (take_more notes i d within) (ranked_passed table budget (take i notes) (get_or notes i d) ranking refused are forces)
 
 -- ---- the file
 
-pub forced_are_written : (Made : List ℕ → List ℕ → Type 0) (table : TableView) (budget : ℕ) (notes : List Note) (ranking : RankingView) (name refused : List ℕ) → IsTable table → (are : AreRanked table budget notes ranking refused)
+pub forced_are_written : (Made : List ℕ → List ℕ → Type 0) (table : TableView) (budget : ℕ) (notes : List Note) (ranking : RankingView) (name refused : List ℕ)
+    → IsTable table → (are : AreRanked table budget notes ranking refused)
     → Made name (priority_csv (ranked table ranking.pairs)) → WritesForced Made table budget notes name refused
 forced_are_written Made table budget notes ranking name refused is are made = record {
   trials = are.trials;
@@ -136,11 +150,16 @@ forced_are_written Made table budget notes ranking name refused is are made = re
 }
 
 -- where a name is asked for, of the file that was made for it
-pub forces_written : {F : Type 0} (name_of written : F → Option (List ℕ)) (failed : F → Bool) (held : Holding) (table : TableView) (budget : ℕ) (priorities : Option (Bor (List ℕ))) (asked : Option F) (f g : F) (notes : List Note) (ranking : RankingView) (refused : List ℕ)
-    → asked ≡ Some f → IsFileAsked name_of written failed held priorities asked → IsTable table → AreRanked table budget notes ranking refused → Adds (written f) (priority_csv (ranked table ranking.pairs)) (written g) → failed g ≡ false
+pub forces_written : {F : Type 0} (name_of written : F → Option (List ℕ)) (failed : F → Bool) (held : Holding) (table : TableView) (budget : ℕ)
+    (priorities : Option (Bor (List ℕ))) (asked : Option F) (f g : F) (notes : List Note) (ranking : RankingView) (refused : List ℕ)
+    → asked ≡ Some f → IsFileAsked name_of written failed held priorities asked → IsTable table → AreRanked table budget notes ranking refused
+        → Adds (written f) (priority_csv (ranked table ranking.pairs)) (written g) → failed g ≡ false
     → Forces (IsMade name_of written failed held) table budget priorities notes refused
-forces_written name_of written failed held table budget priorities asked f g notes ranking refused same is_asked is are adds sound = go priorities (subst (IsFileAsked name_of written failed held priorities) same is_asked)
+forces_written name_of written failed held table budget priorities asked f g notes ranking refused same is_asked is are adds sound =
+    go priorities (subst (IsFileAsked name_of written failed held priorities) same is_asked)
   where
-    go : (priorities : Option (Bor (List ℕ))) → IsFileAsked name_of written failed held priorities (Some f) → Forces (IsMade name_of written failed held) table budget priorities notes refused
+    go : (priorities : Option (Bor (List ℕ))) → IsFileAsked name_of written failed held priorities (Some f)
+        → Forces (IsMade name_of written failed held) table budget priorities notes refused
     go None asked = absurd asked
-    go (Some name) asked = forced_are_written (IsMade name_of written failed held) table budget notes ranking name.now refused is are (record { file = f; after = g; named = asked.0; empty = asked.1; adds = adds; sound = sound })
+    go (Some name) asked = forced_are_written (IsMade name_of written failed held) table budget notes ranking name.now refused is are
+        (record { file = f; after = g; named = asked.0; empty = asked.1; adds = adds; sound = sound })

@@ -14,4 +14,5 @@ of_first_hits table file hits each = λ k d within.
 -- the hits that are asked for are hits of the table
 pub asked_are_of : (all : Bool) (table : TableView) (file : List ℕ) (hits : List Hit) → AreAsked all table file hits → All (IsOf table) hits
 asked_are_of true table file hits asked = of_first_hits table file hits asked.each
-asked_are_of false table file hits asked = subst (λ hs. All (IsOf table) hs) (sym asked.kept) (All-filter _ (IsOf table) asked.hits (of_first_hits table file asked.hits asked.all_hits.each))
+asked_are_of false table file hits asked = subst (λ hs. All (IsOf table) hs) (sym asked.kept)
+    (All-filter _ (IsOf table) asked.hits (of_first_hits table file asked.hits asked.all_hits.each))

@@ -1,5 +1,6 @@
 -- How a list of names is taken apart.
-use Rattle.std.proofs.Common.{◌≡◌, ◌==◌, ◌<◌, ◌+◌, ◌++◌, ◌∷◌, ◌∙◌, [], ℕ, zero, suc, List, Bool, true, false, ap, arith, append_assoc, drop, length, refl, sym, take}
+use Rattle.std.proofs.Common.{◌≡◌, ◌==◌, ◌<◌, ◌+◌, ◌++◌, ◌∷◌, ◌∙◌, [], ℕ, zero, suc, List, Bool, true, false, ap, arith, append_assoc, drop, length, refl, sym,
+    take}
 use Rattle.std.specs.Prelude.{◌||◌, slice_index}
 use Rattle.std.specs.List.{list_any}
 use Rattle.std.proofs.lemmas.Bool.{eq-eqb, eqb-true}
@@ -29,7 +30,8 @@ lacks_both end (x ∷ xs) ys first second = or_none (x == end) _ (or_left _ _ fi
 pub goes_on : (end : ℕ) (name front rest : List ℕ) → LacksByte end front → names_behind end name (front ++ rest) ≡ names_behind end (name ++ front) rest
 unfolding names_behind
 goes_on end name [] rest lacks = rw (append-nil name) refl
-goes_on end name (b ∷ front) rest lacks = rw (or_left (b == end) (list_any (λ c. c == end) front) lacks) (goes_on end (name ++ b ∷ []) front rest (or_right (b == end) _ lacks) ∙ ap (λ n. names_behind end n rest) (append_assoc name (b ∷ []) front))
+goes_on end name (b ∷ front) rest lacks = rw (or_left (b == end) (list_any (λ c. c == end) front) lacks)
+    (goes_on end (name ++ b ∷ []) front rest (or_right (b == end) _ lacks) ∙ ap (λ n. names_behind end n rest) (append_assoc name (b ∷ []) front))
 
 -- a name and its end
 pub takes_first : (end : ℕ) (name rest : List ℕ) → LacksByte end name → listed end (name ++ end ∷ rest) ≡ name ∷ listed end rest
@@ -45,7 +47,8 @@ suc_more : (k : ℕ) → suc k + 1 ≡ suc (k + 1)
 suc_more k = omega arith
 
 -- what stands before the first end, and behind it
-pub first_splits : (end : ℕ) (bytes : List ℕ) (k : ℕ) → k < length bytes → (slice_index bytes k == end) ≡ true → ((i : ℕ) → i < k → (slice_index bytes i == end) ≡ true → ⊥) → LacksByte end (take k bytes) × (bytes ≡ take k bytes ++ end ∷ drop (k + 1) bytes)
+pub first_splits : (end : ℕ) (bytes : List ℕ) (k : ℕ) → k < length bytes → (slice_index bytes k == end) ≡ true
+    → ((i : ℕ) → i < k → (slice_index bytes i == end) ≡ true → ⊥) → LacksByte end (take k bytes) × (bytes ≡ take k bytes ++ end ∷ drop (k + 1) bytes)
 first_splits end [] k within is before = absurd (omega (arith, within))
 first_splits end (b ∷ bytes) zero within is before = (refl, ap (λ e. e ∷ bytes) (eqb-true b end is))
 first_splits end (b ∷ bytes) (suc k) within is before =
@@ -55,4 +58,5 @@ first_splits end (b ∷ bytes) (suc k) within is before =
 -- no end at all
 pub nowhere_lacks : (end : ℕ) (bytes : List ℕ) → ((i : ℕ) → i < length bytes → (slice_index bytes i == end) ≡ true → ⊥) → LacksByte end bytes
 nowhere_lacks end [] never = refl
-nowhere_lacks end (b ∷ bytes) never = or_none (b == end) _ (false_by (b == end) (never 0 (omega arith))) (nowhere_lacks end bytes (λ i low. never (suc i) (omega (arith, low))))
+nowhere_lacks end (b ∷ bytes) never = or_none (b == end) _ (false_by (b == end) (never 0 (omega arith)))
+    (nowhere_lacks end bytes (λ i low. never (suc i) (omega (arith, low))))

@@ -1,5 +1,6 @@
 -- What is printed of files, one after another.
-use Rattle.std.proofs.Common.{◌≡◌, ℕ, List, [], ◌∷◌, ◌++◌, ◌+◌, ◌<◌, Bool, None, Option, Ok, Err, Result, IfErr, IfOk, Some, drop, false, inl, inr, true, ap, append_assoc, arith, eqb-true, get_or, length, map, refl, subst, sym, take, ◌∙◌}
+use Rattle.std.proofs.Common.{◌≡◌, ℕ, List, [], ◌∷◌, ◌++◌, ◌+◌, ◌<◌, Bool, None, Option, Ok, Err, Result, IfErr, IfOk, Some, drop, false, inl, inr, true, ap,
+    append_assoc, arith, eqb-true, get_or, length, map, refl, subst, sym, take, ◌∙◌}
 use Rattle.std.specs.Prelude.{◌≢◌, ◌==◌, if◌then◌else◌, is_ok, is_some, ◌&&◌}
 use Rattle.std.proofs.lemmas.Grind.{flat_map-append}
 use Rattle.std.proofs.lemmas.List.{append-nil, map-append, map_more, take-append-drop}
@@ -7,7 +8,8 @@ use Rattle.std.proofs.lemmas.List.Elements.{All-append, All-nil, All-push}
 use Rattle.sig_bits.specs.Device.{Adds, AddsFront}
 use Rattle.sig_engines.specs.FileProgress.{done_text, end_text}
 use Rattle.sig_engines.specs.FileTexts.{head_text}
-use Rattle.sig_engines.specs.ManyFiles.{AddsAll, AddsFiles, Answer, CutsAll, CutsFiles, StopsAll, StopsFiles, Printed, PrintedFile, counted, err_text, err_texts, is_whole, out_text, out_texts, run_text, summary_text, tally_of, visits_of}
+use Rattle.sig_engines.specs.ManyFiles.{AddsAll, AddsFiles, Answer, CutsAll, CutsFiles, StopsAll, StopsFiles, Printed, PrintedFile, counted, err_text,
+    err_texts, is_whole, out_text, out_texts, run_text, summary_text, tally_of, visits_of}
 use Rattle.sig_engines.specs.Stores.{Holding, IsUnlisted}
 use Rattle.sig_engines.specs.Tallies.{done_of, none_yet, plus, with_file, with_none, with_one, with_several}
 use Rattle.sig_engines.specs.Visits.{AreEach, AreOf, AreVisits, IsOne, Visit, to_match, to_tell}
@@ -22,7 +24,10 @@ use Rattle.sig_engines.proofs.TellingLemmas.{adds_front, adds_nothing, front_the
 
 -- ---- one visit
 
-pub one_printed : (P : Visit → Printed → Type 0) (visit : Visit) (printed : Printed) (progress : Bool) (tally : Tally) (before after : Option (List ℕ)) (failed : Bool) (err_before err_after : Option (List ℕ)) → P visit printed → Adds before (out_text printed) after → (failed ≡ false → Adds err_before (err_text progress (done_of (counted tally printed)) visit.name printed) err_after) → AddsFiles [] P (IsOne visit) progress tally before after failed err_before err_after (counted tally printed)
+pub one_printed : (P : Visit → Printed → Type 0) (visit : Visit) (printed : Printed) (progress : Bool) (tally : Tally) (before after : Option (List ℕ))
+    (failed : Bool) (err_before err_after : Option (List ℕ)) → P visit printed → Adds before (out_text printed) after
+    → (failed ≡ false → Adds err_before (err_text progress (done_of (counted tally printed)) visit.name printed) err_after)
+    → AddsFiles [] P (IsOne visit) progress tally before after failed err_before err_after (counted tally printed)
 one_printed P visit printed progress tally before after failed err_before err_after is adds reports =
     let f : PrintedFile = record { visit = visit; printed = printed } in
     record {
@@ -31,11 +36,15 @@ one_printed P visit printed progress tally before after failed err_before err_af
       each = All-push (λ (f : PrintedFile). P f.visit f.printed) [] f (All-nil (λ (f : PrintedFile). P f.visit f.printed)) is;
       is = refl;
       adds = subst (λ l. Adds before l after) (sym (append-nil (out_text printed))) adds;
-      reports = λ sound. subst (λ l. Adds err_before l err_after) (sym (append-nil (err_text progress (done_of (counted tally printed)) visit.name printed))) (reports sound);
+      reports = λ sound. subst (λ l. Adds err_before l err_after) (sym (append-nil (err_text progress (done_of (counted tally printed)) visit.name printed)))
+          (reports sound);
     }
 
 -- its lines are not written whole
-pub one_cut : (P : Visit → Printed → Type 0) (visit : Visit) (answer : Answer) (progress : Bool) (tally : Tally) (before after : Option (List ℕ)) (failed : Bool) (err_before err_after : Option (List ℕ)) → P visit (Ok answer) → AddsFront before answer.text after → (failed ≡ false → Adds err_before (done_text progress (done_of (counted tally (Ok answer)))) err_after) → CutsFiles [] P (IsOne visit) progress tally before after failed err_before err_after
+pub one_cut : (P : Visit → Printed → Type 0) (visit : Visit) (answer : Answer) (progress : Bool) (tally : Tally) (before after : Option (List ℕ))
+    (failed : Bool) (err_before err_after : Option (List ℕ)) → P visit (Ok answer) → AddsFront before answer.text after
+    → (failed ≡ false → Adds err_before (done_text progress (done_of (counted tally (Ok answer)))) err_after)
+    → CutsFiles [] P (IsOne visit) progress tally before after failed err_before err_after
 one_cut P visit answer progress tally before after failed err_before err_after is front reports =
     let f : PrintedFile = record { visit = visit; printed = Ok answer } in
     record {
@@ -50,7 +59,9 @@ one_cut P visit answer progress tally before after failed err_before err_after i
 -- ---- one after another
 
 -- nothing yet
-pub files_none : (head : List ℕ) (P : Visit → Printed → Type 0) (A : List Visit → Type 0) (progress : Bool) (tally : Tally) (before after : Option (List ℕ)) (failed : Bool) (err_before : Option (List ℕ)) → A [] → Adds before head after → AddsFiles head P A progress tally before after failed err_before err_before tally
+pub files_none : (head : List ℕ) (P : Visit → Printed → Type 0) (A : List Visit → Type 0) (progress : Bool) (tally : Tally) (before after : Option (List ℕ))
+    (failed : Bool) (err_before : Option (List ℕ)) → A [] → Adds before head after
+    → AddsFiles head P A progress tally before after failed err_before err_before tally
 files_none head P A progress tally before after failed err_before none adds = record {
   files = [];
   are = none;
@@ -61,7 +72,9 @@ files_none head P A progress tally before after failed err_before none adds = re
 }
 
 -- not even the head is written whole
-pub head_cut : (head : List ℕ) (P : Visit → Printed → Type 0) (A : List Visit → Type 0) (progress : Bool) (tally : Tally) (before after : Option (List ℕ)) (failed : Bool) (err : Option (List ℕ)) → ((v : List Visit) × A v) → AddsFront before head after → CutsFiles head P A progress tally before after failed err err
+pub head_cut : (head : List ℕ) (P : Visit → Printed → Type 0) (A : List Visit → Type 0) (progress : Bool) (tally : Tally) (before after : Option (List ℕ))
+    (failed : Bool) (err : Option (List ℕ)) → ((v : List Visit) × A v) → AddsFront before head after
+    → CutsFiles head P A progress tally before after failed err err
 head_cut head P A progress tally before after failed err some front = record {
   files = [];
   others = some.0;
@@ -72,7 +85,9 @@ head_cut head P A progress tally before after failed err some front = record {
 }
 
 -- the same files, which are these, too
-pub files_as : (head : List ℕ) (P : Visit → Printed → Type 0) (A B : List Visit → Type 0) (progress : Bool) (a b : Tally) (before after : Option (List ℕ)) (failed : Bool) (err_before err_after : Option (List ℕ)) → ((v : List Visit) → A v → B v) → AddsFiles head P A progress a before after failed err_before err_after b → AddsFiles head P B progress a before after failed err_before err_after b
+pub files_as : (head : List ℕ) (P : Visit → Printed → Type 0) (A B : List Visit → Type 0) (progress : Bool) (a b : Tally) (before after : Option (List ℕ))
+    (failed : Bool) (err_before err_after : Option (List ℕ)) → ((v : List Visit) → A v → B v)
+    → AddsFiles head P A progress a before after failed err_before err_after b → AddsFiles head P B progress a before after failed err_before err_after b
 files_as head P A B progress a b before after failed err_before err_after are one = record {
   files = one.files;
   are = are (visits_of one.files) one.are;
@@ -82,7 +97,9 @@ files_as head P A B progress a b before after failed err_before err_after are on
   reports = one.reports;
 }
 
-pub cut_as : (head : List ℕ) (P : Visit → Printed → Type 0) (A B : List Visit → Type 0) (progress : Bool) (a : Tally) (before after : Option (List ℕ)) (failed : Bool) (err_before err_after : Option (List ℕ)) → ((v : List Visit) → A v → B v) → CutsFiles head P A progress a before after failed err_before err_after → CutsFiles head P B progress a before after failed err_before err_after
+pub cut_as : (head : List ℕ) (P : Visit → Printed → Type 0) (A B : List Visit → Type 0) (progress : Bool) (a : Tally) (before after : Option (List ℕ))
+    (failed : Bool) (err_before err_after : Option (List ℕ)) → ((v : List Visit) → A v → B v)
+    → CutsFiles head P A progress a before after failed err_before err_after → CutsFiles head P B progress a before after failed err_before err_after
 cut_as head P A B progress a before after failed err_before err_after are one = record {
   files = one.files;
   others = one.others;
@@ -93,7 +110,9 @@ cut_as head P A B progress a before after failed err_before err_after are one = 
 }
 
 -- the first of some files, all of them written
-pub files_stopped : (head : List ℕ) (P : Visit → Printed → Type 0) (A B : List Visit → Type 0) (progress : Bool) (a b : Tally) (before after : Option (List ℕ)) (failed : Bool) (err_before err_after : Option (List ℕ)) → ((v : List Visit) → A v → (w : List Visit) × B (v ++ w)) → AddsFiles head P A progress a before after failed err_before err_after b → StopsFiles head P B progress a before after failed err_before err_after
+pub files_stopped : (head : List ℕ) (P : Visit → Printed → Type 0) (A B : List Visit → Type 0) (progress : Bool) (a b : Tally) (before after : Option (List ℕ))
+    (failed : Bool) (err_before err_after : Option (List ℕ)) → ((v : List Visit) → A v → (w : List Visit) × B (v ++ w))
+    → AddsFiles head P A progress a before after failed err_before err_after b → StopsFiles head P B progress a before after failed err_before err_after
 files_stopped head P A B progress a b before after failed err_before err_after more one =
     let first = more (visits_of one.files) one.are in
     record {
@@ -105,7 +124,9 @@ files_stopped head P A B progress a b before after failed err_before err_after m
       reports = one.reports;
     }
 
-pub files_first : (head : List ℕ) (P : Visit → Printed → Type 0) (A B : List Visit → Type 0) (progress : Bool) (a b : Tally) (before after : Option (List ℕ)) (failed : Bool) (err_before err_after : Option (List ℕ)) → ((v : List Visit) → A v → (w : List Visit) × B (v ++ w)) → AddsFiles head P A progress a before after failed err_before err_after b → CutsFiles head P B progress a before after failed err_before err_after
+pub files_first : (head : List ℕ) (P : Visit → Printed → Type 0) (A B : List Visit → Type 0) (progress : Bool) (a b : Tally) (before after : Option (List ℕ))
+    (failed : Bool) (err_before err_after : Option (List ℕ)) → ((v : List Visit) → A v → (w : List Visit) × B (v ++ w))
+    → AddsFiles head P A progress a before after failed err_before err_after b → CutsFiles head P B progress a before after failed err_before err_after
 files_first head P A B progress a b before after failed err_before err_after more one =
     let first = more (visits_of one.files) one.are in
     record {
@@ -127,48 +148,62 @@ tally_of-append : (tally : Tally) (xs ys : List PrintedFile) → tally_of tally 
 tally_of-append tally [] ys = refl
 tally_of-append tally (f ∷ xs) ys = tally_of-append (counted tally f.printed) xs ys
 
-err_texts-append : (progress : Bool) (tally : Tally) (xs ys : List PrintedFile) → err_texts progress tally (xs ++ ys) ≡ err_texts progress tally xs ++ err_texts progress (tally_of tally xs) ys
+err_texts-append : (progress : Bool) (tally : Tally) (xs ys : List PrintedFile)
+    → err_texts progress tally (xs ++ ys) ≡ err_texts progress tally xs ++ err_texts progress (tally_of tally xs) ys
 err_texts-append progress tally [] ys = refl
 err_texts-append progress tally (f ∷ xs) ys =
     let next = counted tally f.printed in
     let first = err_text progress (done_of next) f.visit.name f.printed in
-    ap (λ l. first ++ l) (err_texts-append progress next xs ys) ∙ sym (append_assoc first (err_texts progress next xs) (err_texts progress (tally_of next xs) ys))
+    ap (λ l. first ++ l) (err_texts-append progress next xs ys) ∙ sym
+        (append_assoc first (err_texts progress next xs) (err_texts progress (tally_of next xs) ys))
 
 visits_of-append : (xs ys : List PrintedFile) → visits_of (xs ++ ys) ≡ visits_of xs ++ visits_of ys
 visits_of-append xs ys = map-append (λ (f : PrintedFile). f.visit) xs ys
 
 -- what is told of some files, and then of others
-err_both : (progress : Bool) (a b : Tally) (xs ys : List PrintedFile) (before mid after : Option (List ℕ)) → b ≡ tally_of a xs → Adds before (err_texts progress a xs) mid → Adds mid (err_texts progress b ys) after → Adds before (err_texts progress a (xs ++ ys)) after
+err_both : (progress : Bool) (a b : Tally) (xs ys : List PrintedFile) (before mid after : Option (List ℕ)) → b ≡ tally_of a xs
+    → Adds before (err_texts progress a xs) mid → Adds mid (err_texts progress b ys) after → Adds before (err_texts progress a (xs ++ ys)) after
 err_both progress a b xs ys before mid after is first second =
     subst (λ l. Adds before l after) (ap (λ t. err_texts progress a xs ++ err_texts progress t ys) is ∙ sym (err_texts-append progress a xs ys))
     (adds_then before mid after (err_texts progress a xs) (err_texts progress b ys) first second)
 
 -- what is printed of some files, and then of others
-pub files_then : (head : List ℕ) (P : Visit → Printed → Type 0) (A B C : List Visit → Type 0) (progress : Bool) (a b c : Tally) (before mid after : Option (List ℕ)) (first_failed failed : Bool) (err_before err_mid err_after : Option (List ℕ)) → ((v w : List Visit) → A v → B w → C (v ++ w)) → AddsFiles head P A progress a before mid first_failed err_before err_mid b → AddsFiles [] P B progress b mid after failed err_mid err_after c → (failed ≡ false → first_failed ≡ false) → AddsFiles head P C progress a before after failed err_before err_after c
+pub files_then : (head : List ℕ) (P : Visit → Printed → Type 0) (A B C : List Visit → Type 0) (progress : Bool) (a b c : Tally)
+    (before mid after : Option (List ℕ)) (first_failed failed : Bool) (err_before err_mid err_after : Option (List ℕ))
+    → ((v w : List Visit) → A v → B w → C (v ++ w)) → AddsFiles head P A progress a before mid first_failed err_before err_mid b
+    → AddsFiles [] P B progress b mid after failed err_mid err_after c → (failed ≡ false → first_failed ≡ false)
+    → AddsFiles head P C progress a before after failed err_before err_after c
 files_then head P A B C progress a b c before mid after first_failed failed err_before err_mid err_after join one two stays = record {
   files = one.files ++ two.files;
   are = subst C (sym (visits_of-append one.files two.files)) (join (visits_of one.files) (visits_of two.files) one.are two.are);
   each = All-append (λ (f : PrintedFile). P f.visit f.printed) one.files two.files one.each two.each;
   is = two.is ∙ ap (λ t. tally_of t two.files) one.is ∙ sym (tally_of-append a one.files two.files);
-  adds = subst (λ l. Adds before l after) (both head one.files two.files) (adds_then before mid after (head ++ out_texts one.files) (out_texts two.files) one.adds two.adds);
+  adds = subst (λ l. Adds before l after) (both head one.files two.files)
+      (adds_then before mid after (head ++ out_texts one.files) (out_texts two.files) one.adds two.adds);
   reports = λ sound. err_both progress a b one.files two.files err_before err_mid err_after one.is (one.reports (stays sound)) (two.reports sound);
 }
 
 -- what is printed of some files, and then not of all
-pub files_cut : (head : List ℕ) (P : Visit → Printed → Type 0) (A B C : List Visit → Type 0) (progress : Bool) (a b : Tally) (before mid after : Option (List ℕ)) (first_failed failed : Bool) (err_before err_mid err_after : Option (List ℕ)) → ((v w : List Visit) → A v → B w → (more : List Visit) × C (v ++ w ++ more)) → AddsFiles head P A progress a before mid first_failed err_before err_mid b → CutsFiles [] P B progress b mid after failed err_mid err_after → (failed ≡ false → first_failed ≡ false) → CutsFiles head P C progress a before after failed err_before err_after
+pub files_cut : (head : List ℕ) (P : Visit → Printed → Type 0) (A B C : List Visit → Type 0) (progress : Bool) (a b : Tally)
+    (before mid after : Option (List ℕ)) (first_failed failed : Bool) (err_before err_mid err_after : Option (List ℕ))
+    → ((v w : List Visit) → A v → B w → (more : List Visit) × C (v ++ w ++ more)) → AddsFiles head P A progress a before mid first_failed err_before err_mid b
+    → CutsFiles [] P B progress b mid after failed err_mid err_after → (failed ≡ false → first_failed ≡ false)
+    → CutsFiles head P C progress a before after failed err_before err_after
 files_cut head P A B C progress a b before mid after first_failed failed err_before err_mid err_after join one two stays =
     let v = visits_of one.files in
     let w = visits_of two.files in
     let joined = join v (w ++ two.others) one.are two.are_first in
     let rest = two.others ++ joined.0 in
     let same : (v ++ (w ++ two.others)) ++ joined.0 ≡ visits_of (one.files ++ two.files) ++ rest =
-    ap (λ l. l ++ joined.0) (sym (append_assoc v w two.others)) ∙ append_assoc (v ++ w) two.others joined.0 ∙ ap (λ l. l ++ rest) (sym (visits_of-append one.files two.files)) in
+    ap (λ l. l ++ joined.0) (sym (append_assoc v w two.others)) ∙ append_assoc (v ++ w) two.others joined.0 ∙ ap (λ l. l ++ rest)
+        (sym (visits_of-append one.files two.files)) in
     record {
       files = one.files ++ two.files;
       others = rest;
       are_first = subst C same joined.1;
       each = All-append (λ (f : PrintedFile). P f.visit f.printed) one.files two.files one.each two.each;
-      adds = subst (λ l. AddsFront before l after) (both head one.files two.files) (front_then before mid after (head ++ out_texts one.files) (out_texts two.files) one.adds two.adds);
+      adds = subst (λ l. AddsFront before l after) (both head one.files two.files)
+          (front_then before mid after (head ++ out_texts one.files) (out_texts two.files) one.adds two.adds);
       reports = λ sound. err_both progress a b one.files two.files err_before err_mid err_after one.is (one.reports (stays sound)) (two.reports sound);
     }
 
@@ -192,7 +227,8 @@ failed_before tally (f ∷ files) none = go f.printed (failed_before (counted ta
     go (Err fault) is = omega (arith, is)
 
 -- the first ones have none
-pub first_failed : (P : Visit → Printed → Type 0) (A : List Visit → Type 0) (progress : Bool) (a b : Tally) (before after : Option (List ℕ)) (failed : Bool) (err_before err_after : Option (List ℕ)) → AddsFiles [] P A progress a before after failed err_before err_after b → b.failed ≡ 0 → a.failed ≡ 0
+pub first_failed : (P : Visit → Printed → Type 0) (A : List Visit → Type 0) (progress : Bool) (a b : Tally) (before after : Option (List ℕ)) (failed : Bool)
+    (err_before err_after : Option (List ℕ)) → AddsFiles [] P A progress a before after failed err_before err_after b → b.failed ≡ 0 → a.failed ≡ 0
 first_failed P A progress a b before after failed err_before err_after one none = failed_before a one.files (ap (λ t. t.failed) (sym one.is) ∙ none)
 
 never_none : (n : ℕ) → (plus n 1 == 0) ≡ false
@@ -224,20 +260,28 @@ whole_of files = whole_behind none_yet files
 
 -- ---- a whole run
 
-told_all : (progress : Bool) (files : List PrintedFile) (more : List ℕ) (first begun told ended : Option (List ℕ)) → Adds first (done_text progress 0) begun → Adds begun (err_texts progress none_yet files) told → Adds told (end_text progress ++ more) ended → Adds first (run_text progress files ++ more) ended
+told_all : (progress : Bool) (files : List PrintedFile) (more : List ℕ) (first begun told ended : Option (List ℕ)) → Adds first (done_text progress 0) begun
+    → Adds begun (err_texts progress none_yet files) told → Adds told (end_text progress ++ more) ended → Adds first (run_text progress files ++ more) ended
 told_all progress files more first begun told ended begins tells ends =
     let done = done_text progress 0 in
     let texts = err_texts progress none_yet files in
     subst (λ l. Adds first l ended) (sym (append_assoc (done ++ texts) (end_text progress) more))
     (adds_then first told ended (done ++ texts) (end_text progress ++ more) (adds_then first begun told done texts begins tells) ends)
 
-told_cut : (progress : Bool) (files : List PrintedFile) (first begun told ended : Option (List ℕ)) → Adds first (done_text progress 0) begun → Adds begun (err_texts progress none_yet files) told → Adds told (end_text progress) ended → Adds first (run_text progress files) ended
+told_cut : (progress : Bool) (files : List PrintedFile) (first begun told ended : Option (List ℕ)) → Adds first (done_text progress 0) begun
+    → Adds begun (err_texts progress none_yet files) told → Adds told (end_text progress) ended → Adds first (run_text progress files) ended
 told_cut progress files first begun told ended begins tells ends =
     let done = done_text progress 0 in
     let texts = err_texts progress none_yet files in
     adds_then first told ended (done ++ texts) (end_text progress) (adds_then first begun told done texts begins tells) ends
 
-pub if_all : (ask : MatchAsk) (P : Visit → Printed → Type 0) (A : List Visit → Type 0) (before after : Option (List ℕ)) (begun_failed told_failed failed : Bool) (first begun told ended : Option (List ℕ)) (matched : Result Tally RunError) (result : Result Bool RunError) → (begun_failed ≡ false → Adds first (done_text ask.progress 0) begun) → IfOk matched (AddsFiles (head_text ask.csv) P A ask.progress none_yet before after told_failed begun told) → (told_failed ≡ false → begun_failed ≡ false) → (failed ≡ false → told_failed ≡ false) → IfOk result (λ whole. (tally : Tally) × (matched ≡ Ok tally) × (whole ≡ (tally.failed == 0)) × (failed ≡ false → Adds told (end_text ask.progress ++ summary_text ask.summary tally) ended)) → IfOk result (AddsAll ask P A before after failed first ended)
+pub if_all : (ask : MatchAsk) (P : Visit → Printed → Type 0) (A : List Visit → Type 0) (before after : Option (List ℕ)) (begun_failed told_failed failed : Bool)
+    (first begun told ended : Option (List ℕ)) (matched : Result Tally RunError) (result : Result Bool RunError)
+    → (begun_failed ≡ false → Adds first (done_text ask.progress 0) begun)
+    → IfOk matched (AddsFiles (head_text ask.csv) P A ask.progress none_yet before after told_failed begun told) → (told_failed ≡ false → begun_failed ≡ false)
+    → (failed ≡ false → told_failed ≡ false) → IfOk result (λ whole. (tally : Tally) × (matched ≡ Ok tally) × (whole ≡ (tally.failed == 0))
+    × (failed ≡ false → Adds told (end_text ask.progress ++ summary_text ask.summary tally) ended))
+    → IfOk result (AddsAll ask P A before after failed first ended)
 if_all ask P A before after begun_failed told_failed failed first begun told ended matched (Ok whole) begins added stays goes_on ends =
     let tally = ends.0 in
     let one : AddsFiles (head_text ask.csv) P A ask.progress none_yet before after told_failed begun told tally =
@@ -251,11 +295,18 @@ if_all ask P A before after begun_failed told_failed failed first begun told end
       reports = λ sound.
           let mid = goes_on sound in
           let last = subst (λ t. Adds told (end_text ask.progress ++ summary_text ask.summary t) ended) one.is (ends.3 sound) in
-          told_all ask.progress one.files (summary_text ask.summary (tally_of none_yet one.files)) first begun told ended (begins (stays mid)) (one.reports mid) last;
+          told_all ask.progress one.files (summary_text ask.summary (tally_of none_yet one.files)) first begun told ended (begins (stays mid)) (one.reports mid)
+              last;
     }
 if_all ask P A before after begun_failed told_failed failed first begun told ended matched (Err e) begins added stays goes_on ends = tt
 
-pub if_cut : (ask : MatchAsk) (P : Visit → Printed → Type 0) (A : List Visit → Type 0) (before after : Option (List ℕ)) (begun_failed told_failed failed : Bool) (first begun told ended : Option (List ℕ)) (matched : Result Tally RunError) (result : Result Bool RunError) → (begun_failed ≡ false → Adds first (done_text ask.progress 0) begun) → IfErr matched (λ e. CutsFiles (head_text ask.csv) P A ask.progress none_yet before after told_failed begun told) → (told_failed ≡ false → begun_failed ≡ false) → (failed ≡ false → told_failed ≡ false) → IfErr result (λ e. (matched ≡ Err e) × (failed ≡ false → Adds told (end_text ask.progress) ended)) → IfErr result (λ e. CutsAll ask P A before after failed first ended)
+pub if_cut : (ask : MatchAsk) (P : Visit → Printed → Type 0) (A : List Visit → Type 0) (before after : Option (List ℕ)) (begun_failed told_failed failed : Bool)
+    (first begun told ended : Option (List ℕ)) (matched : Result Tally RunError) (result : Result Bool RunError)
+    → (begun_failed ≡ false → Adds first (done_text ask.progress 0) begun)
+    → IfErr matched (λ e. CutsFiles (head_text ask.csv) P A ask.progress none_yet before after told_failed begun told)
+    → (told_failed ≡ false → begun_failed ≡ false) → (failed ≡ false → told_failed ≡ false)
+    → IfErr result (λ e. (matched ≡ Err e) × (failed ≡ false → Adds told (end_text ask.progress) ended))
+    → IfErr result (λ e. CutsAll ask P A before after failed first ended)
 if_cut ask P A before after begun_failed told_failed failed first begun told ended matched (Ok whole) begins cuts stays goes_on ends = tt
 if_cut ask P A before after begun_failed told_failed failed first begun told ended matched (Err e) begins cuts stays goes_on ends =
     let one : CutsFiles (head_text ask.csv) P A ask.progress none_yet before after told_failed begun told =
@@ -266,10 +317,17 @@ if_cut ask P A before after begun_failed told_failed failed first begun told end
       are_first = one.are_first;
       each = one.each;
       adds = one.adds;
-      reports = λ sound. let mid = goes_on sound in told_cut ask.progress one.files first begun told ended (begins (stays mid)) (one.reports mid) (ends.1 sound);
+      reports = λ sound. let mid = goes_on sound in told_cut ask.progress one.files first begun told ended (begins (stays mid)) (one.reports mid)
+          (ends.1 sound);
     }
 
-pub if_stopped : (ask : MatchAsk) (P : Visit → Printed → Type 0) (A : List Visit → Type 0) (before after : Option (List ℕ)) (begun_failed told_failed failed : Bool) (first begun told ended : Option (List ℕ)) (matched : Result Tally RunError) (result : Result Bool RunError) → (begun_failed ≡ false → Adds first (done_text ask.progress 0) begun) → IfErr matched (λ e. e ≢ Write → StopsFiles (head_text ask.csv) P A ask.progress none_yet before after told_failed begun told) → (told_failed ≡ false → begun_failed ≡ false) → (failed ≡ false → told_failed ≡ false) → IfErr result (λ e. (matched ≡ Err e) × (failed ≡ false → Adds told (end_text ask.progress) ended)) → IfErr result (λ e. e ≢ Write → StopsAll ask P A before after failed first ended)
+pub if_stopped : (ask : MatchAsk) (P : Visit → Printed → Type 0) (A : List Visit → Type 0) (before after : Option (List ℕ))
+    (begun_failed told_failed failed : Bool) (first begun told ended : Option (List ℕ)) (matched : Result Tally RunError) (result : Result Bool RunError)
+    → (begun_failed ≡ false → Adds first (done_text ask.progress 0) begun)
+    → IfErr matched (λ e. e ≢ Write → StopsFiles (head_text ask.csv) P A ask.progress none_yet before after told_failed begun told)
+    → (told_failed ≡ false → begun_failed ≡ false) → (failed ≡ false → told_failed ≡ false)
+    → IfErr result (λ e. (matched ≡ Err e) × (failed ≡ false → Adds told (end_text ask.progress) ended))
+    → IfErr result (λ e. e ≢ Write → StopsAll ask P A before after failed first ended)
 if_stopped ask P A before after begun_failed told_failed failed first begun told ended matched (Ok whole) begins stops stays goes_on ends = tt
 if_stopped ask P A before after begun_failed told_failed failed first begun told ended matched (Err e) begins stops stays goes_on ends = λ other.
     let one : StopsFiles (head_text ask.csv) P A ask.progress none_yet before after told_failed begun told =
@@ -280,13 +338,19 @@ if_stopped ask P A before after begun_failed told_failed failed first begun told
       are_first = one.are_first;
       each = one.each;
       adds = one.adds;
-      reports = λ sound. let mid = goes_on sound in told_cut ask.progress one.files first begun told ended (begins (stays mid)) (one.reports mid) (ends.1 sound);
+      reports = λ sound. let mid = goes_on sound in told_cut ask.progress one.files first begun told ended (begins (stays mid)) (one.reports mid)
+          (ends.1 sound);
     }
 
 -- with no fault nothing is told
-pub quiet_all : {E : Type 0} (first begun told ended : E) (progress summary : Bool) (matched : Result Tally RunError) (result : Result Bool RunError) (Ended : Bool → Type 0) → (progress ≡ false → begun ≡ first) → IfOk matched (λ tally. progress ≡ false → tally.failed ≡ 0 → told ≡ begun) → (progress ≡ false → summary ≡ false → ended ≡ told) → IfOk result (λ whole. (tally : Tally) × (matched ≡ Ok tally) × (whole ≡ (tally.failed == 0)) × Ended whole) → result ≡ Ok true → progress ≡ false → summary ≡ false → ended ≡ first
+pub quiet_all : {E : Type 0} (first begun told ended : E) (progress summary : Bool) (matched : Result Tally RunError) (result : Result Bool RunError)
+    (Ended : Bool → Type 0) → (progress ≡ false → begun ≡ first) → IfOk matched (λ tally. progress ≡ false → tally.failed ≡ 0 → told ≡ begun)
+    → (progress ≡ false → summary ≡ false → ended ≡ told) → IfOk result
+    (λ whole. (tally : Tally) × (matched ≡ Ok tally) × (whole ≡ (tally.failed == 0)) × Ended whole) → result ≡ Ok true → progress ≡ false → summary ≡ false
+    → ended ≡ first
 quiet_all first begun told ended progress summary matched (Ok true) Ended begins quiet ends is same no_progress no_summary =
-    let mid : told ≡ begun = subst (λ m. IfOk m (λ tally. progress ≡ false → tally.failed ≡ 0 → told ≡ begun)) is.1 quiet no_progress (eqb-true is.0.failed 0 (sym is.2)) in
+    let mid : told ≡ begun = subst (λ m. IfOk m (λ tally. progress ≡ false → tally.failed ≡ 0 → told ≡ begun)) is.1 quiet no_progress
+        (eqb-true is.0.failed 0 (sym is.2)) in
     ends no_progress no_summary ∙ mid ∙ begins no_progress
 quiet_all first begun told ended progress summary matched (Ok false) Ended begins quiet ends is same no_progress no_summary = cc
 quiet_all first begun told ended progress summary matched (Err e) Ended begins quiet ends is same no_progress no_summary = cc
@@ -329,21 +393,25 @@ pub some_visits : (recursive : Bool) (held : Holding) (names : List (List ℕ)) 
 some_visits recursive held names = each_some (AreOf recursive held) (some_of recursive held) names
 
 -- of the first names, and of the others
-pub visits_then : (recursive : Bool) (held : Holding) (xs ys : List (List ℕ)) (v w : List Visit) → AreVisits recursive held xs v → AreVisits recursive held ys w → AreVisits recursive held (xs ++ ys) (v ++ w)
+pub visits_then : (recursive : Bool) (held : Holding) (xs ys : List (List ℕ)) (v w : List Visit) → AreVisits recursive held xs v → AreVisits recursive held ys w
+    → AreVisits recursive held (xs ++ ys) (v ++ w)
 visits_then recursive held xs ys v w first second = each_then (AreOf recursive held) xs ys v w first second
 
 -- of the first names, and of one more
-pub visits_next : (recursive : Bool) (held : Holding) (xs : List (List ℕ)) (y : List ℕ) (v w : List Visit) → AreVisits recursive held xs v → AreOf recursive held y w → AreVisits recursive held (xs ++ y ∷ []) (v ++ w)
+pub visits_next : (recursive : Bool) (held : Holding) (xs : List (List ℕ)) (y : List ℕ) (v w : List Visit) → AreVisits recursive held xs v
+    → AreOf recursive held y w → AreVisits recursive held (xs ++ y ∷ []) (v ++ w)
 visits_next recursive held xs y v w first second = visits_then recursive held xs (y ∷ []) v w first (each_one (AreOf recursive held) y w second)
 
 -- of the first names, and some of the others
-pub visits_more : (recursive : Bool) (held : Holding) (xs ys : List (List ℕ)) (v : List Visit) → AreVisits recursive held xs v → (w : List Visit) × AreVisits recursive held (xs ++ ys) (v ++ w)
+pub visits_more : (recursive : Bool) (held : Holding) (xs ys : List (List ℕ)) (v : List Visit) → AreVisits recursive held xs v → (w : List Visit)
+    × AreVisits recursive held (xs ++ ys) (v ++ w)
 visits_more recursive held xs ys v first =
     let some = some_visits recursive held ys in
     (some.0, visits_then recursive held xs ys v some.0 first some.1)
 
 -- of the first names, of one more, and some of the others
-pub visits_next_more : (recursive : Bool) (held : Holding) (xs : List (List ℕ)) (y : List ℕ) (zs : List (List ℕ)) (v w : List Visit) → AreVisits recursive held xs v → AreOf recursive held y w → (more : List Visit) × AreVisits recursive held (xs ++ (y ∷ []) ++ zs) (v ++ w ++ more)
+pub visits_next_more : (recursive : Bool) (held : Holding) (xs : List (List ℕ)) (y : List ℕ) (zs : List (List ℕ)) (v w : List Visit)
+    → AreVisits recursive held xs v → AreOf recursive held y w → (more : List Visit) × AreVisits recursive held (xs ++ (y ∷ []) ++ zs) (v ++ w ++ more)
 visits_next_more recursive held xs y zs v w first second =
     let some = some_visits recursive held zs in
     (some.0, visits_then recursive held (xs ++ y ∷ []) zs (v ++ w) some.0 (visits_next recursive held xs y v w first second) some.1)
@@ -351,19 +419,31 @@ visits_next_more recursive held xs y zs v w first second =
 -- ---- the names of a list
 
 -- what is printed of the first names, and then of the next
-pub files_on : {X : Type 0} (head : List ℕ) (P : Visit → Printed → Type 0) (recursive : Bool) (held : Holding) (f : X → List ℕ) (names : List X) (i : ℕ) (d : X) (progress : Bool) (a b c : Tally) (before mid after : Option (List ℕ)) (first_failed failed : Bool) (err_before err_mid err_after : Option (List ℕ)) → i < length names → AddsFiles head P (AreVisits recursive held (map f (take i names))) progress a before mid first_failed err_before err_mid b → AddsFiles [] P (AreOf recursive held (f (get_or names i d))) progress b mid after failed err_mid err_after c → (failed ≡ false → first_failed ≡ false) → AddsFiles head P (AreVisits recursive held (map f (take (i + 1) names))) progress a before after failed err_before err_after c
+pub files_on : {X : Type 0} (head : List ℕ) (P : Visit → Printed → Type 0) (recursive : Bool) (held : Holding) (f : X → List ℕ) (names : List X) (i : ℕ) (d : X)
+    (progress : Bool) (a b c : Tally) (before mid after : Option (List ℕ)) (first_failed failed : Bool) (err_before err_mid err_after : Option (List ℕ))
+    → i < length names → AddsFiles head P (AreVisits recursive held (map f (take i names))) progress a before mid first_failed err_before err_mid b
+    → AddsFiles [] P (AreOf recursive held (f (get_or names i d))) progress b mid after failed err_mid err_after c → (failed ≡ false → first_failed ≡ false)
+    → AddsFiles head P (AreVisits recursive held (map f (take (i + 1) names))) progress a before after failed err_before err_after c
 files_on head P recursive held f names i d progress a b c before mid after first_failed failed err_before err_mid err_after within one two stays =
-    files_then head P (AreVisits recursive held (map f (take i names))) (AreOf recursive held (f (get_or names i d))) (AreVisits recursive held (map f (take (i + 1) names))) progress a b c before mid after first_failed failed err_before err_mid err_after
-    (λ v w first second. subst (λ l. AreVisits recursive held l (v ++ w)) (sym (map_more f names i d within)) (visits_next recursive held (map f (take i names)) (f (get_or names i d)) v w first second))
+    files_then head P (AreVisits recursive held (map f (take i names))) (AreOf recursive held (f (get_or names i d)))
+        (AreVisits recursive held (map f (take (i + 1) names))) progress a b c before mid after first_failed failed err_before err_mid err_after
+    (λ v w first second. subst (λ l. AreVisits recursive held l (v ++ w)) (sym (map_more f names i d within))
+        (visits_next recursive held (map f (take i names)) (f (get_or names i d)) v w first second))
     one two stays
 
 -- what is printed of the first names, and not all of the next
-pub files_off : {X : Type 0} (head : List ℕ) (P : Visit → Printed → Type 0) (recursive : Bool) (held : Holding) (f : X → List ℕ) (names : List X) (i : ℕ) (d : X) (progress : Bool) (a b : Tally) (before mid after : Option (List ℕ)) (first_failed failed : Bool) (err_before err_mid err_after : Option (List ℕ)) → i < length names → AddsFiles head P (AreVisits recursive held (map f (take i names))) progress a before mid first_failed err_before err_mid b → CutsFiles [] P (AreOf recursive held (f (get_or names i d))) progress b mid after failed err_mid err_after → (failed ≡ false → first_failed ≡ false) → CutsFiles head P (AreVisits recursive held (map f names)) progress a before after failed err_before err_after
+pub files_off : {X : Type 0} (head : List ℕ) (P : Visit → Printed → Type 0) (recursive : Bool) (held : Holding) (f : X → List ℕ) (names : List X) (i : ℕ)
+    (d : X) (progress : Bool) (a b : Tally) (before mid after : Option (List ℕ)) (first_failed failed : Bool) (err_before err_mid err_after : Option (List ℕ))
+    → i < length names → AddsFiles head P (AreVisits recursive held (map f (take i names))) progress a before mid first_failed err_before err_mid b
+    → CutsFiles [] P (AreOf recursive held (f (get_or names i d))) progress b mid after failed err_mid err_after → (failed ≡ false → first_failed ≡ false)
+    → CutsFiles head P (AreVisits recursive held (map f names)) progress a before after failed err_before err_after
 files_off head P recursive held f names i d progress a b before mid after first_failed failed err_before err_mid err_after within one two stays =
     let later = map f (drop (i + 1) names) in
     let all : map f (take i names) ++ f (get_or names i d) ∷ [] ++ later ≡ map f names =
-    ap (λ l. l ++ later) (sym (map_more f names i d within)) ∙ sym (map-append f (take (i + 1) names) (drop (i + 1) names)) ∙ ap (map f) (take-append-drop (i + 1) names) in
-    files_cut head P (AreVisits recursive held (map f (take i names))) (AreOf recursive held (f (get_or names i d))) (AreVisits recursive held (map f names)) progress a b before mid after first_failed failed err_before err_mid err_after
+    ap (λ l. l ++ later) (sym (map_more f names i d within)) ∙ sym (map-append f (take (i + 1) names) (drop (i + 1) names)) ∙ ap (map f)
+        (take-append-drop (i + 1) names) in
+    files_cut head P (AreVisits recursive held (map f (take i names))) (AreOf recursive held (f (get_or names i d))) (AreVisits recursive held (map f names))
+        progress a b before mid after first_failed failed err_before err_mid err_after
     (λ v w first second.
     let more = visits_next_more recursive held (map f (take i names)) (f (get_or names i d)) later v w first second in
     (more.0, subst (λ l. AreVisits recursive held l (v ++ w ++ more.0)) all more.1))
@@ -371,10 +451,18 @@ files_off head P recursive held f names i d progress a b before mid after first_
 
 -- ---- what is answered of them
 
-pub if_files_as : (head : List ℕ) (P : Visit → Printed → Type 0) (A B : List Visit → Type 0) (progress : Bool) (tally : Tally) (before after : Option (List ℕ)) (failed : Bool) (err_before err_after : Option (List ℕ)) (result : Result Tally RunError) → ((v : List Visit) → A v → B v) → IfOk result (AddsFiles head P A progress tally before after failed err_before err_after) → IfOk result (AddsFiles head P B progress tally before after failed err_before err_after)
-if_files_as head P A B progress tally before after failed err_before err_after (Ok becomes) are adds = files_as head P A B progress tally becomes before after failed err_before err_after are adds
+pub if_files_as : (head : List ℕ) (P : Visit → Printed → Type 0) (A B : List Visit → Type 0) (progress : Bool) (tally : Tally) (before after : Option (List ℕ))
+    (failed : Bool) (err_before err_after : Option (List ℕ)) (result : Result Tally RunError) → ((v : List Visit) → A v → B v)
+    → IfOk result (AddsFiles head P A progress tally before after failed err_before err_after)
+    → IfOk result (AddsFiles head P B progress tally before after failed err_before err_after)
+if_files_as head P A B progress tally before after failed err_before err_after (Ok becomes) are adds =
+    files_as head P A B progress tally becomes before after failed err_before err_after are adds
 if_files_as head P A B progress tally before after failed err_before err_after (Err e) are adds = adds
 
-pub if_cut_as : (head : List ℕ) (P : Visit → Printed → Type 0) (A B : List Visit → Type 0) (progress : Bool) (tally : Tally) (before after : Option (List ℕ)) (failed : Bool) (err_before err_after : Option (List ℕ)) (result : Result Tally RunError) → ((v : List Visit) → A v → B v) → IfErr result (λ e. CutsFiles head P A progress tally before after failed err_before err_after) → IfErr result (λ e. CutsFiles head P B progress tally before after failed err_before err_after)
+pub if_cut_as : (head : List ℕ) (P : Visit → Printed → Type 0) (A B : List Visit → Type 0) (progress : Bool) (tally : Tally) (before after : Option (List ℕ))
+    (failed : Bool) (err_before err_after : Option (List ℕ)) (result : Result Tally RunError) → ((v : List Visit) → A v → B v)
+    → IfErr result (λ e. CutsFiles head P A progress tally before after failed err_before err_after)
+    → IfErr result (λ e. CutsFiles head P B progress tally before after failed err_before err_after)
 if_cut_as head P A B progress tally before after failed err_before err_after (Ok becomes) are cuts = cuts
-if_cut_as head P A B progress tally before after failed err_before err_after (Err e) are cuts = cut_as head P A B progress tally before after failed err_before err_after are cuts
+if_cut_as head P A B progress tally before after failed err_before err_after (Err e) are cuts =
+    cut_as head P A B progress tally before after failed err_before err_after are cuts

@@ -22,10 +22,13 @@ fewer_written table notes formats fewer before after all within whole is =
     let m = length notes - fewer in
     let here : length notes + 1 - fewer ≡ suc m = omega (arith, within) in
     let next : length notes + 1 - (fewer + 1) ≡ m = omega (arith, within) in
-    let split : flat_map line (formats_below formats notes (length notes + 1 - fewer)) ≡ flat_map line (formats_in formats notes m) ++ flat_map line (formats_below formats notes m) =
-    ap (flat_map line) (below_is formats notes (length notes + 1 - fewer) m here) ∙ flat_map-append line (formats_in formats notes m) (formats_below formats notes m) in
+    let split : flat_map line (formats_below formats notes (length notes + 1 - fewer)) ≡ flat_map line (formats_in formats notes m) ++ flat_map line
+        (formats_below formats notes m) =
+    ap (flat_map line) (below_is formats notes (length notes + 1 - fewer) m here) ∙ flat_map-append line (formats_in formats notes m)
+        (formats_below formats notes m) in
     ap (λ n. after ++ flat_map line (formats_below formats notes n)) next ∙ ap (λ l. l ++ flat_map line (formats_below formats notes m)) is
-    ∙ append_assoc before (flat_map line (formats_in formats notes m)) (flat_map line (formats_below formats notes m)) ∙ ap (λ l. before ++ l) (sym split) ∙ whole
+    ∙ append_assoc before (flat_map line (formats_in formats notes m)) (flat_map line (formats_below formats notes m)) ∙ ap (λ l. before ++ l) (sym split)
+        ∙ whole
 
 -- ---- the formats that are in so many lines
 
@@ -36,16 +39,20 @@ range_more p n =
     ap (filter p) (sym all) ∙ filter_of_map_range_with_len_more p (λ (x : ℕ). x) 0 n n (omega arith) ∙ ap (λ l. filter p l ++ cond (p n) (n ∷ []) []) some
 
 -- the next format is in just so many, and its line is written
-pub format_written : (line : ℕ → List ℕ) (p : ℕ → Bool) (n : ℕ) (begun before after : List ℕ) → p n ≡ true → before ≡ begun ++ flat_map line (filter p (range_with_len 0 n)) → after ≡ before ++ line n
+pub format_written : (line : ℕ → List ℕ) (p : ℕ → Bool) (n : ℕ) (begun before after : List ℕ) → p n ≡ true
+    → before ≡ begun ++ flat_map line (filter p (range_with_len 0 n)) → after ≡ before ++ line n
     → after ≡ begun ++ flat_map line (filter p (range_with_len 0 (n + 1)))
 format_written line p n begun before after is whole more =
     let all : flat_map line (filter p (range_with_len 0 (n + 1))) ≡ flat_map line (filter p (range_with_len 0 n)) ++ line n =
-    ap (flat_map line) (range_more p n ∙ ap (λ b. filter p (range_with_len 0 n) ++ cond b (n ∷ []) []) is) ∙ flat_map-append line (filter p (range_with_len 0 n)) (n ∷ [])
+    ap (flat_map line) (range_more p n ∙ ap (λ b. filter p (range_with_len 0 n) ++ cond b (n ∷ []) []) is) ∙ flat_map-append line
+        (filter p (range_with_len 0 n)) (n ∷ [])
     ∙ ap (λ l. flat_map line (filter p (range_with_len 0 n)) ++ l) (append-nil (line n)) in
     more ∙ ap (λ l. l ++ line n) whole ∙ append_assoc begun (flat_map line (filter p (range_with_len 0 n))) (line n) ∙ ap (λ l. begun ++ l) (sym all)
 
 -- it is not
-pub format_passed : (line : ℕ → List ℕ) (p : ℕ → Bool) (n : ℕ) (begun before : List ℕ) → p n ≡ false → before ≡ begun ++ flat_map line (filter p (range_with_len 0 n))
+pub format_passed : (line : ℕ → List ℕ) (p : ℕ → Bool) (n : ℕ) (begun before : List ℕ) → p n ≡ false
+    → before ≡ begun ++ flat_map line (filter p (range_with_len 0 n))
     → before ≡ begun ++ flat_map line (filter p (range_with_len 0 (n + 1)))
 format_passed line p n begun before is_not whole =
-    whole ∙ ap (λ l. begun ++ flat_map line l) (sym (range_more p n ∙ ap (λ b. filter p (range_with_len 0 n) ++ cond b (n ∷ []) []) is_not ∙ append-nil (filter p (range_with_len 0 n))))
+    whole ∙ ap (λ l. begun ++ flat_map line l) (sym (range_more p n ∙ ap (λ b. filter p (range_with_len 0 n) ++ cond b (n ∷ []) []) is_not ∙ append-nil
+        (filter p (range_with_len 0 n))))

@@ -1,6 +1,7 @@
 -- The pairs of formats are settled one after another, and their lines are written.
 use Rattle.std.specs.Borrow.{Bor}
-use Rattle.std.proofs.Common.{◌≡◌, ℕ, ◌+◌, ◌<◌, ◌≤◌, List, [], ◌∷◌, ◌++◌, Bool, Option, None, Some, false, not, true, ◌*◌, ◌-◌, ◌/◌, append_assoc, arith, ap, inl, inr, length, length-append, refl, subst, sym, take, ◌∙◌}
+use Rattle.std.proofs.Common.{◌≡◌, ℕ, ◌+◌, ◌<◌, ◌≤◌, List, [], ◌∷◌, ◌++◌, Bool, Option, None, Some, false, not, true, ◌*◌, ◌-◌, ◌/◌, append_assoc, arith, ap,
+    inl, inr, length, length-append, refl, subst, sym, take, ◌∙◌}
 use Rattle.std.specs.Prelude.{All, ◌&&◌, cond, filter}
 use Rattle.std.proofs.Math.Nat.{mul-le-mul}
 use Rattle.std.proofs.Math.Seq.{take-append-add}
@@ -20,7 +21,8 @@ use Rattle.sig_table.specs.declared.ids.FormatId.{FormatId}
 use Rattle.sig_table.specs.Views.{TableView}
 use Rattle.sig_engines.specs.Asks.{asked_pairs, is_asked, needs_class}
 use Rattle.sig_engines.specs.ClassTexts.{is_class}
-use Rattle.sig_engines.specs.Conflicts.{AddsFirstPairs, AreCounts, AreFirst, IsBeforeSearch, IsClassOf, IsCounted, IsSettled, KnownPair, StopsPairs, asked_line, class_count, classes_in, count_of, is_ambiguous, is_decided, is_unknown, is_unrelated, notes_of, pair_line, pair_lines, pairs_in, pairs_of}
+use Rattle.sig_engines.specs.Conflicts.{AddsFirstPairs, AreCounts, AreFirst, IsBeforeSearch, IsClassOf, IsCounted, IsSettled, KnownPair, StopsPairs, asked_line,
+    class_count, classes_in, count_of, is_ambiguous, is_decided, is_unknown, is_unrelated, notes_of, pair_line, pair_lines, pairs_in, pairs_of}
 use Rattle.sig_engines.specs.Notes.{note_of, noted}
 use Rattle.sig_engines.specs.Pairs.{AreTold, IsFileFault, IsPairCut, IsRankFault, IsTargetFault, IsTold}
 use Rattle.sig_engines.specs.Ranking.{IsOfFormats}
@@ -46,24 +48,28 @@ adds_front before after text adds = (length text, omega arith, subst (λ t. Adds
 -- a text is written, and then a front of the next
 pub front_then : (before mid after : Option (List ℕ)) (a b : List ℕ) → Adds before a mid → AddsFront mid b after → AddsFront before (a ++ b) after
 front_then before mid after a b adds (n, within, front) =
-    (length a + n, (let long = length-append a b in omega (arith, long, within)), subst (λ t. Adds before t after) (sym (take-append-add a b n)) (adds_then before mid after a (take n b) adds front))
+    (length a + n, (let long = length-append a b in omega (arith, long, within)),
+        subst (λ t. Adds before t after) (sym (take-append-add a b n)) (adds_then before mid after a (take n b) adds front))
 
 -- ---- what is counted
 
 -- one pair more
-count_more : (test : Option PairDecision → Bool) (known : List KnownPair) (k : KnownPair) → count_of test (known ++ k ∷ []) ≡ count_of test known + cond (test k.decision) 1 0
+count_more : (test : Option PairDecision → Bool) (known : List KnownPair) (k : KnownPair)
+    → count_of test (known ++ k ∷ []) ≡ count_of test known + cond (test k.decision) 1 0
 count_more test known k =
     let f : KnownPair → ℕ = λ k. cond (test k.decision) 1 0 in
     let one = sum_by-cons f k [] in
     sum_by-append f known (k ∷ []) ∙ ap (λ n. count_of test known + n) (one ∙ omega arith)
 
-class_more : (class : PairClass) (known : List KnownPair) (k : KnownPair) → class_count (known ++ k ∷ []) class ≡ class_count known class + cond (is_class class k.class) 1 0
+class_more : (class : PairClass) (known : List KnownPair) (k : KnownPair)
+    → class_count (known ++ k ∷ []) class ≡ class_count known class + cond (is_class class k.class) 1 0
 class_more class known k =
     let f : KnownPair → ℕ = λ k. cond (is_class class k.class) 1 0 in
     let one = sum_by-cons f k [] in
     sum_by-append f known (k ∷ []) ∙ ap (λ n. class_count known class + n) (one ∙ omega arith)
 
-pub counts_more : (known : List KnownPair) (k : KnownPair) (old new : Counts) → AreCounts known old → IsCounted old new k.decision k.class → AreCounts (known ++ k ∷ []) new
+pub counts_more : (known : List KnownPair) (k : KnownPair) (old new : Counts) → AreCounts known old → IsCounted old new k.decision k.class
+    → AreCounts (known ++ k ∷ []) new
 counts_more known k old new are one = record {
   decided = one.decided ∙ ap (λ n. n + cond (is_decided k.decision) 1 0) are.decided ∙ sym (count_more is_decided known k);
   ambiguous = one.ambiguous ∙ ap (λ n. n + cond (is_ambiguous k.decision) 1 0) are.ambiguous ∙ sym (count_more is_ambiguous known k);
@@ -109,7 +115,8 @@ most_one None = omega arith
 most_one (Some decision) = omega arith
 
 -- it has one class at most
-most_one_class : (c : Option PairClass) → cond (is_class Over c) 1 0 + cond (is_class Under c) 1 0 + cond (is_class Same c) 1 0 + cond (is_class Apart c) 1 0 + cond (is_class Open c) 1 0 ≤ 1
+most_one_class : (c : Option PairClass) → cond (is_class Over c) 1 0 + cond (is_class Under c) 1 0 + cond (is_class Same c) 1 0 + cond (is_class Apart c) 1 0
+    + cond (is_class Open c) 1 0 ≤ 1
 most_one_class None = omega arith
 most_one_class (Some Over) = omega arith
 most_one_class (Some Under) = omega arith
@@ -129,7 +136,8 @@ sum_of_counts (k ∷ known) =
     let u = sum_by-cons (λ (k : KnownPair). cond (is_unknown k.decision) 1 0) k known in
     omega (arith, one, more, p, d, m, u)
 
-few_have_a_class : (known : List KnownPair) → class_count known Over + class_count known Under + class_count known Same + class_count known Apart + class_count known Open ≤ length known
+few_have_a_class : (known : List KnownPair) → class_count known Over + class_count known Under + class_count known Same + class_count known Apart + class_count
+    known Open ≤ length known
 few_have_a_class [] = omega arith
 few_have_a_class (k ∷ known) =
     let one = most_one_class k.class in
@@ -150,32 +158,43 @@ few_are_unrelated (k ∷ known) =
 -- ---- the first pairs
 
 -- a pair that is asked for is the next of those that are
-pub next_asked : (only : Option FormatId) (formats : ℕ × ℕ) (all rest : List (ℕ × ℕ)) → all ≡ formats ∷ rest → is_asked only formats ≡ true → filter (is_asked only) all ≡ formats ∷ filter (is_asked only) rest
-next_asked only formats all rest is asked = ap (filter (is_asked only)) is ∙ ap (λ b. cond b (formats ∷ filter (is_asked only) rest) (filter (is_asked only) rest)) asked
+pub next_asked : (only : Option FormatId) (formats : ℕ × ℕ) (all rest : List (ℕ × ℕ)) → all ≡ formats ∷ rest → is_asked only formats ≡ true
+    → filter (is_asked only) all ≡ formats ∷ filter (is_asked only) rest
+next_asked only formats all rest is asked = ap (filter (is_asked only)) is ∙ ap
+    (λ b. cond b (formats ∷ filter (is_asked only) rest) (filter (is_asked only) rest)) asked
 
 -- one that is not is none of them
-pub next_not_asked : (only : Option FormatId) (formats : ℕ × ℕ) (all rest : List (ℕ × ℕ)) → all ≡ formats ∷ rest → is_asked only formats ≡ false → filter (is_asked only) all ≡ filter (is_asked only) rest
-next_not_asked only formats all rest is not_asked = ap (filter (is_asked only)) is ∙ ap (λ b. cond b (formats ∷ filter (is_asked only) rest) (filter (is_asked only) rest)) not_asked
+pub next_not_asked : (only : Option FormatId) (formats : ℕ × ℕ) (all rest : List (ℕ × ℕ)) → all ≡ formats ∷ rest → is_asked only formats ≡ false
+    → filter (is_asked only) all ≡ filter (is_asked only) rest
+next_not_asked only formats all rest is not_asked = ap (filter (is_asked only)) is ∙ ap
+    (λ b. cond b (formats ∷ filter (is_asked only) rest) (filter (is_asked only) rest)) not_asked
 
-first_more : (ask : ConflictsAsk) (table : TableView) (known : List KnownPair) (others later : List (ℕ × ℕ)) (k : KnownPair) → others ≡ k.formats ∷ later → AreFirst ask table known others → IsSettled ask table k → AreFirst ask table (known ++ k ∷ []) later
+first_more : (ask : ConflictsAsk) (table : TableView) (known : List KnownPair) (others later : List (ℕ × ℕ)) (k : KnownPair) → others ≡ k.formats ∷ later
+    → AreFirst ask table known others → IsSettled ask table k → AreFirst ask table (known ++ k ∷ []) later
 first_more ask table known others later k is are settled = record {
-  at = are.at ∙ ap (λ l. pairs_of known ++ l) is ∙ sym (append_assoc (pairs_of known) (k.formats ∷ []) later) ∙ ap (λ l. l ++ later) (sym (map-append (λ (k : KnownPair). k.formats) known (k ∷ [])));
+  at = are.at ∙ ap (λ l. pairs_of known ++ l) is ∙ sym (append_assoc (pairs_of known) (k.formats ∷ []) later) ∙ ap (λ l. l ++ later)
+      (sym (map-append (λ (k : KnownPair). k.formats) known (k ∷ [])));
   settled = All-push (IsSettled ask table) known k are.settled settled;
 }
 
-lines_more : (ask : ConflictsAsk) (table : TableView) (known : List KnownPair) (k : KnownPair) → pair_lines ask table (known ++ k ∷ []) ≡ pair_lines ask table known ++ pair_line ask table k.formats k.decision k.class
+lines_more : (ask : ConflictsAsk) (table : TableView) (known : List KnownPair) (k : KnownPair)
+    → pair_lines ask table (known ++ k ∷ []) ≡ pair_lines ask table known ++ pair_line ask table k.formats k.decision k.class
 lines_more ask table known k =
-    flat_map-append (λ (k : KnownPair). pair_line ask table k.formats k.decision k.class) known (k ∷ []) ∙ ap (λ l. pair_lines ask table known ++ l) (append-nil (pair_line ask table k.formats k.decision k.class))
+    flat_map-append (λ (k : KnownPair). pair_line ask table k.formats k.decision k.class) known (k ∷ []) ∙ ap (λ l. pair_lines ask table known ++ l)
+        (append-nil (pair_line ask table k.formats k.decision k.class))
 
 notes_more : (known : List KnownPair) (k : KnownPair) → notes_of (known ++ k ∷ []) ≡ notes_of known ++ noted k.formats k.decision k.class
 notes_more known k =
-    flat_map-append (λ (k : KnownPair). noted k.formats k.decision k.class) known (k ∷ []) ∙ ap (λ l. notes_of known ++ l) (append-nil (noted k.formats k.decision k.class))
+    flat_map-append (λ (k : KnownPair). noted k.formats k.decision k.class) known (k ∷ []) ∙ ap (λ l. notes_of known ++ l)
+        (append-nil (noted k.formats k.decision k.class))
 
 -- the formats of a note are those of its pair
-one_within : (table : TableView) (formats : ℕ × ℕ) (class : Option PairClass) → (formats.0 < length table.formats) × (formats.1 < length table.formats) → All (IsOfFormats table) (note_of formats class ∷ [])
+one_within : (table : TableView) (formats : ℕ × ℕ) (class : Option PairClass) → (formats.0 < length table.formats) × (formats.1 < length table.formats)
+    → All (IsOfFormats table) (note_of formats class ∷ [])
 one_within table formats class within = All-cons (IsOfFormats table) (note_of formats class) [] within (All-nil (IsOfFormats table))
 
-noted_within : (table : TableView) (formats : ℕ × ℕ) → (formats.0 < length table.formats) × (formats.1 < length table.formats) → (decision : Option PairDecision) (class : Option PairClass) → All (IsOfFormats table) (noted formats decision class)
+noted_within : (table : TableView) (formats : ℕ × ℕ) → (formats.0 < length table.formats) × (formats.1 < length table.formats)
+    → (decision : Option PairDecision) (class : Option PairClass) → All (IsOfFormats table) (noted formats decision class)
 noted_within table formats within None class = All-nil (IsOfFormats table)
 noted_within table formats within (Some Decided) class = All-nil (IsOfFormats table)
 noted_within table formats within (Some (Ambiguous s t file)) class = one_within table formats class within
@@ -187,7 +206,8 @@ module _ (Made : List ℕ → List ℕ → Type 0) (ask : ConflictsAsk) (table :
   abbrev Keeps : KnownPair → Type 0
   Keeps k = KeepsWitness Made table ask.files k.formats k.decision
 
-  pub begins_told : (counts : Counts) (before : Option (List ℕ)) → AreCounts [] counts → AreTold Made ask table (asked_pairs ask.only (length table.formats)) counts [] before before
+  pub begins_told : (counts : Counts) (before : Option (List ℕ)) → AreCounts [] counts
+      → AreTold Made ask table (asked_pairs ask.only (length table.formats)) counts [] before before
   begins_told counts before are = record {
     known = [];
     are_first = record { at = refl; settled = All-nil (IsSettled ask table) };
@@ -199,8 +219,10 @@ module _ (Made : List ℕ → List ℕ → Type 0) (ask : ConflictsAsk) (table :
   }
 
   -- one pair more
-  pub goes_told : (formats : ℕ × ℕ) (others later : List (ℕ × ℕ)) (old new : Counts) (old_notes new_notes : List Note) (before mid after : Option (List ℕ)) → others ≡ formats ∷ later → (formats.0 < length table.formats) × (formats.1 < length table.formats)
-      → AreTold Made ask table others old old_notes before mid → IsTold Made ask table formats old new old_notes new_notes mid after → AreTold Made ask table later new new_notes before after
+  pub goes_told : (formats : ℕ × ℕ) (others later : List (ℕ × ℕ)) (old new : Counts) (old_notes new_notes : List Note) (before mid after : Option (List ℕ))
+      → others ≡ formats ∷ later → (formats.0 < length table.formats) × (formats.1 < length table.formats)
+      → AreTold Made ask table others old old_notes before mid → IsTold Made ask table formats old new old_notes new_notes mid after
+          → AreTold Made ask table later new new_notes before after
   goes_told formats others later old new old_notes new_notes before mid after is within are one =
       let k : KnownPair = record { formats = formats; decision = one.decision; class = one.class } in
       record {
@@ -208,13 +230,16 @@ module _ (Made : List ℕ → List ℕ → Type 0) (ask : ConflictsAsk) (table :
         are_first = first_more ask table are.known others later k is are.are_first one.settled;
         are_counts = counts_more are.known k old new are.are_counts one.counts;
         are_notes = one.notes ∙ ap (λ l. l ++ noted formats one.decision one.class) are.are_notes ∙ sym (notes_more are.known k);
-        within = subst (All (IsOfFormats table)) (sym one.notes) (All-append (IsOfFormats table) old_notes (noted formats one.decision one.class) are.within (noted_within table formats within one.decision one.class));
+        within = subst (All (IsOfFormats table)) (sym one.notes) (All-append (IsOfFormats table) old_notes (noted formats one.decision one.class) are.within
+            (noted_within table formats within one.decision one.class));
         files = All-push Keeps are.known k are.files one.file;
-        adds = subst (λ l. Adds before l after) (sym (lines_more ask table are.known k)) (adds_then before mid after (pair_lines ask table are.known) (pair_line ask table formats one.decision one.class) are.adds one.adds);
+        adds = subst (λ l. Adds before l after) (sym (lines_more ask table are.known k))
+            (adds_then before mid after (pair_lines ask table are.known) (pair_line ask table formats one.decision one.class) are.adds one.adds);
       }
 
   -- memory ran out between two pairs
-  pub stops : {F : Type 0} (failed : F → Bool) (others : List (ℕ × ℕ)) (counts : Counts) (notes : List Note) (is_failed : Bool) (before after : Option (List ℕ)) → AreTold Made ask table others counts notes before after → StopsPairs failed (Cut OutOfMemory) ask table is_failed before after
+  pub stops : {F : Type 0} (failed : F → Bool) (others : List (ℕ × ℕ)) (counts : Counts) (notes : List Note) (is_failed : Bool) (before after : Option (List ℕ))
+      → AreTold Made ask table others counts notes before after → StopsPairs failed (Cut OutOfMemory) ask table is_failed before after
   stops failed others counts notes is_failed before after are = record {
     known = are.known;
     others = others;
@@ -222,7 +247,8 @@ module _ (Made : List ℕ → List ℕ → Type 0) (ask : ConflictsAsk) (table :
     adds = are.adds;
   }
 
-  first_are_told : (others : List (ℕ × ℕ)) (counts : Counts) (notes : List Note) (before mid after : Option (List ℕ)) → AreTold Made ask table others counts notes before mid → after ≡ mid → AddsFirstPairs ask table before after
+  first_are_told : (others : List (ℕ × ℕ)) (counts : Counts) (notes : List Note) (before mid after : Option (List ℕ))
+      → AreTold Made ask table others counts notes before mid → after ≡ mid → AddsFirstPairs ask table before after
   first_are_told others counts notes before mid after are same = record {
     known = are.known;
     others = others;
@@ -231,8 +257,10 @@ module _ (Made : List ℕ → List ℕ → Type 0) (ask : ConflictsAsk) (table :
   }
 
   -- a pair is not written whole
-  pub ends_cut : {F : Type 0} (failed : F → Bool) (fault : PairsFault) (formats : ℕ × ℕ) (others later : List (ℕ × ℕ)) (counts : Counts) (notes : List Note) (is_failed : Bool) (before mid after : Option (List ℕ)) → others ≡ formats ∷ later
-      → AreTold Made ask table others counts notes before mid → IsPairCut failed fault ask table formats is_failed mid after → StopsPairs failed fault ask table is_failed before after
+  pub ends_cut : {F : Type 0} (failed : F → Bool) (fault : PairsFault) (formats : ℕ × ℕ) (others later : List (ℕ × ℕ)) (counts : Counts) (notes : List Note)
+      (is_failed : Bool) (before mid after : Option (List ℕ)) → others ≡ formats ∷ later
+      → AreTold Made ask table others counts notes before mid → IsPairCut failed fault ask table formats is_failed mid after
+          → StopsPairs failed fault ask table is_failed before after
   ends_cut failed (CannotOpen name) formats others later counts notes is_failed before mid after is are cut = absurd cut
   ends_cut failed (NoFile folder name) formats others later counts notes is_failed before mid after is are cut = (
     cut.0.0,
@@ -257,23 +285,28 @@ module _ (Made : List ℕ → List ℕ → Type 0) (ask : ConflictsAsk) (table :
             are_first = first_more ask table are.known others later k is are.are_first one.settled;
             text = pair_lines ask table (are.known ++ k ∷ []);
             is_text = inl refl;
-            adds = subst (λ l. AddsFront before l after) (sym (lines_more ask table are.known k)) (front_then before mid after (pair_lines ask table are.known) (pair_line ask table formats one.decision one.class) are.adds one.adds);
+            adds = subst (λ l. AddsFront before l after) (sym (lines_more ask table are.known k))
+                (front_then before mid after (pair_lines ask table are.known) (pair_line ask table formats one.decision one.class) are.adds one.adds);
           },
         )
     | inr made ↦ inr (made.0, first_are_told others counts notes before mid after are made.1)
   ]
-  ends_cut failed (Cut OutOfMemory) formats others later counts notes is_failed before mid after is are cut = first_are_told others counts notes before mid after are cut
+  ends_cut failed (Cut OutOfMemory) formats others later counts notes is_failed before mid after is are cut =
+      first_are_told others counts notes before mid after are cut
 
   -- the priority file is not written
-  pub rank_stops : {F : Type 0} (failed : F → Bool) (fault : PairsFault) (others : List (ℕ × ℕ)) (counts : Counts) (notes : List Note) (is_failed : Bool) (before after : Option (List ℕ)) → AreTold Made ask table others counts notes before after
+  pub rank_stops : {F : Type 0} (failed : F → Bool) (fault : PairsFault) (others : List (ℕ × ℕ)) (counts : Counts) (notes : List Note) (is_failed : Bool)
+      (before after : Option (List ℕ)) → AreTold Made ask table others counts notes before after
       → IsRankFault failed fault → StopsPairs failed fault ask table is_failed before after
   rank_stops failed (CannotOpen name) others counts notes is_failed before after are fault = absurd fault
   rank_stops failed (NoFile folder name) others counts notes is_failed before after are fault = absurd fault
-  rank_stops failed (Cut Write) others counts notes is_failed before after are fault = inr (fault, first_are_told others counts notes before after after are refl)
+  rank_stops failed (Cut Write) others counts notes is_failed before after are fault =
+      inr (fault, first_are_told others counts notes before after after are refl)
   rank_stops failed (Cut OutOfMemory) others counts notes is_failed before after are fault = first_are_told others counts notes before after after are refl
 
 -- before the first pair
-pub none_yet : {F : Type 0} (failed : F → Bool) (ask : ConflictsAsk) (table : TableView) (is_failed : Bool) (before : Option (List ℕ)) → StopsPairs failed (Cut OutOfMemory) ask table is_failed before before
+pub none_yet : {F : Type 0} (failed : F → Bool) (ask : ConflictsAsk) (table : TableView) (is_failed : Bool) (before : Option (List ℕ))
+    → StopsPairs failed (Cut OutOfMemory) ask table is_failed before before
 none_yet failed ask table is_failed before = record {
   known = [];
   others = asked_pairs ask.only (length table.formats);
@@ -282,13 +315,15 @@ none_yet failed ask table is_failed before = record {
 }
 
 -- and before that a folder or a file is not made
-pub target_stops : {F : Type 0} (failed : F → Bool) (fault : PairsFault) (ask : ConflictsAsk) (table : TableView) (is_failed : Bool) (before after : Option (List ℕ)) → IsTargetFault fault ask → StopsPairs failed fault ask table is_failed before after
+pub target_stops : {F : Type 0} (failed : F → Bool) (fault : PairsFault) (ask : ConflictsAsk) (table : TableView) (is_failed : Bool)
+    (before after : Option (List ℕ)) → IsTargetFault fault ask → StopsPairs failed fault ask table is_failed before after
 target_stops failed (CannotOpen name) ask table is_failed before after fault = fault
 target_stops failed (NoFile folder name) ask table is_failed before after fault = absurd fault
 target_stops failed (Cut cut) ask table is_failed before after fault = absurd fault
 
 -- what is not made in the search is none of what is made before it
-pub cut_is_searched : {F : Type 0} (failed : F → Bool) (fault : PairsFault) (ask : ConflictsAsk) (table : TableView) (formats : ℕ × ℕ) (is_failed : Bool) (before after : Option (List ℕ)) → IsPairCut failed fault ask table formats is_failed before after → ¬ IsBeforeSearch fault
+pub cut_is_searched : {F : Type 0} (failed : F → Bool) (fault : PairsFault) (ask : ConflictsAsk) (table : TableView) (formats : ℕ × ℕ) (is_failed : Bool)
+    (before after : Option (List ℕ)) → IsPairCut failed fault ask table formats is_failed before after → ¬ IsBeforeSearch fault
 cut_is_searched failed (CannotOpen name) ask table formats is_failed before after cut = absurd cut
 cut_is_searched failed (NoFile folder name) ask table formats is_failed before after cut = λ none. none
 cut_is_searched failed (Cut cut) ask table formats is_failed before after is = λ none. none
@@ -306,7 +341,9 @@ few_are_asked test pairs =
     omega (arith, both)
 
 -- the counts are few
-few_told : (Made : List ℕ → List ℕ → Type 0) (ask : ConflictsAsk) (table : TableView) (others : List (ℕ × ℕ)) (counts : Counts) (notes : List Note) (before after : Option (List ℕ)) → AreTold Made ask table others counts notes before after → pairs_in counts + length others ≤ length (format_pairs (length table.formats))
+few_told : (Made : List ℕ → List ℕ → Type 0) (ask : ConflictsAsk) (table : TableView) (others : List (ℕ × ℕ)) (counts : Counts) (notes : List Note)
+    (before after : Option (List ℕ)) → AreTold Made ask table others counts notes before after
+    → pairs_in counts + length others ≤ length (format_pairs (length table.formats))
 few_told Made ask table others counts notes before after are =
     let asked = few_are_asked (is_asked ask.only) (format_pairs (length table.formats)) in
     let all = ap length are.are_first.at in
@@ -316,7 +353,9 @@ few_told Made ask table others counts notes before after are =
     let few = few_are_unrelated are.known in
     omega (arith, asked, all, long, same, sum, few, are.are_counts.decided, are.are_counts.ambiguous, are.are_counts.unknown)
 
-few_classes_told : (Made : List ℕ → List ℕ → Type 0) (ask : ConflictsAsk) (table : TableView) (others : List (ℕ × ℕ)) (counts : Counts) (notes : List Note) (before after : Option (List ℕ)) → AreTold Made ask table others counts notes before after → classes_in counts + length others ≤ length (format_pairs (length table.formats))
+few_classes_told : (Made : List ℕ → List ℕ → Type 0) (ask : ConflictsAsk) (table : TableView) (others : List (ℕ × ℕ)) (counts : Counts) (notes : List Note)
+    (before after : Option (List ℕ)) → AreTold Made ask table others counts notes before after
+    → classes_in counts + length others ≤ length (format_pairs (length table.formats))
 few_classes_told Made ask table others counts notes before after are =
     let asked = few_are_asked (is_asked ask.only) (format_pairs (length table.formats)) in
     let all = ap length are.are_first.at in
@@ -332,26 +371,36 @@ room_for_one n sum left long few is within =
     let product = mul-le-mul few less in
     omega (arith, product, is, within)
 
-pub room_told : (Made : List ℕ → List ℕ → Type 0) (ask : ConflictsAsk) (table : TableView) (others : List (ℕ × ℕ)) (counts : Counts) (notes : List Note) (before after : Option (List ℕ)) (n : ℕ) → n ≤ 1000 → n ≡ length table.formats → AreTold Made ask table others counts notes before after → pairs_in counts < 4294967295
+pub room_told : (Made : List ℕ → List ℕ → Type 0) (ask : ConflictsAsk) (table : TableView) (others : List (ℕ × ℕ)) (counts : Counts) (notes : List Note)
+    (before after : Option (List ℕ)) (n : ℕ) → n ≤ 1000 → n ≡ length table.formats → AreTold Made ask table others counts notes before after
+    → pairs_in counts < 4294967295
 room_told Made ask table others counts notes before after n few count are =
     room_for_one n (pairs_in counts) (length others) (length (format_pairs n)) few (length-format_pairs n)
     (subst (λ k. pairs_in counts + length others ≤ length (format_pairs k)) (sym count) (few_told Made ask table others counts notes before after are))
 
-pub room_classed : (Made : List ℕ → List ℕ → Type 0) (ask : ConflictsAsk) (table : TableView) (others : List (ℕ × ℕ)) (counts : Counts) (notes : List Note) (before after : Option (List ℕ)) (n : ℕ) → n ≤ 1000 → n ≡ length table.formats → AreTold Made ask table others counts notes before after → classes_in counts < 4294967295
+pub room_classed : (Made : List ℕ → List ℕ → Type 0) (ask : ConflictsAsk) (table : TableView) (others : List (ℕ × ℕ)) (counts : Counts) (notes : List Note)
+    (before after : Option (List ℕ)) (n : ℕ) → n ≤ 1000 → n ≡ length table.formats → AreTold Made ask table others counts notes before after
+    → classes_in counts < 4294967295
 room_classed Made ask table others counts notes before after n few count are =
     room_for_one n (classes_in counts) (length others) (length (format_pairs n)) few (length-format_pairs n)
-    (subst (λ k. classes_in counts + length others ≤ length (format_pairs k)) (sym count) (few_classes_told Made ask table others counts notes before after are))
+    (subst (λ k. classes_in counts + length others ≤ length (format_pairs k)) (sym count)
+        (few_classes_told Made ask table others counts notes before after are))
 
 -- ---- one pair
 
 -- of related formats no file is kept
-pub no_file : (Made : List ℕ → List ℕ → Type 0) (table : TableView) (files : Option (Bor (List ℕ))) (formats : ℕ × ℕ) → KeepsWitness Made table files formats None
+pub no_file : (Made : List ℕ → List ℕ → Type 0) (table : TableView) (files : Option (Bor (List ℕ))) (formats : ℕ × ℕ)
+    → KeepsWitness Made table files formats None
 no_file Made table None formats = tt
 no_file Made table (Some folder) formats = tt
 
 -- its line is written
-pub pair_is_told : (Made : List ℕ → List ℕ → Type 0) (ask : ConflictsAsk) (table : TableView) (formats : ℕ × ℕ) (decision : PairDecision) (class : Option PairClass) (old new : Counts) (old_notes new_notes : List Note) (line : List ℕ) (before after : Option (List ℕ)) → IsSettled ask table (record { formats = formats; decision = Some decision; class = class })
-    → IsCounted old new (Some decision) class → new_notes ≡ old_notes ++ noted formats (Some decision) class → KeepsWitness Made table ask.files formats (Some decision) → line ≡ asked_line ask table formats decision class → Adds before line after → IsTold Made ask table formats old new old_notes new_notes before after
+pub pair_is_told : (Made : List ℕ → List ℕ → Type 0) (ask : ConflictsAsk) (table : TableView) (formats : ℕ × ℕ) (decision : PairDecision)
+    (class : Option PairClass) (old new : Counts) (old_notes new_notes : List Note) (line : List ℕ) (before after : Option (List ℕ))
+    → IsSettled ask table (record { formats = formats; decision = Some decision; class = class })
+    → IsCounted old new (Some decision) class → new_notes ≡ old_notes ++ noted formats (Some decision) class
+        → KeepsWitness Made table ask.files formats (Some decision) → line ≡ asked_line ask table formats decision class → Adds before line after
+        → IsTold Made ask table formats old new old_notes new_notes before after
 pair_is_told Made ask table formats decision class old new old_notes new_notes line before after settled counts notes file is adds = record {
   decision = Some decision;
   class = class;
@@ -363,8 +412,11 @@ pair_is_told Made ask table formats decision class old new old_notes new_notes l
 }
 
 -- a write of it failed
-pub line_is_cut : {F : Type 0} (failed : F → Bool) (e : CutShort) (ask : ConflictsAsk) (table : TableView) (formats : ℕ × ℕ) (decision : PairDecision) (class : Option PairClass) (line : List ℕ) (is_failed : Bool) (before after : Option (List ℕ)) → IsSettled ask table (record { formats = formats; decision = Some decision; class = class })
-    → line ≡ asked_line ask table formats decision class → (e ≡ Write) × (is_failed ≡ true) × AddsFront before line after → IsPairCut failed (Cut e) ask table formats is_failed before after
+pub line_is_cut : {F : Type 0} (failed : F → Bool) (e : CutShort) (ask : ConflictsAsk) (table : TableView) (formats : ℕ × ℕ) (decision : PairDecision)
+    (class : Option PairClass) (line : List ℕ) (is_failed : Bool) (before after : Option (List ℕ))
+    → IsSettled ask table (record { formats = formats; decision = Some decision; class = class })
+    → line ≡ asked_line ask table formats decision class → (e ≡ Write) × (is_failed ≡ true) × AddsFront before line after
+        → IsPairCut failed (Cut e) ask table formats is_failed before after
 line_is_cut failed e ask table formats decision class line is_failed before after settled is cut =
     subst (λ e. IsPairCut failed (Cut e) ask table formats is_failed before after) (sym cut.0) (inl (
       cut.1,
@@ -377,7 +429,8 @@ line_is_cut failed e ask table formats decision class line is_failed before afte
     ))
 
 -- its file was not made
-pub file_is_cut : {F : Type 0} (failed : F → Bool) (fault : PairsFault) (ask : ConflictsAsk) (table : TableView) (formats : ℕ × ℕ) (is_failed : Bool) (before : Option (List ℕ)) → IsFileFault failed fault ask table formats → IsPairCut failed fault ask table formats is_failed before before
+pub file_is_cut : {F : Type 0} (failed : F → Bool) (fault : PairsFault) (ask : ConflictsAsk) (table : TableView) (formats : ℕ × ℕ) (is_failed : Bool)
+    (before : Option (List ℕ)) → IsFileFault failed fault ask table formats → IsPairCut failed fault ask table formats is_failed before before
 file_is_cut failed (CannotOpen name) ask table formats is_failed before fault = absurd fault
 file_is_cut failed (NoFile folder name) ask table formats is_failed before fault = (fault, refl)
 file_is_cut failed (Cut Write) ask table formats is_failed before fault = inr (fault, refl)

@@ -1,10 +1,12 @@
 -- Canonical texts of what is left of a list.
-use Rattle.std.proofs.Common.{◌≡◌, ℕ, ◌+◌, ◌<◌, List, [], ◌∷◌, ◌++◌, length, drop, get_or, map, refl, add-one, drop-cons, Vec, Global, Bool, true, false, cond, nat_eq, Option, Some, None, arith, length-append}
+use Rattle.std.proofs.Common.{◌≡◌, ℕ, ◌+◌, ◌<◌, List, [], ◌∷◌, ◌++◌, length, drop, get_or, map, refl, add-one, drop-cons, Vec, Global, Bool, true, false, cond,
+    nat_eq, Option, Some, None, arith, length-append}
 use Rattle.hex.specs.Hex.{encode_upper, encode_with}
 use Rattle.sig_expr.specs.declared.item.Atom.{Atom}
 use Rattle.sig_expr.specs.declared.item.Item.{Item}
 use Rattle.sig_expr.specs.declared.item.Item.TheVariants as item
-use Rattle.sig_expr.specs.Canon.{atom_text, alternative_text, alternatives_text, item_text, canon, gap_text, from_text, count_text, between_text, range_text, not_text}
+use Rattle.sig_expr.specs.Canon.{atom_text, alternative_text, alternatives_text, item_text, canon, gap_text, from_text, count_text, between_text, range_text,
+    not_text}
 
 some_if : (b : Bool) (x y : List ℕ) → 0 < length x → 0 < length y → 0 < length (cond b x y)
 some_if true x y hx hy = hx
@@ -14,7 +16,8 @@ pub encode_upper-rest : (xs : List ℕ) (i d : ℕ) → i < length xs → encode
 unfolding encode_with
 encode_upper-rest xs i d h = rw (add-one, drop-cons xs i d) refl
 
-pub alternative_text-rest : (xs : List Atom) (i : ℕ) (d : Atom) → i < length xs → alternative_text (drop i xs) ≡ atom_text (get_or xs i d) ++ alternative_text (drop (i + 1) xs)
+pub alternative_text-rest : (xs : List Atom) (i : ℕ) (d : Atom) → i < length xs
+    → alternative_text (drop i xs) ≡ atom_text (get_or xs i d) ++ alternative_text (drop (i + 1) xs)
 unfolding alternative_text
 alternative_text-rest xs i d h = rw (add-one, drop-cons xs i d) refl
 
@@ -22,7 +25,9 @@ pub canon-rest : (xs : List Item) (i : ℕ) (d : Item) → i < length xs → can
 unfolding canon
 canon-rest xs i d h = rw (add-one, drop-cons xs i d) refl
 
-pub alternatives_text-rest : (sign : List ℕ) (xs : List (Vec Atom Global)) (i : ℕ) (d : Vec Atom Global) → i < length xs → alternatives_text sign (map (λ v. v.items) (drop i xs)) ≡ sign ++ (alternative_text (get_or xs i d).items ++ alternatives_text (124 ∷ []) (map (λ v. v.items) (drop (i + 1) xs)))
+pub alternatives_text-rest : (sign : List ℕ) (xs : List (Vec Atom Global)) (i : ℕ) (d : Vec Atom Global) → i < length xs
+    → alternatives_text sign (map (λ v. v.items) (drop i xs)) ≡ sign
+    ++ (alternative_text (get_or xs i d).items ++ alternatives_text (124 ∷ []) (map (λ v. v.items) (drop (i + 1) xs)))
 unfolding alternatives_text
 alternatives_text-rest sign xs i d h = rw (add-one, drop-cons xs i d) refl
 

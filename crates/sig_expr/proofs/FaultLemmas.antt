@@ -32,7 +32,8 @@ means_order not a b n =
 
 means_gap_to : (min : ℕ) (max : Option ℕ) (n : ℕ) → MeansFirst (gap_fault_to min max n)
 means_gap_to min None n = tt
-means_gap_to min (Some max) n = means_if (nat_lt 65535 max) _ _ (λ t h. h) (means_if (nat_eq max 0) _ _ (λ t h. h) (means_if (nat_lt max min) _ _ (λ t h. h) tt))
+means_gap_to min (Some max) n = means_if (nat_lt 65535 max) _ _ (λ t h. h)
+    (means_if (nat_eq max 0) _ _ (λ t h. h) (means_if (nat_lt max min) _ _ (λ t h. h) tt))
 
 means_gap : (min : ℕ) (max : Option ℕ) (n : ℕ) → MeansFirst (gap_fault min max n)
 unfolding gap_fault
@@ -46,7 +47,8 @@ means_words f (Some a) (Some b) h = h a b
 means_range : (not : Bool) (a b : _) (n : ℕ) → MeansFirst (range_fault not a b n)
 unfolding range_fault
 means_range not a b n =
-    means_if (nat_eq a.len b.len) _ _ (means_if (nat_lt 8 a.len) _ _ (λ t h. h) (means_words _ (word_of a) (word_of b) (λ x y. means_order not x y n))) (λ t h. h)
+    means_if (nat_eq a.len b.len) _ _ (means_if (nat_lt 8 a.len) _ _ (λ t h. h) (means_words _ (word_of a) (word_of b) (λ x y. means_order not x y n)))
+        (λ t h. h)
 
 means_not : (a : _) (n : ℕ) → MeansFirst (not_fault a n)
 unfolding not_fault

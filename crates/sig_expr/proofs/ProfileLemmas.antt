@@ -1,5 +1,6 @@
 -- Texts of the profile are read, and what is read is in the profile.
-use Rattle.std.proofs.Common.{◌≡◌, ℕ, ◌+◌, ◌<◌, ◌≤◌, Bool, true, false, cond, List, [], ◌∷◌, ◌++◌, length, map, Option, Some, None, Ok, refl, sym, ◌∙◌, ap, rules, arith, nat_eq, nat_lt, append_assoc, append-nil}
+use Rattle.std.proofs.Common.{◌≡◌, ℕ, ◌+◌, ◌<◌, ◌≤◌, Bool, true, false, cond, List, [], ◌∷◌, ◌++◌, length, map, Option, Some, None, Ok, refl, sym, ◌∙◌, ap,
+    rules, arith, nat_eq, nat_lt, append_assoc, append-nil}
 use Rattle.std.specs.Prelude.{◌&&◌, ⊤}
 use Rattle.std.specs.Ordering.{nat_cmp}
 use Rattle.std.specs.Cmp.Lexicographic.{slice_cmp}
@@ -30,7 +31,9 @@ use Rattle.sig_expr.proofs.OrderLemmas.{leaves_word, leaves_no_all}
 use Rattle.sig_expr.proofs.PairLemmas.{pair_small, range_sound, not_sound}
 use Rattle.sig_expr.proofs.ScanLemmas.{text_scans}
 
-stop_behind_at : (k : Step) (z : State) (n m : ℕ) (t u : List ℕ) (y : State) → m ≡ n + 1 + length t → (run z t ≡ Some y → stop_from z (n + 1) (t ++ u) ≡ stop_from y (n + 1 + length t) u) → run_at k (run z t) ≡ Some y → stop_at k n (stop_from z (n + 1) (t ++ u)) ≡ stop_from y m u
+stop_behind_at : (k : Step) (z : State) (n m : ℕ) (t u : List ℕ) (y : State) → m ≡ n + 1 + length t
+    → (run z t ≡ Some y → stop_from z (n + 1) (t ++ u) ≡ stop_from y (n + 1 + length t) u) → run_at k (run z t) ≡ Some y
+    → stop_at k n (stop_from z (n + 1) (t ++ u)) ≡ stop_from y m u
 stop_behind_at step.Refused z n m t u y q later e = cc
 stop_behind_at (step.More k) z n m t u y q later e = rw q (later e)
 stop_behind_at (step.Whole p) z n m t u y q later e = rw q (later e)
@@ -39,14 +42,16 @@ stop_behind_at (step.Whole p) z n m t u y q later e = rw q (later e)
 pub stop_behind : (s : State) (n : ℕ) (t u : List ℕ) (y : State) → run s t ≡ Some y → stop_from s n (t ++ u) ≡ stop_from y (n + length t) u
 unfolding run stop_from
 stop_behind s n [] u y e = let same : s ≡ y = cc in let none : n ≡ n + 0 = omega arith in rw (same, ← none) refl
-stop_behind s n (b ∷ t) u y e = stop_behind_at (feed_of s b) (next_of s (feed_of s b)) n _ t u y (omega arith) (stop_behind (next_of s (feed_of s b)) (n + 1) t u y) e
+stop_behind s n (b ∷ t) u y e = stop_behind_at (feed_of s b) (next_of s (feed_of s b)) n _ t u y (omega arith)
+    (stop_behind (next_of s (feed_of s b)) (n + 1) t u y) e
 
 -- what pieces build
 abbrev pub built_all : Built → List Piece → Built
 built_all u [] = u
 built_all u (p ∷ ps) = built_all (built_of u p) ps
 
-built_pieces_at : (k : Step) (u : Built) (z : State) (t : List ℕ) → ((v : Built) → built_from v z t ≡ built_all v (pieces z t)) → built_from (built_step u k) z t ≡ built_all u (pieces_in k ++ pieces z t)
+built_pieces_at : (k : Step) (u : Built) (z : State) (t : List ℕ) → ((v : Built) → built_from v z t ≡ built_all v (pieces z t))
+    → built_from (built_step u k) z t ≡ built_all u (pieces_in k ++ pieces z t)
 built_pieces_at step.Refused u z t later = later u
 built_pieces_at (step.More k) u z t later = later u
 built_pieces_at (step.Whole p) u z t later = later (built_of u p)
@@ -70,7 +75,8 @@ or_else_none : (x y : Option ExprError) → or_else x y ≡ None → (x ≡ None
 or_else_none None y e = (refl, e)
 or_else_none (Some f) y e = absurd (cc)
 
-clean_at : (k : Step) (z : State) (n m : ℕ) (t : List ℕ) → (fault_from z m (n + 1) t ≡ None → Clean (pieces z t)) → fault_at k m (fault_from z m (n + 1) t) ≡ None → Clean (pieces_in k ++ pieces z t)
+clean_at : (k : Step) (z : State) (n m : ℕ) (t : List ℕ) → (fault_from z m (n + 1) t ≡ None → Clean (pieces z t))
+    → fault_at k m (fault_from z m (n + 1) t) ≡ None → Clean (pieces_in k ++ pieces z t)
 clean_at step.Refused z n m t later e = later e
 clean_at (step.More k) z n m t later e = later e
 clean_at (step.Whole p) z n m t later e = let both = or_else_none (fault_of p m) (fault_from z m (n + 1) t) e in ((m, both.0), later both.1)
@@ -78,9 +84,11 @@ clean_at (step.Whole p) z n m t later e = let both = or_else_none (fault_of p m)
 pub clean_pieces : (s : State) (o n : ℕ) (t : List ℕ) → fault_from s o n t ≡ None → Clean (pieces s t)
 unfolding fault_from pieces
 clean_pieces s o n [] e = tt
-clean_pieces s o n (b ∷ t) e = clean_at (feed_of s b) (next_of s (feed_of s b)) n (opened_of s o n) t (clean_pieces (next_of s (feed_of s b)) (opened_of s o n) (n + 1) t) e
+clean_pieces s o n (b ∷ t) e = clean_at (feed_of s b) (next_of s (feed_of s b)) n (opened_of s o n) t
+    (clean_pieces (next_of s (feed_of s b)) (opened_of s o n) (n + 1) t) e
 
-quiet_at : (k : Step) (z : State) (n m : ℕ) (t : List ℕ) → (Quiet (pieces z t) → fault_from z m (n + 1) t ≡ None) → Quiet (pieces_in k ++ pieces z t) → fault_at k m (fault_from z m (n + 1) t) ≡ None
+quiet_at : (k : Step) (z : State) (n m : ℕ) (t : List ℕ) → (Quiet (pieces z t) → fault_from z m (n + 1) t ≡ None) → Quiet (pieces_in k ++ pieces z t)
+    → fault_at k m (fault_from z m (n + 1) t) ≡ None
 quiet_at step.Refused z n m t later h = later h
 quiet_at (step.More k) z n m t later h = later h
 quiet_at (step.Whole p) z n m t later h = rw (h.0 m) (later h.1)
@@ -88,7 +96,8 @@ quiet_at (step.Whole p) z n m t later h = rw (h.0 m) (later h.1)
 quiet_pieces : (s : State) (o n : ℕ) (t : List ℕ) → Quiet (pieces s t) → fault_from s o n t ≡ None
 unfolding fault_from pieces
 quiet_pieces s o n [] h = refl
-quiet_pieces s o n (b ∷ t) h = quiet_at (feed_of s b) (next_of s (feed_of s b)) n (opened_of s o n) t (quiet_pieces (next_of s (feed_of s b)) (opened_of s o n) (n + 1) t) h
+quiet_pieces s o n (b ∷ t) h = quiet_at (feed_of s b) (next_of s (feed_of s b)) n (opened_of s o n) t
+    (quiet_pieces (next_of s (feed_of s b)) (opened_of s o n) (n + 1) t) h
 
 clean_append : (ps qs : List Piece) → Clean (ps ++ qs) → Clean ps × Clean qs
 clean_append [] qs h = (tt, h)
@@ -119,7 +128,8 @@ both_short a b e h =
     (omega arith, omega arith)
 
 -- what a bracket with two ends is refused for where no fault is found, and the other way round
-sound_range : (not : Bool) (o a b t : List ℕ) → RangeText o a b t → (n : ℕ) → range_fault not (end_of_word a) (end_of_word b) n ≡ None → RangeSound a b × ((not && (are_all 0 a && are_all 255 b)) ≡ false)
+sound_range : (not : Bool) (o a b t : List ℕ) → RangeText o a b t → (n : ℕ) → range_fault not (end_of_word a) (end_of_word b) n ≡ None → RangeSound a b
+    × ((not && (are_all 0 a && are_all 255 b)) ≡ false)
 unfolding range_fault order_fault
 sound_range not o a b t h n e =
     let one = some_else (nat_eq (end_of_word a).len (end_of_word b).len) _ _ e in
@@ -135,7 +145,8 @@ sound_range not o a b t h n e =
     let four = none_if (not && (are_all 0 a && are_all 255 b)) _ _ three.1 in
     (range_sound o a b t h lengths.0 lengths.1 (less_is _ three.0), four.0)
 
-quiet_range : (not : Bool) (a b : List ℕ) (n : ℕ) → RangeSound a b → ((not && (are_all 0 a && are_all 255 b)) ≡ false) → range_fault not (end_of_word a) (end_of_word b) n ≡ None
+quiet_range : (not : Bool) (a b : List ℕ) (n : ℕ) → RangeSound a b → ((not && (are_all 0 a && are_all 255 b)) ≡ false)
+    → range_fault not (end_of_word a) (end_of_word b) n ≡ None
 unfolding range_fault order_fault
 quiet_range not a b n h leaves =
     let p = len_of_word a in
@@ -182,7 +193,8 @@ quiet_gap least (Some max) n h =
     let four : nat_lt max least ≡ false = grind (arith, nat_tests, h.0) in
     rw (one, two, three, four) refl
 
-sound_class : (a b t : List ℕ) → RangeText (91 ∷ 33 ∷ []) a b t → (n : ℕ) → range_fault true (end_of_word a) (end_of_word b) n ≡ None → RangeSound a b × LeavesWord a b
+sound_class : (a b t : List ℕ) → RangeText (91 ∷ 33 ∷ []) a b t → (n : ℕ) → range_fault true (end_of_word a) (end_of_word b) n ≡ None → RangeSound a b
+    × LeavesWord a b
 sound_class a b t h n e =
     let k = sound_range true _ a b t h n e in
     (k.0, leaves_word a b k.0.same_length k.0.second.bytes k.1)
@@ -212,7 +224,8 @@ quiet_atoms (p ∷ ps) k = (quiet_atom p k.0, quiet_atoms ps k.1)
 
 sound_barred : (as' : List (List Atom)) (t : List ℕ) → AlternativesText (124 ∷ []) as' t → Clean (barred as') → AlternativesSound as'
 sound_barred [] t h k = tt
-sound_barred (a ∷ rest) t h k = let both = clean_append (map piece_of a) (barred rest) k.1 in (sound_atoms a h.0 h.4 both.0, sound_barred rest h.1 h.5 both.1, h.3)
+sound_barred (a ∷ rest) t h k = let both = clean_append (map piece_of a) (barred rest) k.1 in
+    (sound_atoms a h.0 h.4 both.0, sound_barred rest h.1 h.5 both.1, h.3)
 
 quiet_barred : (as' : List (List Atom)) → AlternativesSound as' → Quiet (barred as')
 quiet_barred [] k = tt
@@ -274,18 +287,22 @@ built_append u (p ∷ ps) qs = built_append (built_of u p) ps qs
 word_range : (a b : List ℕ) → RangeSound a b → (word_of (end_of_word a) ≡ Some a) × (word_of (end_of_word b) ≡ Some b)
 word_range a b h = (word_of_end a h.first.some h.first.short, word_of_end b h.second.some h.second.short)
 
-builds_atom : (is : List Item) (as' : List (List Atom)) (a : List Atom) (p : Atom) → AtomSound p → built_of (within is as' a) (piece_of p) ≡ within is as' (a ++ p ∷ [])
+builds_atom : (is : List Item) (as' : List (List Atom)) (a : List Atom) (p : Atom) → AtomSound p
+    → built_of (within is as' a) (piece_of p) ≡ within is as' (a ++ p ∷ [])
 builds_atom is as' a (atom.Byte b) k = refl
 builds_atom is as' a (atom.Range x y) k = let w = word_range x y k in rw (w.0, w.1) refl
 builds_atom is as' a (atom.Not x) k = rw (word_of_end x k.some k.short) refl
 builds_atom is as' a (atom.NotRange x y) k = let w = word_range x y k.0 in rw (w.0, w.1) refl
 
-builds_atoms : (is : List Item) (as' : List (List Atom)) (a ps : List Atom) → AtomsSound ps → built_all (within is as' a) (map piece_of ps) ≡ within is as' (a ++ ps)
+builds_atoms : (is : List Item) (as' : List (List Atom)) (a ps : List Atom) → AtomsSound ps
+    → built_all (within is as' a) (map piece_of ps) ≡ within is as' (a ++ ps)
 builds_atoms is as' a [] k = rw append-nil refl
 builds_atoms is as' a (p ∷ ps) k =
-    ap (λ (u : Built). built_all u (map piece_of ps)) (builds_atom is as' a p k.0) ∙ builds_atoms is as' (a ++ p ∷ []) ps k.1 ∙ ap (λ (x : List Atom). within is as' x) (append_assoc a (p ∷ []) ps)
+    ap (λ (u : Built). built_all u (map piece_of ps)) (builds_atom is as' a p k.0) ∙ builds_atoms is as' (a ++ p ∷ []) ps k.1 ∙ ap
+        (λ (x : List Atom). within is as' x) (append_assoc a (p ∷ []) ps)
 
-builds_barred : (is : List Item) (as' : List (List Atom)) (a : List Atom) (rest : List (List Atom)) → AlternativesSound rest → built_all (within is as' a) (barred rest ++ (piece.Close ∷ [])) ≡ outside (is ++ item.Alt (as' ++ a ∷ rest) ∷ [])
+builds_barred : (is : List Item) (as' : List (List Atom)) (a : List Atom) (rest : List (List Atom)) → AlternativesSound rest
+    → built_all (within is as' a) (barred rest ++ (piece.Close ∷ [])) ≡ outside (is ++ item.Alt (as' ++ a ∷ rest) ∷ [])
 builds_barred is as' a [] k = refl
 builds_barred is as' a (x ∷ rest) k =
     let first = builds_atoms is (as' ++ a ∷ []) [] x k.0 in
@@ -296,7 +313,8 @@ builds_barred is as' a (x ∷ rest) k =
     ∙ later
     ∙ ap (λ (l : List (List Atom)). outside (is ++ item.Alt l ∷ [])) (append_assoc as' (a ∷ []) (x ∷ rest))
 
-builds_list : (is : List Item) (as' : List (List Atom)) → 2 ≤ length as' → AlternativesSound as' → built_all (outside is) (listed as') ≡ outside (is ++ item.Alt as' ∷ [])
+builds_list : (is : List Item) (as' : List (List Atom)) → 2 ≤ length as' → AlternativesSound as'
+    → built_all (outside is) (listed as') ≡ outside (is ++ item.Alt as' ∷ [])
 builds_list is [] two k = absurd (omega arith)
 builds_list is (a ∷ rest) two k =
     built_append (within is [] []) (map piece_of a) (barred rest ++ (piece.Close ∷ []))
@@ -344,7 +362,8 @@ sound_text e t some h quiet =
 pub items_text : (e : List Item) (t : List ℕ) → 0 < length e → Spells e t → ItemsSound e → items_of t ≡ e
 items_text e t some h k =
     let scans = text_scans e t some h in
-    let all : built_from fresh start t ≡ outside e = built_pieces fresh start t ∙ ap (λ (ps : List Piece). built_all fresh ps) scans.found ∙ builds_items [] e k in
+    let all : built_from fresh start t ≡ outside e = built_pieces fresh start t ∙ ap (λ (ps : List Piece). built_all fresh ps) scans.found ∙ builds_items [] e k
+        in
     ap (λ (u : Built). u.items) all
 
 pub some_items : (e e' : List Item) (t : List ℕ) → 0 < length e → Spells e t → Spells e' t → 0 < length e'

@@ -1,5 +1,6 @@
 -- What is read and what is refused, in plain words.
-use Rattle.std.proofs.Common.{◌≡◌, ◌≢◌, ℕ, ◌+◌, ◌-◌, ◌<◌, ◌≤◌, Bool, true, false, cond, List, [], ◌∷◌, ◌++◌, length, take, suc, length-append, Option, Some, None, Result, Ok, Err, refl, sym, ◌∙◌, ap, arith, nat_lt, append_assoc, append-nil}
+use Rattle.std.proofs.Common.{◌≡◌, ◌≢◌, ℕ, ◌+◌, ◌-◌, ◌<◌, ◌≤◌, Bool, true, false, cond, List, [], ◌∷◌, ◌++◌, length, take, suc, length-append, Option, Some,
+    None, Result, Ok, Err, refl, sym, ◌∙◌, ap, arith, nat_lt, append_assoc, append-nil}
 use Rattle.std.specs.Prelude.{IsOk}
 use Rattle.std.proofs.lemmas.Bool.Decides.{nat_tests}
 use Rattle.std.proofs.Math.Seq.{take-append_seam, take-append-add}
@@ -14,7 +15,8 @@ use Rattle.sig_expr.specs.declared.lexer.Token.TheVariants as token
 use Rattle.sig_expr.specs.declared.lexer.State.{State}
 use Rattle.sig_expr.specs.declared.lexer.Step.{Step}
 use Rattle.sig_expr.specs.declared.lexer.Step.TheVariants as step
-use Rattle.sig_expr.specs.Reading.{feed_of, next_of, is_end_of, start, behind_part, is_between, begin_of, item_start_of, list_start_of, part_of, go_on_of, number_of, star_of, closed_gap_of, end_of, closed_bracket_of}
+use Rattle.sig_expr.specs.Reading.{feed_of, next_of, is_end_of, start, behind_part, is_between, begin_of, item_start_of, list_start_of, part_of, go_on_of,
+    number_of, star_of, closed_gap_of, end_of, closed_bracket_of}
 use Rattle.sig_expr.proofs.Scans.{run, run_at}
 use Rattle.sig_expr.specs.Passes.{stop_of, stop_from, stop_at, fault_in, items_of}
 use Rattle.sig_expr.specs.Texts.{expr_of, unless_stop, unless_fault}
@@ -134,7 +136,8 @@ Completes s n = (u : List ℕ) × (stop_from s n u ≡ None)
 completes_by : (c : Context) (k : Token) (n : ℕ) (b : Bool) → is_between k ≡ b → Completes (at c k) n
 completes_by c token.Between n b e = (context_rest c, context_done c n)
 completes_by c k n true e = absurd (cc)
-completes_by c k n false e = (token_rest k ++ context_rest (behind_part c), stop_behind (at c k) n (token_rest k) (context_rest (behind_part c)) (at (behind_part c) token.Between) (token_done c k e) ∙ context_done (behind_part c) _)
+completes_by c k n false e = (token_rest k ++ context_rest (behind_part c),
+    stop_behind (at c k) n (token_rest k) (context_rest (behind_part c)) (at (behind_part c) token.Between) (token_done c k e) ∙ context_done (behind_part c) _)
 
 -- a front that is read, and a byte behind it that is refused, unless the text ends there
 record Stopped (s : State) (n : ℕ) (t : List ℕ) (m : ℕ) : Type 0 where
@@ -150,7 +153,8 @@ stopped_end : (b : Bool) (n m : ℕ) → cond b None (Some n) ≡ Some m → m �
 stopped_end true n m e = absurd (cc)
 stopped_end false n m e = cc
 
-stopped_on : (s : State) (b : ℕ) (t : List ℕ) (n m : ℕ) (k : Step) → feed_of s b ≡ k → k ≢ step.Refused → Stopped (next_of s k) (n + 1) t m → Stopped s n (b ∷ t) m
+stopped_on : (s : State) (b : ℕ) (t : List ℕ) (n m : ℕ) (k : Step) → feed_of s b ≡ k → k ≢ step.Refused → Stopped (next_of s k) (n + 1) t m
+    → Stopped s n (b ∷ t) m
 unfolding run
 stopped_on s b t n m k e goes h = record {
   front = b ∷ h.front;
@@ -170,7 +174,8 @@ stopped_on s b t n m k e goes h = record {
 same_head : (b c : ℕ) (t z : List ℕ) → b ∷ t ≡ c ∷ z → b ≡ c
 same_head b c t z e = cc
 
-stopped_at : (s : State) (b : ℕ) (t : List ℕ) (n m : ℕ) (k : Step) → feed_of s b ≡ k → ((z : State) → stop_from z (n + 1) t ≡ Some m → Stopped z (n + 1) t m) → stop_at k n (stop_from (next_of s k) (n + 1) t) ≡ Some m → Stopped s n (b ∷ t) m
+stopped_at : (s : State) (b : ℕ) (t : List ℕ) (n m : ℕ) (k : Step) → feed_of s b ≡ k → ((z : State) → stop_from z (n + 1) t ≡ Some m → Stopped z (n + 1) t m)
+    → stop_at k n (stop_from (next_of s k) (n + 1) t) ≡ Some m → Stopped s n (b ∷ t) m
 unfolding run
 stopped_at s b t n m step.Refused e later q =
     let same : n ≡ m = cc in
@@ -180,7 +185,8 @@ stopped_at s b t n m (step.Whole p) e later q = stopped_on s b t n m (step.Whole
 
 stopped : (t : List ℕ) (s : State) (n m : ℕ) → stop_from s n t ≡ Some m → Stopped s n t m
 unfolding stop_from run
-stopped [] s n m e = let same = stopped_end (is_end_of s) n m e in record { front = []; rest = []; state = s; cut = refl; place = omega (arith, same); ran = refl; refuses = λ b z r. absurd (cc) }
+stopped [] s n m e = let same = stopped_end (is_end_of s) n m e in
+    record { front = []; rest = []; state = s; cut = refl; place = omega (arith, same); ran = refl; refuses = λ b z r. absurd (cc) }
 stopped (b ∷ t) s n m e = stopped_at s b t n m (feed_of s b) refl (λ z q. stopped t z (n + 1) m q) e
 
 take_on : (front z : List ℕ) (b m : ℕ) → length front < m → (w : List ℕ) × (take m (front ++ b ∷ z) ≡ front ++ b ∷ w)
@@ -238,20 +244,23 @@ no_text t n short e = record {
   front = longest_front t n e;
 }
 
-means_fault : (f : ExprError) (t : List ℕ) (x : Option ExprError) → length t ≤ 8192 → stop_of t ≡ None → fault_in t ≡ x → unless_fault x (items_of t) ≡ Err f → Means f t
+means_fault : (f : ExprError) (t : List ℕ) (x : Option ExprError) → length t ≤ 8192 → stop_of t ≡ None → fault_in t ≡ x → unless_fault x (items_of t) ≡ Err f
+    → Means f t
 means_fault f t None short stops faulty answer = absurd (cc)
 means_fault f t (Some g) short stops faulty answer =
     let same : g ≡ f = cc in
     let found : fault_in t ≡ Some f = rw same at faulty in
     fault_means start 0 0 t f found t (found_first f t short stops found)
 
-means_stop : (f : ExprError) (t : List ℕ) (x : Option ℕ) → length t ≤ 8192 → stop_of t ≡ x → unless_stop x (unless_fault (fault_in t) (items_of t)) ≡ Err f → Means f t
+means_stop : (f : ExprError) (t : List ℕ) (x : Option ℕ) → length t ≤ 8192 → stop_of t ≡ x → unless_stop x (unless_fault (fault_in t) (items_of t)) ≡ Err f
+    → Means f t
 means_stop f t None short stops answer = means_fault f t (fault_in t) short stops refl answer
 means_stop f t (Some n) short stops answer =
     let same : error.Syntax n ≡ f = cc in
     rw (← same) (no_text t n short stops)
 
-means_long : (f : ExprError) (t : List ℕ) (b : Bool) → nat_lt 8192 (length t) ≡ b → cond b (Err error.TooLong) (unless_stop (stop_of t) (unless_fault (fault_in t) (items_of t))) ≡ Err f → Means f t
+means_long : (f : ExprError) (t : List ℕ) (b : Bool) → nat_lt 8192 (length t) ≡ b
+    → cond b (Err error.TooLong) (unless_stop (stop_of t) (unless_fault (fault_in t) (items_of t))) ≡ Err f → Means f t
 means_long f t true e answer =
     let same : error.TooLong ≡ f = cc in
     let long : 8192 < length t = grind (arith, nat_tests, e) in

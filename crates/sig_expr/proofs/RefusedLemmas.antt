@@ -1,5 +1,6 @@
 -- What a gap or a bracket is refused for, by the lowest number.
-use Rattle.std.proofs.Common.{◌≡◌, ◌≢◌, ◌⊎◌, inl, inr, ℕ, ◌+◌, ◌<◌, ◌≤◌, Bool, true, false, List, [], ◌∷◌, ◌++◌, length, Option, Some, None, refl, ◌∙◌, ap, arith, nat_eq, nat_lt, length-append}
+use Rattle.std.proofs.Common.{◌≡◌, ◌≢◌, ◌⊎◌, inl, inr, ℕ, ◌+◌, ◌<◌, ◌≤◌, Bool, true, false, List, [], ◌∷◌, ◌++◌, length, Option, Some, None, refl, ◌∙◌, ap,
+    arith, nat_eq, nat_lt, length-append}
 use Rattle.std.specs.Prelude.{◌&&◌}
 use Rattle.std.specs.Ordering.{nat_cmp}
 use Rattle.std.specs.Cmp.Lexicographic.{slice_cmp}
@@ -84,7 +85,8 @@ not_over x h = by_test (nat_lt 65535 x) refl
 
 -- what is read of ends of one length, of at most eight bytes
 both_ends : (a b : List ℕ) → 0 < length a → 0 < length b → AreEnds a b
-    → (nat_eq (end_of_word a).len (end_of_word b).len ≡ true) × (nat_lt 8 (end_of_word a).len ≡ false) × (word_of (end_of_word a) ≡ Some a) × (word_of (end_of_word b) ≡ Some b)
+    → (nat_eq (end_of_word a).len (end_of_word b).len ≡ true) × (nat_lt 8 (end_of_word a).len ≡ false) × (word_of (end_of_word a) ≡ Some a)
+        × (word_of (end_of_word b) ≡ Some b)
 both_ends a b some some' h =
     let p = len_of_word a in
     let q = len_of_word b in
@@ -125,7 +127,8 @@ gap_refused least None n f h = absurd h.has
 gap_refused least (Some max) n f h = absurd h.has
 
 -- the same of a bracket with two ends
-pub range_refused : (not : Bool) (a b : List ℕ) (n : ℕ) (f : ExprError) → 0 < length a → 0 < length b → length a ≤ 8192 → length b ≤ 8192 → IsBytes b → IsRefused n (RangeHas not a b) f → range_fault not (end_of_word a) (end_of_word b) n ≡ Some f
+pub range_refused : (not : Bool) (a b : List ℕ) (n : ℕ) (f : ExprError) → 0 < length a → 0 < length b → length a ≤ 8192 → length b ≤ 8192 → IsBytes b
+    → IsRefused n (RangeHas not a b) f → range_fault not (end_of_word a) (end_of_word b) n ≡ Some f
 unfolding range_fault order_fault
 range_refused not a b n (error.RangeLength m) some some' few few' bytes h =
     let same : m ≡ n = cc (h.place) in
@@ -165,7 +168,8 @@ not_refused a n (error.BracketTooLong m) few h =
     rw (over, same) refl
 not_refused a n f few h = absurd h.has
 
-pub range_text_refused : (not : Bool) (opening a b t : List ℕ) (n : ℕ) (f : ExprError) → RangeText opening a b t → length t ≤ 8192 → IsRefused n (RangeHas not a b) f → range_fault not (end_of_word a) (end_of_word b) n ≡ Some f
+pub range_text_refused : (not : Bool) (opening a b t : List ℕ) (n : ℕ) (f : ExprError) → RangeText opening a b t → length t ≤ 8192
+    → IsRefused n (RangeHas not a b) f → range_fault not (end_of_word a) (end_of_word b) n ≡ Some f
 range_text_refused not opening a b t n f h short r =
     let lens = range_len opening a b t h in
     range_refused not a b n f h.some_first h.some_second (omega (arith, lens.0)) (omega (arith, lens.1)) (word_bytes b h.second h.is_second) r
@@ -174,7 +178,8 @@ pub not_text_refused : (a t : List ℕ) (n : ℕ) (f : ExprError) → NotText a 
 not_text_refused a t n f h short r = not_refused a n f (omega (arith, not_len a t h)) r
 
 -- the same of a part
-pub atom_refused : (p : Atom) (t : List ℕ) (n : ℕ) (f : ExprError) → AtomText p t → length t ≤ 8192 → IsRefused n (AtomHas p) f → fault_of (piece_of p) n ≡ Some f
+pub atom_refused : (p : Atom) (t : List ℕ) (n : ℕ) (f : ExprError) → AtomText p t → length t ≤ 8192 → IsRefused n (AtomHas p) f
+    → fault_of (piece_of p) n ≡ Some f
 atom_refused (atom.Byte b) t n f h short r = absurd r.has
 atom_refused (atom.Range a b) t n f h short r = range_text_refused false (91 ∷ []) a b t n f h short r
 atom_refused (atom.Not a) t n f h short r = not_text_refused a t n f h short r
@@ -211,7 +216,8 @@ judged_gap least None n =
 judged_gap least (Some max) n =
     either (below 65535 least) (λ o. inr (error.GapNumber n, record { place = refl; has = inl o; lowest = number_lowest least (Some max) }))
     (λ p. either (below 65535 max) (λ o. inr (error.GapNumber n, record { place = refl; has = inr o; lowest = number_lowest least (Some max) }))
-    (λ q. either (below 0 max) (λ r. either (below max least) (λ o. inr (error.GapOrder n, record { place = refl; has = o; lowest = order_lowest least max p q r }))
+    (λ q. either (below 0 max) (λ r. either (below max least) (λ o. inr
+        (error.GapOrder n, record { place = refl; has = o; lowest = order_lowest least max p q r }))
     (λ k. inl (k, q, r)))
     (λ z. inr (error.GapEmpty n, record { place = refl; has = omega arith; lowest = empty_lowest least max p q }))))
 
@@ -252,13 +258,16 @@ record RangeQuiet (not : Bool) (a b : List ℕ) : Type 0 where
   order : IsBefore a b
   leaves : (not && (are_all 0 a && are_all 255 b)) ≡ false
 
-judged_class : (not : Bool) (a b : List ℕ) (n : ℕ) → AreEnds a b → IsBefore a b → (x y : Bool) → are_all 0 a ≡ x → are_all 255 b ≡ y → RangeQuiet not a b ⊎ Refused n (RangeHas not a b)
+judged_class : (not : Bool) (a b : List ℕ) (n : ℕ) → AreEnds a b → IsBefore a b → (x y : Bool) → are_all 0 a ≡ x → are_all 255 b ≡ y → RangeQuiet not a b
+    ⊎ Refused n (RangeHas not a b)
 judged_class false a b n h k x y p q = inl (record { ends = h; order = k; leaves = refl })
-judged_class true a b n h k true true p q = inr (error.ClassEmpty n, record { place = refl; has = (h, λ w. no_word a b h.0 p q w); lowest = class_lowest a b k })
+judged_class true a b n h k true true p q = inr (error.ClassEmpty n,
+    record { place = refl; has = (h, λ w. no_word a b h.0 p q w); lowest = class_lowest a b k })
 judged_class true a b n h k false y p q = inl (record { ends = h; order = k; leaves = rw p refl })
 judged_class true a b n h k true false p q = inl (record { ends = h; order = k; leaves = rw (p, q) refl })
 
-judged_order : (not : Bool) (a b : List ℕ) (n : ℕ) → AreEnds a b → (o : Ordering) → slice_cmp nat_cmp a b ≡ o → RangeQuiet not a b ⊎ Refused n (RangeHas not a b)
+judged_order : (not : Bool) (a b : List ℕ) (n : ℕ) → AreEnds a b → (o : Ordering) → slice_cmp nat_cmp a b ≡ o → RangeQuiet not a b
+    ⊎ Refused n (RangeHas not a b)
 judged_order not a b n h Less e = judged_class not a b n h e (are_all 0 a) (are_all 255 b) refl refl
 judged_order not a b n h Equal e = inr (error.RangeOrder n, record { place = refl; has = (h, λ k. absurd (cc)); lowest = first_lowest not a b })
 judged_order not a b n h Greater e = inr (error.RangeOrder n, record { place = refl; has = (h, λ k. absurd (cc)); lowest = first_lowest not a b })
@@ -269,7 +278,8 @@ judged_range not a b n =
     either (below (length a) (length b)) (λ l. differ (λ e. omega arith))
     (λ g. either (below (length b) (length a)) (λ l. differ (λ e. omega arith))
     (λ g'. let same : length a ≡ length b = omega arith in
-    either (below 8 (length a)) (λ o. inr (error.BracketTooLong n, record { place = refl; has = inl o; lowest = long_lowest not a b (λ k. omega (arith, k.1)) same }))
+    either (below 8 (length a)) (λ o. inr (error.BracketTooLong n,
+        record { place = refl; has = inl o; lowest = long_lowest not a b (λ k. omega (arith, k.1)) same }))
     (λ short. judged_order not a b n (same, short) (slice_cmp nat_cmp a b) refl)))
   where
     differ : length a ≢ length b → RangeQuiet not a b ⊎ Refused n (RangeHas not a b)

@@ -1,5 +1,6 @@
 -- A text spells one list of items alone: what is spelled at the front of a text, and what is behind it, is known by the text.
-use Rattle.std.proofs.Common.{◌≡◌, inl, inr, ℕ, ◌+◌, ◌%◌, ◌<◌, ◌≤◌, true, false, nat_eq, if◌then◌else◌, List, [], ◌∷◌, ◌++◌, length, decimal, Option, Some, None, refl, sym, ◌∙◌, ap, arith, append_assoc}
+use Rattle.std.proofs.Common.{◌≡◌, inl, inr, ℕ, ◌+◌, ◌%◌, ◌<◌, ◌≤◌, true, false, nat_eq, if◌then◌else◌, List, [], ◌∷◌, ◌++◌, length, decimal, Option, Some,
+    None, refl, sym, ◌∙◌, ap, arith, append_assoc}
 use Rattle.std.specs.Prelude.{⊤}
 use Rattle.std.proofs.lemmas.Fmt.{decimal_by_steps, decimal_injective, decimal_nonempty}
 use Rattle.hex.specs.Hex.{hex_digit_value}
@@ -7,7 +8,8 @@ use Rattle.sig_expr.specs.declared.item.Item.{Item}
 use Rattle.sig_expr.specs.declared.item.Item.TheVariants as item
 use Rattle.sig_expr.specs.declared.item.Atom.{Atom}
 use Rattle.sig_expr.specs.declared.item.Atom.TheVariants as atom
-use Rattle.sig_expr.specs.Spelling.{PairText, WordText, NumberText, GapText, RangeText, NotText, AtomText, AlternativeText, AlternativesText, ListText, ItemText, Spells}
+use Rattle.sig_expr.specs.Spelling.{PairText, WordText, NumberText, GapText, RangeText, NotText, AtomText, AlternativeText, AlternativesText, ListText,
+    ItemText, Spells}
 use Rattle.sig_expr.proofs.ProfileLemmas.{some_items}
 use Rattle.sig_expr.proofs.ScanLemmas.{not_digit}
 
@@ -17,7 +19,8 @@ Each P [] = ⊤
 Each P (b ∷ t) = P b × Each P t
 
 -- up to a sign that is not so, the text says where they end
-to_sign : (P : ℕ → Type 0) (u u' v v' : List ℕ) (s s' : ℕ) → Each P u → Each P u' → (P s → ⊥) → (P s' → ⊥) → u ++ s ∷ v ≡ u' ++ s' ∷ v' → (u ≡ u') × (s ≡ s') × (v ≡ v')
+to_sign : (P : ℕ → Type 0) (u u' v v' : List ℕ) (s s' : ℕ) → Each P u → Each P u' → (P s → ⊥) → (P s' → ⊥) → u ++ s ∷ v ≡ u' ++ s' ∷ v' → (u ≡ u') × (s ≡ s')
+    × (v ≡ v')
 to_sign P [] [] v v' s s' h h' n n' e = (refl, cc, cc)
 to_sign P [] (b ∷ u') v v' s s' h h' n n' e = let same : b ≡ s = cc in absurd (n (rw same at h'.0))
 to_sign P (b ∷ u) [] v v' s s' h h' n n' e = let same : b ≡ s' = cc in absurd (n' (rw same at h.0))
@@ -74,7 +77,8 @@ word_one (b ∷ a) (b' ∷ a') u h h' =
     cc (cut.0, rest)
 
 -- an end of a bracket, up to a sign
-word_cuts : (a a' u u' v v' : List ℕ) (s s' : ℕ) → WordText a u → WordText a' u' → hex_digit_value s ≡ None → hex_digit_value s' ≡ None → u ++ s ∷ v ≡ u' ++ s' ∷ v' → (a ≡ a') × (s ≡ s') × (v ≡ v')
+word_cuts : (a a' u u' v v' : List ℕ) (s s' : ℕ) → WordText a u → WordText a' u' → hex_digit_value s ≡ None → hex_digit_value s' ≡ None
+    → u ++ s ∷ v ≡ u' ++ s' ∷ v' → (a ≡ a') × (s ≡ s') × (v ≡ v')
 word_cuts a a' u u' v v' s s' h h' n n' e =
     let cut = to_sign IsDigit u u' v v' s s' (word_digits a u h) (word_digits a' u' h') (no_digit s n) (no_digit s' n') e in
     (word_one a a' u h (rw cut.0 h'), cut.1, cut.2)
@@ -89,10 +93,12 @@ each_more [] b h k = (k, tt)
 each_more (x ∷ u) b h k = (h.0, each_more u b h.1 k)
 
 number_digits : (n : ℕ) → n < 100000 → Each IsDecimal (decimal n)
-number_digits n h = decimal_by_steps (λ m ds. Each IsDecimal ds) (λ m l. ((omega arith, omega arith), tt)) (λ m ds l k. each_more ds (48 + m % 10) k (omega arith, omega arith)) n (omega arith)
+number_digits n h = decimal_by_steps (λ m ds. Each IsDecimal ds) (λ m l. ((omega arith, omega arith), tt))
+    (λ m ds l k. each_more ds (48 + m % 10) k (omega arith, omega arith)) n (omega arith)
 
 -- a number, up to a sign
-number_cuts : (n n' : ℕ) (u u' v v' : List ℕ) (s s' : ℕ) → NumberText n u → NumberText n' u' → (IsDecimal s → ⊥) → (IsDecimal s' → ⊥) → u ++ s ∷ v ≡ u' ++ s' ∷ v' → (n ≡ n') × (s ≡ s') × (v ≡ v')
+number_cuts : (n n' : ℕ) (u u' v v' : List ℕ) (s s' : ℕ) → NumberText n u → NumberText n' u' → (IsDecimal s → ⊥) → (IsDecimal s' → ⊥)
+    → u ++ s ∷ v ≡ u' ++ s' ∷ v' → (n ≡ n') × (s ≡ s') × (v ≡ v')
 number_cuts n n' u u' v v' s s' h h' k k' e =
     let cut = to_sign IsDecimal (decimal n) (decimal n') v v' s s' (number_digits n h.few) (number_digits n' h'.few) k k' (rw (h.digits, h'.digits) at e) in
     (decimal_injective n n' (omega (arith, h.few)) (omega (arith, h'.few)) cut.0, cut.1, cut.2)
@@ -124,7 +130,8 @@ count_text t u v e = ap (λ (x : List ℕ). x ++ v) e ∙ ap (λ (x : List ℕ).
 
 between_text : (t u w v : List ℕ) → t ≡ 123 ∷ (u ++ (45 ∷ (w ++ (125 ∷ [])))) → t ++ v ≡ 123 ∷ (u ++ (45 ∷ (w ++ (125 ∷ v))))
 between_text t u w v e =
-    ap (λ (x : List ℕ). x ++ v) e ∙ ap (λ (x : List ℕ). 123 ∷ x) (append_assoc u (45 ∷ (w ++ (125 ∷ []))) v) ∙ ap (λ (x : List ℕ). 123 ∷ (u ++ (45 ∷ x))) (append_assoc w (125 ∷ []) v)
+    ap (λ (x : List ℕ). x ++ v) e ∙ ap (λ (x : List ℕ). 123 ∷ x) (append_assoc u (45 ∷ (w ++ (125 ∷ []))) v) ∙ ap (λ (x : List ℕ). 123 ∷ (u ++ (45 ∷ x)))
+        (append_assoc w (125 ∷ []) v)
 
 inside : (x y : List ℕ) → 123 ∷ x ≡ 123 ∷ y → x ≡ y
 inside x y e = cut_front (123 ∷ []) x y e
@@ -140,37 +147,46 @@ open_or_not : (least least' max' : ℕ) (u u' v v' : List ℕ) → GapText least
 open_or_not least least' max' u u' v v' (inl h) (inl h') e = star_or_brace _ _ (sym (star_text u v h.0) ∙ e ∙ count_text u' h'.0 v' h'.1)
 open_or_not least least' max' u u' v v' (inl h) (inr h') e = star_or_brace _ _ (sym (star_text u v h.0) ∙ e ∙ between_text u' h'.0 h'.1 v' h'.2)
 open_or_not least least' max' u u' v v' (inr h) (inl h') e =
-    dash_or_brace 45 125 refl refl (number_cuts least max' h.0 h'.0 (42 ∷ 125 ∷ v) v' 45 125 h.2 h'.2 dash brace (inside _ _ (sym (open_text u h.0 v h.1) ∙ e ∙ count_text u' h'.0 v' h'.1))).1
+    dash_or_brace 45 125 refl refl (number_cuts least max' h.0 h'.0 (42 ∷ 125 ∷ v) v' 45 125 h.2 h'.2 dash brace
+        (inside _ _ (sym (open_text u h.0 v h.1) ∙ e ∙ count_text u' h'.0 v' h'.1))).1
 open_or_not least least' max' u u' v v' (inr h) (inr h') e =
     number_no_star max' h'.1 (125 ∷ v') (125 ∷ v) h'.4
-    (number_cuts least least' h.0 h'.0 (42 ∷ 125 ∷ v) (h'.1 ++ (125 ∷ v')) 45 45 h.2 h'.3 dash dash (inside _ _ (sym (open_text u h.0 v h.1) ∙ e ∙ between_text u' h'.0 h'.1 v' h'.2))).2
+    (number_cuts least least' h.0 h'.0 (42 ∷ 125 ∷ v) (h'.1 ++ (125 ∷ v')) 45 45 h.2 h'.3 dash dash
+        (inside _ _ (sym (open_text u h.0 v h.1) ∙ e ∙ between_text u' h'.0 h'.1 v' h'.2))).2
 
 open_cuts : (least least' : ℕ) (u u' v v' : List ℕ) → GapText least None u → GapText least' None u' → u ++ v ≡ u' ++ v' → (least ≡ least') × (v ≡ v')
 open_cuts least least' u u' v v' (inl h) (inl h') e = (h.1 ∙ sym h'.1, cut_front (42 ∷ []) v v' (sym (star_text u v h.0) ∙ e ∙ star_text u' v' h'.0))
 open_cuts least least' u u' v v' (inl h) (inr h') e = absurd (star_or_brace _ _ (sym (star_text u v h.0) ∙ e ∙ open_text u' h'.0 v' h'.1))
 open_cuts least least' u u' v v' (inr h) (inl h') e = absurd (star_or_brace _ _ (sym (star_text u' v' h'.0) ∙ sym e ∙ open_text u h.0 v h.1))
 open_cuts least least' u u' v v' (inr h) (inr h') e =
-    let cut = number_cuts least least' h.0 h'.0 (42 ∷ 125 ∷ v) (42 ∷ 125 ∷ v') 45 45 h.2 h'.2 dash dash (inside _ _ (sym (open_text u h.0 v h.1) ∙ e ∙ open_text u' h'.0 v' h'.1)) in
+    let cut = number_cuts least least' h.0 h'.0 (42 ∷ 125 ∷ v) (42 ∷ 125 ∷ v') 45 45 h.2 h'.2 dash dash
+        (inside _ _ (sym (open_text u h.0 v h.1) ∙ e ∙ open_text u' h'.0 v' h'.1)) in
     (cut.0, cut_front (42 ∷ 125 ∷ []) v v' cut.2)
 
-bound_cuts : (least least' max max' : ℕ) (u u' v v' : List ℕ) → GapText least (Some max) u → GapText least' (Some max') u' → u ++ v ≡ u' ++ v' → (least ≡ least') × (max ≡ max') × (v ≡ v')
+bound_cuts : (least least' max max' : ℕ) (u u' v v' : List ℕ) → GapText least (Some max) u → GapText least' (Some max') u' → u ++ v ≡ u' ++ v'
+    → (least ≡ least') × (max ≡ max') × (v ≡ v')
 bound_cuts least least' max max' u u' v v' (inl h) (inl h') e =
     let cut = number_cuts max max' h.0 h'.0 v v' 125 125 h.2 h'.2 brace brace (inside _ _ (sym (count_text u h.0 v h.1) ∙ e ∙ count_text u' h'.0 v' h'.1)) in
     (h.3 ∙ cut.0 ∙ sym h'.3, cut.0, cut.2)
 bound_cuts least least' max max' u u' v v' (inl h) (inr h') e =
-    absurd (dash_or_brace 45 125 refl refl (sym (number_cuts max least' h.0 h'.0 v (h'.1 ++ (125 ∷ v')) 125 45 h.2 h'.3 brace dash (inside _ _ (sym (count_text u h.0 v h.1) ∙ e ∙ between_text u' h'.0 h'.1 v' h'.2))).1))
+    absurd (dash_or_brace 45 125 refl refl (sym (number_cuts max least' h.0 h'.0 v (h'.1 ++ (125 ∷ v')) 125 45 h.2 h'.3 brace dash
+        (inside _ _ (sym (count_text u h.0 v h.1) ∙ e ∙ between_text u' h'.0 h'.1 v' h'.2))).1))
 bound_cuts least least' max max' u u' v v' (inr h) (inl h') e =
-    absurd (dash_or_brace 45 125 refl refl (number_cuts least max' h.0 h'.0 (h.1 ++ (125 ∷ v)) v' 45 125 h.3 h'.2 dash brace (inside _ _ (sym (between_text u h.0 h.1 v h.2) ∙ e ∙ count_text u' h'.0 v' h'.1))).1)
+    absurd (dash_or_brace 45 125 refl refl (number_cuts least max' h.0 h'.0 (h.1 ++ (125 ∷ v)) v' 45 125 h.3 h'.2 dash brace
+        (inside _ _ (sym (between_text u h.0 h.1 v h.2) ∙ e ∙ count_text u' h'.0 v' h'.1))).1)
 bound_cuts least least' max max' u u' v v' (inr h) (inr h') e =
-    let cut = number_cuts least least' h.0 h'.0 (h.1 ++ (125 ∷ v)) (h'.1 ++ (125 ∷ v')) 45 45 h.3 h'.3 dash dash (inside _ _ (sym (between_text u h.0 h.1 v h.2) ∙ e ∙ between_text u' h'.0 h'.1 v' h'.2)) in
+    let cut = number_cuts least least' h.0 h'.0 (h.1 ++ (125 ∷ v)) (h'.1 ++ (125 ∷ v')) 45 45 h.3 h'.3 dash dash
+        (inside _ _ (sym (between_text u h.0 h.1 v h.2) ∙ e ∙ between_text u' h'.0 h'.1 v' h'.2)) in
     let end = number_cuts max max' h.1 h'.1 v v' 125 125 h.4 h'.4 brace brace cut.2 in
     (cut.0, end.0, end.2)
 
-gap_cuts : (least least' : ℕ) (max max' : Option ℕ) (u u' v v' : List ℕ) → GapText least max u → GapText least' max' u' → u ++ v ≡ u' ++ v' → (least ≡ least') × (max ≡ max') × (v ≡ v')
+gap_cuts : (least least' : ℕ) (max max' : Option ℕ) (u u' v v' : List ℕ) → GapText least max u → GapText least' max' u' → u ++ v ≡ u' ++ v' → (least ≡ least')
+    × (max ≡ max') × (v ≡ v')
 gap_cuts least least' None (Some max') u u' v v' h h' e = absurd (open_or_not least least' max' u u' v v' h h' e)
 gap_cuts least least' (Some max) None u u' v v' h h' e = absurd (open_or_not least' least max u' u v' v h' h (sym e))
 gap_cuts least least' None None u u' v v' h h' e = let cut = open_cuts least least' u u' v v' h h' e in (cut.0, refl, cut.1)
-gap_cuts least least' (Some max) (Some max') u u' v v' h h' e = let cut = bound_cuts least least' max max' u u' v v' h h' e in (cut.0, ap (λ (n : ℕ). Some n) cut.1, cut.2)
+gap_cuts least least' (Some max) (Some max') u u' v v' h h' e = let cut = bound_cuts least least' max max' u u' v v' h h' e in
+    (cut.0, ap (λ (n : ℕ). Some n) cut.1, cut.2)
 
 -- brackets
 
@@ -211,7 +227,8 @@ first_digit (b ∷ a) u v w some h e =
     no_digit 33 refl (p.high_value, rw same at p.is_high)
 
 range_or_not : (a b u v w : List ℕ) → RangeText (91 ∷ []) a b u → u ++ v ≡ 91 ∷ 33 ∷ w → ⊥
-range_or_not a b u v w h e = first_digit a h.first (58 ∷ (h.second ++ (93 ∷ v))) w h.some_first h.is_first (cut_front (91 ∷ []) _ _ (sym (range_text_is (91 ∷ []) a b u v h) ∙ e))
+range_or_not a b u v w h e = first_digit a h.first (58 ∷ (h.second ++ (93 ∷ v))) w h.some_first h.is_first
+    (cut_front (91 ∷ []) _ _ (sym (range_text_is (91 ∷ []) a b u v h) ∙ e))
 
 -- parts
 
@@ -315,12 +332,14 @@ no_part (atom.Not a) u v w s h k e = bracket_begins s w _ k (e ∙ not_text_is a
 no_part (atom.NotRange a b) u v w s h k e = bracket_begins s w _ k (e ∙ range_text_is (91 ∷ 33 ∷ []) a b u v h)
 
 -- parts, up to a sign
-parts_cut : (ps qs : List Atom) (u u' v v' : List ℕ) (s s' : ℕ) → AlternativeText ps u → AlternativeText qs u' → EndsParts s → EndsParts s' → u ++ s ∷ v ≡ u' ++ s' ∷ v' → (ps ≡ qs) × (s ∷ v ≡ s' ∷ v')
+parts_cut : (ps qs : List Atom) (u u' v v' : List ℕ) (s s' : ℕ) → AlternativeText ps u → AlternativeText qs u' → EndsParts s → EndsParts s'
+    → u ++ s ∷ v ≡ u' ++ s' ∷ v' → (ps ≡ qs) × (s ∷ v ≡ s' ∷ v')
 parts_cut [] [] u u' v v' s s' h h' k k' e = (refl, rw (h, h') at e)
 parts_cut [] (q ∷ qs) u u' v v' s s' h h' k k' e = absurd (no_part q h'.0 (h'.1 ++ s' ∷ v') v s h'.3 k (rw (h, h'.2, append_assoc h'.0 h'.1 (s' ∷ v')) at e))
 parts_cut (p ∷ ps) [] u u' v v' s s' h h' k k' e = absurd (no_part p h.0 (h.1 ++ s ∷ v) v' s' h.3 k' (sym (rw (h.2, h', append_assoc h.0 h.1 (s ∷ v)) at e)))
 parts_cut (p ∷ ps) (q ∷ qs) u u' v v' s s' h h' k k' e =
-    let one = atom_cuts p q h.0 h'.0 (h.1 ++ s ∷ v) (h'.1 ++ s' ∷ v') h.3 h'.3 (rw (h.2, h'.2, append_assoc h.0 h.1 (s ∷ v), append_assoc h'.0 h'.1 (s' ∷ v')) at e) in
+    let one = atom_cuts p q h.0 h'.0 (h.1 ++ s ∷ v) (h'.1 ++ s' ∷ v') h.3 h'.3
+        (rw (h.2, h'.2, append_assoc h.0 h.1 (s ∷ v), append_assoc h'.0 h'.1 (s' ∷ v')) at e) in
     let more = parts_cut ps qs h.1 h'.1 v v' s s' h.4 h'.4 k k' one.1 in
     (cc (one.0, more.0), more.1)
 
@@ -330,7 +349,8 @@ bars_begin [] u v h = (41, v, rw h refl, ends_close)
 bars_begin (a ∷ as') u v h = (124, (h.0 ++ h.1) ++ 41 ∷ v, rw h.2 refl, ends_bar)
 
 -- alternatives, up to the end of the list
-alternatives_cut : (sign : ℕ) (as' bs' : List (List Atom)) (u u' v v' : List ℕ) → (sign ≡ 41 → ⊥) → AlternativesText (sign ∷ []) as' u → AlternativesText (sign ∷ []) bs' u' → u ++ 41 ∷ v ≡ u' ++ 41 ∷ v' → (as' ≡ bs') × (v ≡ v')
+alternatives_cut : (sign : ℕ) (as' bs' : List (List Atom)) (u u' v v' : List ℕ) → (sign ≡ 41 → ⊥) → AlternativesText (sign ∷ []) as' u
+    → AlternativesText (sign ∷ []) bs' u' → u ++ 41 ∷ v ≡ u' ++ 41 ∷ v' → (as' ≡ bs') × (v ≡ v')
 alternatives_cut sign [] [] u u' v v' k h h' e = (refl, cut_front (41 ∷ []) v v' (rw (h, h') at e))
 alternatives_cut sign [] (b ∷ bs') u u' v v' k h h' e = absurd (k (first_is _ _ _ _ (sym (rw (h, h'.2) at e))))
 alternatives_cut sign (a ∷ as') [] u u' v v' k h h' e = absurd (k (first_is _ _ _ _ (rw (h.2, h') at e)))
@@ -357,7 +377,8 @@ item_cuts : (i j : Item) (u u' v v' : List ℕ) → ItemText i u → ItemText j 
 item_cuts (item.Byte b) (item.Byte c) u u' v v' h h' e = bracket_cuts (atom.Byte b) (atom.Byte c) u u' v v' h h' e
 item_cuts item.Any item.Any u u' v v' h h' e = (refl, cut_front (63 ∷ 63 ∷ []) v v' (rw (h, h') at e))
 item_cuts (item.Gap least max) (item.Gap least' max') u u' v v' h h' e = let cut = gap_cuts least least' max max' u u' v v' h h' e in (cc (cut.0, cut.1), cut.2)
-item_cuts (item.Alt as') (item.Alt bs') u u' v v' h h' e = let cut = list_cuts as' bs' u u' v v' h h' e in (ap (λ (x : List (List Atom)). item.Alt x) cut.0, cut.1)
+item_cuts (item.Alt as') (item.Alt bs') u u' v v' h h' e = let cut = list_cuts as' bs' u u' v v' h h' e in
+    (ap (λ (x : List (List Atom)). item.Alt x) cut.0, cut.1)
 item_cuts (item.Range a b) (item.Range c d) u u' v v' h h' e = bracket_cuts (atom.Range a b) (atom.Range c d) u u' v v' h h' e
 item_cuts (item.Range a b) (item.Not c) u u' v v' h h' e = bracket_cuts (atom.Range a b) (atom.Not c) u u' v v' h h' e
 item_cuts (item.Range a b) (item.NotRange c d) u u' v v' h h' e = bracket_cuts (atom.Range a b) (atom.NotRange c d) u u' v v' h h' e

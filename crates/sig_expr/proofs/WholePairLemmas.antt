@@ -31,7 +31,8 @@ module _ (s : State) (between : is_between s.token ≡ true) where
       }
 
   -- where no expression goes on
-  pub stop_behind_pair : (n b : ℕ) (t : List ℕ) → pair_in_front t ≡ Some b → stop_from s n t ≡ stop_from (next_of s (step.Whole (piece.Byte b))) (n + 2) (drop 2 t)
+  pub stop_behind_pair : (n b : ℕ) (t : List ℕ) → pair_in_front t ≡ Some b
+      → stop_from s n t ≡ stop_from (next_of s (step.Whole (piece.Byte b))) (n + 2) (drop 2 t)
   unfolding stop_from
   stop_behind_pair n b [] pair = absurd (cc pair)
   stop_behind_pair n b (high ∷ []) pair = absurd (cc pair)
@@ -41,7 +42,8 @@ module _ (s : State) (between : is_between s.token ≡ true) where
       rw (f.first, f.second, two) refl
 
   -- the first fault: the next piece begins behind the pair
-  pub fault_behind_pair : (o n b : ℕ) (t : List ℕ) → pair_in_front t ≡ Some b → fault_from s o n t ≡ fault_from (next_of s (step.Whole (piece.Byte b))) o (n + 2) (drop 2 t)
+  pub fault_behind_pair : (o n b : ℕ) (t : List ℕ) → pair_in_front t ≡ Some b
+      → fault_from s o n t ≡ fault_from (next_of s (step.Whole (piece.Byte b))) o (n + 2) (drop 2 t)
   unfolding fault_from
   fault_behind_pair o n b [] pair = absurd (cc pair)
   fault_behind_pair o n b (high ∷ []) pair = absurd (cc pair)
@@ -54,7 +56,8 @@ module _ (s : State) (between : is_between s.token ≡ true) where
       rw (f.first, f.second, two) refl
 
   -- what is built
-  pub built_behind_pair : (u : Built) (b : ℕ) (t : List ℕ) → pair_in_front t ≡ Some b → built_from u s t ≡ built_from (built_of u (piece.Byte b)) (next_of s (step.Whole (piece.Byte b))) (drop 2 t)
+  pub built_behind_pair : (u : Built) (b : ℕ) (t : List ℕ) → pair_in_front t ≡ Some b
+      → built_from u s t ≡ built_from (built_of u (piece.Byte b)) (next_of s (step.Whole (piece.Byte b))) (drop 2 t)
   unfolding built_from
   built_behind_pair u b [] pair = absurd (cc pair)
   built_behind_pair u b (high ∷ []) pair = absurd (cc pair)

@@ -27,14 +27,16 @@ length-AlternativeWord (p ∷ parts) w (u, v, is, word, rest) =
     let len = ap length is ∙ length-append u v in
     omega arith
 
-pub alternatives_least : (alternatives : List (List Atom)) (n : ℕ) → All (λ parts. n ≤ parts_length parts) alternatives → (w : List ℕ) → Word (item.Alt alternatives) w → n ≤ length w
+pub alternatives_least : (alternatives : List (List Atom)) (n : ℕ) → All (λ parts. n ≤ parts_length parts) alternatives → (w : List ℕ)
+    → Word (item.Alt alternatives) w → n ≤ length w
 alternatives_least alternatives n all w word =
     let below = All-contains (λ parts. n ≤ parts_length parts) alternatives word.0 all word.1 in
     let len = length-AlternativeWord word.0 w word.2 in
     omega arith
 
 -- one item in front of others
-pub one_more_item : (i : Item) (items : List Item) (first later sum : ℕ) → sum ≤ first + later → IsLeastOfItem i first → IsLeastOfItems items later → IsLeastOfItems (i ∷ items) sum
+pub one_more_item : (i : Item) (items : List Item) (first later sum : ℕ) → sum ≤ first + later → IsLeastOfItem i first → IsLeastOfItems items later
+    → IsLeastOfItems (i ∷ items) sum
 one_more_item i items first later sum is one more w (u, v, cut, word, rest) =
     let front = one u word in
     let back = more v rest in
@@ -55,10 +57,12 @@ cut_back items file n c least =
     let front = length-append c.front c.word in
     omega arith
 
-pub bof_least : (items : List Item) (low high n sum : ℕ) (file : List ℕ) → IsLeastOfItems items n → sum ≤ n + low → StandsAt (position.Bof low high) items file → sum ≤ length file
+pub bof_least : (items : List Item) (low high n sum : ℕ) (file : List ℕ) → IsLeastOfItems items n → sum ≤ n + low → StandsAt (position.Bof low high) items file
+    → sum ≤ length file
 bof_least items low high n sum file least is (c, above, below) = let len = cut_length items file n c least in omega arith
 
-pub eof_least : (items : List Item) (low high n sum : ℕ) (file : List ℕ) → IsLeastOfItems items n → sum ≤ n + low → StandsAt (position.Eof low high) items file → sum ≤ length file
+pub eof_least : (items : List Item) (low high n sum : ℕ) (file : List ℕ) → IsLeastOfItems items n → sum ≤ n + low → StandsAt (position.Eof low high) items file
+    → sum ≤ length file
 eof_least items low high n sum file least is (c, above, below) = let len = cut_back items file n c least in omega arith
 
 pub variable_least : (items : List Item) (n : ℕ) (file : List ℕ) → IsLeastOfItems items n → StandsAt position.Variable items file → n ≤ length file

@@ -32,14 +32,16 @@ closed_is_dead table format s is of closed file bytes hits leaves =
     closed_leaves_none table format format s s file is of of closed bytes
     (leaves_pair table file format format s s of of hits hits (leaves_twice table file format leaves))
 
-pub witness_shows_alive : (table : TableView) (format s budget : ℕ) (file : List ℕ) (left : List Hit) → Left table file left → IsOfFormat table format s → IsPairWitness table s s budget file → ShowsAlive table format s budget file
+pub witness_shows_alive : (table : TableView) (format s budget : ℕ) (file : List ℕ) (left : List Hit) → Left table file left → IsOfFormat table format s
+    → IsPairWitness table s s budget file → ShowsAlive table format s budget file
 witness_shows_alive table format s budget file left is of witness =
     let both = leaves_formats table file format format s s left is of of witness.leaves in
     record {
       is_file = witness.is_file;
       hits = witness.leaves.first;
       leaves = record { left = both.left; is_left = both.is_left; is_in = both.first };
-      shortest = λ other bytes hits leaves. witness.shortest other bytes (leaves_pair table other format format s s of of hits hits (leaves_twice table other format leaves));
+      shortest = λ other bytes hits leaves. witness.shortest other bytes
+          (leaves_pair table other format format s s of of hits hits (leaves_twice table other format leaves));
       few = witness.few;
     }
 
@@ -51,12 +53,14 @@ dead_signatures_leave_none table format dead file bytes leaves =
 
 -- ---- a format
 
-found_alive : (table : TableView) (budget format s : ℕ) (found : Life) → IsLifeOf table budget format s found → is_alive (fate_of found) ≡ true → IsSometimesLeft table format
+found_alive : (table : TableView) (budget format s : ℕ) (found : Life) → IsLifeOf table budget format s found → is_alive (fate_of found) ≡ true
+    → IsSometimesLeft table format
 found_alive table budget format s (life.Alive file) shows alive = record { file = file.items; is_file = shows.is_file; leaves = shows.leaves }
 found_alive table budget format s life.Dead dead alive = absurd (true≢false (sym alive))
 found_alive table budget format s life.Unknown too_much alive = absurd (true≢false (sym alive))
 
-found_dead : (table : TableView) (budget format s : ℕ) (found : Life) → IsLifeOf table budget format s found → is_alive (fate_of found) ≡ false → is_unknown (fate_of found) ≡ false → IsDead table format s
+found_dead : (table : TableView) (budget format s : ℕ) (found : Life) → IsLifeOf table budget format s found → is_alive (fate_of found) ≡ false
+    → is_unknown (fate_of found) ≡ false → IsDead table format s
 found_dead table budget format s (life.Alive file) shows alive unknown = absurd (true≢false alive)
 found_dead table budget format s life.Dead dead alive unknown = dead
 found_dead table budget format s life.Unknown too_much alive unknown = absurd (true≢false unknown)
@@ -70,7 +74,8 @@ none_first : (b c : Bool) → (b || c) ≡ false → (b ≡ false) × (c ≡ fal
 none_first true c is = absurd (true≢false is)
 none_first false c is = (refl, is)
 
-some_alive : (table : TableView) (budget format : ℕ) (lives : List SignatureLife) → All (λ l. IsLifeOf table budget format l.signature.0 l.life) lives → list_any (λ l. is_alive (fate_of l.life)) lives ≡ true → IsSometimesLeft table format
+some_alive : (table : TableView) (budget format : ℕ) (lives : List SignatureLife) → All (λ l. IsLifeOf table budget format l.signature.0 l.life) lives
+    → list_any (λ l. is_alive (fate_of l.life)) lives ≡ true → IsSometimesLeft table format
 some_alive table budget format [] each alive = absurd (true≢false (sym alive))
 some_alive table budget format (l ∷ lives) each alive =
     let of : SignatureLife → Type 0 = λ l. IsLifeOf table budget format l.signature.0 l.life in
@@ -79,7 +84,9 @@ some_alive table budget format (l ∷ lives) each alive =
       | inr later ↦ some_alive table budget format lives (All-tail of l lives each) later
     ]
 
-none_alive : (table : TableView) (budget format : ℕ) (lives : List SignatureLife) → All (λ l. IsLifeOf table budget format l.signature.0 l.life) lives → list_any (λ l. is_alive (fate_of l.life)) lives ≡ false → list_any (λ l. is_unknown (fate_of l.life)) lives ≡ false → All (IsDead table format) (map (λ (s : SigId). s.0) (map (λ (l : SignatureLife). l.signature) lives))
+none_alive : (table : TableView) (budget format : ℕ) (lives : List SignatureLife) → All (λ l. IsLifeOf table budget format l.signature.0 l.life) lives
+    → list_any (λ l. is_alive (fate_of l.life)) lives ≡ false → list_any (λ l. is_unknown (fate_of l.life)) lives ≡ false
+    → All (IsDead table format) (map (λ (s : SigId). s.0) (map (λ (l : SignatureLife). l.signature) lives))
 none_alive table budget format [] each alive unknown = All-nil (IsDead table format)
 none_alive table budget format (l ∷ lives) each alive unknown =
     let of : SignatureLife → Type 0 = λ l. IsLifeOf table budget format l.signature.0 l.life in
@@ -97,13 +104,16 @@ fate_decides table budget format lives true unknown are is_alive is_unknown = so
 fate_decides table budget format lives false true are is_alive is_unknown = tt
 fate_decides table budget format lives false false are is_alive is_unknown =
     dead_signatures_leave_none table format
-    (subst (λ signatures. All (IsDead table format) (map (λ (s : SigId). s.0) signatures)) are.all (none_alive table budget format lives are.each is_alive is_unknown))
+    (subst (λ signatures. All (IsDead table format) (map (λ (s : SigId). s.0) signatures)) are.all
+        (none_alive table budget format lives are.each is_alive is_unknown))
 
-pub format_fate_decides : (table : TableView) (budget format : ℕ) (lives : List SignatureLife) → AreLives table budget format lives → DecidesFormat table format (format_fate lives)
+pub format_fate_decides : (table : TableView) (budget format : ℕ) (lives : List SignatureLife) → AreLives table budget format lives
+    → DecidesFormat table format (format_fate lives)
 format_fate_decides table budget format lives are = fate_decides table budget format lives _ _ are refl refl
 
 -- each of the signatures is one of the table
-all_within : (table : TableView) (format : ℕ) (lives : List SignatureLife) → All (λ s. IsOfFormat table format s.0) (map (λ (l : SignatureLife). l.signature) lives) → All (λ l. l.signature.0 < length table.signatures) lives
+all_within : (table : TableView) (format : ℕ) (lives : List SignatureLife)
+    → All (λ s. IsOfFormat table format s.0) (map (λ (l : SignatureLife). l.signature) lives) → All (λ l. l.signature.0 < length table.signatures) lives
 all_within table format [] are = All-nil (λ (l : SignatureLife). l.signature.0 < length table.signatures)
 all_within table format (l ∷ lives) are =
     let of : SigId → Type 0 = λ s. IsOfFormat table format s.0 in
@@ -111,5 +121,7 @@ all_within table format (l ∷ lives) are =
     All-cons (λ (l : SignatureLife). l.signature.0 < length table.signatures) l lives (slice_get_within table.signatures l.signature.0 one.0 one.1)
     (all_within table format lives (All-tail of l.signature (map (λ (l : SignatureLife). l.signature) lives) are))
 
-pub within : (table : TableView) (budget format : ℕ) (lives : List SignatureLife) → AreLives table budget format lives → All (λ l. l.signature.0 < length table.signatures) lives
-within table budget format lives are = all_within table format lives (subst (All (λ s. IsOfFormat table format s.0)) (sym are.all) (signatures_are_of table format))
+pub within : (table : TableView) (budget format : ℕ) (lives : List SignatureLife) → AreLives table budget format lives
+    → All (λ l. l.signature.0 < length table.signatures) lives
+within table budget format lives are = all_within table format lives
+    (subst (All (λ s. IsOfFormat table format s.0)) (sym are.all) (signatures_are_of table format))

@@ -12,7 +12,8 @@ there_or_not (Some x) = inr (x, refl)
 -- a record that is taken is taken under each number
 pub again : {R S : Type 0} (read : ℕ → Result R TableError) (fault : ℕ → R → Option TableError) (put : R → S)
     → ((n m : ℕ) (row : R) → read n ≡ Ok row → read m ≡ Ok row) → ((n m : ℕ) (row : R) → fault n row ≡ None → fault m row ≡ None)
-    → (n m : ℕ) (more : S) → read n >>= (λ row. unless (fault n row) (Ok (put row))) ≡ Ok more → read m >>= (λ row. unless (fault m row) (Ok (put row))) ≡ Ok more
+    → (n m : ℕ) (more : S) → read n >>= (λ row. unless (fault n row) (Ok (put row))) ≡ Ok more
+        → read m >>= (λ row. unless (fault m row) (Ok (put row))) ≡ Ok more
 again read fault put reads fine n m more h =
     let row = binds (read n) (λ row. unless (fault n row) (Ok (put row))) more h in
     elim (there_or_not (fault n row.0)) [
@@ -26,13 +27,16 @@ two_tests true b x y v w h = absurd (cc h)
 two_tests false true x y v w h = absurd (cc h)
 two_tests false false x y v w h = refl
 
-pub three_tests : (a b c : Bool) (x y z u v w : TableError) → cond a (Some x) (cond b (Some y) (cond c (Some z) None)) ≡ None → cond a (Some u) (cond b (Some v) (cond c (Some w) None)) ≡ None
+pub three_tests : (a b c : Bool) (x y z u v w : TableError) → cond a (Some x) (cond b (Some y) (cond c (Some z) None)) ≡ None
+    → cond a (Some u) (cond b (Some v) (cond c (Some w) None)) ≡ None
 three_tests true b c x y z u v w h = absurd (cc h)
 three_tests false b c x y z u v w h = two_tests b c y z v w h
 
-module _ {S : Type 0} (judge : ℕ → S → List (List ℕ) → Result S TableError) (again_taken : (n m : ℕ) (done more : S) (fields : List (List ℕ)) → judge n done fields ≡ Ok more → judge m done fields ≡ Ok more) where
+module _ {S : Type 0} (judge : ℕ → S → List (List ℕ) → Result S TableError)
+    (again_taken : (n m : ℕ) (done more : S) (fields : List (List ℕ)) → judge n done fields ≡ Ok more → judge m done fields ≡ Ok more) where
   -- rows without the faulty ones have no fault
-  pub judged-faultless : (records : List (List (List ℕ))) (n m : ℕ) (done : S) → judged judge m done (faultless judge n done records) ≡ Ok (done_by judge n done records)
+  pub judged-faultless : (records : List (List (List ℕ))) (n m : ℕ) (done : S)
+      → judged judge m done (faultless judge n done records) ≡ Ok (done_by judge n done records)
   unfolding judged faultless done_by
   judged-faultless [] n m done = refl
   judged-faultless (fields ∷ later) n m done = elim (answered (judge n done fields)) [

@@ -1,5 +1,6 @@
 -- The fold that goes on behind faults, and the one that ends at the first.
-use Rattle.std.proofs.Common.{◌≡◌, ℕ, suc, ◌+◌, List, [], ◌∷◌, ◌++◌, length, append-nil, append_assoc, add-zero, sym, ap, subst, refl, ◌∙◌, arith, inl, inr, Result, Ok, Err, Option}
+use Rattle.std.proofs.Common.{◌≡◌, ℕ, suc, ◌+◌, List, [], ◌∷◌, ◌++◌, length, append-nil, append_assoc, add-zero, sym, ap, subst, refl, ◌∙◌, arith, inl, inr,
+    Result, Ok, Err, Option}
 use Rattle.sig_table.specs.declared.error.TableError.{TableError}
 use Rattle.sig_table.specs.Judging.{◌>>=◌, judged, passed}
 use Rattle.sig_table.proofs.Exports.{answered}
@@ -17,11 +18,13 @@ module _ {S : Type 0} (tell : List (List ℕ) → TableError → FaultView) (jud
   faults_from-end n done = refl
 
   pub faults_from-more : (n : ℕ) (done : S) (fields : List (List ℕ)) (later : List (List (List ℕ)))
-      → faults_from tell judge n done (fields ∷ later) ≡ told tell fields (passed done (judge n done fields)).1 ++ faults_from tell judge (n + 1) (passed done (judge n done fields)).0 later
+      → faults_from tell judge n done (fields ∷ later) ≡ told tell fields (passed done (judge n done fields)).1 ++ faults_from tell judge (n + 1)
+          (passed done (judge n done fields)).0 later
   unfolding faults_from
   faults_from-more n done fields later = refl
 
-  pub agrees : ((fields : List (List ℕ)) (e : TableError) → (tell fields e).error ≡ e) → (records : List (List (List ℕ))) (n : ℕ) (done : S) → Agrees (faults_from tell judge n done records) (judged judge n done records)
+  pub agrees : ((fields : List (List ℕ)) (e : TableError) → (tell fields e).error ≡ e) → (records : List (List (List ℕ))) (n : ℕ) (done : S)
+      → Agrees (faults_from tell judge n done records) (judged judge n done records)
   unfolding faults_from judged
   agrees same [] n done = (done, refl)
   agrees same (fields ∷ later) n done = elim (answered (judge n done fields)) [
@@ -31,7 +34,8 @@ module _ {S : Type 0} (tell : List (List ℕ) → TableError → FaultView) (jud
 
   -- one record more
   pub faults-more : (all front : List FaultView) (n : ℕ) (done taken : S) (fault : Option TableError) (fields : List (List ℕ)) (later : List (List (List ℕ)))
-      → all ≡ front ++ faults_from tell judge n done (fields ∷ later) → (let both : S × Option TableError = (taken, fault) in both ≡ passed done (judge n done fields))
+      → all ≡ front ++ faults_from tell judge n done (fields ∷ later)
+          → (let both : S × Option TableError = (taken, fault) in both ≡ passed done (judge n done fields))
       → all ≡ (front ++ told tell fields fault) ++ faults_from tell judge (n + 1) taken later
   faults-more all front n done taken fault fields later is took =
       let goes : faults_from tell judge n done (fields ∷ later) ≡ told tell fields fault ++ faults_from tell judge (n + 1) taken later =
@@ -44,14 +48,16 @@ module _ {S : Type 0} (tell : List (List ℕ) → TableError → FaultView) (jud
   -- records behind others
   pub faults_from-append : (earlier : List (List (List ℕ))) (n : ℕ) (t : S) (fields : List (List ℕ)) (later : List (List (List ℕ)))
       → let here = passed (done_by judge n t earlier) (judge (n + length earlier) (done_by judge n t earlier) fields)
-      in faults_from tell judge n t (earlier ++ fields ∷ later) ≡ faults_from tell judge n t earlier ++ (told tell fields here.1 ++ faults_from tell judge (n + length earlier + 1) here.0 later)
+      in faults_from tell judge n t (earlier ++ fields ∷ later) ≡ faults_from tell judge n t earlier
+          ++ (told tell fields here.1 ++ faults_from tell judge (n + length earlier + 1) here.0 later)
   unfolding faults_from done_by
   faults_from-append [] n t fields later = rw add-zero refl
   faults_from-append (first ∷ earlier) n t fields later =
       let next = (passed t (judge n t first)).0 in
       let at : (n + 1) + length earlier ≡ n + suc (length earlier) = omega arith in
       let rest = subst (λ k. let here = passed (done_by judge (n + 1) next earlier) (judge k (done_by judge (n + 1) next earlier) fields)
-      in faults_from tell judge (n + 1) next (earlier ++ fields ∷ later) ≡ faults_from tell judge (n + 1) next earlier ++ (told tell fields here.1 ++ faults_from tell judge (k + 1) here.0 later)) at
+      in faults_from tell judge (n + 1) next (earlier ++ fields ∷ later) ≡ faults_from tell judge (n + 1) next earlier
+          ++ (told tell fields here.1 ++ faults_from tell judge (k + 1) here.0 later)) at
       (faults_from-append earlier (n + 1) next fields later) in
       ap (λ l. told tell first (passed t (judge n t first)).1 ++ l) rest ∙ sym (append_assoc (told tell first (passed t (judge n t first)).1) _ _)
 
@@ -60,7 +66,8 @@ pub Agrees-ok : {A : Type 0} (l : List FaultView) (r : Result A TableError) (x :
 Agrees-ok [] r x h is = refl
 Agrees-ok (fault ∷ later) r x h is = absurd (cc (h, is))
 
-pub Agrees-err : {A B : Type 0} (l more : List FaultView) (r : Result A TableError) (s : Result B TableError) (e : TableError) → Agrees l r → r ≡ Err e → s ≡ Err e → Agrees (l ++ more) s
+pub Agrees-err : {A B : Type 0} (l more : List FaultView) (r : Result A TableError) (s : Result B TableError) (e : TableError) → Agrees l r → r ≡ Err e
+    → s ≡ Err e → Agrees (l ++ more) s
 Agrees-err [] more r s e h is same = absurd (cc (h.1, is))
 Agrees-err (fault ∷ later) more r s e h is same = let told_one : fault.error ≡ e = cc (h, is) in rw told_one same
 

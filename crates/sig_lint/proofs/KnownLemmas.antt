@@ -1,5 +1,6 @@
 -- Where all names of the priority file are known, none of its formats is told as unknown.
-use Rattle.std.proofs.Common.{◌≡◌, ◌⊎◌, ℕ, ◌+◌, ◌<◌, ◌||◌, Bool, true, false, nat_eq, nat_lt, List, [], ◌∷◌, length, take, drop, sym, ap, refl, ◌∙◌, arith, rules, tests, eq-eqb, inl, inr, Result, Ok, Err, Option, Some, None}
+use Rattle.std.proofs.Common.{◌≡◌, ◌⊎◌, ℕ, ◌+◌, ◌<◌, ◌||◌, Bool, true, false, nat_eq, nat_lt, List, [], ◌∷◌, length, take, drop, sym, ap, refl, ◌∙◌, arith,
+    rules, tests, eq-eqb, inl, inr, Result, Ok, Err, Option, Some, None}
 use Rattle.std.specs.Prelude.{All, fold}
 use Rattle.std.specs.List.{list_any, position_or_len}
 use Rattle.std.proofs.Math.Bool.{or-false}
@@ -23,7 +24,8 @@ use Rattle.sig_lint.specs.Names.{has_signature_header, is_among, is_beyond, is_n
 use Rattle.sig_lint.proofs.AgainLemmas.{there_or_not}
 
 puid_eq-itself : (p : Puid) → puid_eq p p ≡ true
-puid_eq-itself p = elim p.registry as (λ r. puid_eq (record p { registry = r }) (record p { registry = r }) ≡ true) [ Fmt ↦ eq-eqb p.number p.number refl | XFmt ↦ eq-eqb p.number p.number refl ]
+puid_eq-itself p = elim p.registry as (λ r. puid_eq (record p { registry = r }) (record p { registry = r }) ≡ true)
+    [ Fmt ↦ eq-eqb p.number p.number refl | XFmt ↦ eq-eqb p.number p.number refl ]
 
 -- the text is of no PUID, or of one of the names
 abbrev pub Known : List Puid → List ℕ → Type 0
@@ -111,7 +113,8 @@ two_fault n above below e h = elim (cases_Bool (nat_eq above below)) [
 
 -- two texts of PUIDs are among the formats
 abbrev pub HaveIndexes : List Puid → List ℕ → List ℕ → Type 0
-HaveIndexes formats a b = (p q : Puid) → puid_of a ≡ Some p → puid_of b ≡ Some q → ((k : ℕ) × (index_in formats p ≡ Some k)) × ((k : ℕ) × (index_in formats q ≡ Some k))
+HaveIndexes formats a b = (p q : Puid) → puid_of a ≡ Some p → puid_of b ≡ Some q → ((k : ℕ) × (index_in formats p ≡ Some k))
+    × ((k : ℕ) × (index_in formats q ≡ Some k))
 
 with_fault : (formats : List Puid) (n : ℕ) (a b : List ℕ) (e : TableError) → HaveIndexes formats a b → pair_with formats n a b ≡ Err e → is_unknown e ≡ false
 with_fault formats n a b e known h = elim (there_or_not (puid_of a)) [
@@ -124,7 +127,8 @@ with_fault formats n a b e known h = elim (there_or_not (puid_of a)) [
   ]
 ]
 
-pair_of-fault : (formats : List Puid) (n : ℕ) (fields : List (List ℕ)) (e : TableError) → (nat_eq (length fields) 2 ≡ true → HaveIndexes formats (text_at fields 0) (text_at fields 1))
+pair_of-fault : (formats : List Puid) (n : ℕ) (fields : List (List ℕ)) (e : TableError)
+    → (nat_eq (length fields) 2 ≡ true → HaveIndexes formats (text_at fields 0) (text_at fields 1))
     → pair_of formats n fields ≡ Err e → is_unknown e ≡ false
 unfolding pair_of
 pair_of-fault formats n fields e known h = elim (cases_Bool (nat_eq (length fields) 2)) [
@@ -143,7 +147,8 @@ unless-fault pairs more n pair e h = elim (cases_Bool (is_listed pairs pair)) [
 ]
 
 with_pair-fault : (formats : List Puid) (n : ℕ) (pairs : List (ℕ × ℕ)) (fields : List (List ℕ)) (e : TableError)
-    → (nat_eq (length fields) 2 ≡ true → HaveIndexes formats (text_at fields 0) (text_at fields 1)) → with_pair formats n pairs fields ≡ Err e → is_unknown e ≡ false
+    → (nat_eq (length fields) 2 ≡ true → HaveIndexes formats (text_at fields 0) (text_at fields 1)) → with_pair formats n pairs fields ≡ Err e
+        → is_unknown e ≡ false
 unfolding with_pair
 with_pair-fault formats n pairs fields e known h = elim (answered (pair_of formats n fields)) [
   | inl pair ↦ unless-fault pairs _ n pair.0 e (rw pair.1 at h)
@@ -163,7 +168,8 @@ have_indexes names fields higher lower not_beyond two p q is_p is_q =
     let parts = or_parts (is_among (drop 1000 names) (Some p)) (is_among (drop 1000 names) (Some q)) (rw (two, is_p, is_q, has_p, has_q) at not_beyond) in
     (has-index (take 1000 names) p (among-first names (Some p) has_p parts.0), has-index (take 1000 names) q (among-first names (Some q) has_q parts.1))
 
-named_fault : (names : List Puid) (n : ℕ) (pairs : List (ℕ × ℕ)) (fields : List (List ℕ)) (e : TableError) → Known names (text_at fields 0) → Known names (text_at fields 1)
+named_fault : (names : List Puid) (n : ℕ) (pairs : List (ℕ × ℕ)) (fields : List (List ℕ)) (e : TableError) → Known names (text_at fields 0)
+    → Known names (text_at fields 1)
     → with_named_pair names n pairs fields ≡ Err e → is_unknown e ≡ false
 unfolding with_named_pair
 named_fault names n pairs fields e higher lower h = elim (cases_Bool (is_beyond names fields)) [
@@ -174,7 +180,8 @@ named_fault names n pairs fields e higher lower h = elim (cases_Bool (is_beyond 
 abbrev pub IsKnownFault : FaultView → Type 0
 IsKnownFault fault = is_unknown fault.error ≡ false
 
-none_unknown : (names : List Puid) (rows : List (List (List ℕ))) (n : ℕ) (pairs : List (ℕ × ℕ)) → AllKnown names rows → All IsKnownFault (faults_from (pair_row_fault names) (with_named_pair names) n pairs rows)
+none_unknown : (names : List Puid) (rows : List (List (List ℕ))) (n : ℕ) (pairs : List (ℕ × ℕ)) → AllKnown names rows
+    → All IsKnownFault (faults_from (pair_row_fault names) (with_named_pair names) n pairs rows)
 unfolding faults_from
 none_unknown names [] n pairs known = All-nil IsKnownFault
 none_unknown names (fields ∷ later) n pairs known = elim (answered (with_named_pair names n pairs fields)) [
@@ -182,7 +189,8 @@ none_unknown names (fields ∷ later) n pairs known = elim (answered (with_named
   | inr e ↦ rw e.1 (All-cons IsKnownFault _ _ (named_fault names n pairs fields e.0 known.0 known.1 e.1) (none_unknown names later (n + 1) pairs known.2))
 ]
 
-pub every_name_is_known : (signatures priorities : List (List (List ℕ))) → has_signature_header signatures ≡ false → All IsKnownFault (priority_faults (names_of signatures priorities) priorities)
+pub every_name_is_known : (signatures priorities : List (List (List ℕ))) → has_signature_header signatures ≡ false
+    → All IsKnownFault (priority_faults (names_of signatures priorities) priorities)
 unfolding priority_faults names_of
 every_name_is_known signatures [] none = All-cons IsKnownFault _ [] refl (All-nil IsKnownFault)
 every_name_is_known signatures (header ∷ rows) none = rw none (elim (cases_Bool (is_priority_header header)) [

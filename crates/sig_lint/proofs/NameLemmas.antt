@@ -1,5 +1,6 @@
 -- Sets of names, and the names of a table that loads.
-use Rattle.std.proofs.Common.{◌≡◌, ℕ, ◌+◌, ◌<◌, ◌≤◌, ◌&&◌, Bool, true, false, nat_eq, List, [], ◌∷◌, ◌++◌, length, take, drop, append-nil, append_assoc, sym, ap, refl, arith, inl, inr, Ok, Option, Some, None}
+use Rattle.std.proofs.Common.{◌≡◌, ℕ, ◌+◌, ◌<◌, ◌≤◌, ◌&&◌, Bool, true, false, nat_eq, List, [], ◌∷◌, ◌++◌, length, take, drop, append-nil, append_assoc, sym,
+    ap, refl, arith, inl, inr, Ok, Option, Some, None}
 use Rattle.std.specs.Prelude.{fold}
 use Rattle.std.specs.List.{list_any}
 use Rattle.std.proofs.Math.Bool.{and-false}
@@ -57,15 +58,18 @@ is_beyond-few names fields few =
     rw (none, none_named (puid_of (text_at fields 0)), none_named (puid_of (text_at fields 1)))
     (rw (and-false (is_named names (text_at fields 0) && is_named names (text_at fields 1))) (and-false (nat_eq (length fields) 2)))
 
-pub with_named_pair-few : (names : List Puid) → length names ≤ 1000 → (n : ℕ) (pairs : List (ℕ × ℕ)) (fields : List (List ℕ)) → with_named_pair names n pairs fields ≡ with_pair names n pairs fields
+pub with_named_pair-few : (names : List Puid) → length names ≤ 1000 → (n : ℕ) (pairs : List (ℕ × ℕ)) (fields : List (List ℕ))
+    → with_named_pair names n pairs fields ≡ with_pair names n pairs fields
 unfolding with_named_pair
 with_named_pair-few names few n pairs fields = rw (is_beyond-few names fields few, take_all 1000 names few) refl
 
-pub with_record-formats : (n : ℕ) (t more : TableView) (fields : List (List ℕ)) → with_record n t fields ≡ Ok more → more.formats ≡ with_row_name t.formats fields
+pub with_record-formats : (n : ℕ) (t more : TableView) (fields : List (List ℕ)) → with_record n t fields ≡ Ok more
+    → more.formats ≡ with_row_name t.formats fields
 with_record-formats n t more fields taken = let p = with_record-puid n t more fields taken in rw p.1 p.2
 
 -- the formats of rows that are all taken are those that the rows name
-pub judged-formats : (rows : List (List (List ℕ))) (n : ℕ) (t table : TableView) → judged with_record n t rows ≡ Ok table → table.formats ≡ fold with_row_name t.formats rows
+pub judged-formats : (rows : List (List (List ℕ))) (n : ℕ) (t table : TableView) → judged with_record n t rows ≡ Ok table
+    → table.formats ≡ fold with_row_name t.formats rows
 unfolding judged
 judged-formats [] n t table h = sym (ap (λ (x : TableView). x.formats) (let same : t ≡ table = cc h in same))
 judged-formats (fields ∷ later) n t table h =

@@ -34,7 +34,8 @@ agrees-priorities names (header ∷ rows) few = elim (cases_Bool (is_priority_he
 ]
 
 -- a signature file that loads names its formats
-pub names_of-loaded : (signatures priorities : List (List (List ℕ))) (table : TableView) → signatures_of signatures ≡ Ok table → names_of signatures priorities ≡ table.formats
+pub names_of-loaded : (signatures priorities : List (List (List ℕ))) (table : TableView) → signatures_of signatures ≡ Ok table
+    → names_of signatures priorities ≡ table.formats
 unfolding signatures_of names_of
 names_of-loaded [] priorities table read = absurd (cc read)
 names_of-loaded (header ∷ rows) priorities table read = elim (cases_Bool (is_signature_header header)) [
@@ -51,11 +52,13 @@ pub lint_agrees : (signatures priorities : List (List (List ℕ))) → Agrees (l
 unfolding lint_faults table_of
 lint_agrees signatures priorities = elim (answered (signatures_of signatures)) [
   | inl table ↦
-      let none : signature_faults signatures ≡ [] = Agrees-ok (signature_faults signatures) (signatures_of signatures) table.0 (agrees-signatures signatures) table.1 in
+      let none : signature_faults signatures ≡ [] = Agrees-ok (signature_faults signatures) (signatures_of signatures) table.0 (agrees-signatures signatures)
+          table.1 in
       rw (none, names_of-loaded signatures priorities table.0 table.1, table.1)
       (Agrees-map (priority_faults table.0.formats priorities) (pairs_of table.0.formats priorities) (λ pairs. record table.0 { priorities = pairs })
       (agrees-priorities table.0.formats priorities (formats-few signatures table.0 table.1)))
-  | inr fault ↦ Agrees-err (signature_faults signatures) (priority_faults (names_of signatures priorities) priorities) (signatures_of signatures) _ fault.0 (agrees-signatures signatures) fault.1 (rw fault.1 refl)
+  | inr fault ↦ Agrees-err (signature_faults signatures) (priority_faults (names_of signatures priorities) priorities) (signatures_of signatures) _ fault.0
+      (agrees-signatures signatures) fault.1 (rw fault.1 refl)
 ]
 
 pub IfOk-map : {A E : Type 0} {P Q : A → Type 0} (r : Result A E) → ((x : A) → P x → Q x) → IfOk r P → IfOk r Q
@@ -63,7 +66,8 @@ IfOk-map (Ok x) f h = f x h
 IfOk-map (Err e) f h = h
 
 -- the first of these faults is the refusal
-pub first_is : {A : Type 0} (told faults : List FaultView) (r : Result A TableError) → Agrees faults r → told ≡ faults → (fault : FaultView) (later : List FaultView) → told ≡ fault ∷ later → r ≡ Err fault.error
+pub first_is : {A : Type 0} (told faults : List FaultView) (r : Result A TableError) → Agrees faults r → told ≡ faults
+    → (fault : FaultView) (later : List FaultView) → told ≡ fault ∷ later → r ≡ Err fault.error
 first_is told [] r h is fault later some = absurd (cc (is, some))
 first_is told (first ∷ others) r h is fault later some = let same : first ≡ fault = cc (is, some) in rw (← same) h
 

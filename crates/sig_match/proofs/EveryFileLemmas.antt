@@ -1,5 +1,6 @@
 -- Every file has hit formats: whether a sequence stands in a file is decided.
-use Rattle.std.proofs.Common.{◌≡◌, ◌⊎◌, ℕ, zero, suc, ◌+◌, ◌<◌, List, [], ◌∷◌, ◌++◌, All, Option, Some, None, length, option_map, slice_get, ap, refl, subst, sym, ◌∙◌, inl, inr, arith}
+use Rattle.std.proofs.Common.{◌≡◌, ◌⊎◌, ℕ, zero, suc, ◌+◌, ◌<◌, List, [], ◌∷◌, ◌++◌, All, Option, Some, None, length, option_map, slice_get, ap, refl, subst,
+    sym, ◌∙◌, inl, inr, arith}
 use Rattle.std.proofs.lemmas.Bool.{cases_eq}
 use Rattle.std.proofs.lemmas.List.Elements.{All-cons, All-head, All-nil, All-tail}
 use Rattle.std.proofs.lemmas.Option.{get_or_from_slice_get, slice_get_within}
@@ -16,7 +17,8 @@ use Rattle.sig_core.specs.declared.results.Hit.{Hit}
 use Rattle.sig_core.proofs.Exports.{HitFormats-from_Listed, Listed, Listed-keep, Listed-none, Listed-push}
 
 -- each of the sequences stands in the file, or one does not
-all_stand_or_not : (file : List ℕ) → IsBytes file → (sequences : List SequenceView) → All IsSequence sequences → All (λ s. Stands s file) sequences ⊎ ¬ All (λ s. Stands s file) sequences
+all_stand_or_not : (file : List ℕ) → IsBytes file → (sequences : List SequenceView) → All IsSequence sequences → All (λ s. Stands s file) sequences
+    ⊎ ¬ All (λ s. Stands s file) sequences
 all_stand_or_not file bytes [] are = inl (All-nil (λ s. Stands s file))
 all_stand_or_not file bytes (s ∷ sequences) are =
     elim (stands_or_not s file (All-head IsSequence s sequences are) bytes) [
@@ -40,12 +42,15 @@ module _ (table : TableView) (file : List ℕ) (is : IsTable table) (bytes : IsB
         let own : SignatureView = there.0 in
         let within : index < length table.signatures = slice_get_within table.signatures index own there.1 in
         let sequences : All IsSequence own.sequences =
-        subst (λ (s : SignatureView). All IsSequence s.sequences) (get_or_from_slice_get table.signatures index own own there.1) (is.each index own within).sequences in
+        subst (λ (s : SignatureView). All IsSequence s.sequences) (get_or_from_slice_get table.signatures index own own there.1)
+            (is.each index own within).sequences in
         elim (cases_eq own.format format) [
-          | inr other ↦ inr (λ hit. let both : Some own ≡ Some hit.signature = sym there.1 ∙ hit.at in let same : own ≡ hit.signature = cc in other (ap (λ (s : SignatureView). s.format) same ∙ hit.of_format))
+          | inr other ↦ inr (λ hit. let both : Some own ≡ Some hit.signature = sym there.1 ∙ hit.at in let same : own ≡ hit.signature = cc in
+              other (ap (λ (s : SignatureView). s.format) same ∙ hit.of_format))
           | inl of ↦ elim (all_stand_or_not file bytes own.sequences sequences) [
             | inl stand ↦ inl (record { signature = own; at = there.1; of_format = of; hits = stand })
-            | inr fail ↦ inr (λ hit. let both : Some own ≡ Some hit.signature = sym there.1 ∙ hit.at in let same : own ≡ hit.signature = cc in fail (subst (λ s. Hits s file) (sym same) hit.hits))
+            | inr fail ↦ inr (λ hit. let both : Some own ≡ Some hit.signature = sym there.1 ∙ hit.at in let same : own ≡ hit.signature = cc in
+                fail (subst (λ s. Hits s file) (sym same) hit.hits))
           ]
         ]
   ]
@@ -77,7 +82,8 @@ module _ (table : TableView) (file : List ℕ) (is : IsTable table) (bytes : IsB
       let found = add (first_below formats (length table.signatures)).0 (first_below formats (length table.signatures)).1 before.0 before.1 in
       (found.0, subst (λ n. Listed table file (length table.signatures) n found.0) next found.1)
     where
-      add : (first : Option SigId) → IsFirstBelow table file (length table.signatures) formats first → (hits : List Hit) → Listed table file (length table.signatures) formats hits
+      add : (first : Option SigId) → IsFirstBelow table file (length table.signatures) formats first → (hits : List Hit)
+          → Listed table file (length table.signatures) formats hits
           → (more : List Hit) × Listed table file (length table.signatures) (formats + 1) more
       add None never hits are = (hits, Listed-keep table file (length table.signatures) formats hits None refl never are)
       add (Some s) is_first hits are =

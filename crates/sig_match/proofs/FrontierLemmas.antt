@@ -45,7 +45,9 @@ Gains-push xs x = record {
 }
 
 -- an interval that overlaps or touches the last one is joined with it
-pub Gains-join : (xs : List Interval) (last next joined : Interval) → last.from ≤ next.from → next.from ≤ last.to + 1 → joined.from ≡ last.from → last.to ≤ joined.to → next.to ≤ joined.to → ((o : ℕ) → o ≤ joined.to → (o ≤ last.to) ⊎ (o ≤ next.to)) → Gains (IsWithin next) (xs ++ last ∷ []) (xs ++ joined ∷ [])
+pub Gains-join : (xs : List Interval) (last next joined : Interval) → last.from ≤ next.from → next.from ≤ last.to + 1 → joined.from ≡ last.from
+    → last.to ≤ joined.to → next.to ≤ joined.to → ((o : ℕ) → o ≤ joined.to → (o ≤ last.to) ⊎ (o ≤ next.to))
+    → Gains (IsWithin next) (xs ++ last ∷ []) (xs ++ joined ∷ [])
 Gains-join xs last next joined before touches from to_last to_next to = record {
   sound = λ o h.
       elim (IsIn-push xs joined o h) [
@@ -70,7 +72,8 @@ Gains-join xs last next joined before touches from to_last to_next to = record {
 }
 
 -- one gain after another, and what both gain together
-pub Gains-more : (P Q R : ℕ → Type 0) (a b c : List Interval) → ((o : ℕ) → P o → R o) → ((o : ℕ) → Q o → R o) → ((o : ℕ) → R o → P o ⊎ Q o) → Gains P a b → Gains Q b c → Gains R a c
+pub Gains-more : (P Q R : ℕ → Type 0) (a b c : List Interval) → ((o : ℕ) → P o → R o) → ((o : ℕ) → Q o → R o) → ((o : ℕ) → R o → P o ⊎ Q o) → Gains P a b
+    → Gains Q b c → Gains R a c
 Gains-more P Q R a b c first second both ab bc = record {
   sound = λ o h.
       elim (bc.sound o h) [
@@ -109,7 +112,8 @@ abbrev pub Merged : List Interval → List Interval → ℕ → ℕ → List Int
 Merged a b i j both = HasExactly (λ o. IsIn (take i a) o ⊎ IsIn (take j b) o) both
 
 -- an interval of the first is merged
-pub Merged-left : (a b : List Interval) (i j : ℕ) (both new : List Interval) (x : Interval) → i < length a → x ≡ get_or a i nowhere → Merged a b i j both → Gains (IsWithin x) both new → Merged a b (i + 1) j new
+pub Merged-left : (a b : List Interval) (i j : ℕ) (both new : List Interval) (x : Interval) → i < length a → x ≡ get_or a i nowhere → Merged a b i j both
+    → Gains (IsWithin x) both new → Merged a b (i + 1) j new
 Merged-left a b i j both new x at is merged gains =
     let P : List Interval → Type 0 = λ l. HasExactly (λ o. IsIn l o ⊎ IsIn (take j b) o) new in
     subst P (sym (take-next a i x at is)) (record {
@@ -137,7 +141,8 @@ Merged-swap a b i j both merged = record {
 }
 
 -- all of both is merged
-pub Merged-all : (a b : List Interval) (i j : ℕ) (both : List Interval) → length a ≤ i → length b ≤ j → Merged a b i j both → HasExactly (λ o. IsIn a o ⊎ IsIn b o) both
+pub Merged-all : (a b : List Interval) (i j : ℕ) (both : List Interval) → length a ≤ i → length b ≤ j → Merged a b i j both
+    → HasExactly (λ o. IsIn a o ⊎ IsIn b o) both
 Merged-all a b i j both all_a all_b merged =
     let P : List Interval → List Interval → Type 0 = λ l r. HasExactly (λ o. IsIn l o ⊎ IsIn r o) both in
     let a_whole : take i a ≡ a = take_all i a all_a in
@@ -152,7 +157,8 @@ IsIn-at xs i x o at is within =
     (IsIn-append_left (take (i + 1) xs) (drop (i + 1) xs) o (subst P (sym (take-next xs i x at is)) (IsIn-push_last (take i xs) x o within)))
 
 -- an interval that has none of the offsets adds none
-pub Meets-none_more : (P : ℕ → Type 0) (xs : List Interval) (i : ℕ) (x : Interval) → i < length xs → x ≡ get_or xs i nowhere → ((o : ℕ) → IsWithin x o → P o → ⊥) → (Meets P (take i xs) → ⊥) → Meets P (take (i + 1) xs) → ⊥
+pub Meets-none_more : (P : ℕ → Type 0) (xs : List Interval) (i : ℕ) (x : Interval) → i < length xs → x ≡ get_or xs i nowhere
+    → ((o : ℕ) → IsWithin x o → P o → ⊥) → (Meets P (take i xs) → ⊥) → Meets P (take (i + 1) xs) → ⊥
 Meets-none_more P xs i x at is none before h =
     let Q : List Interval → Type 0 = λ l. IsIn l h.offset in
     elim (IsIn-push (take i xs) x h.offset (subst Q (take-next xs i x at is) h.is_in)) [

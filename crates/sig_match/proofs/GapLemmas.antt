@@ -22,7 +22,8 @@ pub IsBytes-slice_range : (file : List ℕ) (a e : ℕ) → IsBytes file → IsB
 IsBytes-slice_range file a e bytes = All-take (λ b. b < 256) (e - a) _ (All-drop (λ b. b < 256) a file bytes)
 
 -- a gap that begins in the interval ends from its least end to its greatest one
-pub Reaches-gap : (min_len : ℕ) (max : Option ℕ) (file : List ℕ) (x : Interval) (o : ℕ) → Reaches (Word (item.Gap min_len max)) file (IsWithin x) o → (x.from + min_len ≤ o) × (o ≤ gap_end (length file) x.to max)
+pub Reaches-gap : (min_len : ℕ) (max : Option ℕ) (file : List ℕ) (x : Interval) (o : ℕ) → Reaches (Word (item.Gap min_len max)) file (IsWithin x) o
+    → (x.from + min_len ≤ o) × (o ≤ gap_end (length file) x.to max)
 Reaches-gap min_len None file x o r =
     let order = r.in_order in
     let fits = r.within in
@@ -41,7 +42,8 @@ Reaches-gap min_len (Some max) file x o r =
     (omega arith, omega arith)
 
 -- the converse, for an interval and a gap that are not out of order
-pub Reaches-gap_at : (min_len : ℕ) (max : Option ℕ) (file : List ℕ) (x : Interval) (o : ℕ) → IsBytes file → x.from ≤ x.to → IsAtMost max min_len → x.from + min_len ≤ o → o ≤ gap_end (length file) x.to max → Reaches (Word (item.Gap min_len max)) file (IsWithin x) o
+pub Reaches-gap_at : (min_len : ℕ) (max : Option ℕ) (file : List ℕ) (x : Interval) (o : ℕ) → IsBytes file → x.from ≤ x.to → IsAtMost max min_len
+    → x.from + min_len ≤ o → o ≤ gap_end (length file) x.to max → Reaches (Word (item.Gap min_len max)) file (IsWithin x) o
 Reaches-gap_at min_len None file x o bytes order gap low high =
     let s : ℕ = min x.to (o - min_len) in
     let start_low : x.from ≤ s = omega arith in

@@ -15,20 +15,25 @@ drop-next : {X : Type 0} (xs : List X) (i : ℕ) (x d : X) → i < length xs →
 drop-next xs i x d at is = drop_more xs i d at ∙ ap (λ y. y ∷ drop (i + 1) xs) (sym is)
 
 -- an alternative's next part
-pub Carries-part : (ps : List Atom) (i : ℕ) (p d : Atom) (file : List ℕ) (S : ℕ → Type 0) (old new : List Interval) → i < length ps → p ≡ get_or ps i d → Carries (AlternativeWord ps) (AlternativeWord (drop i ps)) file S old → HasExactly (Reaches (PartWord p) file (IsIn old)) new → Carries (AlternativeWord ps) (AlternativeWord (drop (i + 1) ps)) file S new
+pub Carries-part : (ps : List Atom) (i : ℕ) (p d : Atom) (file : List ℕ) (S : ℕ → Type 0) (old new : List Interval) → i < length ps → p ≡ get_or ps i d
+    → Carries (AlternativeWord ps) (AlternativeWord (drop i ps)) file S old → HasExactly (Reaches (PartWord p) file (IsIn old)) new
+    → Carries (AlternativeWord ps) (AlternativeWord (drop (i + 1) ps)) file S new
 Carries-part ps i p d file S old new at is carries next =
     let P : List Atom → Type 0 = λ l. Carries (AlternativeWord ps) (AlternativeWord l) file S old in
     Carries-more (AlternativeWord ps) (PartWord p) (AlternativeWord (p ∷ drop (i + 1) ps)) (AlternativeWord (drop (i + 1) ps)) file S old new
     (λ w h. h) (λ w u v e hu hv. (u, v, e, hu, hv)) (subst P (drop-next ps i p d at is) carries) next
 
 -- all parts of an alternative are done
-pub Carries-parts : (ps : List Atom) (i : ℕ) (file : List ℕ) (S : ℕ → Type 0) (ends : List Interval) → length ps ≤ i → ((a : ℕ) → IsIn ends a → a ≤ length file) → Carries (AlternativeWord ps) (AlternativeWord (drop i ps)) file S ends → HasExactly (Reaches (AlternativeWord ps) file S) ends
+pub Carries-parts : (ps : List Atom) (i : ℕ) (file : List ℕ) (S : ℕ → Type 0) (ends : List Interval) → length ps ≤ i → ((a : ℕ) → IsIn ends a → a ≤ length file)
+    → Carries (AlternativeWord ps) (AlternativeWord (drop i ps)) file S ends → HasExactly (Reaches (AlternativeWord ps) file S) ends
 Carries-parts ps i file S ends all within carries =
     let P : List Atom → Type 0 = λ l. Carries (AlternativeWord ps) (AlternativeWord l) file S ends in
     HasExactly-from_Carries (AlternativeWord ps) file S ends within (subst P (drop_all i ps all) carries)
 
 -- the offsets of a frontier that are within the file
-pub Carries-cut : (U : List ℕ → Type 0) (file : List ℕ) (S : ℕ → Type 0) (ends : List Interval) → ((a : ℕ) → a ≤ length file → S a → Reaches (Word (item.Gap 0 (Some 0))) file S a) → HasExactly (Reaches (Word (item.Gap 0 (Some 0))) file S) ends → Carries U U file S ends
+pub Carries-cut : (U : List ℕ → Type 0) (file : List ℕ) (S : ℕ → Type 0) (ends : List Interval)
+    → ((a : ℕ) → a ≤ length file → S a → Reaches (Word (item.Gap 0 (Some 0))) file S a) → HasExactly (Reaches (Word (item.Gap 0 (Some 0))) file S) ends
+    → Carries U U file S ends
 Carries-cut U file S ends stands cut =
     Carries-start U file S ends
     (λ a _ h.
@@ -52,7 +57,9 @@ HasExactly-no_alternative file S = record {
 }
 
 -- the next alternative
-pub HasExactly-alternative : (alternatives : List (List Atom)) (next : List Atom) (file : List ℕ) (S : ℕ → Type 0) (old others both : List Interval) → HasExactly (ReachesAny alternatives file S) old → HasExactly (Reaches (AlternativeWord next) file S) others → HasExactly (λ o. IsIn old o ⊎ IsIn others o) both → HasExactly (ReachesAny (alternatives ++ next ∷ []) file S) both
+pub HasExactly-alternative : (alternatives : List (List Atom)) (next : List Atom) (file : List ℕ) (S : ℕ → Type 0) (old others both : List Interval)
+    → HasExactly (ReachesAny alternatives file S) old → HasExactly (Reaches (AlternativeWord next) file S) others
+    → HasExactly (λ o. IsIn old o ⊎ IsIn others o) both → HasExactly (ReachesAny (alternatives ++ next ∷ []) file S) both
 HasExactly-alternative alternatives next file S old others both before after union = record {
   sound = λ o h.
       elim (union.sound o h) [
@@ -67,10 +74,12 @@ HasExactly-alternative alternatives next file S old others both before after uni
       union.complete o (
       elim (Contains-push_cases alternatives next r.is_word.0 r.is_word.1) [
         | inl known ↦
-            inl (before.complete o (record { start = r.start; is_start = r.is_start; in_order = r.in_order; within = r.within; is_word = (r.is_word.0, known, r.is_word.2) }))
+            inl (before.complete o (record { start = r.start; is_start = r.is_start; in_order = r.in_order; within = r.within; is_word =
+                (r.is_word.0, known, r.is_word.2) }))
         | inr is_next ↦
             (let P : List Atom → Type 0 = λ a. AlternativeWord a (slice_range file r.start o) in
-            inr (after.complete o (record { start = r.start; is_start = r.is_start; in_order = r.in_order; within = r.within; is_word = subst P (sym is_next) r.is_word.2 })))
+            inr (after.complete o (record { start = r.start; is_start = r.is_start; in_order = r.in_order; within = r.within; is_word =
+                subst P (sym is_next) r.is_word.2 })))
       ]
       );
 }

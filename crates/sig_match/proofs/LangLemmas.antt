@@ -1,5 +1,6 @@
 -- Words of lists of items, and how long they are.
-use Rattle.std.proofs.Common.{◌≡◌, ℕ, ◌+◌, ◌≤◌, List, [], ◌∷◌, ◌++◌, length, map, take, drop, refl, subst, sym, ap, ap₂, ◌∙◌, inl, inr, arith, append_assoc, length-append}
+use Rattle.std.proofs.Common.{◌≡◌, ℕ, ◌+◌, ◌≤◌, List, [], ◌∷◌, ◌++◌, length, map, take, drop, refl, subst, sym, ap, ap₂, ◌∙◌, inl, inr, arith, append_assoc,
+    length-append}
 use Rattle.std.proofs.lemmas.List.{append-nil, drop-drop, take-append-drop}
 use Rattle.std.proofs.lemmas.List.Elements.{Contains-push_cases}
 use Rattle.sig_expr.specs.declared.item.Atom.{Atom}
@@ -38,14 +39,17 @@ Lang-from_IsThis [] w is = is
 Lang-from_IsThis (b ∷ bs) w is = (b ∷ [], bs, is, refl, Lang-from_IsThis bs bs refl)
 
 -- the ends of a run, as those of its items
-pub HasExactly-run : (run file : List ℕ) (S : ℕ → Type 0) (ends : List Interval) → HasExactly (Reaches (IsThis run) file S) ends → HasExactly (Reaches (Lang (map item.Byte run)) file S) ends
+pub HasExactly-run : (run file : List ℕ) (S : ℕ → Type 0) (ends : List Interval) → HasExactly (Reaches (IsThis run) file S) ends
+    → HasExactly (Reaches (Lang (map item.Byte run)) file S) ends
 HasExactly-run run file S ends exact = record {
   sound = λ o h. Reaches-words (IsThis run) (Lang (map item.Byte run)) file S o (Lang-from_IsThis run) (exact.sound o h);
   complete = λ o r. exact.complete o (Reaches-words (Lang (map item.Byte run)) (IsThis run) file S o (IsThis-from_Lang run) r);
 }
 
 -- an expression's next items
-pub Carries-items : (items : List Item) (i n : ℕ) (file : List ℕ) (S : ℕ → Type 0) (old new : List Interval) → Carries (Lang items) (Lang (drop i items)) file S old → HasExactly (Reaches (Lang (take n (drop i items))) file (IsIn old)) new → Carries (Lang items) (Lang (drop (i + n) items)) file S new
+pub Carries-items : (items : List Item) (i n : ℕ) (file : List ℕ) (S : ℕ → Type 0) (old new : List Interval)
+    → Carries (Lang items) (Lang (drop i items)) file S old → HasExactly (Reaches (Lang (take n (drop i items))) file (IsIn old)) new
+    → Carries (Lang items) (Lang (drop (i + n) items)) file S new
 Carries-items items i n file S old new carries next =
     let later : List Item = drop i items in
     let P : List Item → Type 0 = λ l. Carries (Lang items) (Lang l) file S old in
@@ -57,7 +61,8 @@ Carries-items items i n file S old new carries next =
     )
 
 -- no start is left, so no word is still to come
-pub Carries-none : (U V W : List ℕ → Type 0) (file : List ℕ) (S : ℕ → Type 0) (frontier : List Interval) → frontier ≡ [] → Carries U V file S frontier → Carries U W file S frontier
+pub Carries-none : (U V W : List ℕ → Type 0) (file : List ℕ) (S : ℕ → Type 0) (frontier : List Interval) → frontier ≡ [] → Carries U V file S frontier
+    → Carries U W file S frontier
 Carries-none U V W file S frontier none carries =
     let P : ℕ → List Interval → Type 0 = λ o l. IsIn l o in record {
       sound = λ e r. absurd (let h : IsIn [] r.start = subst (P r.start) none r.is_start in h);
@@ -74,14 +79,16 @@ Bounds-item xs x a b front last = λ w h.
     omega arith
 
 -- a word of parts and one more
-AlternativeWord-append : (xs : List Atom) (y : Atom) (w : List ℕ) → AlternativeWord (xs ++ y ∷ []) w → (u v : List ℕ) × (w ≡ u ++ v) × AlternativeWord xs u × PartWord y v
+AlternativeWord-append : (xs : List Atom) (y : Atom) (w : List ℕ) → AlternativeWord (xs ++ y ∷ []) w → (u v : List ℕ) × (w ≡ u ++ v) × AlternativeWord xs u
+    × PartWord y v
 AlternativeWord-append [] y w (u, v, is, word, none) = ([], u, is ∙ ap (λ (l : List ℕ). u ++ l) none ∙ append-nil u, refl, word)
 AlternativeWord-append (x ∷ xs) y w (u, v, is, word, rest) =
     let cut = AlternativeWord-append xs y v rest in
     (u ++ cut.0, cut.1, is ∙ ap (λ (l : List ℕ). u ++ l) cut.2 ∙ sym (append_assoc u cut.0 cut.1), (u, cut.0, refl, word, cut.3), cut.4)
 
 -- one part more
-pub Bounds-part : (xs : List Atom) (y : Atom) (a b : ℕ) → Bounds (AlternativeWord xs) a → Bounds (PartWord y) b → Bounds (AlternativeWord (xs ++ y ∷ [])) (a + b)
+pub Bounds-part : (xs : List Atom) (y : Atom) (a b : ℕ) → Bounds (AlternativeWord xs) a → Bounds (PartWord y) b
+    → Bounds (AlternativeWord (xs ++ y ∷ [])) (a + b)
 Bounds-part xs y a b front last = λ w h.
     let cut = AlternativeWord-append xs y w h in
     let len = ap length cut.2 ∙ length-append cut.0 cut.1 in
@@ -90,7 +97,8 @@ Bounds-part xs y a b front last = λ w h.
     omega arith
 
 -- one alternative more
-pub Bounds-alternative : (xs : List (List Atom)) (y : List Atom) (a b n : ℕ) → a ≤ n → b ≤ n → Bounds (Word (item.Alt xs)) a → Bounds (AlternativeWord y) b → Bounds (Word (item.Alt (xs ++ y ∷ []))) n
+pub Bounds-alternative : (xs : List (List Atom)) (y : List Atom) (a b n : ℕ) → a ≤ n → b ≤ n → Bounds (Word (item.Alt xs)) a → Bounds (AlternativeWord y) b
+    → Bounds (Word (item.Alt (xs ++ y ∷ []))) n
 Bounds-alternative xs y a b n a_below b_below front last = λ w h.
     elim (Contains-push_cases xs y h.0 h.1) [
       | inl known ↦ (let first = front w (h.0, known, h.2) in omega arith)

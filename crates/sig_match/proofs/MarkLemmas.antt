@@ -20,7 +20,9 @@ MarksBelow-none table file marks = record {
 }
 
 -- one more signature is marked where it hits
-pub MarksBelow-push : (table : TableView) (file : List ℕ) (limit : ℕ) (marks : List Bool) (b : Bool) → length marks ≡ limit → (b ≡ true → HitsOf table limit file) → (HitsOf table limit file → b ≡ true) → MarksBelow table file limit marks → MarksBelow table file (limit + 1) (marks ++ b ∷ [])
+pub MarksBelow-push : (table : TableView) (file : List ℕ) (limit : ℕ) (marks : List Bool) (b : Bool) → length marks ≡ limit
+    → (b ≡ true → HitsOf table limit file) → (HitsOf table limit file → b ≡ true) → MarksBelow table file limit marks
+    → MarksBelow table file (limit + 1) (marks ++ b ∷ [])
 MarksBelow-push table file limit marks b len to from before = record {
   sound = λ index below marked.
       elim (cases_lt index limit) [
@@ -45,7 +47,8 @@ MarksBelow-push table file limit marks b len to from before = record {
 }
 
 -- all signatures are marked
-pub MarksHits-from_below : (table : TableView) (file : List ℕ) (limit : ℕ) (marks : List Bool) → length table.signatures ≡ limit → length marks ≡ limit → MarksBelow table file limit marks → MarksHits table file marks
+pub MarksHits-from_below : (table : TableView) (file : List ℕ) (limit : ℕ) (marks : List Bool) → length table.signatures ≡ limit → length marks ≡ limit
+    → MarksBelow table file limit marks → MarksHits table file marks
 MarksHits-from_below table file limit marks all len below = record {
   sound = λ index marked.
       elim (cases_lt index limit) [

@@ -34,7 +34,8 @@ abbrev pub IsPassed : Interval → ℕ → ℕ → Type 0
 IsPassed x at a = IsWithin x a × (a < at)
 
 -- the interval's starts below its first offset are none
-pub Gains-start : (W : List ℕ → Type 0) (m : ℕ) (fixed : Fixed W m) (file : List ℕ) (x : Interval) (old : List Interval) → Gains (Reaches W file (IsPassed x x.from)) old old
+pub Gains-start : (W : List ℕ → Type 0) (m : ℕ) (fixed : Fixed W m) (file : List ℕ) (x : Interval) (old : List Interval)
+    → Gains (Reaches W file (IsPassed x x.from)) old old
 Gains-start W m fixed file x old = record {
   sound = λ o h. inl h;
   kept = λ o h. h;
@@ -42,9 +43,12 @@ Gains-start W m fixed file x old = record {
 }
 
 -- a word stands at an offset of the interval
-pub Gains-here : (W : List ℕ → Type 0) (m : ℕ) (fixed : Fixed W m) (file : List ℕ) (x : Interval) (at e : ℕ) (old mid new : List Interval) → IsWithin x at → at ≤ e → e ≤ length file → W (slice_range file at e) → Gains (Reaches W file (IsPassed x at)) old mid → Gains (IsWithin (record { from = e; to = e })) mid new → Gains (Reaches W file (IsPassed x (at + 1))) old new
+pub Gains-here : (W : List ℕ → Type 0) (m : ℕ) (fixed : Fixed W m) (file : List ℕ) (x : Interval) (at e : ℕ) (old mid new : List Interval) → IsWithin x at
+    → at ≤ e → e ≤ length file → W (slice_range file at e) → Gains (Reaches W file (IsPassed x at)) old mid
+    → Gains (IsWithin (record { from = e; to = e })) mid new → Gains (Reaches W file (IsPassed x (at + 1))) old new
 Gains-here W m fixed file x at e old mid new within order fits word before gains =
-    let here : Reaches W file (IsPassed x (at + 1)) e = record { start = at; is_start = (within, omega arith); in_order = order; within = fits; is_word = word } in
+    let here : Reaches W file (IsPassed x (at + 1)) e = record { start = at; is_start = (within, omega arith); in_order = order; within = fits; is_word = word }
+        in
     let at_end : e ≡ at + m = Reaches-fixed_end W m fixed file (IsPassed x (at + 1)) e here in
     Gains-more (Reaches W file (IsPassed x at)) (IsWithin (record { from = e; to = e })) (Reaches W file (IsPassed x (at + 1))) old mid new
     (λ o r. Reaches-starts W file _ _ o (λ a _ h. (h.0, let below = h.1 in omega arith)) r)
@@ -61,7 +65,9 @@ Gains-here W m fixed file x at e old mid new within order fits word before gains
     before gains
 
 -- no word stands from an offset up to another
-pub Gains-none : (W : List ℕ → Type 0) (m : ℕ) (fixed : Fixed W m) (file : List ℕ) (x : Interval) (at until : ℕ) (old new : List Interval) → at ≤ until → ((k : ℕ) → at ≤ k → k < until → k ≤ x.to → k + m ≤ length file → W (slice_range file k (k + m)) → ⊥) → Gains (Reaches W file (IsPassed x at)) old new → Gains (Reaches W file (IsPassed x until)) old new
+pub Gains-none : (W : List ℕ → Type 0) (m : ℕ) (fixed : Fixed W m) (file : List ℕ) (x : Interval) (at until : ℕ) (old new : List Interval) → at ≤ until
+    → ((k : ℕ) → at ≤ k → k < until → k ≤ x.to → k + m ≤ length file → W (slice_range file k (k + m)) → ⊥) → Gains (Reaches W file (IsPassed x at)) old new
+    → Gains (Reaches W file (IsPassed x until)) old new
 Gains-none W m fixed file x at until old new order none before =
     Gains-same (Reaches W file (IsPassed x at)) (Reaches W file (IsPassed x until)) old new
     (λ o r. Reaches-starts W file _ _ o (λ a _ h. (h.0, let below = h.1 in omega arith)) r)
@@ -78,12 +84,14 @@ Gains-none W m fixed file x at until old new order none before =
     before
 
 -- all starts of the interval at which a word has room are passed
-pub Gains-passed : (W : List ℕ → Type 0) (m : ℕ) (fixed : Fixed W m) (file : List ℕ) (x : Interval) (at : ℕ) (old new : List Interval) → ((a : ℕ) → a ≤ x.to → a + m ≤ length file → a < at) → Gains (Reaches W file (IsPassed x at)) old new → Gains (Reaches W file (IsWithin x)) old new
+pub Gains-passed : (W : List ℕ → Type 0) (m : ℕ) (fixed : Fixed W m) (file : List ℕ) (x : Interval) (at : ℕ) (old new : List Interval)
+    → ((a : ℕ) → a ≤ x.to → a + m ≤ length file → a < at) → Gains (Reaches W file (IsPassed x at)) old new → Gains (Reaches W file (IsWithin x)) old new
 Gains-passed W m fixed file x at old new passed before =
     Gains-same (Reaches W file (IsPassed x at)) (Reaches W file (IsWithin x)) old new
     (λ o r. Reaches-starts W file _ _ o (λ a _ h. h.0) r)
     (λ o r.
     let fits = r.within in
     let o_end = Reaches-fixed_end W m fixed file _ o r in
-    record { start = r.start; is_start = (r.is_start, passed r.start r.is_start.1 (omega arith)); in_order = r.in_order; within = r.within; is_word = r.is_word })
+    record { start = r.start; is_start = (r.is_start, passed r.start r.is_start.1 (omega arith)); in_order = r.in_order; within = r.within; is_word =
+        r.is_word })
     before

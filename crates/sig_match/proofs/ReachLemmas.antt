@@ -1,5 +1,6 @@
 -- Where words end that begin at given offsets.
-use Rattle.std.proofs.Common.{◌≡◌, ◌⊎◌, ℕ, ◌+◌, ◌-◌, ◌≤◌, ◌<◌, List, [], ◌∷◌, ◌++◌, length, get_or, take, drop, refl, subst, ap, ◌∙◌, sym, inl, inr, arith, take-add, length-append}
+use Rattle.std.proofs.Common.{◌≡◌, ◌⊎◌, ℕ, ◌+◌, ◌-◌, ◌≤◌, ◌<◌, List, [], ◌∷◌, ◌++◌, length, get_or, take, drop, refl, subst, ap, ◌∙◌, sym, inl, inr, arith,
+    take-add, length-append}
 use Rattle.std.specs.Prelude.{slice_range}
 use Rattle.std.proofs.lemmas.List.{drop-drop, length-take-le, length-drop, take_at, drop_at, take_all}
 use Rattle.sig_match.specs.declared.whole.frontier.Interval.{Interval}
@@ -7,7 +8,8 @@ use Rattle.sig_match.specs.Frontiers.{IsWithin, IsIn, HasExactly, Gains, Reaches
 use Rattle.sig_match.proofs.FrontierLemmas.{IsIn-push, IsIn-push_last, IsIn-append_left, Gains-more, HasExactly-from_Gains, nowhere, take-next}
 
 -- the same words from starts in other words
-pub Reaches-starts : (W : List ℕ → Type 0) (file : List ℕ) (S T : ℕ → Type 0) (e : ℕ) → ((a : ℕ) → a ≤ length file → S a → T a) → Reaches W file S e → Reaches W file T e
+pub Reaches-starts : (W : List ℕ → Type 0) (file : List ℕ) (S T : ℕ → Type 0) (e : ℕ) → ((a : ℕ) → a ≤ length file → S a → T a) → Reaches W file S e
+    → Reaches W file T e
 Reaches-starts W file S T e to r =
     let start_to_end = r.in_order in
     let end_within = r.within in
@@ -31,7 +33,8 @@ Reaches-words V W file S e to r =
     }
 
 -- a word from one of two kinds of starts
-pub Reaches-choice : (W : List ℕ → Type 0) (file : List ℕ) (S T : ℕ → Type 0) (e : ℕ) → Reaches W file (λ a. S a ⊎ T a) e → Reaches W file S e ⊎ Reaches W file T e
+pub Reaches-choice : (W : List ℕ → Type 0) (file : List ℕ) (S T : ℕ → Type 0) (e : ℕ) → Reaches W file (λ a. S a ⊎ T a) e → Reaches W file S e
+    ⊎ Reaches W file T e
 Reaches-choice W file S T e r =
     elim r.is_start [
       | inl s ↦ inl (record { start = r.start; is_start = s; in_order = r.in_order; within = r.within; is_word = r.is_word })
@@ -39,7 +42,9 @@ Reaches-choice W file S T e r =
     ]
 
 -- what the next interval of a frontier reaches is gained
-pub Gains-next : (W : List ℕ → Type 0) (file : List ℕ) (xs : List Interval) (i : ℕ) (x : Interval) (a b c : List Interval) → i < length xs → x ≡ get_or xs i nowhere → Gains (Reaches W file (IsIn (take i xs))) a b → Gains (Reaches W file (IsWithin x)) b c → Gains (Reaches W file (IsIn (take (i + 1) xs))) a c
+pub Gains-next : (W : List ℕ → Type 0) (file : List ℕ) (xs : List Interval) (i : ℕ) (x : Interval) (a b c : List Interval) → i < length xs
+    → x ≡ get_or xs i nowhere → Gains (Reaches W file (IsIn (take i xs))) a b → Gains (Reaches W file (IsWithin x)) b c
+    → Gains (Reaches W file (IsIn (take (i + 1) xs))) a c
 Gains-next W file xs i x a b c at is ab bc =
     let P : List Interval → Type 0 = λ l. Gains (Reaches W file (IsIn l)) a c in
     subst P (sym (take-next xs i x at is)) (
@@ -69,7 +74,8 @@ same_pieces xs ys u v e len = (
 )
 
 -- a word that is two words joined ends where the second one does, that begins where the first one ends
-pub Reaches-split : (U V W : List ℕ → Type 0) (file : List ℕ) (S : ℕ → Type 0) (e : ℕ) → ((w : List ℕ) → U w → (u v : List ℕ) × (w ≡ u ++ v) × V u × W v) → Reaches U file S e → Reaches W file (Reaches V file S) e
+pub Reaches-split : (U V W : List ℕ → Type 0) (file : List ℕ) (S : ℕ → Type 0) (e : ℕ) → ((w : List ℕ) → U w → (u v : List ℕ) × (w ≡ u ++ v) × V u × W v)
+    → Reaches U file S e → Reaches W file (Reaches V file S) e
 Reaches-split U V W file S e cut r =
     let start_to_end : r.start ≤ e = r.in_order in
     let end_within : e ≤ length file = r.within in
@@ -93,7 +99,8 @@ Reaches-split U V W file S e cut r =
     }
 
 -- the converse
-pub Reaches-join : (U V W : List ℕ → Type 0) (file : List ℕ) (S : ℕ → Type 0) (e : ℕ) → ((w u v : List ℕ) → w ≡ u ++ v → V u → W v → U w) → Reaches W file (Reaches V file S) e → Reaches U file S e
+pub Reaches-join : (U V W : List ℕ → Type 0) (file : List ℕ) (S : ℕ → Type 0) (e : ℕ) → ((w u v : List ℕ) → w ≡ u ++ v → V u → W v → U w)
+    → Reaches W file (Reaches V file S) e → Reaches U file S e
 Reaches-join U V W file S e join r =
     let first = r.is_start in
     let start_to_middle : first.start ≤ r.start = first.in_order in
@@ -112,7 +119,9 @@ pub record Carries (U W : List ℕ → Type 0) (file : List ℕ) (S : ℕ → Ty
   pub complete : (e : ℕ) → Reaches U file S e → Reaches W file (IsIn frontier) e
 
 -- from one frontier to the next
-pub Carries-more : (U V W W' : List ℕ → Type 0) (file : List ℕ) (S : ℕ → Type 0) (old new : List Interval) → ((w : List ℕ) → W w → (u v : List ℕ) × (w ≡ u ++ v) × V u × W' v) → ((w u v : List ℕ) → w ≡ u ++ v → V u → W' v → W w) → Carries U W file S old → HasExactly (Reaches V file (IsIn old)) new → Carries U W' file S new
+pub Carries-more : (U V W W' : List ℕ → Type 0) (file : List ℕ) (S : ℕ → Type 0) (old new : List Interval)
+    → ((w : List ℕ) → W w → (u v : List ℕ) × (w ≡ u ++ v) × V u × W' v) → ((w u v : List ℕ) → w ≡ u ++ v → V u → W' v → W w) → Carries U W file S old
+    → HasExactly (Reaches V file (IsIn old)) new → Carries U W' file S new
 Carries-more U V W W' file S old new cut join carries next = record {
   sound = λ e r. carries.sound e (Reaches-join W V W' file (IsIn old) e join (Reaches-starts W' file _ _ e (λ a _ h. next.sound a h) r));
   complete = λ e r. Reaches-starts W' file _ _ e (λ a _ h. next.complete a h) (Reaches-split W V W' file (IsIn old) e cut (carries.complete e r));
@@ -146,21 +155,24 @@ Gains-no_intervals W file xs old = record {
 }
 
 -- what all intervals reach
-pub HasExactly-all : (W : List ℕ → Type 0) (file : List ℕ) (xs : List Interval) (i : ℕ) (old ends : List Interval) → length xs ≤ i → old ≡ [] → Gains (Reaches W file (IsIn (take i xs))) old ends → HasExactly (Reaches W file (IsIn xs)) ends
+pub HasExactly-all : (W : List ℕ → Type 0) (file : List ℕ) (xs : List Interval) (i : ℕ) (old ends : List Interval) → length xs ≤ i → old ≡ []
+    → Gains (Reaches W file (IsIn (take i xs))) old ends → HasExactly (Reaches W file (IsIn xs)) ends
 HasExactly-all W file xs i old ends all none gains =
     let P : List Interval → List Interval → Type 0 = λ l o. Gains (Reaches W file (IsIn l)) o ends in
     HasExactly-from_Gains (Reaches W file (IsIn xs)) ends
     (subst (λ (o : List Interval). P xs o) none (subst (λ (l : List Interval). P l old) (take_all i xs all) gains))
 
 -- all words are still to come, from starts in other words
-pub Carries-start : (U : List ℕ → Type 0) (file : List ℕ) (S : ℕ → Type 0) (frontier : List Interval) → ((a : ℕ) → a ≤ length file → IsIn frontier a → S a) → ((a : ℕ) → a ≤ length file → S a → IsIn frontier a) → Carries U U file S frontier
+pub Carries-start : (U : List ℕ → Type 0) (file : List ℕ) (S : ℕ → Type 0) (frontier : List Interval) → ((a : ℕ) → a ≤ length file → IsIn frontier a → S a)
+    → ((a : ℕ) → a ≤ length file → S a → IsIn frontier a) → Carries U U file S frontier
 Carries-start U file S frontier to from = record {
   sound = λ e r. Reaches-starts U file _ _ e to r;
   complete = λ e r. Reaches-starts U file _ _ e from r;
 }
 
 -- no word is still to come
-pub HasExactly-from_Carries : (U : List ℕ → Type 0) (file : List ℕ) (S : ℕ → Type 0) (frontier : List Interval) → ((a : ℕ) → IsIn frontier a → a ≤ length file) → Carries U (λ w. w ≡ []) file S frontier → HasExactly (Reaches U file S) frontier
+pub HasExactly-from_Carries : (U : List ℕ → Type 0) (file : List ℕ) (S : ℕ → Type 0) (frontier : List Interval) → ((a : ℕ) → IsIn frontier a → a ≤ length file)
+    → Carries U (λ w. w ≡ []) file S frontier → HasExactly (Reaches U file S) frontier
 HasExactly-from_Carries U file S frontier within carries = record {
   sound = λ o h. carries.sound o (Reaches-nil_at file (IsIn frontier) o h (within o h));
   complete = λ o r. Reaches-nil file (IsIn frontier) o (carries.complete o r);

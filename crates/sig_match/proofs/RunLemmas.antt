@@ -28,7 +28,8 @@ OccursAt-in_file file run a e n order within occurs =
     }
 
 -- the converse
-pub OccursAt-in_part : (file run : List ℕ) (a e k : ℕ) → a ≤ k → k + length run ≤ e → e ≤ length file → OccursAt file run k → OccursAt (slice_range file a e) run (k - a)
+pub OccursAt-in_part : (file run : List ℕ) (a e k : ℕ) → a ≤ k → k + length run ≤ e → e ≤ length file → OccursAt file run k
+    → OccursAt (slice_range file a e) run (k - a)
 OccursAt-in_part file run a e k low high within occurs =
     let len : length (slice_range file a e) ≡ e - a = length-slice_range file a e (omega arith) within in
     record {
@@ -51,7 +52,8 @@ OccursAt-from_IsThis file run k e end within is =
     OccursAt-from_part file run k (omega arith) (ap (λ n. take n (drop k file)) len ∙ is)
 
 -- nothing found in a part of a file, whose end cuts off no occurrence, is nowhere before
-pub IsFirst-none : (file run : List ℕ) (a e to : ℕ) → a ≤ e → e ≤ length file → ((k : ℕ) → k ≤ to → k + length run ≤ length file → k + length run ≤ e) → FindsNeedle (slice_range file a e) run 0 None → IsFirst (OccursAt file run) a (to + 1) None
+pub IsFirst-none : (file run : List ℕ) (a e to : ℕ) → a ≤ e → e ≤ length file → ((k : ℕ) → k ≤ to → k + length run ≤ length file → k + length run ≤ e)
+    → FindsNeedle (slice_range file a e) run 0 None → IsFirst (OccursAt file run) a (to + 1) None
 IsFirst-none file run a e to order within room none = λ k low high occurs.
     let fits = occurs.fits in
     let here : k + length run ≤ e = room k (omega arith) fits in
@@ -59,7 +61,9 @@ IsFirst-none file run a e to order within room none = λ k low high occurs.
     none (k - a) (omega arith) (omega arith) (OccursAt-in_part file run a e k low here within occurs)
 
 -- the first that is found there is the first
-pub IsFirst-some : (file run : List ℕ) (a e to n : ℕ) → a ≤ e → e ≤ length file → e ≤ to + length run → ((k : ℕ) → k ≤ to → k + length run ≤ length file → k + length run ≤ e) → FindsNeedle (slice_range file a e) run 0 (Some n) → IsFirst (OccursAt file run) a (to + 1) (Some (a + n))
+pub IsFirst-some : (file run : List ℕ) (a e to n : ℕ) → a ≤ e → e ≤ length file → e ≤ to + length run
+    → ((k : ℕ) → k ≤ to → k + length run ≤ length file → k + length run ≤ e) → FindsNeedle (slice_range file a e) run 0 (Some n)
+    → IsFirst (OccursAt file run) a (to + 1) (Some (a + n))
 IsFirst-some file run a e to n order within end room found =
     let len : length (slice_range file a e) ≡ e - a = length-slice_range file a e order within in
     let fits = found.1.fits in (
@@ -80,7 +84,8 @@ pub IsThis-Fixed : (run : List ℕ) (w : List ℕ) → IsThis run w → length w
 IsThis-Fixed run w is = ap length is
 
 -- the run is found in an interval of a frontier
-pub Meets-first : (file run : List ℕ) (frontier : List Interval) (i : ℕ) (r : Option ℕ) → i < length frontier → is_some r ≡ true → IsFirst (OccursAt file run) (get_or frontier i nowhere).from ((get_or frontier i nowhere).to + 1) r → Meets (OccursAt file run) frontier
+pub Meets-first : (file run : List ℕ) (frontier : List Interval) (i : ℕ) (r : Option ℕ) → i < length frontier → is_some r ≡ true
+    → IsFirst (OccursAt file run) (get_or frontier i nowhere).from ((get_or frontier i nowhere).to + 1) r → Meets (OccursAt file run) frontier
 Meets-first file run frontier i None at some first = absurd (false≢true some)
 Meets-first file run frontier i (Some k) at some first =
     let low = first.0.low in
@@ -88,6 +93,7 @@ Meets-first file run frontier i (Some k) at some first =
     record { offset = k; is_in = IsIn-at frontier i (get_or frontier i nowhere) k at refl (omega arith, omega arith); is_offset = first.1 }
 
 -- the run is not found in an interval
-pub none_first : (file run : List ℕ) (x : Interval) (r : Option ℕ) → is_some r ≡ false → IsFirst (OccursAt file run) x.from (x.to + 1) r → (o : ℕ) → IsWithin x o → OccursAt file run o → ⊥
+pub none_first : (file run : List ℕ) (x : Interval) (r : Option ℕ) → is_some r ≡ false → IsFirst (OccursAt file run) x.from (x.to + 1) r → (o : ℕ)
+    → IsWithin x o → OccursAt file run o → ⊥
 none_first file run x None some first = λ o within occurs. (let high = within.1 in first o within.0 (omega arith) occurs)
 none_first file run x (Some k) some first = λ o within occurs. false≢true (sym some)

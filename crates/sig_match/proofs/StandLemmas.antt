@@ -1,5 +1,6 @@
 -- When a sequence stands in a file, by its frontiers.
-use Rattle.std.proofs.Common.{◌≡◌, ℕ, ◌+◌, ◌-◌, ◌≤◌, List, [], ◌++◌, length, map, take, drop, Option, Some, None, inl, inr, refl, subst, sym, ap, ◌∙◌, arith, append_assoc, length-append, length-drop}
+use Rattle.std.proofs.Common.{◌≡◌, ℕ, ◌+◌, ◌-◌, ◌≤◌, List, [], ◌++◌, length, map, take, drop, Option, Some, None, inl, inr, refl, subst, sym, ap, ◌∙◌, arith,
+    append_assoc, length-append, length-drop}
 use Rattle.std.specs.Prelude.{IfSome, slice_range}
 use Rattle.std.proofs.lemmas.List.{take-append-drop, length-take-le, take_at, drop_at, drop_all}
 use Rattle.std.proofs.lemmas.List.Folds.{drop_split}
@@ -40,7 +41,8 @@ cut_end-length items file c =
     sym (ap length c.cut ∙ length-append (c.front ++ c.word) c.back ∙ ap (λ n. n + length c.back) (length-append c.front c.word))
 
 -- a cut's word is in its place
-pub Reaches-from_Cut : (items : List Item) (file : List ℕ) (S : ℕ → Type 0) (c : Cut items file) → S (length c.front) → Reaches (Lang items) file S (cut_end items file c)
+pub Reaches-from_Cut : (items : List Item) (file : List ℕ) (S : ℕ → Type 0) (c : Cut items file) → S (length c.front)
+    → Reaches (Lang items) file S (cut_end items file c)
 Reaches-from_Cut items file S c h =
     let whole = cut_end-length items file c in
     let rest : drop (length c.front) file ≡ c.word ++ c.back =
@@ -57,7 +59,8 @@ Reaches-from_Cut items file S c h =
     }
 
 -- a word that may begin and end there stands
-StandsAt-from_Reaches : (p : Position) (longest : Option ℕ) (items : List Item) (file : List ℕ) (e : ℕ) → Reaches (Lang items) file (MayBegin p longest (length file)) e → MayEnd p (length file) e → StandsAt p items file
+StandsAt-from_Reaches : (p : Position) (longest : Option ℕ) (items : List Item) (file : List ℕ) (e : ℕ)
+    → Reaches (Lang items) file (MayBegin p longest (length file)) e → MayEnd p (length file) e → StandsAt p items file
 unfolding Cut-from_Reaches
 StandsAt-from_Reaches (position.Bof min max) longest items file e r may =
     let order = r.in_order in
@@ -76,7 +79,8 @@ StandsAt-from_Reaches position.Variable longest items file e r may =
     Cut-from_Reaches items file (MayBegin position.Variable longest (length file)) e r
 
 -- where a word may begin whose end is near enough to the file's
-eof_start : (min max : ℕ) (longest : Option ℕ) (items : List Item) (file : List ℕ) → IfSome longest (Bounds (Lang items)) → (c : Cut items file) → length c.back ≤ max → MayBegin (position.Eof min max) longest (length file) (length c.front)
+eof_start : (min max : ℕ) (longest : Option ℕ) (items : List Item) (file : List ℕ) → IfSome longest (Bounds (Lang items)) → (c : Cut items file)
+    → length c.back ≤ max → MayBegin (position.Eof min max) longest (length file) (length c.front)
 eof_start min max None items file bounds c near = tt
 eof_start min max (Some n) items file bounds c near =
     let whole = cut_end-length items file c in
@@ -89,7 +93,8 @@ pub record Standing (p : Position) (longest : Option ℕ) (items : List Item) (f
   pub reaches : Reaches (Lang items) file (MayBegin p longest (length file)) end
   pub may_end : MayEnd p (length file) end
 
-Standing-from_StandsAt : (p : Position) (longest : Option ℕ) (items : List Item) (file : List ℕ) → IfSome longest (Bounds (Lang items)) → StandsAt p items file → Standing p longest items file
+Standing-from_StandsAt : (p : Position) (longest : Option ℕ) (items : List Item) (file : List ℕ) → IfSome longest (Bounds (Lang items)) → StandsAt p items file
+    → Standing p longest items file
 Standing-from_StandsAt (position.Bof min max) longest items file bounds h = record {
   end = cut_end items file h.0;
   reaches = Reaches-from_Cut items file (MayBegin (position.Bof min max) longest (length file)) h.0 (h.1, h.2);
@@ -117,7 +122,9 @@ pub record StillToCome (p : Position) (items later : List Item) (file : List ℕ
   pub carries : Carries (Lang items) (Lang later) file (MayBegin p longest (length file)) frontier
 
 -- all are, from the starts on
-pub StillToCome-all : (p : Position) (longest : Option ℕ) (items : List Item) (file : List ℕ) (start : Interval) (frontier : List Interval) → IfSome longest (Bounds (Lang items)) → ((o : ℕ) → o ≤ length file → (IsWithin start o → MayBegin p longest (length file) o) × (MayBegin p longest (length file) o → IsWithin start o)) → Gains (IsWithin start) [] frontier → StillToCome p items items file frontier
+pub StillToCome-all : (p : Position) (longest : Option ℕ) (items : List Item) (file : List ℕ) (start : Interval) (frontier : List Interval)
+    → IfSome longest (Bounds (Lang items)) → ((o : ℕ) → o ≤ length file → (IsWithin start o → MayBegin p longest (length file) o)
+    × (MayBegin p longest (length file) o → IsWithin start o)) → Gains (IsWithin start) [] frontier → StillToCome p items items file frontier
 StillToCome-all p longest items file start frontier bounds starts gains = record {
   longest = longest;
   bounds = bounds;
@@ -127,7 +134,8 @@ StillToCome-all p longest items file start frontier bounds starts gains = record
 }
 
 -- some more are done
-pub StillToCome-more : (p : Position) (items : List Item) (i n : ℕ) (file : List ℕ) (old new : List Interval) → StillToCome p items (drop i items) file old → HasExactly (Reaches (Lang (take n (drop i items))) file (IsIn old)) new → StillToCome p items (drop (i + n) items) file new
+pub StillToCome-more : (p : Position) (items : List Item) (i n : ℕ) (file : List ℕ) (old new : List Interval) → StillToCome p items (drop i items) file old
+    → HasExactly (Reaches (Lang (take n (drop i items))) file (IsIn old)) new → StillToCome p items (drop (i + n) items) file new
 StillToCome-more p items i n file old new still next = record {
   longest = still.longest;
   bounds = still.bounds;
@@ -135,11 +143,14 @@ StillToCome-more p items i n file old new still next = record {
 }
 
 -- nothing is, where all items are done
-pub StillToCome-done : (p : Position) (items : List Item) (i : ℕ) (file : List ℕ) (frontier : List Interval) → length items ≤ i → StillToCome p items (drop i items) file frontier → StillToCome p items [] file frontier
-StillToCome-done p items i file frontier all still = let P : List Item → Type 0 = λ l. StillToCome p items l file frontier in subst P (drop_all i items all) still
+pub StillToCome-done : (p : Position) (items : List Item) (i : ℕ) (file : List ℕ) (frontier : List Interval) → length items ≤ i
+    → StillToCome p items (drop i items) file frontier → StillToCome p items [] file frontier
+StillToCome-done p items i file frontier all still = let P : List Item → Type 0 = λ l. StillToCome p items l file frontier in
+    subst P (drop_all i items all) still
 
 -- nor where no start is left
-pub StillToCome-none : (p : Position) (items later : List Item) (file : List ℕ) (frontier : List Interval) → frontier ≡ [] → StillToCome p items later file frontier → StillToCome p items [] file frontier
+pub StillToCome-none : (p : Position) (items later : List Item) (file : List ℕ) (frontier : List Interval) → frontier ≡ []
+    → StillToCome p items later file frontier → StillToCome p items [] file frontier
 StillToCome-none p items later file frontier none still = record {
   longest = still.longest;
   bounds = still.bounds;
@@ -147,9 +158,12 @@ StillToCome-none p items later file frontier none still = record {
 }
 
 -- nothing is to come, and an end is in the frontier exactly where the sequence stands
-pub stands_by_end : (p : Position) (items : List Item) (file : List ℕ) (frontier : List Interval) → StillToCome p items [] file frontier → (Meets (λ o. (o ≤ length file) × MayEnd p (length file) o) frontier → StandsAt p items file) × (StandsAt p items file → Meets (λ o. (o ≤ length file) × MayEnd p (length file) o) frontier)
+pub stands_by_end : (p : Position) (items : List Item) (file : List ℕ) (frontier : List Interval) → StillToCome p items [] file frontier
+    → (Meets (λ o. (o ≤ length file) × MayEnd p (length file) o) frontier → StandsAt p items file)
+    × (StandsAt p items file → Meets (λ o. (o ≤ length file) × MayEnd p (length file) o) frontier)
 stands_by_end p items file frontier still = (
-  λ m. StandsAt-from_Reaches p still.longest items file m.offset (still.carries.sound m.offset (Reaches-nil_at file (IsIn frontier) m.offset m.is_in m.is_offset.0)) m.is_offset.1,
+  λ m. StandsAt-from_Reaches p still.longest items file m.offset
+      (still.carries.sound m.offset (Reaches-nil_at file (IsIn frontier) m.offset m.is_in m.is_offset.0)) m.is_offset.1,
   λ h.
       let s = Standing-from_StandsAt p still.longest items file still.bounds h in
       record {
@@ -160,7 +174,9 @@ stands_by_end p items file frontier still = (
 )
 
 -- only a run is to come, and it is at an offset of the frontier exactly where the sequence stands
-pub stands_by_run : (p : Position) (items later : List Item) (run file : List ℕ) (frontier : List Interval) → ((len o : ℕ) → MayEnd p len o) → later ≡ map item.Byte run → StillToCome p items later file frontier → (Meets (OccursAt file run) frontier → StandsAt p items file) × (StandsAt p items file → Meets (OccursAt file run) frontier)
+pub stands_by_run : (p : Position) (items later : List Item) (run file : List ℕ) (frontier : List Interval) → ((len o : ℕ) → MayEnd p len o)
+    → later ≡ map item.Byte run → StillToCome p items later file frontier → (Meets (OccursAt file run) frontier → StandsAt p items file)
+    × (StandsAt p items file → Meets (OccursAt file run) frontier)
 stands_by_run p items later run file frontier may is_run still =
     let P : List Item → Type 0 = λ l. Carries (Lang items) (Lang l) file (MayBegin p still.longest (length file)) frontier in
     let carries = subst P is_run still.carries in (

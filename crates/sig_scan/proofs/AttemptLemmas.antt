@@ -1,5 +1,6 @@
 -- From the bytes in sight to the bytes at hand, and from the end of an entry to the first of all.
-use Rattle.sig_scan.proofs.Common.{◌≡◌, ℕ, ◌+◌, ◌≤◌, ◌<◌, ◌⊎◌, inl, inr, List, length, min, take, drop, arith, Option, Some, None, cases_lt, length-take-le, take-append-drop, unwrap_or, Item, EndsAt, IsLeastEnd, AreBounded, span, Lies, IsFirstOf}
+use Rattle.sig_scan.proofs.Common.{◌≡◌, ℕ, ◌+◌, ◌≤◌, ◌<◌, ◌⊎◌, inl, inr, List, length, min, take, drop, arith, Option, Some, None, cases_lt, length-take-le,
+    take-append-drop, unwrap_or, Item, EndsAt, IsLeastEnd, AreBounded, span, Lies, IsFirstOf}
 use Rattle.sig_scan.proofs.LengthLemmas.{Lies-span}
 use Rattle.sig_scan.proofs.LiesLemmas.{Lies-seen_both}
 
@@ -8,7 +9,8 @@ pub Lies-taken : (items : List Item) (file : List ℕ) (n start end : ℕ) → n
 Lies-taken items file n start end fits l = grind (arith, (Lies-seen_both items (take n file) (drop n file) start end).0 l, take-append-drop n file)
 
 -- a word that ends in them
-pub Lies-take : (items : List Item) (file : List ℕ) (n start end : ℕ) → n ≤ length file → end ≤ n → Lies items file start end → Lies items (take n file) start end
+pub Lies-take : (items : List Item) (file : List ℕ) (n start end : ℕ) → n ≤ length file → end ≤ n → Lies items file start end
+    → Lies items (take n file) start end
 Lies-take items file n start end fits inside l =
     grind (arith, (Lies-seen_both items (take n file) (drop n file) start end).1, take-append-drop n file, length-take-le n file fits)
 

@@ -1,5 +1,6 @@
 -- From items and alternatives to their parts.
-use Rattle.sig_scan.proofs.Common.{◌≡◌, ◌↔◌, ℕ, ◌+◌, ◌≤◌, ◌<◌, List, [], ◌∷◌, ◌++◌, length, get_or, drop, replicate, subst, sym, ap, ◌∙◌, inl, inr, slice_range, drop_more, Contains-append_left, Contains-push, Contains-push_cases, HasBit, Atom, AlternativeWord, Word, GainsBits, HasBits, Reaches}
+use Rattle.sig_scan.proofs.Common.{◌≡◌, ◌↔◌, ℕ, ◌+◌, ◌≤◌, ◌<◌, List, [], ◌∷◌, ◌++◌, length, get_or, drop, replicate, subst, sym, ap, ◌∙◌, inl, inr, slice_range,
+    drop_more, Contains-append_left, Contains-push, Contains-push_cases, HasBit, Atom, AlternativeWord, Word, GainsBits, HasBits, Reaches}
 use Rattle.sig_expr.specs.declared.item.Item.TheVariants as item
 use Rattle.sig_scan.proofs.ReachLemmas.{Carries, Reaches-join, Reaches-split, Reaches-starts}
 use Rattle.sig_scan.proofs.SetLemmas.{GainsBits-more, HasBits-from_gains}
@@ -46,5 +47,6 @@ alternatives_more alternatives next file S old mid new =
     (λ o r. Reaches-as Any file S o r (next, Contains-push alternatives next, r.is_word))
     (λ o r. elim (Contains-push_cases alternatives next r.is_word.0 r.is_word.1) [
       | inl known ↦ inl (Reaches-as (Word (item.Alt alternatives)) file S o r (r.is_word.0, known, r.is_word.2))
-      | inr is ↦ inr (Reaches-as (AlternativeWord next) file S o r (subst (λ (a : List Atom). AlternativeWord a (slice_range file r.start o)) (sym is) r.is_word.2))
+      | inr is ↦ inr (Reaches-as (AlternativeWord next) file S o r
+          (subst (λ (a : List Atom). AlternativeWord a (slice_range file r.start o)) (sym is) r.is_word.2))
     ])

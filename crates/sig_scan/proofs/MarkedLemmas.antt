@@ -1,5 +1,8 @@
 -- The beginning and the end of a scan: what it is of an empty file, and which signatures it marks.
-use Rattle.sig_scan.proofs.Common.{◌≡◌, ◌∙◌, ℕ, ◌+◌, ◌≤◌, ◌<◌, inl, inr, All, Bool, List, [], ◌++◌, ap, arith, drop, false, true, get_or, length, max, Option, refl, Some, subst, sym, set, cases_eq, append-nil, All-nil, slice_get-get_or, slice_get_within, slice_get, ◌↔◌, IsTrue, slice_index, IsBytes, AreExcluded, AreFirst, AreMarked, HasLastBytes, IsBase, IsScanOf, IsShort, IsShortCourse, ScanView, TailIsShort, CourseView, StageView, TailView, Waits, State, Hits, Stands, SequenceView, SignatureView, TableView, cases_Bool, false≢true, AreNeeded, IsProgramOf, ProgramView, AreSequencesOf, EndsPast, Knows, WaitsOn}
+use Rattle.sig_scan.proofs.Common.{◌≡◌, ◌∙◌, ℕ, ◌+◌, ◌≤◌, ◌<◌, inl, inr, All, Bool, List, [], ◌++◌, ap, arith, drop, false, true, get_or, length, max, Option,
+    refl, Some, subst, sym, set, cases_eq, append-nil, All-nil, slice_get-get_or, slice_get_within, slice_get, ◌↔◌, IsTrue, slice_index, IsBytes, AreExcluded,
+    AreFirst, AreMarked, HasLastBytes, IsBase, IsScanOf, IsShort, IsShortCourse, ScanView, TailIsShort, CourseView, StageView, TailView, Waits, State, Hits,
+    Stands, SequenceView, SignatureView, TableView, cases_Bool, false≢true, AreNeeded, IsProgramOf, ProgramView, AreSequencesOf, EndsPast, Knows, WaitsOn}
 use Rattle.sig_scan.proofs.PassLemmas.{InTurn-raised}
 use Rattle.sig_scan.proofs.ScanLemmas.{All-at, one_value, slice_get-set_cases, still-set}
 use Rattle.sig_scan.proofs.WaitLemmas.{Waits-fed, Waits-fresh, Waits-judged, Waits-last}
@@ -36,7 +39,8 @@ Knows-fresh table program keep bytes states may_hit is size first are excluded =
 -- of each mark that still stands the sequences before this one stand in the file, and of the others the file is not hit
 pub record AreMarkedTo (k : ℕ) (table : TableView) (file : List ℕ) (owners : List ℕ) (sequences : List SequenceView) (may_hit marks : List Bool) : Type 0 where
   pub still : (g : ℕ) → slice_get marks g ≡ Some true → slice_get may_hit g ≡ Some true
-  pub stand : (i g : ℕ) (s : SequenceView) → i < k → slice_get marks g ≡ Some true → slice_get owners i ≡ Some g → slice_get sequences i ≡ Some s → Stands s file
+  pub stand : (i g : ℕ) (s : SequenceView) → i < k → slice_get marks g ≡ Some true → slice_get owners i ≡ Some g → slice_get sequences i ≡ Some s
+      → Stands s file
   pub never : (g : ℕ) (h : SignatureView) → slice_get marks g ≡ Some false → slice_get table.signatures g ≡ Some h → ¬ Hits h file
 
 -- at first

@@ -1,5 +1,9 @@
 -- The states of all sequences: one after the other is settled.
-use Rattle.sig_scan.proofs.Common.{◌≡◌, ◌∙◌, ℕ, ◌+◌, ◌-◌, ◌≤◌, ◌<◌, ◌⊎◌, ◌^◌, inl, inr, All, Bool, List, ◌++◌, ap, append_assoc, arith, drop, get_or, get_or-set_other, get_or-set_same, length, length-append, min, None, Option, Some, subst, sym, take, true, length-set, set, cases_eq, cases_lt, length-drop, length-take-le, take-append-drop, All-append, All-get_or, get_or_from_slice_get, slice_get-get_or, slice_get_past, slice_get_within, slice_get, IfSome, IsBytes, IsBoundedCourse, IsHeld, AreBounded, span, AllWait, AreExcluded, AreDone, IsShortCourse, TailIsShort, WaitsAt, CourseView, StageView, TailView, Waits, State, slice_get-within, Hits, SequenceView, TableView, false, false≢true, SignatureView, ProgramView, Knows, not, refl, [], drop_all}
+use Rattle.sig_scan.proofs.Common.{◌≡◌, ◌∙◌, ℕ, ◌+◌, ◌-◌, ◌≤◌, ◌<◌, ◌⊎◌, ◌^◌, inl, inr, All, Bool, List, ◌++◌, ap, append_assoc, arith, drop, get_or,
+    get_or-set_other, get_or-set_same, length, length-append, min, None, Option, Some, subst, sym, take, true, length-set, set, cases_eq, cases_lt, length-drop,
+    length-take-le, take-append-drop, All-append, All-get_or, get_or_from_slice_get, slice_get-get_or, slice_get_past, slice_get_within, slice_get, IfSome,
+    IsBytes, IsBoundedCourse, IsHeld, AreBounded, span, AllWait, AreExcluded, AreDone, IsShortCourse, TailIsShort, WaitsAt, CourseView, StageView, TailView,
+    Waits, State, slice_get-within, Hits, SequenceView, TableView, false, false≢true, SignatureView, ProgramView, Knows, not, refl, [], drop_all}
 use Rattle.sig_scan.proofs.StateLemmas.{Waits-tail}
 use Rattle.sig_scan.proofs.WaitLemmas.{Waits-fed}
 
@@ -61,7 +65,8 @@ Waits-rest s stages tail before bytes done from limit to reach short sight to_is
     rw to_is (elim (cases_lt from limit) [
       | inr behind ↦ Waits-moved s before bytes from limit (drop done stages) tail behind (omega arith) waits
       | inl early ↦ (
-          let all : length stages ≤ done = elim (cases_lt done (length stages)) [ inl some ↦ (let on = settled some in absurd (omega arith)) | inr none ↦ none ] in
+          let all : length stages ≤ done = elim (cases_lt done (length stages)) [ inl some ↦ (let on = settled some in absurd (omega arith)) | inr none ↦ none ]
+              in
           let same : limit - limit ≡ from - limit = omega arith in
           let end = drop_all done stages all in
           rw end (subst (λ n. WaitsAt s (before ++ take limit bytes) (drop limit bytes) n [] tail) same
@@ -121,7 +126,8 @@ pub AllMoved-set : (k limit own : ℕ) (sequences : List SequenceView) (program 
     → WaitsAt s (before ++ take limit bytes) (drop limit bytes) v.from (drop v.done c.stages) c.tail)
     → AllMoved k limit sequences program may_hit before bytes states
     → AllMoved (k + 1) limit sequences program (set may_hit own b) before bytes (set states k v)
-AllMoved-set k limit own sequences program may_hit before bytes states old v b within inside is_own may at step all i g s c t owner may_g sequence course state =
+AllMoved-set k limit own sequences program may_hit before bytes states old v b within inside is_own may at step all i g s c t owner may_g sequence course state
+    =
     let could = still-set may_hit own g b inside may may_g in
     elim (slice_get-set_cases states k i v t within state) [
       | inl here ↦ (
@@ -141,7 +147,8 @@ AllMoved-set k limit own sequences program may_hit before bytes states old v b w
     ]
 
 -- an excluded one more
-pub AllMoved-skip : (k limit own : ℕ) (sequences : List SequenceView) (program : ProgramView) (may_hit : List Bool) (before bytes : List ℕ) (states : List State)
+pub AllMoved-skip : (k limit own : ℕ) (sequences : List SequenceView) (program : ProgramView) (may_hit : List Bool) (before bytes : List ℕ)
+    (states : List State)
     → slice_get program.owners k ≡ Some own → slice_get may_hit own ≡ Some false → AllMoved k limit sequences program may_hit before bytes states
     → AllMoved (k + 1) limit sequences program may_hit before bytes states
 AllMoved-skip k limit own sequences program may_hit before bytes states is_own never all i g s c t owner may sequence course state =
@@ -207,5 +214,6 @@ Knows-added table file piece program keep base bytes states may_hit are known =
           (Waits-fed s (before ++ bytes) piece (length before + t.from) (drop t.done c.stages) c.tail are
           (known.wait i g s c t owner may sequence course state));
       excluded = λ g h out signature more later hits.
-          known.excluded g h out signature (piece ++ more) (All-append (λ b. b < 256) piece more are later) (subst (Hits h) (append_assoc file piece more) hits);
+          known.excluded g h out signature (piece ++ more) (All-append (λ b. b < 256) piece more are later)
+              (subst (Hits h) (append_assoc file piece more) hits);
     }

@@ -1,5 +1,6 @@
 -- Stages in turn: from an earlier offset on, and behind the first end of the first one.
-use Rattle.sig_scan.proofs.Common.{◌≡◌, ℕ, ◌+◌, ◌-◌, ◌≤◌, ◌<◌, List, [], ◌∷◌, ◌++◌, length, length-append, Option, None, Some, subst, inl, inr, arith, ◌↔◌, cases_lt, IsAtMost, AreBounded, span, Lies, InTurn, IsFirstEnd, TailStandsIfAny, StageEnds, StageView, TailStands, TailView}
+use Rattle.sig_scan.proofs.Common.{◌≡◌, ℕ, ◌+◌, ◌-◌, ◌≤◌, ◌<◌, List, [], ◌∷◌, ◌++◌, length, length-append, Option, None, Some, subst, inl, inr, arith, ◌↔◌,
+    cases_lt, IsAtMost, AreBounded, span, Lies, InTurn, IsFirstEnd, TailStandsIfAny, StageEnds, StageView, TailStands, TailView}
 use Rattle.sig_scan.proofs.LengthLemmas.{Lies-span}
 use Rattle.sig_scan.proofs.LiesLemmas.{Lies-behind, Lies-seen_both}
 
@@ -8,7 +9,8 @@ StageEnds-earlier : (s : StageView) (file : List ℕ) (from later end : ℕ) →
 StageEnds-earlier s file from later end before ends =
     let behind = ends.not_before in record { start = ends.start; not_before = omega arith; not_behind = ends.not_behind; lies = ends.lies }
 
-TailStandsIfAny-earlier : (file : List ℕ) (from later : ℕ) (tail : Option TailView) → from ≤ later → TailStandsIfAny file later tail → TailStandsIfAny file from tail
+TailStandsIfAny-earlier : (file : List ℕ) (from later : ℕ) (tail : Option TailView) → from ≤ later → TailStandsIfAny file later tail
+    → TailStandsIfAny file from tail
 TailStandsIfAny-earlier file from later None before rest = omega arith
 TailStandsIfAny-earlier file from later (Some t) before rest =
     let behind = rest.not_before in
@@ -95,7 +97,8 @@ TailStands-last before file tail from bounded near =
           let start : t.start ≡ b + (t.start - b) = omega arith in
           let end : t.end ≡ b + (t.end - b) = omega arith in
           let moved : Lies tail.items (before ++ file) (b + (t.start - b)) (b + (t.end - b)) =
-          subst (λ (n : ℕ). Lies tail.items (before ++ file) n (b + (t.end - b))) start (subst (λ (n : ℕ). Lies tail.items (before ++ file) t.start n) end t.lies) in
+          subst (λ (n : ℕ). Lies tail.items (before ++ file) n (b + (t.end - b))) start
+              (subst (λ (n : ℕ). Lies tail.items (before ++ file) t.start n) end t.lies) in
           record {
             start = t.start - b;
             end = t.end - b;

@@ -1,5 +1,6 @@
 -- The formats below each format, once a pair is added.
-use Rattle.std.proofs.Common.{◌≡◌, ◌⊎◌, ◌↔◌, ℕ, ◌+◌, ◌<◌, ◌&&◌, Bool, true, false, nat_eq, IsTrue, List, [], ◌∷◌, ◌++◌, length, get_or, slice_set, replicate, Contains, Decides, subst, sym, ap, ◌∙◌, refl, inl, inr, arith, Result, Ok, Err, IfOk, None, if◌then◌else◌}
+use Rattle.std.proofs.Common.{◌≡◌, ◌⊎◌, ◌↔◌, ℕ, ◌+◌, ◌<◌, ◌&&◌, Bool, true, false, nat_eq, IsTrue, List, [], ◌∷◌, ◌++◌, length, get_or, slice_set, replicate,
+    Contains, Decides, subst, sym, ap, ◌∙◌, refl, inl, inr, arith, Result, Ok, Err, IfOk, None, if◌then◌else◌}
 use Rattle.std.proofs.lemmas.Bool.{cases_Bool, cases_eq, false≢true}
 use Rattle.std.proofs.lemmas.Bool.Decides.{Decides-and, Decides-eqb}
 use Rattle.std.proofs.lemmas.List.{get_or-replicate, get_or-set_other, get_or-set_same, length-replicate}
@@ -77,7 +78,8 @@ module _ (sets : List FormatSet) (pairs : List (ℕ × ℕ)) (rows : AreBelow se
       )
 
   -- and the sets so far
-  pub one_more : (below : List FormatSet) (x : ℕ) (old new : FormatSet) → x < length below → length below ≡ length sets → get_or below x old ≡ old → get_or below x old ≡ get_or sets x old
+  pub one_more : (below : List FormatSet) (x : ℕ) (old new : FormatSet) → x < length below → length below ≡ length sets → get_or below x old ≡ old
+      → get_or below x old ≡ get_or sets x old
       → ((f : ℕ) → HasFormat new f ↔ (HasFormat old f ⊎ ((IsTrue (nat_eq x h) ⊎ HasFormat old h) × HasFormat added f)))
       → ((k : ℕ) → k < x → (set : FormatSet) → get_or below k set ≡ set → (f : ℕ) → HasFormat set f ↔ IsAbove (pairs ++ (h, l) ∷ []) k f)
       → (k : ℕ) → k < x + 1 → (set : FormatSet) → get_or (slice_set below x new) k set ≡ set → (f : ℕ) → HasFormat set f ↔ IsAbove (pairs ++ (h, l) ∷ []) k f

@@ -1,5 +1,6 @@
 -- What a draft's sets say of its lists.
-use Rattle.std.proofs.Common.{◌≡◌, ℕ, suc, ◌+◌, ◌<◌, ◌≤◌, Bool, true, false, not, cond, nat_eq, nat_lt, tests, ◌||◌, List, [], ◌∷◌, ◌++◌, length, map, get_or, sym, ap, subst, one-add, eq-eqb, Result, Ok, Err, ◌∙◌, refl, arith, rules, length-append, inl, inr, Some, None, position}
+use Rattle.std.proofs.Common.{◌≡◌, ℕ, suc, ◌+◌, ◌<◌, ◌≤◌, Bool, true, false, not, cond, nat_eq, nat_lt, tests, ◌||◌, List, [], ◌∷◌, ◌++◌, length, map, get_or,
+    sym, ap, subst, one-add, eq-eqb, Result, Ok, Err, ◌∙◌, refl, arith, rules, length-append, inl, inr, Some, None, position}
 use Rattle.std.specs.Prelude.{slice_set, find, All, OnOk}
 use Rattle.std.specs.List.{list_any, position_or_len}
 use Rattle.std.proofs.lemmas.Bool.{cases_Bool}
@@ -19,8 +20,10 @@ use Rattle.sig_table.specs.Puids.{puid_eq}
 -- the derived `==` of PUIDs
 puid_eq-same : (a b : Puid) → eq-value.it a b ≡ puid_eq a b
 puid_eq-same a b = elim a.registry as (λ r. eq-value.it (record a { registry = r }) b ≡ puid_eq (record a { registry = r }) b) [
-  | Fmt ↦ elim b.registry as (λ r. eq-value.it (record a { registry = Fmt }) (record b { registry = r }) ≡ puid_eq (record a { registry = Fmt }) (record b { registry = r })) [ Fmt ↦ refl | XFmt ↦ refl ]
-  | XFmt ↦ elim b.registry as (λ r. eq-value.it (record a { registry = XFmt }) (record b { registry = r }) ≡ puid_eq (record a { registry = XFmt }) (record b { registry = r })) [ Fmt ↦ refl | XFmt ↦ refl ]
+  | Fmt ↦ elim b.registry as (λ r. eq-value.it (record a { registry = Fmt }) (record b { registry = r }) ≡ puid_eq (record a { registry = Fmt })
+      (record b { registry = r })) [ Fmt ↦ refl | XFmt ↦ refl ]
+  | XFmt ↦ elim b.registry as (λ r. eq-value.it (record a { registry = XFmt }) (record b { registry = r }) ≡ puid_eq (record a { registry = XFmt })
+      (record b { registry = r })) [ Fmt ↦ refl | XFmt ↦ refl ]
 ]
 
 pub puid_eq-is : eq-value.it ≡ puid_eq
@@ -75,7 +78,8 @@ module _ {X : Type 0} (p : X → Bool) where
   ]
 
 -- one sequence more, by the place
-pub grown-at : (n : ℕ) (sequence : SequenceView) (ss : List SignatureView) (s : SignatureView) → position_or_len (λ s. nat_eq n s.number) ss < length ss → s ≡ get_or ss (position_or_len (λ s. nat_eq n s.number) ss) s
+pub grown-at : (n : ℕ) (sequence : SequenceView) (ss : List SignatureView) (s : SignatureView) → position_or_len (λ s. nat_eq n s.number) ss < length ss
+    → s ≡ get_or ss (position_or_len (λ s. nat_eq n s.number) ss) s
     → slice_set ss (position_or_len (λ s. nat_eq n s.number) ss) (record s { sequences = s.sequences ++ sequence ∷ [] }) ≡ grown n sequence ss
 grown-at n sequence [] s lt is = absurd (omega arith)
 grown-at n sequence (x ∷ xs) s lt is = elim (cases_Bool (nat_eq n x.number)) [
@@ -103,7 +107,8 @@ length-grown n sequence (x ∷ xs) = elim (cases_Bool (nat_eq n x.number)) [
 ]
 
 -- the place of a number once it is among the signatures
-pub position-with_number : (n f : ℕ) (ss : List SignatureView) → position_or_len (λ s. nat_eq n s.number) (with_number ss n f) ≡ position_or_len (λ s. nat_eq n s.number) ss
+pub position-with_number : (n f : ℕ) (ss : List SignatureView)
+    → position_or_len (λ s. nat_eq n s.number) (with_number ss n f) ≡ position_or_len (λ s. nat_eq n s.number) ss
 position-with_number n f ss = elim (cases_Bool (list_any (λ s. nat_eq n s.number) ss)) [
   | inl t ↦ rw t refl
   | inr none ↦ rw none (let last = position-not_any (λ s. nat_eq n s.number) ss none in
@@ -123,7 +128,8 @@ numbers-with_number n f ss = elim (cases_Bool (list_any (λ s. nat_eq n s.number
   | inr none ↦ rw (any-numbers, none) (map-append _ ss _)
 ]
 
-pub grown-by : (n : ℕ) (sequence : SequenceView) (ss : List SignatureView) (i : ℕ) (s v : SignatureView) → position_or_len (λ s. nat_eq n s.number) ss ≡ i → i < length ss → s ≡ get_or ss i s
+pub grown-by : (n : ℕ) (sequence : SequenceView) (ss : List SignatureView) (i : ℕ) (s v : SignatureView) → position_or_len (λ s. nat_eq n s.number) ss ≡ i
+    → i < length ss → s ≡ get_or ss i s
     → v ≡ record s { sequences = s.sequences ++ sequence ∷ [] } → slice_set ss i v ≡ grown n sequence ss
 grown-by n sequence ss i s v at lt is e = rw (e, ← at) (grown-at n sequence ss s (rw at lt) (rw at is))
 
@@ -175,16 +181,20 @@ unfolding with_row
 with_row-is t row fs ss formats signatures = rw (formats, signatures) refl
 
 -- the numbers with the row
-pub numbers-with_row : (n f : ℕ) (sequence : SequenceView) (ks js : List ℕ) (ss vs : List SignatureView) → ks ≡ map (λ s. s.number) ss → js ≡ insert_key nat_eq ks n → vs ≡ grown n sequence (with_number ss n f) → js ≡ map (λ s. s.number) vs
+pub numbers-with_row : (n f : ℕ) (sequence : SequenceView) (ks js : List ℕ) (ss vs : List SignatureView) → ks ≡ map (λ s. s.number) ss
+    → js ≡ insert_key nat_eq ks n → vs ≡ grown n sequence (with_number ss n f) → js ≡ map (λ s. s.number) vs
 numbers-with_row n f sequence ks js ss vs numbers added grew =
-    added ∙ ap (λ l. insert_key nat_eq l n) numbers ∙ sym (ap (λ l. map (λ s. s.number) l) grew ∙ numbers-grown n sequence (with_number ss n f) ∙ numbers-with_number n f ss)
+    added ∙ ap (λ l. insert_key nat_eq l n) numbers ∙ sym (ap (λ l. map (λ s. s.number) l) grew ∙ numbers-grown n sequence (with_number ss n f)
+        ∙ numbers-with_number n f ss)
 
 -- where the number is among the signatures
-pub place-of : (n f place : ℕ) (ks : List ℕ) (ss vs : List SignatureView) → ks ≡ map (λ s. s.number) ss → place ≡ position_or_len (nat_eq n) ks → vs ≡ with_number ss n f → position_or_len (λ s. nat_eq n s.number) vs ≡ place
+pub place-of : (n f place : ℕ) (ks : List ℕ) (ss vs : List SignatureView) → ks ≡ map (λ s. s.number) ss → place ≡ position_or_len (nat_eq n) ks
+    → vs ≡ with_number ss n f → position_or_len (λ s. nat_eq n s.number) vs ≡ place
 place-of n f place ks ss vs numbers at enrolled =
     rw enrolled (position-with_number n f ss ∙ sym (position-numbers n ss) ∙ ap (λ l. position_or_len (nat_eq n) l) (sym numbers) ∙ sym at)
 
-pub place-within : (n f place : ℕ) (ks : List ℕ) (ss vs : List SignatureView) → ks ≡ map (λ s. s.number) ss → place ≡ position_or_len (nat_eq n) ks → vs ≡ with_number ss n f → place < length vs
+pub place-within : (n f place : ℕ) (ks : List ℕ) (ss vs : List SignatureView) → ks ≡ map (λ s. s.number) ss → place ≡ position_or_len (nat_eq n) ks
+    → vs ≡ with_number ss n f → place < length vs
 place-within n f place ks ss vs numbers at enrolled =
     rw (enrolled, at, numbers, position-numbers n ss) (within-with_number n f ss)
 
@@ -217,17 +227,21 @@ length-numbers [] = refl
 length-numbers (s ∷ ss) = ap (λ k. suc k) (length-numbers ss)
 
 -- the fault of a row, where its number is among the signatures or not
-pub fault_in-new : (t : TableView) (n : ℕ) (row : Row) (ks : List ℕ) → ks ≡ map (λ s. s.number) t.signatures → position (nat_eq row.number) ks ≡ None → fault_in t n row ≡ fault_at None t n row
+pub fault_in-new : (t : TableView) (n : ℕ) (row : Row) (ks : List ℕ) → ks ≡ map (λ s. s.number) t.signatures → position (nat_eq row.number) ks ≡ None
+    → fault_in t n row ≡ fault_at None t n row
 unfolding fault_in
 fault_in-new t n row ks numbers h =
     let past = not_found (nat_eq row.number) (map (λ s. s.number) t.signatures) (rw numbers at h) in
-    let beyond : length t.signatures ≤ position_or_len (λ s. nat_eq row.number s.number) t.signatures = rw (length-numbers, position-numbers row.number t.signatures) at past in
+    let beyond : length t.signatures ≤ position_or_len (λ s. nat_eq row.number s.number) t.signatures =
+        rw (length-numbers, position-numbers row.number t.signatures) at past in
     ap (λ o. fault_at o t n row) (find-none (λ s. nat_eq row.number s.number) t.signatures beyond)
 
-pub fault_in-found : (t : TableView) (n : ℕ) (row : Row) (ks : List ℕ) (i : ℕ) (s : SignatureView) → ks ≡ map (λ s. s.number) t.signatures → position (nat_eq row.number) ks ≡ Some i → s ≡ get_or t.signatures i s → fault_in t n row ≡ fault_at (Some s) t n row
+pub fault_in-found : (t : TableView) (n : ℕ) (row : Row) (ks : List ℕ) (i : ℕ) (s : SignatureView) → ks ≡ map (λ s. s.number) t.signatures
+    → position (nat_eq row.number) ks ≡ Some i → s ≡ get_or t.signatures i s → fault_in t n row ≡ fault_at (Some s) t n row
 unfolding fault_in
 fault_in-found t n row ks i s numbers h is =
     let at = found-at (nat_eq row.number) (map (λ s. s.number) t.signatures) i (rw numbers at h) in
     let place : position_or_len (λ s. nat_eq row.number s.number) t.signatures ≡ i = sym (position-numbers row.number t.signatures) ∙ at.0 in
-    let within : position_or_len (λ s. nat_eq row.number s.number) t.signatures < length t.signatures = rw (length-numbers, position-numbers row.number t.signatures) at at.1 in
+    let within : position_or_len (λ s. nat_eq row.number s.number) t.signatures < length t.signatures =
+        rw (length-numbers, position-numbers row.number t.signatures) at at.1 in
     ap (λ o. fault_at o t n row) (find-place (λ s. nat_eq row.number s.number) t.signatures s within (rw place is))

@@ -22,7 +22,8 @@ pub IsFault-map : {A B : Type 0} (a : Result A TableError) (b : Result B TableEr
 IsFault-map a b e f h = record { no_read = h.no_read; exact = OnFalse-map (is_memory e) f h.exact }
 
 -- and of files
-pub Exact-from_IsFault : {A B : Type 0} (a : Result A TableError) (b : Result B TableError) (e : TableError) → (a ≡ Err e → b ≡ Err e) → IsFault a e → OnFalse (is_read e || is_memory e) (b ≡ Err e)
+pub Exact-from_IsFault : {A B : Type 0} (a : Result A TableError) (b : Result B TableError) (e : TableError) → (a ≡ Err e → b ≡ Err e) → IsFault a e
+    → OnFalse (is_read e || is_memory e) (b ≡ Err e)
 Exact-from_IsFault a b e f h = rw h.no_read (OnFalse-map (is_memory e) f h.exact)
 
 -- a last step that only memory can refuse

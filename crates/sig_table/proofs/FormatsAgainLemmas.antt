@@ -1,10 +1,12 @@
 -- The formats in the order of their first signatures.
-use Rattle.std.proofs.Common.{◌≡◌, ℕ, zero, suc, ◌<◌, ◌≤◌, ◌⊎◌, true, false, not, nat_eq, nat_le, ◌&&◌, List, [], ◌∷◌, ◌++◌, length, take, sym, ap, subst, one-add, ◌∙◌, refl, arith, rules, tests, length-append, inl, inr, Some}
+use Rattle.std.proofs.Common.{◌≡◌, ℕ, zero, suc, ◌<◌, ◌≤◌, ◌⊎◌, true, false, not, nat_eq, nat_le, ◌&&◌, List, [], ◌∷◌, ◌++◌, length, take, sym, ap, subst,
+    one-add, ◌∙◌, refl, arith, rules, tests, length-append, inl, inr, Some}
 use Rattle.std.specs.Prelude.{slice_get, All, Contains}
 use Rattle.std.specs.List.{list_any, position_or_len}
 use Rattle.std.proofs.lemmas.Bool.{cases_Bool, cases_lt, eqb-true}
 use Rattle.std.proofs.lemmas.List.{get_or_append_left, length-take-le}
-use Rattle.std.proofs.lemmas.List.Elements.{All-contains, Contains-append_cases, Contains-append_left, Contains-append_right, Contains-push, Contains-push_cases}
+use Rattle.std.proofs.lemmas.List.Elements.{All-contains, Contains-append_cases, Contains-append_left, Contains-append_right, Contains-push,
+    Contains-push_cases}
 use Rattle.indexmap.specs.IndexSet.{insert_key}
 use Rattle.sig_table.proofs.DraftLemmas.{any-within, position-any}
 use Rattle.sig_table.specs.declared.puid.Puid.{Puid}
@@ -66,7 +68,8 @@ puid_eq-itself : (p : Puid) → puid_eq p p ≡ true
 puid_eq-itself p = itself p.registry p.number
 
 -- where all differ, a PUID has its own place among the first formats, which is their end where it is the next
-pub position-first : (formats : List Puid) (k f : ℕ) (p : Puid) → AllDifferent formats → slice_get formats f ≡ Some p → f ≤ k → position_or_len (puid_eq p) (take k formats) ≡ f
+pub position-first : (formats : List Puid) (k f : ℕ) (p : Puid) → AllDifferent formats → slice_get formats f ≡ Some p → f ≤ k
+    → position_or_len (puid_eq p) (take k formats) ≡ f
 position-first [] k f p d h le = absurd (cc h)
 position-first (x ∷ xs) zero zero p d h le = refl
 position-first (x ∷ xs) zero (suc f) p d h le = absurd (omega arith)
@@ -85,13 +88,15 @@ pub record Turn (formats : List Puid) (k k' f : ℕ) (p : Puid) : Type 0 where
   pub kept : insert_key puid_eq (take k' formats) p ≡ take k' formats
 
 -- a format that was met
-there : (formats : List Puid) (k f : ℕ) (p : Puid) → AllDifferent formats → slice_get formats f ≡ Some p → f < k → k ≤ length formats → list_any (puid_eq p) (take k formats) ≡ true
+there : (formats : List Puid) (k f : ℕ) (p : Puid) → AllDifferent formats → slice_get formats f ≡ Some p → f < k → k ≤ length formats
+    → list_any (puid_eq p) (take k formats) ≡ true
 there formats k f p d h lt le =
     let place = position-first formats k f p d h (omega arith) in
     let size = length-take-le k formats le in
     any-within (puid_eq p) (take k formats) (rw (place, size) lt)
 
-known_turn : (formats : List Puid) (k f : ℕ) (p : Puid) → AllDifferent formats → slice_get formats f ≡ Some p → f < k → k ≤ length formats → Turn formats k k f p
+known_turn : (formats : List Puid) (k f : ℕ) (p : Puid) → AllDifferent formats → slice_get formats f ≡ Some p → f < k → k ≤ length formats
+    → Turn formats k k f p
 known_turn formats k f p d h lt le =
     let place = position-first formats k f p d h (omega arith) in
     let found = there formats k f p d h lt le in
@@ -104,7 +109,8 @@ known_turn formats k f p d h lt le =
     }
 
 -- the next format
-new_turn : (formats : List Puid) (k : ℕ) (p : Puid) → AllDifferent formats → slice_get formats k ≡ Some p → k < length formats → length formats ≤ 1000 → Turn formats k (suc k) k p
+new_turn : (formats : List Puid) (k : ℕ) (p : Puid) → AllDifferent formats → slice_get formats k ≡ Some p → k < length formats → length formats ≤ 1000
+    → Turn formats k (suc k) k p
 new_turn formats k p d h lt few =
     let place : position_or_len (puid_eq p) (take k formats) ≡ k = position-first formats k k p d h (omega arith) in
     let size : length (take k formats) ≡ k = length-take-le k formats (omega arith) in
@@ -191,7 +197,8 @@ is_next formats k f met later m lt le = elim (cases_lt k f) [
 ]
 
 -- what a signature of the format does
-pub turn : (formats : List Puid) (k f : ℕ) (p : Puid) (met later : List ℕ) → AllDifferent formats → length formats ≤ 1000 → slice_get formats f ≡ Some p → f < length formats → Met (length formats) k met (f ∷ later)
+pub turn : (formats : List Puid) (k f : ℕ) (p : Puid) (met later : List ℕ) → AllDifferent formats → length formats ≤ 1000 → slice_get formats f ≡ Some p
+    → f < length formats → Met (length formats) k met (f ∷ later)
     → (k' : ℕ) × Turn formats k k' f p × Met (length formats) k' (met ++ f ∷ []) later
 turn formats k f p met later d few h lt m = elim (cases_lt f k) [
   | inl before ↦ (k, known_turn formats k f p d h before m.within, known_again (length formats) k f met later m before)
@@ -200,7 +207,8 @@ turn formats k f p met later d few h lt m = elim (cases_lt f k) [
       let m' : Met (length formats) k met (k ∷ later) = subst (λ (x : ℕ). Met (length formats) k met (x ∷ later)) same m in
       let lt' : k < length formats = omega arith in
       let at : slice_get formats k ≡ Some p = ap (slice_get formats) (sym same) ∙ h in
-      (suc k, subst (λ (x : ℕ). Turn formats k (suc k) x p) (sym same) (new_turn formats k p d at lt' few), subst (λ (x : ℕ). Met (length formats) (suc k) (met ++ x ∷ []) later) (sym same) (next_again (length formats) k met later m' lt'))
+      (suc k, subst (λ (x : ℕ). Turn formats k (suc k) x p) (sym same) (new_turn formats k p d at lt' few),
+          subst (λ (x : ℕ). Met (length formats) (suc k) (met ++ x ∷ []) later) (sym same) (next_again (length formats) k met later m' lt'))
 ]
 
 -- in the end all were met

@@ -1,5 +1,6 @@
 -- A table that grows row by row is the table of all its rows.
-use Rattle.std.proofs.Common.{◌≡◌, ℕ, ◌+◌, Bool, true, false, not, cond, nat_eq, ◌||◌, List, [], ◌∷◌, ◌++◌, length, map, filter, sym, ap, subst, eq-eqb, ◌∙◌, refl, arith, inl, inr, append-nil}
+use Rattle.std.proofs.Common.{◌≡◌, ℕ, ◌+◌, Bool, true, false, not, cond, nat_eq, ◌||◌, List, [], ◌∷◌, ◌++◌, length, map, filter, sym, ap, subst, eq-eqb, ◌∙◌,
+    refl, arith, inl, inr, append-nil}
 use Rattle.std.specs.Prelude.{⊤, Contains, get_or}
 use Rattle.std.specs.List.{list_any, position_or_len}
 use Rattle.std.proofs.lemmas.Bool.{cases_Bool, eqb-true}
@@ -109,7 +110,8 @@ puid_self p = elim p.registry as (λ r. puid_eq (record p { registry = r }) (rec
   | XFmt ↦ number_self p.number
 ]
 
-puid_of : (r s : Registry) (m n : ℕ) → let p : Puid = record { registry = r; number = m } in let q : Puid = record { registry = s; number = n } in puid_eq p q ≡ true → p ≡ q
+puid_of : (r s : Registry) (m n : ℕ) → let p : Puid = record { registry = r; number = m } in let q : Puid = record { registry = s; number = n } in
+    puid_eq p q ≡ true → p ≡ q
 puid_of Fmt Fmt m n h = ap (λ k. let p : Puid = record { registry = Fmt; number = k } in p) (number_same m n h)
 puid_of Fmt XFmt m n h = absurd (cc h)
 puid_of XFmt Fmt m n h = absurd (cc h)
@@ -120,10 +122,12 @@ puid_same p q h = puid_of p.registry q.registry p.number q.number h
 
 -- the formats and the numbers of one row more
 pub formats_of-append : (rows : List Row) (row : Row) → formats_of (rows ++ row ∷ []) ≡ insert_key puid_eq (formats_of rows) row.puid
-formats_of-append rows row = ap (firsts puid_eq) (map-append (λ r. r.puid) rows (row ∷ [])) ∙ firsts-append puid_eq puid_same puid_self (map (λ r. r.puid) rows) row.puid
+formats_of-append rows row = ap (firsts puid_eq) (map-append (λ r. r.puid) rows (row ∷ [])) ∙ firsts-append puid_eq puid_same puid_self (map (λ r. r.puid) rows)
+    row.puid
 
 pub numbers_of-append : (rows : List Row) (row : Row) → numbers_of (rows ++ row ∷ []) ≡ insert_key nat_eq (numbers_of rows) row.number
-numbers_of-append rows row = ap (firsts nat_eq) (map-append (λ r. r.number) rows (row ∷ [])) ∙ firsts-append nat_eq number_same number_self (map (λ r. r.number) rows) row.number
+numbers_of-append rows row = ap (firsts nat_eq) (map-append (λ r. r.number) rows (row ∷ [])) ∙ firsts-append nat_eq number_same number_self
+    (map (λ r. r.number) rows) row.number
 
 -- the place of what is there stays
 position-append : {X : Type 0} (p : X → Bool) (xs ys : List X) → list_any p xs ≡ true → position_or_len p (xs ++ ys) ≡ position_or_len p xs
@@ -141,7 +145,8 @@ position-last p (y ∷ ys) x h at = elim (cases_Bool (p y)) [
 ]
 
 -- a PUID that is there stays in its place, and so does one that is added, counted past the end before
-position-there : (q k : Puid) (fs : List Puid) → list_any (puid_eq q) fs ≡ true → position_or_len (puid_eq q) (insert_key puid_eq fs k) ≡ position_or_len (puid_eq q) fs
+position-there : (q k : Puid) (fs : List Puid) → list_any (puid_eq q) fs ≡ true
+    → position_or_len (puid_eq q) (insert_key puid_eq fs k) ≡ position_or_len (puid_eq q) fs
 position-there q k fs h = elim (cases_Bool (list_any (puid_eq k) fs)) [
   | inl t ↦ rw t refl
   | inr f ↦ rw f (position-append (puid_eq q) fs (k ∷ []) h)
@@ -164,7 +169,8 @@ first_format-same fs gs n (row ∷ rows) h = elim (cases_Bool (nat_eq n row.numb
 ]
 
 -- a first row stays the first
-first_format-append : (fs : List Puid) (n : ℕ) (rows more : List Row) → list_any (nat_eq n) (map (λ r. r.number) rows) ≡ true → first_format fs (rows_of n rows ++ more) ≡ first_format fs (rows_of n rows)
+first_format-append : (fs : List Puid) (n : ℕ) (rows more : List Row) → list_any (nat_eq n) (map (λ r. r.number) rows) ≡ true
+    → first_format fs (rows_of n rows ++ more) ≡ first_format fs (rows_of n rows)
 first_format-append fs n [] more h = absurd (cc h)
 first_format-append fs n (row ∷ rows) more h = elim (cases_Bool (nat_eq n row.number)) [
   | inl t ↦ rw t refl
@@ -183,7 +189,8 @@ pub rows_of-append : (n : ℕ) (rows : List Row) (row : Row) → rows_of n (rows
 rows_of-append n rows row = filter-append (λ r. nat_eq n r.number) rows (row ∷ [])
 
 -- the formats of earlier rows, by the formats with one row more
-format-stays : (n : ℕ) (rows : List Row) (row : Row) → first_format (formats_of (rows ++ row ∷ [])) (rows_of n rows) ≡ first_format (formats_of rows) (rows_of n rows)
+format-stays : (n : ℕ) (rows : List Row) (row : Row) → first_format (formats_of (rows ++ row ∷ [])) (rows_of n rows) ≡ first_format (formats_of rows)
+    (rows_of n rows)
 format-stays n rows row =
     first_format-same (formats_of (rows ++ row ∷ [])) (formats_of rows) n rows (λ q there.
     ap (position_or_len (puid_eq q)) (formats_of-append rows row)
@@ -197,20 +204,26 @@ signature-stays n rows row other =
 
 -- that of the row's number has its sequence more
 signature-grows : (rows : List Row) (row : Row) → list_any (nat_eq row.number) (map (λ r. r.number) rows) ≡ true
-    → signature_of (rows ++ row ∷ []) row.number ≡ record (signature_of rows row.number) { sequences = map (λ r. r.sequence) (rows_of row.number rows) ++ row.sequence ∷ [] }
+    → signature_of (rows ++ row ∷ []) row.number ≡ record (signature_of rows row.number)
+        { sequences = map (λ r. r.sequence) (rows_of row.number rows) ++ row.sequence ∷ [] }
 signature-grows rows row there =
-    let more : rows_of row.number (rows ++ row ∷ []) ≡ rows_of row.number rows ++ row ∷ [] = rows_of-append row.number rows row ∙ rw (number_self row.number) refl in
-    rw (more, first_format-append (formats_of (rows ++ row ∷ [])) row.number rows (row ∷ []) there, format-stays row.number rows row, map-append (λ r. r.sequence) (rows_of row.number rows) (row ∷ [])) refl
+    let more : rows_of row.number (rows ++ row ∷ []) ≡ rows_of row.number rows ++ row ∷ [] =
+        rows_of-append row.number rows row ∙ rw (number_self row.number) refl in
+    rw (more, first_format-append (formats_of (rows ++ row ∷ [])) row.number rows (row ∷ []) there, format-stays row.number rows row,
+        map-append (λ r. r.sequence) (rows_of row.number rows) (row ∷ [])) refl
 
 -- and one that is new has it alone
 signature-begins : (rows : List Row) (row : Row) → list_any (nat_eq row.number) (map (λ r. r.number) rows) ≡ false
-    → signature_of (rows ++ row ∷ []) row.number ≡ record { format = position_or_len (puid_eq row.puid) (formats_of rows); number = row.number; sequences = row.sequence ∷ [] }
+    → signature_of (rows ++ row ∷ []) row.number ≡ record { format = position_or_len (puid_eq row.puid) (formats_of rows); number = row.number; sequences =
+        row.sequence ∷ [] }
 signature-begins rows row none =
-    let one : rows_of row.number (rows ++ row ∷ []) ≡ row ∷ [] = rows_of-append row.number rows row ∙ rw (number_self row.number, rows_of-none row.number rows none) refl in
+    let one : rows_of row.number (rows ++ row ∷ []) ≡ row ∷ [] =
+        rows_of-append row.number rows row ∙ rw (number_self row.number, rows_of-none row.number rows none) refl in
     rw (one, formats_of-append rows row, position-added row.puid (formats_of rows)) refl
 
 -- signatures of other numbers stay
-signatures-stay : (rows : List Row) (row : Row) (ms : List ℕ) → list_any (nat_eq row.number) ms ≡ false → map (signature_of (rows ++ row ∷ [])) ms ≡ map (signature_of rows) ms
+signatures-stay : (rows : List Row) (row : Row) (ms : List ℕ) → list_any (nat_eq row.number) ms ≡ false
+    → map (signature_of (rows ++ row ∷ [])) ms ≡ map (signature_of rows) ms
 signatures-stay rows row [] h = refl
 signatures-stay rows row (m ∷ ms) h = elim (cases_Bool (nat_eq row.number m)) [
   | inl t ↦ absurd (cc (rw t at h))
@@ -223,14 +236,17 @@ signatures-stay rows row (m ∷ ms) h = elim (cases_Bool (nat_eq row.number m)) 
 ]
 
 -- a list of signatures grows where the number is
-signatures-grow : (rows : List Row) (row : Row) (ms : List ℕ) → Once nat_eq number_same number_self ms → list_any (nat_eq row.number) (map (λ r. r.number) rows) ≡ true → list_any (nat_eq row.number) ms ≡ true
+signatures-grow : (rows : List Row) (row : Row) (ms : List ℕ) → Once nat_eq number_same number_self ms
+    → list_any (nat_eq row.number) (map (λ r. r.number) rows) ≡ true → list_any (nat_eq row.number) ms ≡ true
     → map (signature_of (rows ++ row ∷ [])) ms ≡ grown row.number row.sequence (map (signature_of rows) ms)
 signatures-grow rows row [] once there h = absurd (cc h)
 signatures-grow rows row (m ∷ ms) once there h = elim (cases_Bool (nat_eq row.number m)) [
   | inl t ↦
       let is : row.number ≡ m = number_same row.number m t in
       let rest = signatures-stay rows row ms (subst (λ k. list_any (nat_eq k) ms ≡ false) (sym is) once.0) in
-      rw (t, rest) (ap (λ s. s ∷ map (signature_of rows) ms) (subst (λ k. signature_of (rows ++ row ∷ []) k ≡ record (signature_of rows k) { sequences = map (λ r. r.sequence) (rows_of k rows) ++ row.sequence ∷ [] }) is (signature-grows rows row there)))
+      rw (t, rest) (ap (λ s. s ∷ map (signature_of rows) ms) (subst
+          (λ k. signature_of (rows ++ row ∷ []) k ≡ record (signature_of rows k) { sequences = map (λ r. r.sequence) (rows_of k rows) ++ row.sequence ∷ [] }) is
+          (signature-grows rows row there)))
   | inr f ↦
       let other : nat_eq m row.number ≡ false = elim (cases_Bool (nat_eq m row.number)) [
         | inl t ↦ absurd (cc (sym (subst (λ k. nat_eq row.number k ≡ true) (sym (number_same m row.number t)) (number_self row.number)) ∙ f))
@@ -240,7 +256,8 @@ signatures-grow rows row (m ∷ ms) once there h = elim (cases_Bool (nat_eq row.
 ]
 
 -- a signature that is last grows where no other has its number
-grown-last : (n : ℕ) (sequence : SequenceView) (ss : List SignatureView) (s : SignatureView) → list_any (λ x. nat_eq n x.number) ss ≡ false → nat_eq n s.number ≡ true
+grown-last : (n : ℕ) (sequence : SequenceView) (ss : List SignatureView) (s : SignatureView) → list_any (λ x. nat_eq n x.number) ss ≡ false
+    → nat_eq n s.number ≡ true
     → grown n sequence (ss ++ s ∷ []) ≡ ss ++ record s { sequences = s.sequences ++ sequence ∷ [] } ∷ []
 grown-last n sequence [] s none at = rw at refl
 grown-last n sequence (x ∷ xs) s none at = elim (cases_Bool (nat_eq n x.number)) [
@@ -253,7 +270,8 @@ numbers-map : (rows : List Row) (ms : List ℕ) → map (λ s. s.number) (map (s
 numbers-map rows [] = refl
 numbers-map rows (m ∷ ms) = ap (λ l. m ∷ l) (numbers-map rows ms)
 
-pub any-signature : (rows : List Row) (n : ℕ) → list_any (λ s. nat_eq n s.number) (map (signature_of rows) (numbers_of rows)) ≡ list_any (nat_eq n) (map (λ r. r.number) rows)
+pub any-signature : (rows : List Row) (n : ℕ) → list_any (λ s. nat_eq n s.number) (map (signature_of rows) (numbers_of rows)) ≡ list_any (nat_eq n)
+    (map (λ r. r.number) rows)
 any-signature rows n =
     sym (any-numbers n (map (signature_of rows) (numbers_of rows)))
     ∙ ap (list_any (nat_eq n)) (numbers-map rows (numbers_of rows))
@@ -263,7 +281,8 @@ any-signature rows n =
 signatures-append : (rows : List Row) (row : Row) → map (signature_of (rows ++ row ∷ [])) (numbers_of (rows ++ row ∷ []))
     ≡ grown row.number row.sequence (with_number (map (signature_of rows) (numbers_of rows)) row.number (position_or_len (puid_eq row.puid) (formats_of rows)))
 signatures-append rows row =
-    let among : list_any (nat_eq row.number) (numbers_of rows) ≡ list_any (nat_eq row.number) (map (λ r. r.number) rows) = any-firsts nat_eq number_same number_self row.number (map (λ r. r.number) rows) in
+    let among : list_any (nat_eq row.number) (numbers_of rows) ≡ list_any (nat_eq row.number) (map (λ r. r.number) rows) =
+        any-firsts nat_eq number_same number_self row.number (map (λ r. r.number) rows) in
     elim (cases_Bool (list_any (nat_eq row.number) (map (λ r. r.number) rows))) [
       | inl t ↦ rw (numbers_of-append rows row, among, any-signature rows row.number, t)
           (signatures-grow rows row (numbers_of rows) (Once-firsts nat_eq number_same number_self (map (λ r. r.number) rows)) t (among ∙ t))
@@ -279,7 +298,8 @@ unfolding with_row
 gathered-append rows row = rw (signatures-append rows row, formats_of-append rows row) refl
 
 -- a row that is there has its number and its PUID there
-any-member : {X : Type 0} (eq : X → X → Bool) → ((x : X) → eq x x ≡ true) → (f : Row → X) (row : Row) (rows : List Row) → Contains rows row → list_any (eq (f row)) (map f rows) ≡ true
+any-member : {X : Type 0} (eq : X → X → Bool) → ((x : X) → eq x x ≡ true) → (f : Row → X) (row : Row) (rows : List Row) → Contains rows row
+    → list_any (eq (f row)) (map f rows) ≡ true
 any-member eq self f row rows c =
     let at : get_or (map f rows) c.0 (f row) ≡ f row = get_or-map f rows c.0 row (f row) c.1 ∙ ap f c.2 in
     list_any_at (eq (f row)) (map f rows) c.0 (f row) (rw length-map c.1) (rw at (self (f row)))

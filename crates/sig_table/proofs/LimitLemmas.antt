@@ -1,5 +1,6 @@
 -- A row without fault keeps the limits of a table.
-use Rattle.std.proofs.Common.{◌≡◌, ◌⊎◌, ℕ, ◌+◌, ◌<◌, ◌≤◌, true, false, not, nat_eq, nat_lt, nat_le, ◌&&◌, List, [], ◌∷◌, ◌++◌, length, map, ◌∙◌, refl, eq-eqb, arith, rules, tests, length-append, inl, inr, Option, Some, None}
+use Rattle.std.proofs.Common.{◌≡◌, ◌⊎◌, ℕ, ◌+◌, ◌<◌, ◌≤◌, true, false, not, nat_eq, nat_lt, nat_le, ◌&&◌, List, [], ◌∷◌, ◌++◌, length, map, ◌∙◌, refl, eq-eqb,
+    arith, rules, tests, length-append, inl, inr, Option, Some, None}
 use Rattle.std.specs.Prelude.{find, All, Contains}
 use Rattle.std.specs.List.{list_any, position_or_len}
 use Rattle.std.proofs.lemmas.Bool.{cases_Bool, cases_lt, eqb-true}
@@ -15,9 +16,11 @@ use Rattle.sig_table.specs.Puids.{puid_eq}
 use Rattle.sig_table.specs.Rows.{IsRow}
 use Rattle.sig_table.specs.Slots.{slot_count}
 use Rattle.sig_table.specs.Tables.{HasAllSignatures, IsNumber, IsSequence, IsSignature, IsTable}
-use Rattle.sig_table.proofs.DraftLemmas.{All-find, any-none, any-numbers, any-some, any-within, length-grown, length-insert_key-ge, numbers-grown, position-any, position-insert_key, position-not_any}
+use Rattle.sig_table.proofs.DraftLemmas.{All-find, any-none, any-numbers, any-some, any-within, length-grown, length-insert_key-ge, numbers-grown, position-any,
+    position-insert_key, position-not_any}
 use Rattle.sig_table.proofs.PriorityLemmas.{no_priorities}
-use Rattle.sig_table.proofs.TableLemmas.{All-grown, AllDifferent-insert_key, AllDifferent-push, FormatsRise-push, IsSignature-first, IsSignature-more, IsSignature-wider, formats-grown, grown-new, not_contained}
+use Rattle.sig_table.proofs.TableLemmas.{All-grown, AllDifferent-insert_key, AllDifferent-push, FormatsRise-push, IsSignature-first, IsSignature-more,
+    IsSignature-wider, formats-grown, grown-new, not_contained}
 
 -- a row without fault, whose signature is there
 pub record FitsIn (t : TableView) (row : Row) (s : SignatureView) : Type 0 where
@@ -43,7 +46,8 @@ pub record FitsBeside (t : TableView) (row : Row) : Type 0 where
   pub formats : (nat_le 1000 (length t.formats) && not (list_any (puid_eq row.puid) t.formats)) ≡ false
   pub signatures : length t.signatures < 4000
 
-pub room_for : (fs : List Puid) (puid : Puid) → length fs ≤ 1000 → (nat_le 1000 (length fs) && not (list_any (puid_eq puid) fs)) ≡ false → length (insert_key puid_eq fs puid) ≤ 1000
+pub room_for : (fs : List Puid) (puid : Puid) → length fs ≤ 1000 → (nat_le 1000 (length fs) && not (list_any (puid_eq puid) fs)) ≡ false
+    → length (insert_key puid_eq fs puid) ≤ 1000
 room_for fs puid within room = elim (cases_Bool (list_any (puid_eq puid) fs)) [
   | inl there ↦ rw there within
   | inr new ↦ elim (cases_Bool (nat_le 1000 (length fs))) [
@@ -82,7 +86,8 @@ pub record IsWhole (t : TableView) : Type 0 where
   pub has_all : HasAllSignatures t
 
 pub puid_eq-itself : (p : Puid) → puid_eq p p ≡ true
-puid_eq-itself p = elim p.registry as (λ r. puid_eq (record p { registry = r }) (record p { registry = r }) ≡ true) [ Fmt ↦ eq-eqb p.number p.number refl | XFmt ↦ eq-eqb p.number p.number refl ]
+puid_eq-itself p = elim p.registry as (λ r. puid_eq (record p { registry = r }) (record p { registry = r }) ≡ true)
+    [ Fmt ↦ eq-eqb p.number p.number refl | XFmt ↦ eq-eqb p.number p.number refl ]
 
 -- the lists with a row more
 abbrev formats_with : TableView → Row → List Puid
@@ -92,7 +97,8 @@ abbrev signatures_with : TableView → Row → List SignatureView
 signatures_with t row = grown row.number row.sequence (with_number t.signatures row.number (position_or_len (puid_eq row.puid) t.formats))
 
 -- a sequence more of a signature that is there
-whole_in : (t : TableView) (row : Row) (s : SignatureView) → IsWhole t → IsRow row → find (λ s. nat_eq row.number s.number) t.signatures ≡ Some s → FitsIn t row s
+whole_in : (t : TableView) (row : Row) (s : SignatureView) → IsWhole t → IsRow row → find (λ s. nat_eq row.number s.number) t.signatures ≡ Some s
+    → FitsIn t row s
     → IsWhole (record { formats = formats_with t row; signatures = signatures_with t row; priorities = [] })
 whole_in t row s whole read found fits =
     let table = whole.limits in
@@ -115,16 +121,20 @@ whole_in t row s whole read found fits =
     })
 
 -- the format of a new signature was met or is above all
-next_format : (t : TableView) (row : Row) → IsWhole t → Contains (map (λ s. s.format) t.signatures) (position_or_len (puid_eq row.puid) t.formats) ⊎ All (λ g. g < position_or_len (puid_eq row.puid) t.formats) (map (λ s. s.format) t.signatures)
+next_format : (t : TableView) (row : Row) → IsWhole t → Contains (map (λ s. s.format) t.signatures) (position_or_len (puid_eq row.puid) t.formats)
+    ⊎ All (λ g. g < position_or_len (puid_eq row.puid) t.formats) (map (λ s. s.format) t.signatures)
 next_format t row whole = elim (cases_Bool (list_any (puid_eq row.puid) t.formats)) [
   | inl there ↦ inl (whole.has_all _ (position-any (puid_eq row.puid) t.formats there))
   | inr new ↦
       let last = position-not_any (puid_eq row.puid) t.formats new in
-      inr (All-map (λ g. g < position_or_len (puid_eq row.puid) t.formats) (λ s. s.format) t.signatures (All-weaker (IsSignature (length t.formats)) (λ s. s.format < position_or_len (puid_eq row.puid) t.formats) (λ s h. let known = h.known in omega arith) t.signatures whole.limits.each))
+      inr (All-map (λ g. g < position_or_len (puid_eq row.puid) t.formats) (λ s. s.format) t.signatures
+          (All-weaker (IsSignature (length t.formats)) (λ s. s.format < position_or_len (puid_eq row.puid) t.formats)
+          (λ s h. let known = h.known in omega arith) t.signatures whole.limits.each))
 ]
 
 -- a format of the lists is one of those before, or that of the row
-format_before : (t : TableView) (row : Row) (g : ℕ) → g < length (formats_with t row) → (g < length t.formats) ⊎ (position_or_len (puid_eq row.puid) t.formats ≡ g)
+format_before : (t : TableView) (row : Row) (g : ℕ) → g < length (formats_with t row) → (g < length t.formats)
+    ⊎ (position_or_len (puid_eq row.puid) t.formats ≡ g)
 format_before t row g lt = elim (cases_Bool (list_any (puid_eq row.puid) t.formats)) [
   | inl there ↦ inl (rw there at lt)
   | inr new ↦
@@ -150,10 +160,12 @@ whole_beside t row whole read found fits =
     let k : ℕ = length (formats_with t row) in
     let first : SignatureView = record { format = f; number = row.number; sequences = row.sequence ∷ [] } in
     let none : list_any (λ s. nat_eq row.number s.number) ss ≡ false = any-none (λ s. nat_eq row.number s.number) ss found in
-    let grew : signatures_with t row ≡ ss ++ first ∷ [] = rw none (grown-new row.number row.sequence ss (record { format = f; number = row.number; sequences = [] }) none (eq-eqb row.number row.number refl)) in
+    let grew : signatures_with t row ≡ ss ++ first ∷ [] = rw none
+        (grown-new row.number row.sequence ss (record { format = f; number = row.number; sequences = [] }) none (eq-eqb row.number row.number refl)) in
     let numbers : map (λ s. s.number) (ss ++ first ∷ []) ≡ map (λ s. s.number) ss ++ row.number ∷ [] = map_push (λ s. s.number) ss first in
     let formats : map (λ s. s.format) (ss ++ first ∷ []) ≡ map (λ s. s.format) ss ++ f ∷ [] = map_push (λ s. s.format) ss first in
-    let wider : All (IsSignature k) ss = All-weaker (IsSignature (length t.formats)) (IsSignature k) (λ s h. IsSignature-wider (length t.formats) k s (length-insert_key-ge t.formats row.puid) h) ss table.each in
+    let wider : All (IsSignature k) ss = All-weaker (IsSignature (length t.formats)) (IsSignature k)
+        (λ s h. IsSignature-wider (length t.formats) k s (length-insert_key-ge t.formats row.puid) h) ss table.each in
     let is_first = IsSignature-first k f row.number row.sequence (position-insert_key t.formats row.puid) read.number (judged row read fits.slots) in
     let room = fits.signatures in
     rw grew (record {
@@ -163,7 +175,8 @@ whole_beside t row whole read found fits =
         puids = puids_with t row table read;
         different_puids = AllDifferent-insert_key puid_eq t.formats row.puid (puid_eq-itself row.puid) table.different_puids;
         each = All-push (IsSignature k) ss first wider is_first;
-        different_numbers = rw numbers (AllDifferent-push (map (λ s. s.number) ss) row.number table.different_numbers (not_contained nat_eq (map (λ s. s.number) ss) row.number (eq-eqb row.number row.number refl) (any-numbers row.number ss ∙ none)));
+        different_numbers = rw numbers (AllDifferent-push (map (λ s. s.number) ss) row.number table.different_numbers
+            (not_contained nat_eq (map (λ s. s.number) ss) row.number (eq-eqb row.number row.number refl) (any-numbers row.number ss ∙ none)));
         in_order = rw formats (FormatsRise-push [] (map (λ s. s.format) ss) f table.in_order (next_format t row whole));
         priorities = no_priorities _;
       };
@@ -173,7 +186,8 @@ whole_beside t row whole read found fits =
       ]);
     })
 
-whole_at : (t : TableView) (row : Row) (n : ℕ) → IsWhole t → IsRow row → (o : Option SignatureView) → find (λ s. nat_eq row.number s.number) t.signatures ≡ o → fault_at o t n row ≡ None
+whole_at : (t : TableView) (row : Row) (n : ℕ) → IsWhole t → IsRow row → (o : Option SignatureView) → find (λ s. nat_eq row.number s.number) t.signatures ≡ o
+    → fault_at o t n row ≡ None
     → IsWhole (record { formats = formats_with t row; signatures = signatures_with t row; priorities = [] })
 whole_at t row n whole read None found fine = whole_beside t row whole read found (fits_beside t row n fine)
 whole_at t row n whole read (Some s) found fine = whole_in t row s whole read found (fits_in t row n s fine)

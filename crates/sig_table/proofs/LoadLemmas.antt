@@ -35,10 +35,12 @@ pub table_of-unread : (s p : List (List (List ℕ))) (e : TableError) → signat
 unfolding table_of
 table_of-unread s p e h = rw h refl
 
-pub table_of-unranked : (s p : List (List (List ℕ))) (t : TableView) (e : TableError) → signatures_of s ≡ Ok t → pairs_of t.formats p ≡ Err e → table_of s p ≡ Err e
+pub table_of-unranked : (s p : List (List (List ℕ))) (t : TableView) (e : TableError) → signatures_of s ≡ Ok t → pairs_of t.formats p ≡ Err e
+    → table_of s p ≡ Err e
 unfolding table_of
 table_of-unranked s p t e read h = rw (read, h) refl
 
-pub table_of-whole : (s p : List (List (List ℕ))) (t : TableView) (pairs : List (ℕ × ℕ)) → signatures_of s ≡ Ok t → pairs_of t.formats p ≡ Ok pairs → table_of s p ≡ Ok (record t { priorities = pairs })
+pub table_of-whole : (s p : List (List (List ℕ))) (t : TableView) (pairs : List (ℕ × ℕ)) → signatures_of s ≡ Ok t → pairs_of t.formats p ≡ Ok pairs
+    → table_of s p ≡ Ok (record t { priorities = pairs })
 unfolding table_of
 table_of-whole s p t pairs read ranked = rw (read, ranked) refl

@@ -1,5 +1,6 @@
 -- The values of digits, and the texts of numbers.
-use Rattle.std.proofs.Common.{◌≡◌, ℕ, ◌+◌, ◌-◌, ◌*◌, ◌<◌, ◌≤◌, true, List, take, length, get_or, ap, ◌∙◌, refl, arith, rules, length-take, tests, Some, None, inl, inr}
+use Rattle.std.proofs.Common.{◌≡◌, ℕ, ◌+◌, ◌-◌, ◌*◌, ◌<◌, ◌≤◌, true, List, take, length, get_or, ap, ◌∙◌, refl, arith, rules, length-take, tests, Some, None,
+    inl, inr}
 use Rattle.std.proofs.lemmas.Bool.{cases_Bool}
 use Rattle.sig_table.specs.Numbers.{digits_number}
 use Rattle.std.specs.Int.{IsInRange}
@@ -30,12 +31,15 @@ pub test-from_AllDigits : (ds : List ℕ) → AllDigits 10 ds → all_ascii_digi
 test-from_AllDigits ds h = by_test.from ds h
 
 -- at most eight digits write a number below 10^8
-pub digits_value-short : (ds : List ℕ) (i : ℕ) → i ≤ 8 → i ≤ length ds → ((k : ℕ) → k < i → IsInRange 48 57 (get_or ds k 0)) → digits_value 10 (take i ds) < 100000000
+pub digits_value-short : (ds : List ℕ) (i : ℕ) → i ≤ 8 → i ≤ length ds → ((k : ℕ) → k < i → IsInRange 48 57 (get_or ds k 0))
+    → digits_value 10 (take i ds) < 100000000
 digits_value-short ds i le within h =
-    digits_value_short by_index (take i ds) 8 (λ k lt. let few : k < i = omega (arith, length-take {A = ℕ}) in rw (get_or-take) (h k few)) (omega (arith, length-take {A = ℕ}))
+    digits_value_short by_index (take i ds) 8 (λ k lt. let few : k < i = omega (arith, length-take {A = ℕ}) in rw (get_or-take) (h k few))
+        (omega (arith, length-take {A = ℕ}))
 
 -- one digit more
-pub digits_value-step : (ds : List ℕ) (i : ℕ) → i < length ds → IsInRange 48 57 (get_or ds i 0) → digits_value 10 (take (i + 1) ds) ≡ digits_value 10 (take i ds) * 10 + (get_or ds i 0 - 48)
+pub digits_value-step : (ds : List ℕ) (i : ℕ) → i < length ds → IsInRange 48 57 (get_or ds i 0)
+    → digits_value 10 (take (i + 1) ds) ≡ digits_value 10 (take i ds) * 10 + (get_or ds i 0 - 48)
 digits_value-step ds i lt digit =
     let value : digit_value (get_or ds i 0) ≡ get_or ds i 0 - 48 = search (rules, tests) in
     digits_value_more 10 ds i lt ∙ ap (λ d. digits_value 10 (take i ds) * 10 + d) value

@@ -20,15 +20,18 @@ module _ (n : ℕ) (t : TableView) (fields : List (List ℕ)) where
   unfolding with_record
   passed-row row read = rw read refl
 
-  pub passed-unread : (e : TableError) → row_of n fields ≡ Err e → let told : TableView × Option TableError = (t, Some e) in told ≡ passed t (with_record n t fields)
+  pub passed-unread : (e : TableError) → row_of n fields ≡ Err e → let told : TableView × Option TableError = (t, Some e) in
+      told ≡ passed t (with_record n t fields)
   passed-unread e read = rw (with_record-unread n t fields e read) refl
 
 module _ (formats : List Puid) (n : ℕ) (pairs : List (ℕ × ℕ)) (fields : List (List ℕ)) where
-  pub passed-pair : (pair : ℕ × ℕ) → pair_of formats n fields ≡ Ok pair → passed pairs (unless (pair_fault pairs n pair) (Ok (pairs ++ pair ∷ []))) ≡ passed pairs (with_pair formats n pairs fields)
+  pub passed-pair : (pair : ℕ × ℕ) → pair_of formats n fields ≡ Ok pair
+      → passed pairs (unless (pair_fault pairs n pair) (Ok (pairs ++ pair ∷ []))) ≡ passed pairs (with_pair formats n pairs fields)
   unfolding with_pair
   passed-pair pair read = rw read refl
 
-  pub passed-unread_pair : (e : TableError) → pair_of formats n fields ≡ Err e → let told : List (ℕ × ℕ) × Option TableError = (pairs, Some e) in told ≡ passed pairs (with_pair formats n pairs fields)
+  pub passed-unread_pair : (e : TableError) → pair_of formats n fields ≡ Err e → let told : List (ℕ × ℕ) × Option TableError = (pairs, Some e) in
+      told ≡ passed pairs (with_pair formats n pairs fields)
   passed-unread_pair e read = rw (with_pair-unread formats n pairs fields e read) refl
 
 -- what a value is read on from
@@ -48,7 +51,8 @@ row_of-puid n fields row read =
     rw is.cut (puid_of-puid_text row.puid.registry row.puid.number is.puid.0 is.puid.1)
 
 -- a record that is taken names a format, which is among those behind it
-pub with_record-puid : (n : ℕ) (t more : TableView) (fields : List (List ℕ)) → with_record n t fields ≡ Ok more → (puid : Puid) × (puid_of (text_at fields 0) ≡ Some puid) × (more.formats ≡ insert_key puid_eq t.formats puid)
+pub with_record-puid : (n : ℕ) (t more : TableView) (fields : List (List ℕ)) → with_record n t fields ≡ Ok more → (puid : Puid)
+    × (puid_of (text_at fields 0) ≡ Some puid) × (more.formats ≡ insert_key puid_eq t.formats puid)
 unfolding with_record with_row
 with_record-puid n t more fields taken =
     let row = binds (row_of n fields) _ more taken in

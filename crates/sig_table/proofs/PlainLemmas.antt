@@ -1,5 +1,6 @@
 -- No field of the canonical text has a byte that calls for quotes, so `csv` writes each record as it stands.
-use Rattle.std.proofs.Common.{◌≡◌, ℕ, zero, suc, ◌/◌, ◌%◌, ◌<◌, Bool, true, false, cond, nat_eq, nat_lt, List, [], ◌∷◌, ◌++◌, map, Option, Some, None, refl, sym, ap, append-nil, inl, inr, arith}
+use Rattle.std.proofs.Common.{◌≡◌, ℕ, zero, suc, ◌/◌, ◌%◌, ◌<◌, Bool, true, false, cond, nat_eq, nat_lt, List, [], ◌∷◌, ◌++◌, map, Option, Some, None, refl,
+    sym, ap, append-nil, inl, inr, arith}
 use Rattle.std.specs.Prelude.{codes, slice_get, slice_index, ⊤}
 use Rattle.std.specs.Fmt.{decimal, digit_glyph, digits, digits_onto}
 use Rattle.std.specs.List.{flat_map}
@@ -7,12 +8,14 @@ use Rattle.std.proofs.lemmas.Bool.{cases_Bool, ne_eqb}
 use Rattle.std.proofs.lemmas.List.Folds.{list_any-append}
 use Rattle.csv.specs.Writing.{default_writer, fields_text, is_blank, needs_byte, needs_quotes, row_body, row_text}
 use Rattle.sig_expr.proofs.Exports.{encode_upper, encode_with, upper_digits}
-use Rattle.sig_expr.specs.Canon.{alternative_text, alternatives_text, atom_text, between_text, canon, count_text, from_text, gap_text, item_text, not_text, range_text}
+use Rattle.sig_expr.specs.Canon.{alternative_text, alternatives_text, atom_text, between_text, canon, count_text, from_text, gap_text, item_text, not_text,
+    range_text}
 use Rattle.sig_expr.specs.declared.item.Atom.{Atom}
 use Rattle.sig_expr.specs.declared.item.Atom.TheVariants as atom
 use Rattle.sig_expr.specs.declared.item.Item.{Item}
 use Rattle.sig_expr.specs.declared.item.Item.TheVariants as item
-use Rattle.sig_table.specs.Canonical.{joined, line_text, name_of, named, pair_record, pair_records, pairs_csv, records_of_signature, sequence_record, signature_csv, signature_records}
+use Rattle.sig_table.specs.Canonical.{joined, line_text, name_of, named, pair_record, pair_records, pairs_csv, records_of_signature, sequence_record,
+    signature_csv, signature_records}
 use Rattle.sig_table.specs.Views.{SequenceView, SignatureView, TableView}
 use Rattle.sig_table.specs.Puids.{puid_text, registry_text}
 use Rattle.sig_table.specs.declared.position.Position.{Position}
@@ -165,7 +168,8 @@ plain-item : (i : Item) → Plain (item_text i)
 plain-item (item.Byte b) = plain-word (b ∷ [])
 plain-item item.Any = refl
 plain-item (item.Gap min max) = plain-gap min max
-plain-item (item.Alt alternatives) = plain-append (alternatives_text (codes "(") alternatives) (codes ")") (plain-alternatives (codes "(") alternatives refl) refl
+plain-item (item.Alt alternatives) = plain-append (alternatives_text (codes "(") alternatives) (codes ")") (plain-alternatives (codes "(") alternatives refl)
+    refl
 plain-item (item.Range a b) = plain-range (91 ∷ []) a b refl
 plain-item (item.Not a) = plain-not a
 plain-item (item.NotRange a b) = plain-range (91 ∷ 33 ∷ []) a b refl
@@ -208,30 +212,39 @@ stand-flat_map : {X : Type 0} (f : X → List (List (List ℕ))) (xs : List X) �
 stand-flat_map f [] h = tt
 stand-flat_map f (x ∷ xs) h = stand-append (f x) (flat_map f xs) (h x) (stand-flat_map f xs h)
 
-sequence_stands : (name : List ℕ) (number : ℕ) (s : SequenceView) → Plain name → line_text (sequence_record name number s) ≡ row_text default_writer (sequence_record name number s)
+sequence_stands : (name : List ℕ) (number : ℕ) (s : SequenceView) → Plain name
+    → line_text (sequence_record name number s) ≡ row_text default_writer (sequence_record name number s)
 sequence_stands name number s plain = go s.position
   where
-    rest : (word offset max : List ℕ) → Plain word → Plain offset → Plain max → line_text (name ∷ decimal number ∷ word ∷ offset ∷ max ∷ canon s.items ∷ []) ≡ row_text default_writer (name ∷ decimal number ∷ word ∷ offset ∷ max ∷ canon s.items ∷ [])
-    rest word offset max p q r = sym (plain_row name (decimal number) (word ∷ offset ∷ max ∷ canon s.items ∷ []) (plain, (plain-decimal number, (p, (q, (r, (plain-canon s.items, tt)))))))
+    rest : (word offset max : List ℕ) → Plain word → Plain offset → Plain max
+        → line_text (name ∷ decimal number ∷ word ∷ offset ∷ max ∷ canon s.items ∷ []) ≡ row_text default_writer
+        (name ∷ decimal number ∷ word ∷ offset ∷ max ∷ canon s.items ∷ [])
+    rest word offset max p q r = sym (plain_row name (decimal number) (word ∷ offset ∷ max ∷ canon s.items ∷ [])
+        (plain, (plain-decimal number, (p, (q, (r, (plain-canon s.items, tt)))))))
 
-    go : (place : Position) → line_text (sequence_record name number (record s { position = place })) ≡ row_text default_writer (sequence_record name number (record s { position = place }))
+    go : (place : Position) → line_text (sequence_record name number (record s { position = place })) ≡ row_text default_writer
+        (sequence_record name number (record s { position = place }))
     go (position.Bof min max) = rest (codes "BOF") (decimal min) (decimal max) refl (plain-decimal min) (plain-decimal max)
     go (position.Eof min max) = rest (codes "EOF") (decimal min) (decimal max) refl (plain-decimal min) (plain-decimal max)
     go position.Variable = rest (codes "Variable") [] [] refl refl refl
 
 signature_stands : (formats : List Puid) (s : SignatureView) → Stand (records_of_signature formats s)
-signature_stands formats s = stand-map (sequence_record (name_of formats s.format) s.number) s.sequences (λ sequence. sequence_stands (name_of formats s.format) s.number sequence (plain-name_of formats s.format))
+signature_stands formats s = stand-map (sequence_record (name_of formats s.format) s.number) s.sequences
+    (λ sequence. sequence_stands (name_of formats s.format) s.number sequence (plain-name_of formats s.format))
 
 pair_stands : (formats : List Puid) (pair : ℕ × ℕ) → line_text (pair_record formats pair) ≡ row_text default_writer (pair_record formats pair)
-pair_stands formats pair = sym (plain_row (name_of formats pair.0) (name_of formats pair.1) [] (plain-name_of formats pair.0, (plain-name_of formats pair.1, tt)))
+pair_stands formats pair = sym (plain_row (name_of formats pair.0) (name_of formats pair.1) []
+    (plain-name_of formats pair.0, (plain-name_of formats pair.1, tt)))
 
 -- the canonical files as `csv` writes their records
 pub signature_csv-rows : (t : TableView) → signature_csv t ≡ flat_map (row_text default_writer) (signature_records t)
 unfolding signature_csv
 signature_csv-rows t = stand_text (signature_records t) (header, stand-flat_map (records_of_signature t.formats) t.signatures (signature_stands t.formats))
   where
-    header : line_text (codes "puid" ∷ codes "signature" ∷ codes "position" ∷ codes "offset" ∷ codes "max_offset" ∷ codes "expression" ∷ []) ≡ row_text default_writer (codes "puid" ∷ codes "signature" ∷ codes "position" ∷ codes "offset" ∷ codes "max_offset" ∷ codes "expression" ∷ [])
-    header = sym (plain_row (codes "puid") (codes "signature") (codes "position" ∷ codes "offset" ∷ codes "max_offset" ∷ codes "expression" ∷ []) (refl, (refl, (refl, (refl, (refl, (refl, tt)))))))
+    header : line_text (codes "puid" ∷ codes "signature" ∷ codes "position" ∷ codes "offset" ∷ codes "max_offset" ∷ codes "expression" ∷ []) ≡ row_text
+        default_writer (codes "puid" ∷ codes "signature" ∷ codes "position" ∷ codes "offset" ∷ codes "max_offset" ∷ codes "expression" ∷ [])
+    header = sym (plain_row (codes "puid") (codes "signature") (codes "position" ∷ codes "offset" ∷ codes "max_offset" ∷ codes "expression" ∷ [])
+        (refl, (refl, (refl, (refl, (refl, (refl, tt)))))))
 
 pub pairs_csv-rows : (formats : List Puid) (pairs : List (ℕ × ℕ)) → pairs_csv formats pairs ≡ flat_map (row_text default_writer) (pair_records formats pairs)
 unfolding pairs_csv

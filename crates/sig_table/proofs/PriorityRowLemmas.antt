@@ -16,7 +16,8 @@ use Rattle.sig_table.specs.declared.error.TableFile.TheVariants.{Priorities}
 use Rattle.sig_table.specs.declared.puid.Puid.{Puid}
 use Rattle.sig_table.specs.Judging.{WriteAll}
 use Rattle.sig_table.specs.Loading.{is_listed, is_priority_header, pair_fault, pair_of, pair_of_two, pairs_of, index_in, with_pair}
-use Rattle.sig_table.specs.PriorityRows.{ArePairsOf, BeginsWithPairHeader, HasCycle, HasFirstPairFault, IsFaultOfPair, IsPairFault, IsPriorityFaultOf, WritesPair}
+use Rattle.sig_table.specs.PriorityRows.{ArePairsOf, BeginsWithPairHeader, HasCycle, HasFirstPairFault, IsFaultOfPair, IsPairFault, IsPriorityFaultOf,
+    WritesPair}
 use Rattle.sig_table.specs.Puids.{puid_eq, puid_of}
 use Rattle.sig_table.specs.Ranking.{is_above}
 use Rattle.sig_table.specs.Rows.{text_at}
@@ -61,7 +62,8 @@ pair_of-fits formats n fields pair is = elim (cases_Bool (nat_eq (length fields)
 closes : (pairs : List (ℕ × ℕ)) (pair : ℕ × ℕ) → is_above pairs pair.1 pair.0 ≡ true → HasCycle (pairs ++ pair ∷ [])
 closes pairs pair back =
     let way = (is_above-Decides pairs pair.1 pair.0).0 back in
-    (pair.0, (pair.1 ∷ way.0, (Contains-push pairs pair, wider pairs (pairs ++ pair ∷ []) (λ p c. Contains-append_left pairs (pair ∷ []) p c) pair.1 way.0 pair.0 way.1)))
+    (pair.0, (pair.1 ∷ way.0, (Contains-push pairs pair, wider pairs (pairs ++ pair ∷ []) (λ p c. Contains-append_left pairs (pair ∷ []) p c) pair.1 way.0
+        pair.0 way.1)))
 
 -- the fault of a pair, in plain words
 fault_of_pair : (pairs : List (ℕ × ℕ)) (n : ℕ) (pair : ℕ × ℕ) (e : TableError) → pair_fault pairs n pair ≡ Some e → IsFaultOfPair pairs n pair e
@@ -69,13 +71,15 @@ unfolding pair_fault
 fault_of_pair pairs n pair e is = elim (cases_Bool (is_listed pairs pair)) [
   | inl t ↦ (let same : error.PriorityTwice n ≡ e = cc (rw t at is) in inl ((listed-Decides pairs pair).0 t, sym same))
   | inr new ↦ elim (cases_Bool (is_above pairs pair.1 pair.0)) [
-    | inl t ↦ (let same : error.PriorityCycle n ≡ e = cc (rw (new, t) at is) in inr (λ c. false≢true (sym new ∙ (listed-Decides pairs pair).1 c), (closes pairs pair t, sym same)))
+    | inl t ↦ (let same : error.PriorityCycle n ≡ e = cc (rw (new, t) at is) in
+        inr (λ c. false≢true (sym new ∙ (listed-Decides pairs pair).1 c), (closes pairs pair t, sym same)))
     | inr none ↦ absurd (cc (rw (new, none) at is))
   ]
 ]
 
 -- a pair without fault is one priority more
-one_more : (formats : List Puid) (pairs : List (ℕ × ℕ)) (n : ℕ) (fields : List (List ℕ)) (pair : ℕ × ℕ) → ArePriorities (length formats) pairs → pair_of formats n fields ≡ Ok pair → pair_fault pairs n pair ≡ None
+one_more : (formats : List Puid) (pairs : List (ℕ × ℕ)) (n : ℕ) (fields : List (List ℕ)) (pair : ℕ × ℕ) → ArePriorities (length formats) pairs
+    → pair_of formats n fields ≡ Ok pair → pair_fault pairs n pair ≡ None
     → ArePriorities (length formats) (pairs ++ pair ∷ [])
 one_more formats pairs n fields pair are read fine =
     let fits = pair_of-fits formats n fields pair read in
@@ -95,7 +99,8 @@ front-pairs formats pairs pair are = record {
     front-different (x ∷ xs) d = (λ c. d.0 (Contains-append_left xs (pair ∷ []) x c), front-different xs d.1)
 
 -- a pair with a fault makes no priorities with those before it
-faulty_are_not : (formats : ℕ) (pairs : List (ℕ × ℕ)) (n : ℕ) (pair : ℕ × ℕ) (e : TableError) → IsFaultOfPair pairs n pair e → ArePriorities formats (pairs ++ pair ∷ []) → ⊥
+faulty_are_not : (formats : ℕ) (pairs : List (ℕ × ℕ)) (n : ℕ) (pair : ℕ × ℕ) (e : TableError) → IsFaultOfPair pairs n pair e
+    → ArePriorities formats (pairs ++ pair ∷ []) → ⊥
 faulty_are_not formats pairs n pair e fault are = elim fault [
   | inl twice ↦ not_before pairs [] pair are.different twice.0
   | inr cycle ↦ are.no_cycle cycle.1.0.0 cycle.1.0.1
@@ -111,7 +116,8 @@ abbrev pub itself : List (ℕ × ℕ) → List (ℕ × ℕ)
 itself pairs = pairs
 
 module _ (formats : List Puid) where
-  more : (done : List (ℕ × ℕ)) (n : ℕ) (fields : List (List ℕ)) (s : List (ℕ × ℕ)) → ArePriorities (length formats) done → with_pair formats n done fields ≡ Ok s
+  more : (done : List (ℕ × ℕ)) (n : ℕ) (fields : List (List ℕ)) (s : List (ℕ × ℕ)) → ArePriorities (length formats) done
+      → with_pair formats n done fields ≡ Ok s
       → (pair : ℕ × ℕ) × WritesPair formats n fields pair × ArePriorities (length formats) (done ++ pair ∷ []) × (s ≡ done ++ pair ∷ [])
   unfolding with_pair
   more done n fields s are h = elim (answered (pair_of formats n fields)) [
@@ -122,13 +128,15 @@ module _ (formats : List Puid) where
     | inr e ↦ absurd (cc (rw e.1 at h))
   ]
 
-  taken : (done : List (ℕ × ℕ)) (n : ℕ) (fields : List (List ℕ)) (pair : ℕ × ℕ) → WritesPair formats n fields pair → ArePriorities (length formats) (done ++ pair ∷ []) → with_pair formats n done fields ≡ Ok (done ++ pair ∷ [])
+  taken : (done : List (ℕ × ℕ)) (n : ℕ) (fields : List (List ℕ)) (pair : ℕ × ℕ) → WritesPair formats n fields pair
+      → ArePriorities (length formats) (done ++ pair ∷ []) → with_pair formats n done fields ≡ Ok (done ++ pair ∷ [])
   taken done n fields pair writes are = elim (there_or_not (pair_fault done n pair)) [
     | inl fine ↦ with_pair-more formats n done fields pair writes fine
     | inr e ↦ absurd (faulty_are_not (length formats) done n pair e.0 (fault_of_pair done n pair e.0 e.1) are)
   ]
 
-  faulty : (done : List (ℕ × ℕ)) (n : ℕ) (fields : List (List ℕ)) (e : TableError) → ArePriorities (length formats) done → with_pair formats n done fields ≡ Err e → IsPairFault formats done n fields e
+  faulty : (done : List (ℕ × ℕ)) (n : ℕ) (fields : List (List ℕ)) (e : TableError) → ArePriorities (length formats) done
+      → with_pair formats n done fields ≡ Err e → IsPairFault formats done n fields e
   unfolding with_pair
   faulty done n fields e are h = elim (answered (pair_of formats n fields)) [
     | inl a ↦ elim (there_or_not (pair_fault done n a.0)) [
@@ -140,7 +148,8 @@ module _ (formats : List Puid) where
     | inr f ↦ let same : f.0 ≡ e = cc (rw f.1 at h) in inl (subst (λ x. pair_of formats n fields ≡ Err x) same f.1)
   ]
 
-  refused : (done : List (ℕ × ℕ)) (n : ℕ) (fields : List (List ℕ)) (e : TableError) → ArePriorities (length formats) done → IsPairFault formats done n fields e → with_pair formats n done fields ≡ Err e
+  refused : (done : List (ℕ × ℕ)) (n : ℕ) (fields : List (List ℕ)) (e : TableError) → ArePriorities (length formats) done → IsPairFault formats done n fields e
+      → with_pair formats n done fields ≡ Err e
   refused done n fields e are fault = elim fault [
     | inl unread ↦ with_pair-unread formats n done fields e unread
     | inr pair ↦ elim (there_or_not (pair_fault done n pair.0)) [
@@ -168,28 +177,36 @@ unfolding pairs_of
 are_pairs_of formats [] pairs h = absurd (cc h)
 are_pairs_of formats (header ∷ records) pairs h = elim (cases_Bool (is_priority_header header)) [
   | inl t ↦
-      let c = continues (with_pair formats) itself (ArePriorities (length formats)) (WritesPair formats) (IsPairFault formats) (turns formats) records [] 1 pairs (no_priorities (length formats)) (rw t at h) in
-      record { header = header; records = records; cut = refl; is_header = t; write = subst (WriteAll (WritesPair formats) 1 records) (sym c.is) c.write; are = subst (ArePriorities (length formats)) (sym c.is) c.are }
+      let c = continues (with_pair formats) itself (ArePriorities (length formats)) (WritesPair formats) (IsPairFault formats) (turns formats) records [] 1
+          pairs (no_priorities (length formats)) (rw t at h) in
+      record { header = header; records = records; cut = refl; is_header = t; write = subst (WriteAll (WritesPair formats) 1 records) (sym c.is) c.write; are =
+          subst (ArePriorities (length formats)) (sym c.is) c.are }
   | inr f ↦ absurd (cc (rw f at h))
 ]
 
-pub is_priority_fault_of : (formats : List Puid) (file : List (List (List ℕ))) (fault : TableError) → pairs_of formats file ≡ Err fault → IsPriorityFaultOf formats file fault
+pub is_priority_fault_of : (formats : List Puid) (file : List (List (List ℕ))) (fault : TableError) → pairs_of formats file ≡ Err fault
+    → IsPriorityFaultOf formats file fault
 unfolding pairs_of
 is_priority_fault_of formats [] fault h = inl (nothing_begins, cc h)
 is_priority_fault_of formats (header ∷ records) fault h = elim (cases_Bool (is_priority_header header)) [
   | inl t ↦
-      let s = stops (with_pair formats) itself (ArePriorities (length formats)) (WritesPair formats) (IsPairFault formats) (turns formats) records [] 1 fault (no_priorities (length formats)) (rw t at h) in
-      inr (record { header = header; earlier = s.earlier; fields = s.fields; later = s.later; cut = ap (λ l. header ∷ l) s.cut; is_header = t; pairs = s.rows; write = s.write; are = s.are; has = s.has })
+      let s = stops (with_pair formats) itself (ArePriorities (length formats)) (WritesPair formats) (IsPairFault formats) (turns formats) records [] 1 fault
+          (no_priorities (length formats)) (rw t at h) in
+      inr (record { header = header; earlier = s.earlier; fields = s.fields; later = s.later; cut = ap (λ l. header ∷ l) s.cut; is_header = t; pairs =
+          s.rows; write = s.write; are = s.are; has = s.has })
   | inr f ↦ inl (other_begins header records f, cc (rw f at h))
 ]
 
 -- and the other way
-pub pairs_are_given : (formats : List Puid) (file : List (List (List ℕ))) (pairs : List (ℕ × ℕ)) → ArePairsOf formats file pairs → pairs_of formats file ≡ Ok pairs
+pub pairs_are_given : (formats : List Puid) (file : List (List (List ℕ))) (pairs : List (ℕ × ℕ)) → ArePairsOf formats file pairs
+    → pairs_of formats file ≡ Ok pairs
 unfolding pairs_of
 pairs_are_given formats file pairs are =
-    rw (are.cut, are.is_header) (continued (with_pair formats) itself (ArePriorities (length formats)) (WritesPair formats) (IsPairFault formats) (turns formats) are.records [] pairs 1 are.write are.are)
+    rw (are.cut, are.is_header) (continued (with_pair formats) itself (ArePriorities (length formats)) (WritesPair formats) (IsPairFault formats)
+        (turns formats) are.records [] pairs 1 are.write are.are)
 
-no_header_is_told : (formats : List Puid) (file : List (List (List ℕ))) → (BeginsWithPairHeader file → ⊥) → pairs_of formats file ≡ Err (error.Header Priorities)
+no_header_is_told : (formats : List Puid) (file : List (List (List ℕ))) → (BeginsWithPairHeader file → ⊥)
+    → pairs_of formats file ≡ Err (error.Header Priorities)
 unfolding pairs_of
 no_header_is_told formats [] none = refl
 no_header_is_told formats (header ∷ records) none = elim (cases_Bool (is_priority_header header)) [
@@ -197,12 +214,15 @@ no_header_is_told formats (header ∷ records) none = elim (cases_Bool (is_prior
   | inr f ↦ rw f refl
 ]
 
-first_fault_given : (formats : List Puid) (file : List (List (List ℕ))) (fault : TableError) → HasFirstPairFault formats file fault → pairs_of formats file ≡ Err fault
+first_fault_given : (formats : List Puid) (file : List (List (List ℕ))) (fault : TableError) → HasFirstPairFault formats file fault
+    → pairs_of formats file ≡ Err fault
 unfolding pairs_of
 first_fault_given formats file fault is =
-    rw (is.cut, is.is_header) (stopped (with_pair formats) itself (ArePriorities (length formats)) (WritesPair formats) (IsPairFault formats) (turns formats) is.earlier [] is.pairs 1 is.fields is.later fault is.write is.are is.has)
+    rw (is.cut, is.is_header) (stopped (with_pair formats) itself (ArePriorities (length formats)) (WritesPair formats) (IsPairFault formats) (turns formats)
+        is.earlier [] is.pairs 1 is.fields is.later fault is.write is.are is.has)
 
-pub priority_fault_is_given : (formats : List Puid) (file : List (List (List ℕ))) (fault : TableError) → IsPriorityFaultOf formats file fault → pairs_of formats file ≡ Err fault
+pub priority_fault_is_given : (formats : List Puid) (file : List (List (List ℕ))) (fault : TableError) → IsPriorityFaultOf formats file fault
+    → pairs_of formats file ≡ Err fault
 priority_fault_is_given formats file fault is = elim is [
   | inl none ↦ no_header_is_told formats file none.0 ∙ ap (λ e. Err e) (sym none.1)
   | inr first ↦ first_fault_given formats file fault first

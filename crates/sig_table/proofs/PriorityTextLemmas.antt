@@ -41,7 +41,8 @@ of_two n above below pair h = elim (cases_Bool (nat_eq above below)) [
   | inr f ↦ (let same : (above, below) ≡ pair = cc (rw f at h) in sym same, f)
 ]
 
-spelled_with : (formats : List Puid) (n : ℕ) (fields : List (List ℕ)) (higher lower : List ℕ) (pair : ℕ × ℕ) → fields ≡ higher ∷ lower ∷ [] → pair_with formats n higher lower ≡ Ok pair → PriorityText formats fields pair
+spelled_with : (formats : List Puid) (n : ℕ) (fields : List (List ℕ)) (higher lower : List ℕ) (pair : ℕ × ℕ) → fields ≡ higher ∷ lower ∷ []
+    → pair_with formats n higher lower ≡ Ok pair → PriorityText formats fields pair
 spelled_with formats n fields higher lower pair cut h =
     let p = bind-ok (ok_or (puid_of higher) (error.Puid Priorities n)) _ pair h in
     let q = bind-ok (ok_or (puid_of lower) (error.Puid Priorities n)) _ pair p.2 in
@@ -61,18 +62,22 @@ spelled_with formats n fields higher lower pair cut h =
       two = λ same. false≢true (sym two.1 ∙ eq-eqb above.0 below.0 (sym first ∙ same ∙ second));
     }
 
-pub pair_is_spelled : (formats : List Puid) (n : ℕ) (fields : List (List ℕ)) (pair : ℕ × ℕ) → pair_of formats n fields ≡ Ok pair → PriorityText formats fields pair
+pub pair_is_spelled : (formats : List Puid) (n : ℕ) (fields : List (List ℕ)) (pair : ℕ × ℕ) → pair_of formats n fields ≡ Ok pair
+    → PriorityText formats fields pair
 unfolding pair_of
 pair_is_spelled formats n fields pair h = elim (cases_Bool (length fields == 2)) [
   | inl t ↦ spelled_with formats n fields (text_at fields 0) (text_at fields 1) pair (two_fields fields (eqb-true _ _ t)) (rw t at h)
   | inr f ↦ absurd (cc (rw f at h))
 ]
 
-pub pair_is_read : (formats : List Puid) → All (λ p. IsNumber p.number) formats → AllDifferent formats → (n : ℕ) (fields : List (List ℕ)) (pair : ℕ × ℕ) → PriorityText formats fields pair → pair_of formats n fields ≡ Ok pair
+pub pair_is_read : (formats : List Puid) → All (λ p. IsNumber p.number) formats → AllDifferent formats → (n : ℕ) (fields : List (List ℕ)) (pair : ℕ × ℕ)
+    → PriorityText formats fields pair → pair_of formats n fields ≡ Ok pair
 unfolding pair_of field_at
 pair_is_read formats puids different n fields pair text =
-    let h_is : IsNumber text.higher.number = All-contains (λ p. IsNumber p.number) formats text.higher puids (Contains-slice_get formats pair.0 text.higher text.is_higher) in
-    let l_is : IsNumber text.lower.number = All-contains (λ p. IsNumber p.number) formats text.lower puids (Contains-slice_get formats pair.1 text.lower text.is_lower) in
+    let h_is : IsNumber text.higher.number = All-contains (λ p. IsNumber p.number) formats text.higher puids
+        (Contains-slice_get formats pair.0 text.higher text.is_higher) in
+    let l_is : IsNumber text.lower.number = All-contains (λ p. IsNumber p.number) formats text.lower puids
+        (Contains-slice_get formats pair.1 text.lower text.is_lower) in
     rw (
       text.cut,
       puid_of-puid_text text.higher.registry text.higher.number h_is.0 h_is.1,

@@ -1,5 +1,6 @@
 -- A PUID is read from its own text, and from no other.
-use Rattle.std.proofs.Common.{◌≡◌, ℕ, ◌<◌, ◌≤◌, ◌^◌, true, false, nat_eq, nat_lt, ◌&&◌, List, [], ◌∷◌, ◌++◌, drop, length, get_or, sym, ap, ◌∙◌, refl, inl, inr, arith, rules, tests, Option, Some, None, eq-eqb, option_map}
+use Rattle.std.proofs.Common.{◌≡◌, ℕ, ◌<◌, ◌≤◌, ◌^◌, true, false, nat_eq, nat_lt, ◌&&◌, List, [], ◌∷◌, ◌++◌, drop, length, get_or, sym, ap, ◌∙◌, refl, inl, inr,
+    arith, rules, tests, Option, Some, None, eq-eqb, option_map}
 use Rattle.std.specs.Prelude.{codes, IfSome}
 use Rattle.std.specs.Fmt.{decimal}
 use Rattle.std.specs.List.{starts_with}
@@ -58,7 +59,8 @@ IsNumeral-number_of text n h = elim (cases_Bool (nat_eq (length text) 0)) [
 pub decimal-number_of : (text : List ℕ) (n : ℕ) → number_of 9 text ≡ Some n → decimal n ≡ text
 decimal-number_of text n h =
     let is = IsNumeral-number_of text n h in
-    rw (← is.value) (decimal-digits_value by_test text is.digits is.some (alone (get_or text 0 0) (length text) is.front is.some) (let value = is.value in let small = is.small in omega arith))
+    rw (← is.value) (decimal-digits_value by_test text is.digits is.some (alone (get_or text 0 0) (length text) is.front is.some)
+        (let value = is.value in let small = is.small in omega arith))
 
 pub number_of-positive : (text : List ℕ) (n : ℕ) → positive_of text ≡ Some n → number_of 9 text ≡ Some n
 unfolding positive_of
@@ -77,7 +79,8 @@ IsNumber-positive_of text n h = elim (cases_Bool (nat_eq (get_or text 0 0) 48)) 
       let is = IsNumeral-number_of text n read in
       let printed = decimal-number_of text n read in
       elim (cases_Bool (nat_eq n 0)) [
-        | inl zero ↦ absurd (let none : n ≡ 0 = eqb-true n 0 zero in let text_is : 48 ∷ [] ≡ text = sym (decimal_digit 0 (omega arith)) ∙ rw none at printed in cc (rw (← text_is) at f))
+        | inl zero ↦ absurd (let none : n ≡ 0 = eqb-true n 0 zero in let text_is : 48 ∷ [] ≡ text = sym (decimal_digit 0 (omega arith)) ∙ rw none at printed in
+            cc (rw (← text_is) at f))
         | inr some ↦ (let least : 0 < n = search (rules, tests) in (least, is.small))
       ]
 ]
@@ -102,7 +105,8 @@ numbered-text r digits p h = go (positive_of digits) refl h
   where
     go : (o : Option ℕ) → positive_of digits ≡ o → option_map (λ n. record { registry = r; number = n }) o ≡ Some p → puid_text p ≡ registry_text r ++ digits
     go None e h = absurd (cc h)
-    go (Some n) e h = let same : record { registry = r; number = n } ≡ p = cc h in rw (← same) (ap (λ d. registry_text r ++ d) (decimal-number_of digits n (number_of-positive digits n e)))
+    go (Some n) e h = let same : record { registry = r; number = n } ≡ p = cc h in
+        rw (← same) (ap (λ d. registry_text r ++ d) (decimal-number_of digits n (number_of-positive digits n e)))
 
 pub positive_of-decimal : (n : ℕ) → 0 < n → n < 1000000000 → positive_of (decimal n) ≡ Some n
 unfolding positive_of
@@ -117,9 +121,11 @@ pub puid_text-puid_of : (text : List ℕ) (o : Option Puid) → o ≡ puid_of te
 unfolding puid_of
 puid_text-puid_of text None h = tt
 puid_text-puid_of text (Some p) h = elim (cases_Bool (starts_with nat_eq text (codes "fmt/"))) [
-  | inl t ↦ numbered-text Fmt (drop 4 text) p (sym (rw t at h)) ∙ sym ((starts_is Decides-eqb text (codes "fmt/") (starts_with nat_eq text (codes "fmt/")) refl).0 t)
+  | inl t ↦ numbered-text Fmt (drop 4 text) p (sym (rw t at h)) ∙ sym
+      ((starts_is Decides-eqb text (codes "fmt/") (starts_with nat_eq text (codes "fmt/")) refl).0 t)
   | inr f ↦ elim (cases_Bool (starts_with nat_eq text (codes "x-fmt/"))) [
-    | inl t ↦ numbered-text XFmt (drop 6 text) p (sym (rw (f, t) at h)) ∙ sym ((starts_is Decides-eqb text (codes "x-fmt/") (starts_with nat_eq text (codes "x-fmt/")) refl).0 t)
+    | inl t ↦ numbered-text XFmt (drop 6 text) p (sym (rw (f, t) at h)) ∙ sym
+        ((starts_is Decides-eqb text (codes "x-fmt/") (starts_with nat_eq text (codes "x-fmt/")) refl).0 t)
     | inr g ↦ absurd (cc (rw (f, g) at h))
   ]
 ]

@@ -19,7 +19,8 @@ pub record Grows (pairs : List (ℕ × ℕ)) (a b : ℕ) (more : List (ℕ × �
   pub only : (p : ℕ × ℕ) → Contains more p → Contains pairs p ⊎ (p ≡ (a, b))
 
 -- a way and a way on
-join : (pairs : List (ℕ × ℕ)) (h : ℕ) (ms : List ℕ) (m : ℕ) (ns : List ℕ) (l : ℕ) → WayDown pairs h ms m → WayDown pairs m ns l → WayDown pairs h (ms ++ m ∷ ns) l
+join : (pairs : List (ℕ × ℕ)) (h : ℕ) (ms : List ℕ) (m : ℕ) (ns : List ℕ) (l : ℕ) → WayDown pairs h ms m → WayDown pairs m ns l
+    → WayDown pairs h (ms ++ m ∷ ns) l
 join pairs h [] m ns l first rest = (first, rest)
 join pairs h (k ∷ ms) m ns l first rest = (first.0, join pairs k ms m ns l first.1 rest)
 

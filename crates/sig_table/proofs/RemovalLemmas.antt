@@ -1,5 +1,6 @@
 -- What holds of a table holds of it without the signatures of a format.
-use Rattle.std.proofs.Common.{◌≡◌, ◌⊎◌, ℕ, zero, suc, ◌<◌, ◌≤◌, Bool, true, false, List, [], ◌∷◌, ◌++◌, length, map, not, nat_eq, refl, sym, ap, ◌∙◌, arith, inl, inr, Some, None, nat_lt, position, tests, rules, get_or}
+use Rattle.std.proofs.Common.{◌≡◌, ◌⊎◌, ℕ, zero, suc, ◌<◌, ◌≤◌, Bool, true, false, List, [], ◌∷◌, ◌++◌, length, map, not, nat_eq, refl, sym, ap, ◌∙◌, arith,
+    inl, inr, Some, None, nat_lt, position, tests, rules, get_or}
 use Rattle.std.specs.Prelude.{Contains, filter}
 use Rattle.std.specs.List.{position_or_len}
 use Rattle.std.proofs.lemmas.Bool.{cases_Bool, false≢true}
@@ -99,7 +100,8 @@ IsTable-without t format table =
       different_puids = table.different_puids;
       each = All-filter test (IsSignature (length t.formats)) t.signatures table.each;
       different_numbers = AllDifferent-filter (λ (s : SignatureView). s.number) test t.signatures table.different_numbers;
-      in_order = rw (map-filter (λ (s : SignatureView). s.format) (λ n. not (nat_eq n format)) t.signatures) (FormatsRise-filter (λ n. not (nat_eq n format)) [] (map (λ s. s.format) t.signatures) table.in_order);
+      in_order = rw (map-filter (λ (s : SignatureView). s.format) (λ n. not (nat_eq n format)) t.signatures)
+          (FormatsRise-filter (λ n. not (nat_eq n format)) [] (map (λ s. s.format) t.signatures) table.in_order);
       priorities = table.priorities;
     }
 
@@ -111,18 +113,22 @@ position-place p xs i found = elim (cases_Bool (nat_lt (position_or_len p xs) (l
 ]
 
 -- the table with the signatures that are kept, where the format stands at the place
-pub without-is : (t : TableView) (kept : List SignatureView) (puid : Puid) (place : ℕ) → position (λ p. puid_eq p puid) t.formats ≡ Some place → kept ≡ filter (λ s. not (nat_eq s.format place)) t.signatures
+pub without-is : (t : TableView) (kept : List SignatureView) (puid : Puid) (place : ℕ) → position (λ p. puid_eq p puid) t.formats ≡ Some place
+    → kept ≡ filter (λ s. not (nat_eq s.format place)) t.signatures
     → record t { signatures = kept } ≡ without t (place_of t.formats puid)
-without-is t kept puid place found is = rw (position-place (λ p. puid_eq p puid) t.formats place found) (ap (λ (l : List SignatureView). record t { signatures = l }) is)
+without-is t kept puid place found is = rw (position-place (λ p. puid_eq p puid) t.formats place found)
+    (ap (λ (l : List SignatureView). record t { signatures = l }) is)
 
 -- names that the test takes for one are one
 puid_eq-same : (a b : Puid) → puid_eq a b ≡ true → a ≡ b
 puid_eq-same a b = elim a.registry as (λ r. puid_eq (record a { registry = r }) b ≡ true → record a { registry = r } ≡ b) [
-  | Fmt ↦ elim b.registry as (λ r. puid_eq (record a { registry = Fmt }) (record b { registry = r }) ≡ true → record a { registry = Fmt } ≡ record b { registry = r }) [
+  | Fmt ↦ elim b.registry as (λ r. puid_eq (record a { registry = Fmt }) (record b { registry = r }) ≡ true
+      → record a { registry = Fmt } ≡ record b { registry = r }) [
     | Fmt ↦ λ t. ap (λ (n : ℕ). record { registry = Fmt; number = n }) ((Decides-eqb a.number b.number).0 t)
     | XFmt ↦ λ t. absurd (false≢true t)
   ]
-  | XFmt ↦ elim b.registry as (λ r. puid_eq (record a { registry = XFmt }) (record b { registry = r }) ≡ true → record a { registry = XFmt } ≡ record b { registry = r }) [
+  | XFmt ↦ elim b.registry as (λ r. puid_eq (record a { registry = XFmt }) (record b { registry = r }) ≡ true
+      → record a { registry = XFmt } ≡ record b { registry = r }) [
     | Fmt ↦ λ t. absurd (false≢true t)
     | XFmt ↦ λ t. ap (λ (n : ℕ). record { registry = XFmt; number = n }) ((Decides-eqb a.number b.number).0 t)
   ]

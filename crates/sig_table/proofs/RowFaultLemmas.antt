@@ -25,16 +25,22 @@ use Rattle.sig_table.specs.RowTexts.{AreOffsets, IsFaultOfExpression, IsPuid, Is
 
 -- what is asked by a test
 pub tested : {A : Type 0} (b : Bool) (fault : TableError) (rest : Result A TableError) (IsThere : Type 0) (IsLater : TableError → Type 0) (e : TableError)
-    → (b ≡ false → IsThere) → (b ≡ true → IsThere → ⊥) → (b ≡ true → (rest ≡ Err e) ↔ IsLater e) → ((if b then rest else Err fault) ≡ Err e) ↔ FirstOf IsThere fault IsLater e
-tested true fault rest IsThere IsLater e fails passes later = (λ h. inr (passes refl, (later refl).0 h), λ first. elim first [ inl there ↦ absurd (passes refl there.0) | inr more ↦ (later refl).1 more.1 ])
-tested false fault rest IsThere IsLater e fails passes later = (λ h. inl (fails refl, cc h), λ first. elim first [ inl there ↦ ap (λ x. Err x) (sym there.1) | inr more ↦ absurd (more.0 (fails refl)) ])
+    → (b ≡ false → IsThere) → (b ≡ true → IsThere → ⊥) → (b ≡ true → (rest ≡ Err e) ↔ IsLater e) → ((if b then rest else Err fault) ≡ Err e)
+        ↔ FirstOf IsThere fault IsLater e
+tested true fault rest IsThere IsLater e fails passes later =
+    (λ h. inr (passes refl, (later refl).0 h), λ first. elim first [ inl there ↦ absurd (passes refl there.0) | inr more ↦ (later refl).1 more.1 ])
+tested false fault rest IsThere IsLater e fails passes later =
+    (λ h. inl (fails refl, cc h), λ first. elim first [ inl there ↦ ap (λ x. Err x) (sym there.1) | inr more ↦ absurd (more.0 (fails refl)) ])
 
 -- what is read of a text, where it is one
 pub read_on : {A B : Type 0} (o : Option A) (fault : TableError) (f : A → Result B TableError) (Is : Type 0) (IsLater : TableError → Type 0) (e : TableError)
-    → (o ≡ None → ¬ Is) → ((x : A) → o ≡ Some x → Is) → ((x : A) → o ≡ Some x → (f x ≡ Err e) ↔ IsLater e) → (ok_or o fault >>= f ≡ Err e) ↔ FirstOf (¬ Is) fault IsLater e
-read_on None fault f Is IsLater e none some later = (λ h. inl (none refl, cc h), λ first. elim first [ inl there ↦ ap (λ x. Err x) (sym there.1) | inr more ↦ absurd (more.0 (none refl)) ])
+    → (o ≡ None → ¬ Is) → ((x : A) → o ≡ Some x → Is) → ((x : A) → o ≡ Some x → (f x ≡ Err e) ↔ IsLater e) → (ok_or o fault >>= f ≡ Err e)
+        ↔ FirstOf (¬ Is) fault IsLater e
+read_on None fault f Is IsLater e none some later = (λ h. inl (none refl, cc h),
+    λ first. elim first [ inl there ↦ ap (λ x. Err x) (sym there.1) | inr more ↦ absurd (more.0 (none refl)) ])
 read_on (Some x) fault f Is IsLater e none some later =
-    (λ h. inr (λ no. no (some x refl), (later x refl).0 h), λ first. elim first [ inl there ↦ absurd (there.0 (some x refl)) | inr more ↦ (later x refl).1 more.1 ])
+    (λ h. inr (λ no. no (some x refl), (later x refl).0 h), λ first. elim first
+        [ inl there ↦ absurd (there.0 (some x refl)) | inr more ↦ (later x refl).1 more.1 ])
 
 -- a PUID is read of its text, and of no other
 pub is_puid : (text : List ℕ) (puid : Puid) → puid_of text ≡ Some puid → IsPuid text
@@ -53,7 +59,8 @@ no_signature_number text h is = cc (sym h ∙ ap positive_of is.2 ∙ positive_o
 abbrev Placed : ℕ → List ℕ → List ℕ → List ℕ → Type 0
 Placed n word offset greatest =
     ((place : Position) × (position_of n word offset greatest ≡ Ok place))
-    ⊎ ((IsWordOfPosition word × (position_of n word offset greatest ≡ Err (error.Offset n))) ⊎ (¬ IsWordOfPosition word × (position_of n word offset greatest ≡ Err (error.Position n))))
+    ⊎ ((IsWordOfPosition word × (position_of n word offset greatest ≡ Err (error.Offset n)))
+        ⊎ (¬ IsWordOfPosition word × (position_of n word offset greatest ≡ Err (error.Position n))))
 
 offsets_or_fault : (n : ℕ) (o : Option (ℕ × ℕ)) → ((p : ℕ × ℕ) × (ok_or o (error.Offset n) ≡ Ok p)) ⊎ (ok_or o (error.Offset n) ≡ Err (error.Offset n))
 offsets_or_fault n None = inr refl
@@ -90,8 +97,10 @@ word_of (position.Bof min max) word offset greatest texts = inl texts.0
 word_of (position.Eof min max) word offset greatest texts = inr (inl texts.0)
 word_of position.Variable word offset greatest texts = inr (inr texts.0)
 
-place_on : {B : Type 0} (n : ℕ) (word offset greatest : List ℕ) (f : Position → Result B TableError) (IsLater : TableError → Type 0) (e : TableError) → ((place : Position) → (f place ≡ Err e) ↔ IsLater e)
-    → (position_of n word offset greatest >>= f ≡ Err e) ↔ FirstOf (¬ IsWordOfPosition word) (error.Position n) (FirstOf (¬ AreOffsets word offset greatest) (error.Offset n) IsLater) e
+place_on : {B : Type 0} (n : ℕ) (word offset greatest : List ℕ) (f : Position → Result B TableError) (IsLater : TableError → Type 0) (e : TableError)
+    → ((place : Position) → (f place ≡ Err e) ↔ IsLater e)
+    → (position_of n word offset greatest >>= f ≡ Err e) ↔ FirstOf (¬ IsWordOfPosition word) (error.Position n)
+        (FirstOf (¬ AreOffsets word offset greatest) (error.Offset n) IsLater) e
 place_on n word offset greatest f IsLater e later = elim (placed n word offset greatest) [
   | inl p ↦
       let texts = read-position n word offset greatest p.0 p.1 in
@@ -124,7 +133,8 @@ place_on n word offset greatest f IsLater e later = elim (placed n word offset g
 ]
 
 -- the expression, which comes last
-items_on : {B : Type 0} (n : ℕ) (text : List ℕ) (f : List Item → Result B TableError) (e : TableError) → ((items : List Item) → f items ≡ Err e → ⊥) → (r : Result (List Item) ExprError) → expr_of text ≡ r
+items_on : {B : Type 0} (n : ℕ) (text : List ℕ) (f : List Item → Result B TableError) (e : TableError) → ((items : List Item) → f items ≡ Err e → ⊥)
+    → (r : Result (List Item) ExprError) → expr_of text ≡ r
     → (items_in n r >>= f ≡ Err e) ↔ IsFaultOfExpression n text e
 items_on n text f e last (Ok items) h = (λ k. absurd (last items k), λ is. absurd (is.0 (read_spells items text h).0))
 items_on n text f e last (Err refusal) h =
@@ -136,23 +146,28 @@ items_on n text f e last (Err refusal) h =
     )
 
 -- six fields
-refused_with : (n : ℕ) (puid number word offset greatest expression : List ℕ) (e : TableError) → (row_with n puid number word offset greatest expression ≡ Err e)
+refused_with : (n : ℕ) (puid number word offset greatest expression : List ℕ) (e : TableError)
+    → (row_with n puid number word offset greatest expression ≡ Err e)
     ↔ FirstOf (¬ IsPuid puid) (error.Puid Signatures n) (FirstOf (¬ IsSignatureNumber number) (error.SignatureNumber n)
     (FirstOf (¬ IsWordOfPosition word) (error.Position n) (FirstOf (¬ AreOffsets word offset greatest) (error.Offset n) (IsFaultOfExpression n expression)))) e
 refused_with n puid number word offset greatest expression e =
     let last : TableError → Type 0 = IsFaultOfExpression n expression in
-    let third : TableError → Type 0 = FirstOf (¬ IsWordOfPosition word) (error.Position n) (FirstOf (¬ AreOffsets word offset greatest) (error.Offset n) last) in
+    let third : TableError → Type 0 = FirstOf (¬ IsWordOfPosition word) (error.Position n) (FirstOf (¬ AreOffsets word offset greatest) (error.Offset n) last)
+        in
     let second : TableError → Type 0 = FirstOf (¬ IsSignatureNumber number) (error.SignatureNumber n) third in
     read_on (puid_of puid) (error.Puid Signatures n) _ (IsPuid puid) second e (no_puid puid) (is_puid puid) (λ p p_is.
-    read_on (positive_of number) (error.SignatureNumber n) _ (IsSignatureNumber number) third e (no_signature_number number) (is_signature_number number) (λ k k_is.
+    read_on (positive_of number) (error.SignatureNumber n) _ (IsSignatureNumber number) third e (no_signature_number number) (is_signature_number number)
+        (λ k k_is.
     place_on n word offset greatest _ last e (λ place.
     items_on n expression _ e (λ items h. cc h) (expr_of expression) refl)))
 
 pub row_is_refused : (n : ℕ) (fields : List (List ℕ)) (e : TableError) → (row_of n fields ≡ Err e) ↔ IsRowTextFault n fields e
 unfolding row_of
 row_is_refused n fields e =
-    let offsets : TableError → Type 0 = FirstOf (¬ AreOffsets (text_at fields 2) (text_at fields 3) (text_at fields 4)) (error.Offset n) (IsFaultOfExpression n (text_at fields 5)) in
-    let numbers : TableError → Type 0 = FirstOf (¬ IsSignatureNumber (text_at fields 1)) (error.SignatureNumber n) (FirstOf (¬ IsWordOfPosition (text_at fields 2)) (error.Position n) offsets) in
+    let offsets : TableError → Type 0 = FirstOf (¬ AreOffsets (text_at fields 2) (text_at fields 3) (text_at fields 4)) (error.Offset n)
+        (IsFaultOfExpression n (text_at fields 5)) in
+    let numbers : TableError → Type 0 = FirstOf (¬ IsSignatureNumber (text_at fields 1)) (error.SignatureNumber n)
+        (FirstOf (¬ IsWordOfPosition (text_at fields 2)) (error.Position n) offsets) in
     tested (length fields == 6) (error.Fields Signatures n) _ (length fields ≢ 6) (FirstOf (¬ IsPuid (text_at fields 0)) (error.Puid Signatures n) numbers) e
     (λ f is. false≢true (sym f ∙ eq-eqb _ _ is))
     (λ t other. other (eqb-true _ _ t))

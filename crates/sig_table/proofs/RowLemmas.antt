@@ -1,5 +1,6 @@
 -- What holds of each row that is read.
-use Rattle.std.proofs.Common.{◌≡◌, ℕ, ◌≤◌, ◌&&◌, ◌==◌, nat_eq, nat_lt, List, drop, length, refl, inl, inr, arith, rules, tests, Option, Some, None, Result, Ok, Err}
+use Rattle.std.proofs.Common.{◌≡◌, ℕ, ◌≤◌, ◌&&◌, ◌==◌, nat_eq, nat_lt, List, drop, length, refl, inl, inr, arith, rules, tests, Option, Some, None, Result, Ok,
+    Err}
 use Rattle.std.specs.Prelude.{codes}
 use Rattle.std.specs.List.{starts_with}
 use Rattle.std.specs.Option.{ok_or}
@@ -79,7 +80,8 @@ up_to-ordered (Some min) max p most h = elim (cases_Bool (length max == 0)) [
 ]
 
 offsets_of-ordered : (row : ℕ) (offset max : List ℕ) (p : ℕ × ℕ) → offsets_of row offset max ≡ Ok p → Ordered p
-offsets_of-ordered row offset max p h = up_to-ordered (offset_of offset) max p (as_offset-most (number_of 5 offset)) (ok_or-ok (up_to (offset_of offset) max) (error.Offset row) p h)
+offsets_of-ordered row offset max p h = up_to-ordered (offset_of offset) max p (as_offset-most (number_of 5 offset))
+    (ok_or-ok (up_to (offset_of offset) max) (error.Offset row) p h)
 
 -- the offsets of a place
 pub InOrder-position_of : (row : ℕ) (word offset max : List ℕ) (place : Position) → position_of row word offset max ≡ Ok place → InOrder place

@@ -1,5 +1,6 @@
 -- A row is read of the texts of its parts, and of no others.
-use Rattle.std.proofs.Common.{◌≡◌, ℕ, ◌≤◌, ◌&&◌, ◌==◌, true, nat_lt, List, [], ◌∷◌, length, sym, ap, ◌∙◌, refl, inl, inr, arith, rules, tests, Option, Some, None, Ok}
+use Rattle.std.proofs.Common.{◌≡◌, ℕ, ◌≤◌, ◌&&◌, ◌==◌, true, nat_lt, List, [], ◌∷◌, length, sym, ap, ◌∙◌, refl, inl, inr, arith, rules, tests, Option, Some,
+    None, Ok}
 use Rattle.std.specs.Prelude.{codes}
 use Rattle.std.specs.Cmp.Lexicographic.{same_text}
 use Rattle.std.specs.Fmt.{decimal}
@@ -45,14 +46,16 @@ as_offset-same (Some k) n h = elim (cases_Bool (nat_lt 65535 k)) [ inl t ↦ abs
 offset-text : (text : List ℕ) (n : ℕ) → offset_of text ≡ Some n → text ≡ decimal n
 offset-text text n h = sym (decimal-number_of text n (wider text n (as_offset-same (number_of 5 text) n h)))
 
-greatest-text : (min : ℕ) (o : Option ℕ) (greatest : List ℕ) (p : ℕ × ℕ) → ((n : ℕ) → o ≡ Some n → greatest ≡ decimal n) → in_order min o ≡ Some p → (min ≡ p.0) × (greatest ≡ decimal p.1)
+greatest-text : (min : ℕ) (o : Option ℕ) (greatest : List ℕ) (p : ℕ × ℕ) → ((n : ℕ) → o ≡ Some n → greatest ≡ decimal n) → in_order min o ≡ Some p → (min ≡ p.0)
+    × (greatest ≡ decimal p.1)
 greatest-text min None greatest p is h = absurd (cc h)
 greatest-text min (Some max) greatest p is h = elim (cases_Bool (nat_lt max min)) [
   | inl t ↦ absurd (cc (rw t at h))
   | inr f ↦ let same : (min, max) ≡ p = cc (rw f at h) in (ap (λ q. q.0) same, is max refl ∙ ap (λ q. decimal q.1) same)
 ]
 
-offsets-texts : (o : Option ℕ) (offset greatest : List ℕ) (p : ℕ × ℕ) → ((n : ℕ) → o ≡ Some n → offset ≡ decimal n) → up_to o greatest ≡ Some p → OffsetTexts p.0 p.1 offset greatest
+offsets-texts : (o : Option ℕ) (offset greatest : List ℕ) (p : ℕ × ℕ) → ((n : ℕ) → o ≡ Some n → offset ≡ decimal n) → up_to o greatest ≡ Some p
+    → OffsetTexts p.0 p.1 offset greatest
 offsets-texts None offset greatest p is h = absurd (cc h)
 offsets-texts (Some min) offset greatest p is h = elim (cases_Bool (length greatest == 0)) [
   | inl t ↦
@@ -64,7 +67,8 @@ offsets-texts (Some min) offset greatest p is h = elim (cases_Bool (length great
 ]
 
 read-offsets : (row : ℕ) (offset greatest : List ℕ) (p : ℕ × ℕ) → offsets_of row offset greatest ≡ Ok p → OffsetTexts p.0 p.1 offset greatest
-read-offsets row offset greatest p h = offsets-texts (offset_of offset) offset greatest p (offset-text offset) (ok_or-ok (up_to (offset_of offset) greatest) (error.Offset row) p h)
+read-offsets row offset greatest p h = offsets-texts (offset_of offset) offset greatest p (offset-text offset)
+    (ok_or-ok (up_to (offset_of offset) greatest) (error.Offset row) p h)
 
 both_empty : (a b : List ℕ) → ((length a == 0) && (length b == 0)) ≡ true → (a ≡ []) × (b ≡ [])
 both_empty a b h = elim (cases_Bool (length a == 0)) [
@@ -72,7 +76,8 @@ both_empty a b h = elim (cases_Bool (length a == 0)) [
   | inr f ↦ absurd (cc (rw f at h))
 ]
 
-pub read-position : (row : ℕ) (word offset greatest : List ℕ) (p : Position) → position_of row word offset greatest ≡ Ok p → PositionTexts p word offset greatest
+pub read-position : (row : ℕ) (word offset greatest : List ℕ) (p : Position) → position_of row word offset greatest ≡ Ok p
+    → PositionTexts p word offset greatest
 unfolding position_of
 read-position row word offset greatest p h = elim (cases_Bool (is_word word (codes "BOF"))) [
   | inl t ↦
@@ -98,7 +103,8 @@ read-position row word offset greatest p h = elim (cases_Bool (is_word word (cod
 ]
 
 -- six fields
-six : (fields : List (List ℕ)) → length fields ≡ 6 → fields ≡ text_at fields 0 ∷ text_at fields 1 ∷ text_at fields 2 ∷ text_at fields 3 ∷ text_at fields 4 ∷ text_at fields 5 ∷ []
+six : (fields : List (List ℕ)) → length fields ≡ 6 → fields ≡ text_at fields 0 ∷ text_at fields 1 ∷ text_at fields 2 ∷ text_at fields 3 ∷ text_at fields 4
+    ∷ text_at fields 5 ∷ []
 unfolding field_at
 six [] h = absurd (omega arith)
 six (a ∷ []) h = absurd (omega arith)
@@ -109,7 +115,8 @@ six (a ∷ b ∷ c ∷ d ∷ e ∷ []) h = absurd (omega arith)
 six (a ∷ b ∷ c ∷ d ∷ e ∷ f ∷ []) h = refl
 six (a ∷ b ∷ c ∷ d ∷ e ∷ f ∷ g ∷ later) h = absurd (omega arith)
 
-row_text : (n : ℕ) (fields : List (List ℕ)) (puid number word offset greatest expression : List ℕ) (row : Row) → fields ≡ puid ∷ number ∷ word ∷ offset ∷ greatest ∷ expression ∷ []
+row_text : (n : ℕ) (fields : List (List ℕ)) (puid number word offset greatest expression : List ℕ) (row : Row)
+    → fields ≡ puid ∷ number ∷ word ∷ offset ∷ greatest ∷ expression ∷ []
     → row_of n fields ≡ Ok row → row_with n puid number word offset greatest expression ≡ Ok row → RowText fields row
 row_text n fields puid number word offset greatest expression row cut whole h =
     let is = IsRow-row_of n fields row whole in
@@ -136,20 +143,25 @@ row_text n fields puid number word offset greatest expression row cut whole h =
 pub row_is_spelled : (n : ℕ) (fields : List (List ℕ)) (row : Row) → row_of n fields ≡ Ok row → RowText fields row
 unfolding row_of
 row_is_spelled n fields row h = elim (cases_Bool (length fields == 6)) [
-  | inl t ↦ row_text n fields (text_at fields 0) (text_at fields 1) (text_at fields 2) (text_at fields 3) (text_at fields 4) (text_at fields 5) row (six fields (eqb-true _ _ t)) h (rw t at h)
+  | inl t ↦ row_text n fields (text_at fields 0) (text_at fields 1) (text_at fields 2) (text_at fields 3) (text_at fields 4) (text_at fields 5) row
+      (six fields (eqb-true _ _ t)) h (rw t at h)
   | inr f ↦ absurd (cc (rw f at h))
 ]
 
 -- the offsets of a position are read of their texts
-offsets_of-texts : (row min max : ℕ) (offset greatest : List ℕ) → OffsetTexts min max offset greatest → min ≤ max → max ≤ 65535 → offsets_of row offset greatest ≡ Ok (min, max)
+offsets_of-texts : (row min max : ℕ) (offset greatest : List ℕ) → OffsetTexts min max offset greatest → min ≤ max → max ≤ 65535
+    → offsets_of row offset greatest ≡ Ok (min, max)
 offsets_of-texts row min max offset greatest (is, inl whole) order most = rw (is, whole) (offsets_of-decimal row min max order most)
 offsets_of-texts row min max offset greatest (is, inr one) order most =
     rw (is, one.0, ← one.1, number_of-decimal min (omega arith), not_below 65535 min (omega arith)) refl
 
-pub position_of-texts : (row : ℕ) (p : Position) (word offset greatest : List ℕ) → PositionTexts p word offset greatest → InOrder p → position_of row word offset greatest ≡ Ok p
+pub position_of-texts : (row : ℕ) (p : Position) (word offset greatest : List ℕ) → PositionTexts p word offset greatest → InOrder p
+    → position_of row word offset greatest ≡ Ok p
 unfolding position_of
-position_of-texts row (position.Bof min max) word offset greatest texts order = rw (texts.0, offsets_of-texts row min max offset greatest texts.1 order.0 order.1) refl
-position_of-texts row (position.Eof min max) word offset greatest texts order = rw (texts.0, offsets_of-texts row min max offset greatest texts.1 order.0 order.1) refl
+position_of-texts row (position.Bof min max) word offset greatest texts order =
+    rw (texts.0, offsets_of-texts row min max offset greatest texts.1 order.0 order.1) refl
+position_of-texts row (position.Eof min max) word offset greatest texts order =
+    rw (texts.0, offsets_of-texts row min max offset greatest texts.1 order.0 order.1) refl
 position_of-texts row position.Variable word offset greatest texts order = rw (texts.0, texts.1, texts.2) refl
 
 pub row_is_read : (n : ℕ) (fields : List (List ℕ)) (row : Row) → RowText fields row → row_of n fields ≡ Ok row

@@ -1,5 +1,6 @@
 -- What refuses the signature file is told of that file.
-use Rattle.std.proofs.Common.{◌≡◌, ℕ, ◌+◌, ◌&&◌, ◌==◌, ◌||◌, Bool, true, false, not, nat_lt, nat_le, List, [], ◌∷◌, length, refl, inl, inr, Option, Some, None, IfSome, Result, Ok, Err}
+use Rattle.std.proofs.Common.{◌≡◌, ℕ, ◌+◌, ◌&&◌, ◌==◌, ◌||◌, Bool, true, false, not, nat_lt, nat_le, List, [], ◌∷◌, length, refl, inl, inr, Option, Some, None,
+    IfSome, Result, Ok, Err}
 use Rattle.std.specs.Prelude.{codes, ⊤}
 use Rattle.std.specs.Bool.{OnFalse}
 use Rattle.std.specs.List.{position_or_len}
@@ -15,7 +16,8 @@ use Rattle.sig_table.specs.declared.position.Position.TheVariants as position
 use Rattle.sig_table.specs.declared.row.Row.{Row}
 use Rattle.sig_table.specs.Views.{SignatureView, TableView}
 use Rattle.sig_table.specs.Judging.{judged, unless}
-use Rattle.sig_table.specs.Loading.{empty_table, fault_at, fault_in, is_full, is_of_signatures, is_signature_header, signature_in, signatures_of, table_from, with_row, with_record}
+use Rattle.sig_table.specs.Loading.{empty_table, fault_at, fault_in, is_full, is_of_signatures, is_signature_header, signature_in, signatures_of, table_from,
+    with_row, with_record}
 use Rattle.sig_table.specs.Numbers.{positive_of}
 use Rattle.sig_table.specs.Puids.{puid_eq, puid_of}
 use Rattle.sig_table.specs.Judging.{judged, ◌>>=◌, IsFault, is_judged, is_memory, is_read}
@@ -27,7 +29,8 @@ abbrev pub IsOfSignatures : {A : Type 0} → Result A TableError → Type 0
 IsOfSignatures (Ok x) = ⊤
 IsOfSignatures (Err e) = is_of_signatures e ≡ true
 
-bind-of : {A B : Type 0} (r : Result A TableError) (f : A → Result B TableError) → IsOfSignatures r → ((x : A) → IsOfSignatures (f x)) → IsOfSignatures (r >>= f)
+bind-of : {A B : Type 0} (r : Result A TableError) (f : A → Result B TableError) → IsOfSignatures r → ((x : A) → IsOfSignatures (f x))
+    → IsOfSignatures (r >>= f)
 bind-of (Ok x) f first later = later x
 bind-of (Err e) f first later = first
 
@@ -96,7 +99,8 @@ fault_in-of : (t : TableView) (n : ℕ) (row : Row) → IfSome (fault_in t n row
 unfolding fault_in
 fault_in-of t n row = fault_at-of (signature_in t.signatures row.number) t n row
 
-unless-of : {A : Type 0} (o : Option TableError) (rest : Result A TableError) → IfSome o (λ e. is_of_signatures e ≡ true) → IsOfSignatures rest → IsOfSignatures (unless o rest)
+unless-of : {A : Type 0} (o : Option TableError) (rest : Result A TableError) → IfSome o (λ e. is_of_signatures e ≡ true) → IsOfSignatures rest
+    → IsOfSignatures (unless o rest)
 unless-of None rest fault later = later
 unless-of (Some e) rest fault later = fault
 

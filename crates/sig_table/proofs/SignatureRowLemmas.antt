@@ -1,12 +1,15 @@
 -- The rows of a signature file give its table, or a first faulty one.
-use Rattle.std.proofs.Common.{◌≡◌, ℕ, ◌<◌, ◌≤◌, ◌&&◌, Bool, true, false, not, nat_eq, nat_lt, nat_le, List, [], ◌∷◌, ◌++◌, length, map, sym, ap, subst, eq-eqb, append-nil, length-append, ◌∙◌, refl, arith, rules, tests, inl, inr, Some, None, Ok, Err}
+use Rattle.std.proofs.Common.{◌≡◌, ℕ, ◌<◌, ◌≤◌, ◌&&◌, Bool, true, false, not, nat_eq, nat_lt, nat_le, List, [], ◌∷◌, ◌++◌, length, map, sym, ap, subst, eq-eqb,
+    append-nil, length-append, ◌∙◌, refl, arith, rules, tests, inl, inr, Some, None, Ok, Err}
 use Rattle.std.specs.Prelude.{find, Contains}
 use Rattle.std.specs.List.{list_any, position_or_len}
 use Rattle.std.proofs.lemmas.Bool.{cases_Bool, eqb-true, false≢true}
 use Rattle.std.proofs.lemmas.List.{length-map}
-use Rattle.std.proofs.lemmas.List.Elements.{All-contains, All-nil, All-pop, All-push, Contains-append_left, Contains-append_right, Contains-push, Contains-push_cases}
+use Rattle.std.proofs.lemmas.List.Elements.{All-contains, All-nil, All-pop, All-push, Contains-append_left, Contains-append_right, Contains-push,
+    Contains-push_cases}
 use Rattle.sig_table.proofs.DraftLemmas.{any-none, any-some}
-use Rattle.sig_table.proofs.GatheredLemmas.{any-number, any-numbers_of, any-puid_of, any-signature, formats_of-append, gathered-append, number_same, numbers_of-append, puid_same, rows_of-append, rows_of-none}
+use Rattle.sig_table.proofs.GatheredLemmas.{any-number, any-numbers_of, any-puid_of, any-signature, formats_of-append, gathered-append, number_same,
+    numbers_of-append, puid_same, rows_of-append, rows_of-none}
 use Rattle.sig_table.proofs.JudgingLemmas.{FirstOf-one, Turns, answered, continued, continues, stopped, stops, there_or_not}
 use Rattle.sig_table.proofs.LoadLemmas.{with_record-faulty, with_record-more, with_record-unread}
 use Rattle.sig_table.proofs.LimitLemmas.{FitsBeside, FitsIn, fits_beside, fits_in, room_for}
@@ -15,7 +18,8 @@ use Rattle.sig_table.specs.declared.error.TableError.TheVariants as error
 use Rattle.sig_table.specs.declared.error.TableFile.TheVariants.{Signatures}
 use Rattle.sig_table.specs.declared.puid.Puid.{Puid}
 use Rattle.sig_table.specs.declared.row.Row.{Row}
-use Rattle.sig_table.specs.Gathered.{AreRows, BeginsWithHeader, HasEight, HasFirstFault, HasTooManySlots, IsBeyond, IsFaultAfter, IsFaultOf, IsFaultOfRow, IsOfTwo, IsTableOf, Writes, first_format, formats_of, gathered, numbers_of, rows_of, signature_of}
+use Rattle.sig_table.specs.Gathered.{AreRows, BeginsWithHeader, HasEight, HasFirstFault, HasTooManySlots, IsBeyond, IsFaultAfter, IsFaultOf, IsFaultOfRow,
+    IsOfTwo, IsTableOf, Writes, first_format, formats_of, gathered, numbers_of, rows_of, signature_of}
 use Rattle.sig_table.specs.Views.{SignatureView, TableView}
 use Rattle.indexmap.specs.IndexSet.{insert_key}
 use Rattle.sig_table.specs.Judging.{FirstOf}
@@ -55,7 +59,8 @@ first_of n (r ∷ rows) h = elim (cases_Bool (nat_eq n r.number)) [
 ]
 
 -- the signature that is found by its number
-signature_of-found : (rows : List Row) (n : ℕ) (ms : List ℕ) (s : SignatureView) → find (λ z. nat_eq n z.number) (map (signature_of rows) ms) ≡ Some s → signature_of rows n ≡ s
+signature_of-found : (rows : List Row) (n : ℕ) (ms : List ℕ) (s : SignatureView) → find (λ z. nat_eq n z.number) (map (signature_of rows) ms) ≡ Some s
+    → signature_of rows n ≡ s
 signature_of-found rows n [] s h = absurd (cc h)
 signature_of-found rows n (m ∷ ms) s h = elim (cases_Bool (nat_eq n m)) [
   | inl t ↦
@@ -73,7 +78,8 @@ record IsMore (done : List Row) (row : Row) (s : SignatureView) : Type 0 where
 
 is_more : (done : List Row) (row : Row) (s : SignatureView) → signature_in (gathered done).signatures row.number ≡ Some s → IsMore done row s
 is_more done row s found =
-    let there : list_any (nat_eq row.number) (map (λ r. r.number) done) ≡ true = sym (any-signature done row.number) ∙ any-some (λ z. nat_eq row.number z.number) (map (signature_of done) (numbers_of done)) s found in
+    let there : list_any (nat_eq row.number) (map (λ r. r.number) done) ≡ true =
+        sym (any-signature done row.number) ∙ any-some (λ z. nat_eq row.number z.number) (map (signature_of done) (numbers_of done)) s found in
     let first = first_of row.number done there in
     let is = signature_of-found done row.number (numbers_of done) s found in
     record {
@@ -83,11 +89,13 @@ is_more done row s found =
       count = ap (λ z. length z.sequences) (sym is) ∙ length-map (rows_of row.number done) (λ r. r.sequence);
     }
 
-is_new : (done : List Row) (row : Row) → signature_in (gathered done).signatures row.number ≡ None → list_any (nat_eq row.number) (map (λ r. r.number) done) ≡ false
+is_new : (done : List Row) (row : Row) → signature_in (gathered done).signatures row.number ≡ None
+    → list_any (nat_eq row.number) (map (λ r. r.number) done) ≡ false
 is_new done row none = sym (any-signature done row.number) ∙ any-none (λ z. nat_eq row.number z.number) (map (signature_of done) (numbers_of done)) none
 
 -- the row is of the first one's PUID where it is in its place
-same_puid : (done : List Row) (row : Row) (s : SignatureView) (more : IsMore done row s) → position_or_len (puid_eq row.puid) (formats_of done) ≡ s.format → row.puid ≡ more.first.row.puid
+same_puid : (done : List Row) (row : Row) (s : SignatureView) (more : IsMore done row s) → position_or_len (puid_eq row.puid) (formats_of done) ≡ s.format
+    → row.puid ≡ more.first.row.puid
 same_puid done row s more same =
     same_place row.puid more.first.row.puid (formats_of done) (any-puid_of more.first.row done more.first.among) (same ∙ more.format)
 
@@ -133,7 +141,8 @@ more-rows done row s are more fits =
     }
 
 -- and of a new one
-new-rows : (done : List Row) (row : Row) → AreRows done → list_any (nat_eq row.number) (map (λ r. r.number) done) ≡ false → FitsBeside (gathered done) row → AreRows (done ++ row ∷ [])
+new-rows : (done : List Row) (row : Row) → AreRows done → list_any (nat_eq row.number) (map (λ r. r.number) done) ≡ false → FitsBeside (gathered done) row
+    → AreRows (done ++ row ∷ [])
 new-rows done row are new fits =
     let few : length (numbers_of done) < 4000 = rw length-map at fits.signatures in
     record {
@@ -161,7 +170,8 @@ no_rows = record {
 }
 
 -- the fault of a row of a number that is there, in plain words
-fault-more : (done : List Row) (n : ℕ) (row : Row) (s : SignatureView) (e : TableError) → AreRows done → IsMore done row s → fault_at (Some s) (gathered done) n row ≡ Some e → IsFaultOfRow done n row e
+fault-more : (done : List Row) (n : ℕ) (row : Row) (s : SignatureView) (e : TableError) → AreRows done → IsMore done row s
+    → fault_at (Some s) (gathered done) n row ≡ Some e → IsFaultOfRow done n row e
 fault-more done n row s e are more h =
     let first = more.first in
     let count = more.count in
@@ -185,12 +195,14 @@ fault-more done n row s e are more h =
           ]
       | inr other ↦
           let is : error.SignatureOfTwo n ≡ e = cc (rw other at h) in
-          let two : first.row.puid ≡ row.puid → ⊥ = λ same. false≢true (sym other ∙ eq-eqb _ _ (ap (λ p. position_or_len (puid_eq p) (formats_of done)) (sym same) ∙ sym more.format)) in
+          let two : first.row.puid ≡ row.puid → ⊥ = λ same. false≢true
+              (sym other ∙ eq-eqb _ _ (ap (λ p. position_or_len (puid_eq p) (formats_of done)) (sym same) ∙ sym more.format)) in
           inl ((first.row, first.among, sym first.number, two), sym is)
     ]
 
 -- no room for another PUID
-formats-beyond : (done : List Row) (row : Row) → (nat_le 1000 (length (formats_of done)) && not (list_any (puid_eq row.puid) (formats_of done))) ≡ true → 1000 < length (formats_of (done ++ row ∷ []))
+formats-beyond : (done : List Row) (row : Row) → (nat_le 1000 (length (formats_of done)) && not (list_any (puid_eq row.puid) (formats_of done))) ≡ true
+    → 1000 < length (formats_of (done ++ row ∷ []))
 formats-beyond done row full = elim (cases_Bool (nat_le 1000 (length (formats_of done)))) [
   | inl many ↦ elim (cases_Bool (list_any (puid_eq row.puid) (formats_of done))) [
     | inl there ↦ absurd (cc (rw (many, there) at full))
@@ -202,14 +214,16 @@ formats-beyond done row full = elim (cases_Bool (nat_le 1000 (length (formats_of
 ]
 
 -- nor for another number
-numbers-beyond : (done : List Row) (row : Row) → list_any (nat_eq row.number) (map (λ r. r.number) done) ≡ false → nat_le 4000 (length (map (signature_of done) (numbers_of done))) ≡ true → 4000 < length (numbers_of (done ++ row ∷ []))
+numbers-beyond : (done : List Row) (row : Row) → list_any (nat_eq row.number) (map (λ r. r.number) done) ≡ false
+    → nat_le 4000 (length (map (signature_of done) (numbers_of done))) ≡ true → 4000 < length (numbers_of (done ++ row ∷ []))
 numbers-beyond done row new full =
     let most : 4000 ≤ length (map (signature_of done) (numbers_of done)) = search (rules, tests) in
     let all : 4000 ≤ length (numbers_of done) = rw length-map at most in
     rw (numbers_of-append done row, any-numbers_of done row.number, new) (omega (arith, length-append {A = ℕ}))
 
 -- and that of a row of a new number
-fault-new : (done : List Row) (n : ℕ) (row : Row) (e : TableError) → list_any (nat_eq row.number) (map (λ r. r.number) done) ≡ false → fault_at None (gathered done) n row ≡ Some e → IsFaultOfRow done n row e
+fault-new : (done : List Row) (n : ℕ) (row : Row) (e : TableError) → list_any (nat_eq row.number) (map (λ r. r.number) done) ≡ false
+    → fault_at None (gathered done) n row ≡ Some e → IsFaultOfRow done n row e
 fault-new done n row e new h =
     let not_two : IsOfTwo done row → ⊥ = λ two. not_there done row.number new two.0 two.1 two.2 in
     let none : rows_of row.number done ≡ [] = rows_of-none row.number done new in
@@ -267,7 +281,8 @@ faulty_are_not done n row e fault are = elim fault [
         let full = eight.0 in
         omega (arith, length-append {A = Row})
     | inr b ↦ elim b.1 [
-      | inl long ↦ (let slots = All-contains (λ r. slot_count r.sequence ≤ 65535) (done ++ row ∷ []) row are.few_slots (Contains-push done row) in let many = long.0 in omega arith)
+      | inl long ↦ (let slots = All-contains (λ r. slot_count r.sequence ≤ 65535) (done ++ row ∷ []) row are.few_slots (Contains-push done row) in let many =
+          long.0 in omega arith)
       | inr c ↦ elim c.1.0 [
         | inl formats ↦ (let few = are.few_formats in omega arith)
         | inr numbers ↦ (let few = are.few_signatures in omega arith)
@@ -283,9 +298,11 @@ one_fault done n row a b x y =
     let third : TableError → Type 0 = FirstOf (HasTooManySlots row) (error.TooManySlots n) last in
     let second : TableError → Type 0 = FirstOf (HasEight done row) (error.TooManySequences n) third in
     FirstOf-one (IsOfTwo done row) (error.SignatureOfTwo n) second a b
-    (FirstOf-one (HasEight done row) (error.TooManySequences n) third a b (FirstOf-one (HasTooManySlots row) (error.TooManySlots n) last a b (λ x y. x.1 ∙ sym y.1))) x y
+    (FirstOf-one (HasEight done row) (error.TooManySequences n) third a b
+        (FirstOf-one (HasTooManySlots row) (error.TooManySlots n) last a b (λ x y. x.1 ∙ sym y.1))) x y
 
-more : (done : List Row) (n : ℕ) (fields : List (List ℕ)) (s : TableView) → AreRows done → with_record n (gathered done) fields ≡ Ok s → (row : Row) × Writes n fields row × AreRows (done ++ row ∷ []) × (s ≡ gathered (done ++ row ∷ []))
+more : (done : List Row) (n : ℕ) (fields : List (List ℕ)) (s : TableView) → AreRows done → with_record n (gathered done) fields ≡ Ok s → (row : Row)
+    × Writes n fields row × AreRows (done ++ row ∷ []) × (s ≡ gathered (done ++ row ∷ []))
 unfolding with_record
 more done n fields s are h = elim (answered (row_of n fields)) [
   | inl a ↦ elim (there_or_not (fault_in (gathered done) n a.0)) [
@@ -297,13 +314,15 @@ more done n fields s are h = elim (answered (row_of n fields)) [
   | inr e ↦ absurd (cc (rw e.1 at h))
 ]
 
-taken : (done : List Row) (n : ℕ) (fields : List (List ℕ)) (row : Row) → Writes n fields row → AreRows (done ++ row ∷ []) → with_record n (gathered done) fields ≡ Ok (gathered (done ++ row ∷ []))
+taken : (done : List Row) (n : ℕ) (fields : List (List ℕ)) (row : Row) → Writes n fields row → AreRows (done ++ row ∷ [])
+    → with_record n (gathered done) fields ≡ Ok (gathered (done ++ row ∷ []))
 taken done n fields row writes are = elim (there_or_not (fault_in (gathered done) n row)) [
   | inl fine ↦ with_record-more n (gathered done) fields row writes fine ∙ ap (λ t. Ok t) (sym (gathered-append done row))
   | inr e ↦ absurd (faulty_are_not done n row e.0 (fault_of_row done n row e.0 (front-rows done row are) e.1) are)
 ]
 
-faulty : (done : List Row) (n : ℕ) (fields : List (List ℕ)) (e : TableError) → AreRows done → with_record n (gathered done) fields ≡ Err e → IsFaultAfter done n fields e
+faulty : (done : List Row) (n : ℕ) (fields : List (List ℕ)) (e : TableError) → AreRows done → with_record n (gathered done) fields ≡ Err e
+    → IsFaultAfter done n fields e
 unfolding with_record
 faulty done n fields e are h = elim (answered (row_of n fields)) [
   | inl a ↦ elim (there_or_not (fault_in (gathered done) n a.0)) [
@@ -315,7 +334,8 @@ faulty done n fields e are h = elim (answered (row_of n fields)) [
   | inr f ↦ let same : f.0 ≡ e = cc (rw f.1 at h) in inl (subst (λ x. row_of n fields ≡ Err x) same f.1)
 ]
 
-refused : (done : List Row) (n : ℕ) (fields : List (List ℕ)) (e : TableError) → AreRows done → IsFaultAfter done n fields e → with_record n (gathered done) fields ≡ Err e
+refused : (done : List Row) (n : ℕ) (fields : List (List ℕ)) (e : TableError) → AreRows done → IsFaultAfter done n fields e
+    → with_record n (gathered done) fields ≡ Err e
 refused done n fields e are fault = elim fault [
   | inl unread ↦ with_record-unread n (gathered done) fields e unread
   | inr row ↦ elim (there_or_not (fault_in (gathered done) n row.0)) [
@@ -354,14 +374,16 @@ is_fault_of [] fault h = inl (nothing_begins, cc h)
 is_fault_of (header ∷ records) fault h = elim (cases_Bool (is_signature_header header)) [
   | inl t ↦
       let s = stops with_record gathered AreRows Writes IsFaultAfter turns records [] 1 fault no_rows (rw t at h) in
-      inr (record { header = header; earlier = s.earlier; fields = s.fields; later = s.later; cut = ap (λ l. header ∷ l) s.cut; is_header = t; rows = s.rows; write = s.write; are = s.are; has = s.has })
+      inr (record { header = header; earlier = s.earlier; fields = s.fields; later = s.later; cut = ap (λ l. header ∷ l) s.cut; is_header = t; rows =
+          s.rows; write = s.write; are = s.are; has = s.has })
   | inr f ↦ inl (other_begins header records f, cc (rw f at h))
 ]
 
 -- and the other way
 pub table_is_given : (file : List (List (List ℕ))) (table : TableView) → IsTableOf file table → signatures_of file ≡ Ok table
 unfolding signatures_of
-table_is_given file table is = rw (is.cut, is.is_header, is.gathers) (continued with_record gathered AreRows Writes IsFaultAfter turns is.records [] is.rows 1 is.write is.are)
+table_is_given file table is = rw (is.cut, is.is_header, is.gathers)
+    (continued with_record gathered AreRows Writes IsFaultAfter turns is.records [] is.rows 1 is.write is.are)
 
 no_header_is_told : (file : List (List (List ℕ))) → (BeginsWithHeader file → ⊥) → signatures_of file ≡ Err (error.Header Signatures)
 unfolding signatures_of
@@ -373,7 +395,8 @@ no_header_is_told (header ∷ records) none = elim (cases_Bool (is_signature_hea
 
 first_fault_given : (file : List (List (List ℕ))) (fault : TableError) → HasFirstFault file fault → signatures_of file ≡ Err fault
 unfolding signatures_of
-first_fault_given file fault is = rw (is.cut, is.is_header) (stopped with_record gathered AreRows Writes IsFaultAfter turns is.earlier [] is.rows 1 is.fields is.later fault is.write is.are is.has)
+first_fault_given file fault is = rw (is.cut, is.is_header) (stopped with_record gathered AreRows Writes IsFaultAfter turns is.earlier [] is.rows 1 is.fields
+    is.later fault is.write is.are is.has)
 
 pub fault_is_given : (file : List (List (List ℕ))) (fault : TableError) → IsFaultOf file fault → signatures_of file ≡ Err fault
 fault_is_given file fault is = elim is [

@@ -1,5 +1,6 @@
 -- The table of the records of a table is that table.
-use Rattle.std.proofs.Common.{◌≡◌, ℕ, ◌+◌, ◌<◌, ◌≤◌, Bool, true, false, nat_eq, nat_le, nat_lt, List, [], ◌∷◌, ◌++◌, length, map, take, sym, ap, subst, append_assoc, eq-eqb, ◌∙◌, refl, arith, rules, tests, length-append, inl, inr, Some, None, Ok, Result, Err}
+use Rattle.std.proofs.Common.{◌≡◌, ℕ, ◌+◌, ◌<◌, ◌≤◌, Bool, true, false, nat_eq, nat_le, nat_lt, List, [], ◌∷◌, ◌++◌, length, map, take, sym, ap, subst,
+    append_assoc, eq-eqb, ◌∙◌, refl, arith, rules, tests, length-append, inl, inr, Some, None, Ok, Result, Err}
 use Rattle.std.specs.Prelude.{find, All, Contains}
 use Rattle.std.specs.List.{flat_map, list_any}
 use Rattle.std.proofs.lemmas.Bool.{cases_Bool, eqb-true}
@@ -58,7 +59,8 @@ found_none number (x ∷ done) new = elim (cases_Bool (nat_eq number x.number)) 
 
 module _ (format number : ℕ) (sequences : List SequenceView) where
   -- the last signature is found by its number
-  found_last : (done : List SignatureView) → list_any (is_of number) done ≡ false → find (is_of number) (done ++ signature format number sequences ∷ []) ≡ Some (signature format number sequences)
+  found_last : (done : List SignatureView) → list_any (is_of number) done ≡ false
+      → find (is_of number) (done ++ signature format number sequences ∷ []) ≡ Some (signature format number sequences)
   found_last [] new = rw (eq-eqb number number refl) refl
   found_last (x ∷ done) new = elim (cases_Bool (nat_eq number x.number)) [
     | inl t ↦ absurd (cc (rw t at new))
@@ -85,18 +87,22 @@ not_below : (a b : ℕ) → b ≤ a → nat_lt a b ≡ false
 not_below a b h = search (rules, tests)
 
 -- one row
-step : (n : ℕ) (t t' told : TableView) (fields : List (List ℕ)) (later : List (List (List ℕ))) (row : Row) → row_of n fields ≡ Ok row → fault_in t n row ≡ None → with_row t row ≡ t'
+step : (n : ℕ) (t t' told : TableView) (fields : List (List ℕ)) (later : List (List (List ℕ))) (row : Row) → row_of n fields ≡ Ok row → fault_in t n row ≡ None
+    → with_row t row ≡ t'
     → table_from (n + 1) t' later ≡ Ok told → table_from n t (fields ∷ later) ≡ Ok told
 unfolding judged with_record
 step n t t' told fields later row is fine more rest = rw (is, fine, more) rest
 
-module _ (formats : List Puid) (k k' format number : ℕ) (puid : Puid) (done : List SignatureView) (turn' : Turn formats k k' format puid) (new : list_any (is_of number) done ≡ false) where
+module _ (formats : List Puid) (k k' format number : ℕ) (puid : Puid) (done : List SignatureView) (turn' : Turn formats k k' format puid)
+    (new : list_any (is_of number) done ≡ false) where
   -- the first row of a signature has no fault
-  first_fine : (n : ℕ) (sequence : SequenceView) → length done < 4000 → slot_count sequence ≤ 65535 → fault_in (table_with (take k formats) done) n (row_for puid number sequence) ≡ None
+  first_fine : (n : ℕ) (sequence : SequenceView) → length done < 4000 → slot_count sequence ≤ 65535
+      → fault_in (table_with (take k formats) done) n (row_for puid number sequence) ≡ None
   unfolding fault_in
   first_fine n sequence few slots = rw (found_none number done new, not_below 65535 (slot_count sequence) slots, turn'.room, above 4000 (length done) few) refl
 
-  first_row : (sequence : SequenceView) → with_row (table_with (take k formats) done) (row_for puid number sequence) ≡ table_with (take k' formats) (done ++ signature format number (sequence ∷ []) ∷ [])
+  first_row : (sequence : SequenceView) → with_row (table_with (take k formats) done) (row_for puid number sequence) ≡ table_with (take k' formats)
+      (done ++ signature format number (sequence ∷ []) ∷ [])
   unfolding with_row
   first_row sequence = rw (turn'.taken, turn'.place, new, grown_last format number [] sequence done new) refl
 
@@ -105,10 +111,12 @@ module _ (formats : List Puid) (k k' format number : ℕ) (puid : Puid) (done : 
       → fault_in (table_with (take k' formats) (done ++ signature format number sequences ∷ [])) n (row_for puid number sequence) ≡ None
   unfolding fault_in
   later_fine n sequences sequence few slots =
-      rw (found_last format number sequences done new, turn'.stays, eq-eqb format format refl, above 8 (length sequences) few, not_below 65535 (slot_count sequence) slots) refl
+      rw (found_last format number sequences done new, turn'.stays, eq-eqb format format refl, above 8 (length sequences) few,
+          not_below 65535 (slot_count sequence) slots) refl
 
   later_row : (sequences : List SequenceView) (sequence : SequenceView)
-      → with_row (table_with (take k' formats) (done ++ signature format number sequences ∷ [])) (row_for puid number sequence) ≡ table_with (take k' formats) (done ++ signature format number (sequences ++ sequence ∷ []) ∷ [])
+      → with_row (table_with (take k' formats) (done ++ signature format number sequences ∷ [])) (row_for puid number sequence) ≡ table_with (take k' formats)
+          (done ++ signature format number (sequences ++ sequence ∷ []) ∷ [])
   unfolding with_row
   later_row sequences sequence = rw (turn'.kept, any_last format number sequences done, grown_last format number sequences sequence done new) refl
 
@@ -116,13 +124,15 @@ module _ (formats : List Puid) (k k' format number : ℕ) (puid : Puid) (done : 
   later_rows : (later : List SequenceView) (sequences : List SequenceView) (n : ℕ) (rest : List (List (List ℕ))) (told : TableView)
       → IsNumber puid.number → IsNumber number → All IsSequence later → length sequences + length later ≤ 8
       → ((m : ℕ) → table_from m (table_with (take k' formats) (done ++ signature format number (sequences ++ later) ∷ [])) rest ≡ Ok told)
-      → table_from n (table_with (take k' formats) (done ++ signature format number sequences ∷ [])) (map (sequence_record (puid_text puid) number) later ++ rest) ≡ Ok told
+      → table_from n (table_with (take k' formats) (done ++ signature format number sequences ∷ []))
+          (map (sequence_record (puid_text puid) number) later ++ rest) ≡ Ok told
   later_rows [] sequences n rest told is_puid is_number all few more = rw (append-nil sequences) at (more n)
   later_rows (s ∷ later) sequences n rest told is_puid is_number all few more =
       let is : IsSequence s = All-head IsSequence s later all in
       step n _ _ told (sequence_record (puid_text puid) number s) (map (sequence_record (puid_text puid) number) later ++ rest) (row_for puid number s)
       (row_of-sequence_record n puid number s is_puid is_number is) (later_fine n sequences s (omega arith) is.slots) (later_row sequences s)
-      (later_rows later (sequences ++ s ∷ []) (n + 1) rest told is_puid is_number (All-tail IsSequence s later all) (omega (arith, length-append {A = SequenceView}))
+      (later_rows later (sequences ++ s ∷ []) (n + 1) rest told is_puid is_number (All-tail IsSequence s later all)
+          (omega (arith, length-append {A = SequenceView}))
       (λ m. rw (append_assoc sequences (s ∷ []) later) (more m)))
 
   -- all rows of a signature
@@ -137,9 +147,11 @@ module _ (formats : List Puid) (k k' format number : ℕ) (puid : Puid) (done : 
       (row_of-sequence_record n puid number s is_puid is_number is) (first_fine n s room is.slots) (first_row s)
       (later_rows later (s ∷ []) (n + 1) rest told is_puid is_number (All-tail IsSequence s later all) (omega arith) more)
 
-module _ (formats : List Puid) (all : List SignatureView) (few_formats : length formats ≤ 1000) (few : length all ≤ 4000) (puids : All (λ p. IsNumber p.number) formats) (different : AllDifferent formats) (numbers : AllDifferent (map (λ s. s.number) all)) where
+module _ (formats : List Puid) (all : List SignatureView) (few_formats : length formats ≤ 1000) (few : length all ≤ 4000)
+    (puids : All (λ p. IsNumber p.number) formats) (different : AllDifferent formats) (numbers : AllDifferent (map (λ s. s.number) all)) where
   -- the signatures behind the first ones
-  signatures : (later done : List SignatureView) (k : ℕ) (met : List ℕ) (n : ℕ) → done ++ later ≡ all → All (IsSignature (length formats)) later → Met (length formats) k met (map (λ s. s.format) later)
+  signatures : (later done : List SignatureView) (k : ℕ) (met : List ℕ) (n : ℕ) → done ++ later ≡ all → All (IsSignature (length formats)) later
+      → Met (length formats) k met (map (λ s. s.format) later)
       → table_from n (table_with (take k formats) done) (flat_map (records_of_signature formats) later) ≡ Ok (table_with formats all)
   unfolding judged with_record
   signatures [] done k met n whole each m =
@@ -149,14 +161,17 @@ module _ (formats : List Puid) (all : List SignatureView) (few_formats : length 
   signatures (s ∷ later) done k met n whole each m =
       let is : IsSignature (length formats) s = All-head (IsSignature (length formats)) s later each in
       let found = slice_get-within formats s.format is.known in
-      let is_puid : IsNumber found.0.number = All-contains (λ p. IsNumber p.number) formats found.0 puids (Contains-slice_get formats s.format found.0 found.1) in
+      let is_puid : IsNumber found.0.number = All-contains (λ p. IsNumber p.number) formats found.0 puids (Contains-slice_get formats s.format found.0 found.1)
+          in
       let next = turn formats k s.format found.0 met (map (λ x. x.format) later) different few_formats found.1 is.known m in
       let new : list_any (is_of s.number) done ≡ false = is_new done later s (subst (λ l. AllDifferent (map (λ x. x.number) l)) (sym whole) numbers) in
       let size : length (done ++ s ∷ later) ≤ 4000 = rw whole few in
       let name : name_of formats s.format ≡ puid_text found.0 = ap named found.1 in
-      rw name (rows formats k next.0 s.format s.number found.0 done next.1 new s.sequences n (flat_map (records_of_signature formats) later) (table_with formats all)
+      rw name (rows formats k next.0 s.format s.number found.0 done next.1 new s.sequences n (flat_map (records_of_signature formats) later)
+          (table_with formats all)
       is_puid is.number is.sequences is.some is.few (omega (arith, length-append {A = SignatureView}))
-      (λ o. signatures later (done ++ s ∷ []) next.0 (met ++ s.format ∷ []) o (append_assoc done (s ∷ []) later ∙ whole) (All-tail (IsSignature (length formats)) s later each) next.2))
+      (λ o. signatures later (done ++ s ∷ []) next.0 (met ++ s.format ∷ []) o (append_assoc done (s ∷ []) later ∙ whole)
+          (All-tail (IsSignature (length formats)) s later each) next.2))
 
 is_header : is_signature_header signature_header ≡ true
 unfolding field_at
@@ -179,14 +194,17 @@ signatures_again t is has_all =
 -- and both files as the table
 pub table_again : (t : TableView) → IsTable t → HasAllSignatures t → table_of (records_of (signature_csv t)) (records_of (priority_csv t)) ≡ Ok t
 unfolding table_of
-table_again t is has_all = rw (signatures_again t is has_all, records_of-priority_csv t, pairs_again t.formats is.puids is.different_puids t.priorities is.priorities) refl
+table_again t is has_all = rw (signatures_again t is has_all, records_of-priority_csv t,
+    pairs_again t.formats is.puids is.different_puids t.priorities is.priorities) refl
 
 -- what is read of both files has the formats and the signatures of the first
-same_pairs : (s t : TableView) (read : Result (List (ℕ × ℕ)) TableError) → (read >>= (λ pairs. Ok (record s { priorities = pairs }))) ≡ Ok t → (s.formats ≡ t.formats) × (s.signatures ≡ t.signatures)
+same_pairs : (s t : TableView) (read : Result (List (ℕ × ℕ)) TableError) → (read >>= (λ pairs. Ok (record s { priorities = pairs }))) ≡ Ok t
+    → (s.formats ≡ t.formats) × (s.signatures ≡ t.signatures)
 same_pairs s t (Ok pairs) is = let e : Ok (record s { priorities = pairs }) ≡ Ok t = is in (cc, cc)
 same_pairs s t (Err error) is = absurd (let e : Err error ≡ Ok t = is in cc)
 
-same_signatures : (priorities : Records) (t : TableView) (read : Result TableView TableError) → (read >>= (λ table. pairs_of table.formats priorities >>= (λ pairs. Ok (record table { priorities = pairs })))) ≡ Ok t
+same_signatures : (priorities : Records) (t : TableView) (read : Result TableView TableError)
+    → (read >>= (λ table. pairs_of table.formats priorities >>= (λ pairs. Ok (record table { priorities = pairs })))) ≡ Ok t
     → (s : TableView) × (read ≡ Ok s) × (s.formats ≡ t.formats) × (s.signatures ≡ t.signatures)
 same_signatures priorities t (Ok s) is = let same = same_pairs s t (pairs_of s.formats priorities) is in (s, refl, same.0, same.1)
 same_signatures priorities t (Err error) is = absurd (let e : Err error ≡ Ok t = is in cc)

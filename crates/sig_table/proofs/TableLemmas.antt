@@ -1,5 +1,6 @@
 -- What holds of a table holds of it with a row more.
-use Rattle.std.proofs.Common.{◌≡◌, ◌⊎◌, ℕ, ◌<◌, ◌≤◌, Bool, true, false, nat_eq, List, [], ◌∷◌, ◌++◌, append_assoc, length, map, sym, ap, ◌∙◌, refl, arith, length-append, inl, inr, Some}
+use Rattle.std.proofs.Common.{◌≡◌, ◌⊎◌, ℕ, ◌<◌, ◌≤◌, Bool, true, false, nat_eq, List, [], ◌∷◌, ◌++◌, append_assoc, length, map, sym, ap, ◌∙◌, refl, arith,
+    length-append, inl, inr, Some}
 use Rattle.std.specs.Prelude.{find, All, Contains}
 use Rattle.std.specs.List.{list_any}
 use Rattle.std.proofs.lemmas.Bool.{cases_Bool, false≢true}
@@ -38,7 +39,8 @@ FormatsRise-push met [] f rise next = (rw append-nil at next, tt)
 FormatsRise-push met (g ∷ fs) f rise next = (rise.0, FormatsRise-push (met ++ g ∷ []) fs f rise.1 (rw append_assoc next))
 
 -- a sequence more in the signature of the number
-pub All-grown : (P : SignatureView → Type 0) (n : ℕ) (sequence : SequenceView) (ss : List SignatureView) (s : SignatureView) → All P ss → find (λ s. nat_eq n s.number) ss ≡ Some s
+pub All-grown : (P : SignatureView → Type 0) (n : ℕ) (sequence : SequenceView) (ss : List SignatureView) (s : SignatureView) → All P ss
+    → find (λ s. nat_eq n s.number) ss ≡ Some s
     → P (record s { sequences = s.sequences ++ sequence ∷ [] }) → All P (grown n sequence ss)
 All-grown P n sequence [] s all found more = absurd (cc found)
 All-grown P n sequence (x ∷ xs) s all found more = elim (cases_Bool (nat_eq n x.number)) [
@@ -49,7 +51,8 @@ All-grown P n sequence (x ∷ xs) s all found more = elim (cases_Bool (nat_eq n 
 ]
 
 -- and where the number is new, in the last
-pub grown-new : (n : ℕ) (sequence : SequenceView) (ss : List SignatureView) (new : SignatureView) → list_any (λ s. nat_eq n s.number) ss ≡ false → nat_eq n new.number ≡ true
+pub grown-new : (n : ℕ) (sequence : SequenceView) (ss : List SignatureView) (new : SignatureView) → list_any (λ s. nat_eq n s.number) ss ≡ false
+    → nat_eq n new.number ≡ true
     → grown n sequence (ss ++ new ∷ []) ≡ ss ++ record new { sequences = new.sequences ++ sequence ∷ [] } ∷ []
 grown-new n sequence [] new none is = rw is refl
 grown-new n sequence (x ∷ xs) new none is = elim (cases_Bool (nat_eq n x.number)) [
@@ -66,7 +69,8 @@ formats-grown n sequence (x ∷ xs) = elim (cases_Bool (nat_eq n x.number)) [
 ]
 
 -- a signature with a sequence more
-pub IsSignature-more : (k : ℕ) (s : SignatureView) (sequence : SequenceView) → IsSignature k s → length s.sequences < 8 → IsSequence sequence → IsSignature k (record s { sequences = s.sequences ++ sequence ∷ [] })
+pub IsSignature-more : (k : ℕ) (s : SignatureView) (sequence : SequenceView) → IsSignature k s → length s.sequences < 8 → IsSequence sequence
+    → IsSignature k (record s { sequences = s.sequences ++ sequence ∷ [] })
 IsSignature-more k s sequence h few judged = record {
   known = h.known;
   number = h.number;
@@ -76,7 +80,8 @@ IsSignature-more k s sequence h few judged = record {
 }
 
 -- and with its first
-pub IsSignature-first : (k f n : ℕ) (sequence : SequenceView) → f < k → IsNumber n → IsSequence sequence → IsSignature k (record { format = f; number = n; sequences = sequence ∷ [] })
+pub IsSignature-first : (k f n : ℕ) (sequence : SequenceView) → f < k → IsNumber n → IsSequence sequence
+    → IsSignature k (record { format = f; number = n; sequences = sequence ∷ [] })
 IsSignature-first k f n sequence known number judged = record {
   known = known;
   number = number;

@@ -3,7 +3,8 @@ use Rattle.sig_auto.proofs.BehindLemmas.{a_cell, between_ends, guessed}
 use Rattle.sig_auto.proofs.behind.find.Goals as goal
 
 pub returns : goal.returns
-returns c = between_ends c.args.cells.now c.args.p c.loop-high.low c.loop-high.high c.requires.ready.lined c.requires.within c.loop-high.invariant (omega arith) a_cell
+returns c = between_ends c.args.cells.now c.args.p c.loop-high.low c.loop-high.high c.requires.ready.lined c.requires.within c.loop-high.invariant (omega arith)
+    a_cell
 
 pub returns-then-cells-guess : goal.returns-then-cells-guess
 returns-then-cells-guess c =

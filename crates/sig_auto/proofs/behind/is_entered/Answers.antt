@@ -9,4 +9,5 @@ pub loop-at-smaller : goal.loop-at-smaller
 loop-at-smaller c = less_left c.args.cells.now c.args.joints.now c.loop-at.at _ c.requires.joints (omega arith) c.index.ensures
 
 pub loop-at-preserved : goal.loop-at-preserved
-loop-at-preserved c = c.loop-at.invariant ∙ passed c.args.cells.now c.args.joints.now c.loop-at.at c.args.q _ _ c.requires.joints (omega arith) c.index.ensures c.if-cells-at.false
+loop-at-preserved c = c.loop-at.invariant ∙ passed c.args.cells.now c.args.joints.now c.loop-at.at c.args.q _ _ c.requires.joints (omega arith) c.index.ensures
+    c.if-cells-at.false

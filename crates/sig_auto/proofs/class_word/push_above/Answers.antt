@@ -11,7 +11,8 @@ loop-j-preserved-then-bytes-j c =
     record {
       within = omega (arith, within);
       agreed = omega (arith, more);
-      pushed = c.loop-j.invariant.pushed ∙ ap (λ r. map (λ v. v.items) c.args.rows.now.items ++ r) (above_passed c.args.bytes.now (c.loop-j.j - 1) c.loop-j.j down within most);
+      pushed = c.loop-j.invariant.pushed ∙ ap (λ r. map (λ v. v.items) c.args.rows.now.items ++ r)
+          (above_passed c.args.bytes.now (c.loop-j.j - 1) c.loop-j.j down within most);
     }
 
 pub loop-j-preserved : goal.loop-j-preserved

@@ -4,4 +4,5 @@ use Rattle.sig_bits.proofs.LaneLemmas.{HasLanes-zip2, joined_lanes}
 use Rattle.sig_bits.proofs.bit_sets.common_lanes.Goals as goal
 
 pub returns : goal.returns
-returns c = joined_lanes _ (common_at c.args.a.now c.args.b.now) c.args.from c.nonzero.result (HasLanes-zip2 bit_and _ _ _ _ c.load.ensures c.load-2.ensures) c.nonzero.ensures.joined
+returns c = joined_lanes _ (common_at c.args.a.now c.args.b.now) c.args.from c.nonzero.result (HasLanes-zip2 bit_and _ _ _ _ c.load.ensures c.load-2.ensures)
+    c.nonzero.ensures.joined

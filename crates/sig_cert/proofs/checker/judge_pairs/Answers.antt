@@ -20,7 +20,8 @@ loop-j-init c =
     let n = c.format_count-formats.result in
     let is = pairs_left-cons n c.loop-i.i c.loop-i-test.true in
     record {
-      judged = subst (λ pairs. Chained (PairsJudged c.args.version c.args.table.now c.loop-i.pair pairs) c.loop-i.view (PairsJudged c.args.version c.args.table.now 0 (format_pairs n)) c.args.view.now) is c.loop-i.invariant.judged;
+      judged = subst (λ pairs. Chained (PairsJudged c.args.version c.args.table.now c.loop-i.pair pairs) c.loop-i.view
+          (PairsJudged c.args.version c.args.table.now 0 (format_pairs n)) c.args.view.now) is c.loop-i.invariant.judged;
       few = subst (λ (pairs : List (ℕ × ℕ)). c.loop-i.pair + length pairs ≤ 1000000) is c.loop-i.invariant.few;
       order = omega arith;
     }
@@ -31,7 +32,8 @@ loop-i-preserved c =
     let left = flat_map (pairs_with n) (range_with_len (c.loop-i.i + 1) (n - (c.loop-i.i + 1))) in
     let is = pairs_with-none n c.loop-i.i c.loop-j.j left c.loop-j-test.false in
     record {
-      judged = subst (λ pairs. Chained (PairsJudged c.args.version c.args.table.now c.loop-j.pair pairs) c.loop-j.view (PairsJudged c.args.version c.args.table.now 0 (format_pairs n)) c.args.view.now) is c.loop-j.invariant.judged;
+      judged = subst (λ pairs. Chained (PairsJudged c.args.version c.args.table.now c.loop-j.pair pairs) c.loop-j.view
+          (PairsJudged c.args.version c.args.table.now 0 (format_pairs n)) c.args.view.now) is c.loop-j.invariant.judged;
       few = subst (λ (pairs : List (ℕ × ℕ)). c.loop-j.pair + length pairs ≤ 1000000) is c.loop-j.invariant.few;
     }
 
@@ -43,7 +45,8 @@ loop-j-preserved c =
     let rest = map (λ j. (c.loop-i.i, j)) (range_with_len (c.loop-j.j + 1) (n - (c.loop-j.j + 1))) ++ left in
     let is = pairs_with-cons n c.loop-i.i c.loop-j.j left c.loop-j-test.true in
     record {
-      judged = pairs_go_on c.args.version c.args.table.now c.loop-j.pair (c.loop-i.i, c.loop-j.j) all rest c.loop-j.view c.judge_pair.new.view c.args.view.now (PairsJudged c.args.version c.args.table.now 0 (format_pairs n)) is c.in_ok-judge_pair.ensures.judged c.loop-j.invariant.judged;
+      judged = pairs_go_on c.args.version c.args.table.now c.loop-j.pair (c.loop-i.i, c.loop-j.j) all rest c.loop-j.view c.judge_pair.new.view c.args.view.now
+          (PairsJudged c.args.version c.args.table.now 0 (format_pairs n)) is c.in_ok-judge_pair.ensures.judged c.loop-j.invariant.judged;
       few = (let long : length all ≡ length rest + 1 = ap length is ∙ omega arith in let few = c.loop-j.invariant.few in omega (arith, long, few));
       order = (let order = c.loop-j.invariant.order in omega (arith, order));
     }
@@ -56,7 +59,9 @@ returns-in_err-judge_pair-clause-judged c =
     let rest = map (λ j. (c.loop-i.i, j)) (range_with_len (c.loop-j.j + 1) (n - (c.loop-j.j + 1))) ++ left in
     let is = pairs_with-cons n c.loop-i.i c.loop-j.j left c.loop-j-test.true in
     let p = err_from_is_err_and c.from_residual.result c.from_residual.ensures.1 in
-    rw (p.1, p.2, sym c.format_count-formats.ensures.count) (pairs_stop c.args.version c.args.table.now c.loop-j.pair (c.loop-i.i, c.loop-j.j) all rest c.loop-j.view c.args.view.now c.in_err-judge_pair.field-0.0 (PairsJudged c.args.version c.args.table.now 0 (format_pairs n)) is c.in_err-judge_pair.ensures.judged c.loop-j.invariant.judged)
+    rw (p.1, p.2, sym c.format_count-formats.ensures.count) (pairs_stop c.args.version c.args.table.now c.loop-j.pair (c.loop-i.i, c.loop-j.j) all rest
+        c.loop-j.view c.args.view.now c.in_err-judge_pair.field-0.0 (PairsJudged c.args.version c.args.table.now 0 (format_pairs n)) is
+        c.in_err-judge_pair.ensures.judged c.loop-j.invariant.judged)
 
 pub returns-in_err-judge_pair-clause-memory : goal.returns-in_err-judge_pair-clause-memory
 returns-in_err-judge_pair-clause-memory c short =

@@ -13,7 +13,8 @@ returns-in_err-get_one-clause-none c = λ is options named.
 
 pub returns-clause-named : goal.returns-clause-named
 returns-clause-named c = record {
-  budget = budget_is_read _ (λ bs r. ParsesUnsigned 32 10 bs r × ExplainsUnsignedError 10 bs r × HasUnsignedDigitsIfOk bs r) (rows_of (found_of c.args.matches.now)) _ _ _
+  budget = budget_is_read _ (λ bs r. ParsesUnsigned 32 10 bs r × ExplainsUnsignedError 10 bs r × HasUnsignedDigitsIfOk bs r)
+      (rows_of (found_of c.args.matches.now)) _ _ _
       (one_of-rows (found_of c.args.matches.now) (codes "N")) c.get_one.ensures.none c.get_one.ensures.value (λ t x g. g.0) c.in_ok-get_one.was;
   only = first_of-rows (found_of c.args.matches.now) (codes "PUID") ∙ sym c.get_str.ensures;
   class = flag_is_read (found_of c.args.matches.now) (codes "class") _ c.get_flag.ensures.value c.get_flag.ensures.other c.get_flag.ensures.none;

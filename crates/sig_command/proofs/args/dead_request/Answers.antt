@@ -12,7 +12,8 @@ returns-clause-asked c = (
   rows_of (found_of c.args.matches.now),
   refl,
   c.in_ok-table_paths.ensures.named,
-  budget_is_read _ (λ bs r. ParsesUnsigned 32 10 bs r × ExplainsUnsignedError 10 bs r × HasUnsignedDigitsIfOk bs r) (rows_of (found_of c.args.matches.now)) _ _ _
+  budget_is_read _ (λ bs r. ParsesUnsigned 32 10 bs r × ExplainsUnsignedError 10 bs r × HasUnsignedDigitsIfOk bs r) (rows_of (found_of c.args.matches.now)) _ _
+      _
       (one_of-rows (found_of c.args.matches.now) (codes "N")) c.get_one.ensures.none c.get_one.ensures.value (λ t x g. g.0) c.in_ok-get_one.was,
   flag_is_read (found_of c.args.matches.now) (codes "hex") _ c.get_flag.ensures.value c.get_flag.ensures.other c.get_flag.ensures.none,
   flag_is_read (found_of c.args.matches.now) (codes "progress") _ c.get_flag-2.ensures.value c.get_flag-2.ensures.other c.get_flag-2.ensures.none,

@@ -28,12 +28,16 @@ returns-in-len1-clause-asked c =
       c.requires.unlisted,
       c.match_options-options.ensures.all,
       subst (λ b. HasFlag (codes "with-names") b (rows_of (found_of c.args.matches.now))) c.if-not-with_names.true
-          (flag_is_read (found_of c.args.matches.now) (codes "with-names") _ c.get_flag-with_names.ensures.value c.get_flag-with_names.ensures.other c.get_flag-with_names.ensures.none),
+          (flag_is_read (found_of c.args.matches.now) (codes "with-names") _ c.get_flag-with_names.ensures.value c.get_flag-with_names.ensures.other
+              c.get_flag-with_names.ensures.none),
       subst (λ b. HasFlag (codes "csv") b (rows_of (found_of c.args.matches.now))) (neither_first options.csv _ plain) c.match_options-options.ensures.csv,
       c.match_options-options.ensures.names ∙ none_given options.names (neither_first (is_some options.names) _ formless),
-      subst (λ b. HasFlag (codes "recursive") b (rows_of (found_of c.args.matches.now))) (neither_first options.recursive _ flat) c.match_options-options.ensures.recursive,
-      subst (λ b. HasFlag (codes "progress") b (rows_of (found_of c.args.matches.now))) (neither_first options.progress _ silent) c.match_options-options.ensures.progress,
-      subst (λ b. HasFlag (codes "summary") b (rows_of (found_of c.args.matches.now))) (neither_second options.progress options.summary silent) c.match_options-options.ensures.summary,
+      subst (λ b. HasFlag (codes "recursive") b (rows_of (found_of c.args.matches.now))) (neither_first options.recursive _ flat)
+          c.match_options-options.ensures.recursive,
+      subst (λ b. HasFlag (codes "progress") b (rows_of (found_of c.args.matches.now))) (neither_first options.progress _ silent)
+          c.match_options-options.ensures.progress,
+      subst (λ b. HasFlag (codes "summary") b (rows_of (found_of c.args.matches.now))) (neither_second options.progress options.summary silent)
+          c.match_options-options.ensures.summary,
     )
 
 pub returns-in_default-clause-asked : goal.returns-in_default-clause-asked
@@ -48,7 +52,8 @@ returns-in_default-clause-asked c =
         c.in_ok-files.files,
         refl,
         many_named (found_of c.args.matches.now) c.in_ok-files.files.now options _ some several
-            (flag_is_read (found_of c.args.matches.now) (codes "with-names") _ c.get_flag-with_names.ensures.value c.get_flag-with_names.ensures.other c.get_flag-with_names.ensures.none)
+            (flag_is_read (found_of c.args.matches.now) (codes "with-names") _ c.get_flag-with_names.ensures.value c.get_flag-with_names.ensures.other
+                c.get_flag-with_names.ensures.none)
             c.in_ok-files.ensures c.requires.unlisted,
       ),
       c.match_options-options.ensures,

@@ -38,5 +38,7 @@ returns-clause-local c =
     let nul_local : c.help-4.result.global ≡ false = rw c.help-4.ensures c.null.ensures.local in
     let progress_local : c.help-5.result.global ≡ false = rw c.help-5.ensures c.flag-2.ensures.local in
     let summary_local : c.help-6.result.global ≡ false = rw c.help-6.ensures c.flag-3.ensures.local in
-    c.in_ok-command.ensures.globals ∙ or_false _ _ summary_local ∙ c.in_ok-arg-5.ensures.globals ∙ or_false _ _ progress_local ∙ c.in_ok-arg-4.ensures.globals ∙ or_false _ _ nul_local
-    ∙ c.in_ok-arg-3.ensures.globals ∙ or_false _ _ list_local ∙ c.in_ok-arg-2.ensures.globals ∙ or_false _ _ recursive_local ∙ c.in_ok-arg.ensures.globals ∙ or_false _ _ names_local
+    c.in_ok-command.ensures.globals ∙ or_false _ _ summary_local ∙ c.in_ok-arg-5.ensures.globals ∙ or_false _ _ progress_local ∙ c.in_ok-arg-4.ensures.globals
+        ∙ or_false _ _ nul_local
+    ∙ c.in_ok-arg-3.ensures.globals ∙ or_false _ _ list_local ∙ c.in_ok-arg-2.ensures.globals ∙ or_false _ _ recursive_local ∙ c.in_ok-arg.ensures.globals
+        ∙ or_false _ _ names_local

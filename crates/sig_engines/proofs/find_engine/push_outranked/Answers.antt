@@ -7,4 +7,5 @@ use Rattle.sig_engines.proofs.find_engine.push_outranked.Goals as goal
 pub returns : goal.returns
 returns c =
     c.in_ok-push_two.ensures
-    ∙ pieces (string_bytes c.args.line.now) (codes "over 64 signatures outrank ") (signature_text c.args.table.now c.args.s.0) (codes " or ") (signature_text c.args.table.now c.args.t.0) (codes ": see conflicts") (10 ∷ [])
+    ∙ pieces (string_bytes c.args.line.now) (codes "over 64 signatures outrank ") (signature_text c.args.table.now c.args.s.0) (codes " or ")
+        (signature_text c.args.table.now c.args.t.0) (codes ": see conflicts") (10 ∷ [])

@@ -7,7 +7,8 @@ use Rattle.sig_engines.proofs.folder_engine.push_entries.Given as goal
 -- the last entries wait, the first of them last, and there is room for the others
 abbrev pub invariant-entries : goal.invariant-entries
 invariant-entries l = record {
-  moved : (moved : List Entry) × (l.fn.entries.items ≡ l.entries.items ++ moved) × (l.waiting.items ≡ l.fn.waiting.items ++ reverse (map (waiting_in l.room) moved));
+  moved : (moved : List Entry) × (l.fn.entries.items ≡ l.entries.items ++ moved)
+      × (l.waiting.items ≡ l.fn.waiting.items ++ reverse (map (waiting_in l.room) moved));
   room : l.waiting.len + l.entries.len ≤ l.waiting.cap;
 }
 

@@ -27,7 +27,8 @@ none_read : (signatures : Records) (table : TableView) → table_of signatures (
 unfolding table_of
 none_read signatures table = go (signatures_of signatures)
   where
-    go : (read : Result TableView TableError) → (read >>= λ t. pairs_of t.formats (records_of no_priorities) >>= λ pairs. Ok (record t { priorities = pairs })) ≡ Ok table → table.priorities ≡ []
+    go : (read : Result TableView TableError) → (read >>= λ t. pairs_of t.formats (records_of no_priorities) >>= λ pairs. Ok (record t { priorities = pairs }))
+        ≡ Ok table → table.priorities ≡ []
     go (Ok t) is = sym (ap pairs_in (rw (none_paired t.formats) at is))
     go (Err error) is = cc
 
@@ -37,4 +38,5 @@ none_held files name bytes none holds = subst (λ n. HoldsPriorities (Some files
 pub returns : goal.returns
 returns c files paths table none is =
     let read = is.read in
-    none_read (records_of read.0) table (ap (λ p. table_of (records_of read.0) (records_of p)) (sym (none_held files paths.priorities read.1 none read.3)) ∙ read.4)
+    none_read (records_of read.0) table (ap (λ p. table_of (records_of read.0) (records_of p)) (sym (none_held files paths.priorities read.1 none read.3))
+        ∙ read.4)

@@ -20,18 +20,22 @@ returns-clause-settles g c =
             adds = c.in_ok-answer.ensures.answers;
             tells = λ whole. record {
               mid = mid;
-              shows = shown_adds c.args.progress Pairs (g.E.Output.failed c.search.new.err) g.E.Output.written c.args.err.now c.search.new.err c.in_ok-answer.ensures.shown (w.put.ensures.sound whole);
-              tells = subst (λ l. Adds mid l (g.E.Output.written w.put.new.err)) c.as_str-refused.ensures.value (printed w.put.result _ mid (g.E.Output.written w.put.new.err) _ w.put.ensures.prints whole);
+              shows = shown_adds c.args.progress Pairs (g.E.Output.failed c.search.new.err) g.E.Output.written c.args.err.now c.search.new.err
+                  c.in_ok-answer.ensures.shown (w.put.ensures.sound whole);
+              tells = subst (λ l. Adds mid l (g.E.Output.written w.put.new.err)) c.as_str-refused.ensures.value
+                  (printed w.put.result _ mid (g.E.Output.written w.put.new.err) _ w.put.ensures.prints whole);
             };
           })
       | else-not-is_empty w ↦
-          let empty : c.as_str-refused.result.now ≡ [] = nil_from_length c.as_str-refused.result.now (eqb-true (length c.as_str-refused.result.now) 0 (sym c.is_empty.ensures ∙ w.if-not-is_empty.false)) in
+          let empty : c.as_str-refused.result.now ≡ [] = nil_from_length c.as_str-refused.result.now
+              (eqb-true (length c.as_str-refused.result.now) 0 (sym c.is_empty.ensures ∙ w.if-not-is_empty.false)) in
           rw w.err-is (record {
             refused = refused;
             adds = c.in_ok-answer.ensures.answers;
             tells = λ whole. record {
               mid = mid;
-              shows = shown_adds c.args.progress Pairs (g.E.Output.failed c.search.new.err) g.E.Output.written c.args.err.now c.search.new.err c.in_ok-answer.ensures.shown whole;
+              shows = shown_adds c.args.progress Pairs (g.E.Output.failed c.search.new.err) g.E.Output.written c.args.err.now c.search.new.err
+                  c.in_ok-answer.ensures.shown whole;
               tells = subst (λ l. Adds mid l mid) (sym empty ∙ c.as_str-refused.ensures.value) (adds_nothing mid);
             };
           })

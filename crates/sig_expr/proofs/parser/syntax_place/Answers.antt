@@ -11,5 +11,7 @@ text-preserved-in-text c =
     let two : place + 2 ≤ length text = let two = rw (take_rest text place) at c.in-Some.ensures.within in omega (arith, length-drop place text) in
     record {
       within = two;
-      same = rw (c.next-state.ensures, ← drop-drop 2 place text) (sym (stop_behind_pair c.text.state (sym c.is_between.ensures ∙ c.if-is_between.true) place c.in-Some.byte (drop place text) pair) ∙ c.text.invariant.same);
+      same = rw (c.next-state.ensures, ← drop-drop 2 place text) (sym
+          (stop_behind_pair c.text.state (sym c.is_between.ensures ∙ c.if-is_between.true) place c.in-Some.byte (drop place text) pair)
+          ∙ c.text.invariant.same);
     }

@@ -14,5 +14,6 @@ loop-item-preserved c =
     let count = c.loop-item.invariant.count in
     record {
       count = omega arith;
-      front = subst (All IsOneByte) (sym next) (All-push IsOneByte (take i items) item c.loop-item.invariant.front (c.is_one_byte.ensures c.if-not-is_one_byte.false));
+      front = subst (All IsOneByte) (sym next) (All-push IsOneByte (take i items) item c.loop-item.invariant.front
+          (c.is_one_byte.ensures c.if-not-is_one_byte.false));
     }

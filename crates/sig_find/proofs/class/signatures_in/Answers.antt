@@ -19,4 +19,5 @@ loop-signature-preserved c =
     ∙ c.loop-signature.invariant
 
 pub returns : goal.returns
-returns c = sym (append-nil c.loop-signature.found.items) ∙ ap (λ l. c.loop-signature.found.items ++ l) (sym c.in-None.ensures.steps.0) ∙ c.loop-signature.invariant
+returns c = sym (append-nil c.loop-signature.found.items) ∙ ap (λ l. c.loop-signature.found.items ++ l) (sym c.in-None.ensures.steps.0)
+    ∙ c.loop-signature.invariant

@@ -23,6 +23,7 @@ returns c t =
       leaves = record {
         first = c.in_ok-hits.ensures.0 c.if-not-branch.false;
         second = c.in_ok-hits-2.ensures.0 c.if-not-branch-2.false;
-        unblocked = λ index blocks. All-contains (λ i. ¬ HitsOf table i file) (map (λ (b : SigId). b.0) c.in_ok-all.all.items) index none (c.in_ok-all.ensures.none_missing index blocks);
+        unblocked = λ index blocks. All-contains (λ i. ¬ HitsOf table i file) (map (λ (b : SigId). b.0) c.in_ok-all.all.items) index none
+            (c.in_ok-all.ensures.none_missing index blocks);
       };
     }

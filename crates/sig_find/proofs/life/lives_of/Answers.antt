@@ -13,9 +13,11 @@ pub loop-signature-init : goal.loop-signature-init
 loop-signature-init c =
     let table = c.args.table.now in
     let lives_of : SignatureLife → Type 0 = λ l. IsLifeOf table c.args.budget c.args.format.0 l.signature.0 l.life in
-    let all : remaining_of c.into_iter-signature-iterator.result ≡ places_of c.args.format.0 0 table.signatures = ap remaining_of c.into_iter-signature-iterator.ensures.into_iter_gives ∙ c.signatures_of-signature-items.ensures in
+    let all : remaining_of c.into_iter-signature-iterator.result ≡ places_of c.args.format.0 0 table.signatures =
+        ap remaining_of c.into_iter-signature-iterator.ensures.into_iter_gives ∙ c.signatures_of-signature-items.ensures in
     record {
-      all = ap (λ (lives : List SignatureLife). map (λ (l : SignatureLife). l.signature) lives ++ remaining_of c.into_iter-signature-iterator.result) c.new-lives.ensures.items ∙ all;
+      all = ap (λ (lives : List SignatureLife). map (λ (l : SignatureLife). l.signature) lives ++ remaining_of c.into_iter-signature-iterator.result)
+          c.new-lives.ensures.items ∙ all;
       each = subst (All lives_of) (sym c.new-lives.ensures.items) (All-nil lives_of);
       of = subst (All (λ s. IsOfFormat table c.args.format.0 s.0)) (sym all) (signatures_are_of table c.args.format.0);
     }
@@ -34,16 +36,19 @@ loop-signature-preserved c =
           ∙ ap (λ l. map (λ (l : SignatureLife). l.signature) lives ++ l) (sym c.in-Some.ensures.steps)
           ∙ c.loop-signature.invariant.all;
       each = subst (All lives_of) (sym c.in_ok-push.ensures.items) (All-push lives_of lives one c.loop-signature.invariant.each c.in_ok-life.ensures);
-      of = All-tail (λ s. IsOfFormat table c.args.format.0 s.0) c.in-Some.signature left (subst (All (λ s. IsOfFormat table c.args.format.0 s.0)) c.in-Some.ensures.steps c.loop-signature.invariant.of);
+      of = All-tail (λ s. IsOfFormat table c.args.format.0 s.0) c.in-Some.signature left
+          (subst (All (λ s. IsOfFormat table c.args.format.0 s.0)) c.in-Some.ensures.steps c.loop-signature.invariant.of);
     }
 
 pub decide_signature-requires : goal.decide_signature-requires
 decide_signature-requires c =
     let table = c.args.table.now in
-    All-head (λ s. IsOfFormat table c.args.format.0 s.0) c.in-Some.signature (remaining_of c.next.new.self) (subst (All (λ s. IsOfFormat table c.args.format.0 s.0)) c.in-Some.ensures.steps c.loop-signature.invariant.of)
+    All-head (λ s. IsOfFormat table c.args.format.0 s.0) c.in-Some.signature (remaining_of c.next.new.self)
+        (subst (All (λ s. IsOfFormat table c.args.format.0 s.0)) c.in-Some.ensures.steps c.loop-signature.invariant.of)
 
 pub returns : goal.returns
 returns c = record {
-  all = sym (append-nil (map (λ (l : SignatureLife). l.signature) c.loop-signature.lives.items)) ∙ ap (λ l. map (λ (l : SignatureLife). l.signature) c.loop-signature.lives.items ++ l) (sym c.in-None.ensures.steps.0) ∙ c.loop-signature.invariant.all;
+  all = sym (append-nil (map (λ (l : SignatureLife). l.signature) c.loop-signature.lives.items)) ∙ ap
+      (λ l. map (λ (l : SignatureLife). l.signature) c.loop-signature.lives.items ++ l) (sym c.in-None.ensures.steps.0) ∙ c.loop-signature.invariant.all;
   each = c.loop-signature.invariant.each;
 }

@@ -11,7 +11,8 @@ returns-then-not-found c =
     let judge = with_named_pair c.args.names.now in
     let none : c.in_ok-found.found ≡ false = search rules in
     let left : c.loop-row_number.records ≡ [] = rw none at c.in_ok-found.ensures in
-    faults-end tell judge _ at.all.items at.row_number at.ranking.pairs (at.invariant.goes ∙ ap (λ l. at.all.items ++ faults_from tell judge at.row_number at.ranking.pairs l) left)
+    faults-end tell judge _ at.all.items at.row_number at.ranking.pairs
+        (at.invariant.goes ∙ ap (λ l. at.all.items ++ faults_from tell judge at.row_number at.ranking.pairs l) left)
 
 pub loop-row_number-preserved : goal.loop-row_number-preserved
 loop-row_number-preserved c =
@@ -22,7 +23,8 @@ loop-row_number-preserved c =
     let more : c.in_ok-found.found ≡ true = search rules in
     let next : c.loop-row_number.records ≡ fields_of c.read_next.new.record ∷ c.read_next.new.records = rw more at c.in_ok-found.ensures in
     record {
-      goes = faults-more tell judge _ at.all.items at.row_number at.ranking.pairs taken.pairs c.in_ok-taken.fault _ _ (at.invariant.goes ∙ ap (λ l. at.all.items ++ faults_from tell judge at.row_number at.ranking.pairs l) next) c.in_ok-taken.ensures.pairs
+      goes = faults-more tell judge _ at.all.items at.row_number at.ranking.pairs taken.pairs c.in_ok-taken.fault _ _
+          (at.invariant.goes ∙ ap (λ l. at.all.items ++ faults_from tell judge at.row_number at.ranking.pairs l) next) c.in_ok-taken.ensures.pairs
           ∙ ap (λ l. l ++ faults_from tell judge (at.row_number + 1) taken.pairs c.read_next.new.records) (sym c.in_ok-all.ensures);
       count = c.in_ok-taken.ensures.formats ∙ at.invariant.count;
     }

@@ -6,6 +6,7 @@ use Rattle.sig_lint.proofs.priorities.lint_pairs.Given as goal
 -- the faults are those so far, and those of the records to come
 abbrev pub invariant-loop-row_number : goal.invariant-loop-row_number
 invariant-loop-row_number l = record {
-  goes : l.fn.faults.items ++ faults_from (pair_row_fault l.names) (with_named_pair l.names) 1 [] l.fn.records ≡ l.all.items ++ faults_from (pair_row_fault l.names) (with_named_pair l.names) l.row_number l.ranking.pairs l.records;
+  goes : l.fn.faults.items ++ faults_from (pair_row_fault l.names) (with_named_pair l.names) 1 [] l.fn.records ≡ l.all.items ++ faults_from
+      (pair_row_fault l.names) (with_named_pair l.names) l.row_number l.ranking.pairs l.records;
   count : l.ranking.format_count ≡ length (formats_among l.names);
 }

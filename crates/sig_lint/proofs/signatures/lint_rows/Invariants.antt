@@ -5,4 +5,5 @@ use Rattle.sig_lint.proofs.signatures.lint_rows.Given as goal
 
 -- the faults are those so far, and those of the records to come
 abbrev pub invariant-loop-row_number : goal.invariant-loop-row_number
-invariant-loop-row_number l = faults_from row_fault with_record 1 empty_table l.fn.records ≡ l.faults.items ++ faults_from row_fault with_record l.row_number l.draft l.records
+invariant-loop-row_number l = faults_from row_fault with_record 1 empty_table l.fn.records ≡ l.faults.items ++ faults_from row_fault with_record l.row_number
+    l.draft l.records

@@ -32,6 +32,7 @@ loop-entry-preserved c =
                 w.if-k-found.true (get_or_default states e.sequence zero v w.if-k-states.true) (sym w.if-states-k.true) (omega arith) (omega arith)
                 c.loop-entry.invariant.owned,
           )))
-      | else-is_wanted w ↦ subst (λ l. Now c.if-is_wanted.end l) (sym w.found-is) (subst (λ n. Now n c.loop-entry.found) (sym w.end-is) (c.loop-entry.invariant.within, c.loop-entry.invariant.owned))
+      | else-is_wanted w ↦ subst (λ l. Now c.if-is_wanted.end l) (sym w.found-is)
+          (subst (λ n. Now n c.loop-entry.found) (sym w.end-is) (c.loop-entry.invariant.within, c.loop-entry.invariant.owned))
     ] in
     record { within = now.0; owned = now.1 }

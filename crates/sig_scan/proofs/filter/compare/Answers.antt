@@ -16,6 +16,7 @@ pub returns-else-k-states-clause-passed : goal.returns-else-k-states-clause-pass
 returns-else-k-states-clause-passed c =
     let e = c.args.entry.now in
     elim c.else-k-states.branch [
-      | else-k-states-via-then-k-states+else-k-found w ↦ IsPassedAt-none e c.args.bytes.now c.args.states.now c.args.place c.args.found.now (inr w.if-k-found.false)
+      | else-k-states-via-then-k-states+else-k-found w ↦ IsPassedAt-none e c.args.bytes.now c.args.states.now c.args.place c.args.found.now
+          (inr w.if-k-found.false)
       | else-k-states-via-else-k-states w ↦ IsPassedAt-none e c.args.bytes.now c.args.states.now c.args.place c.args.found.now (inl w.if-k-states.false)
     ]

@@ -12,7 +12,8 @@ returns-then-not-found-clause-pairs c =
     let formats = c.args.draft.now.formats in
     let none : c.in_ok-found.found ≡ false = search rules in
     let left : c.loop-row_number.records ≡ [] = rw none at c.in_ok-found.ensures.next in
-    rw c.into_pairs.ensures.pairs (c.loop-row_number.invariant.goes ∙ ap (λ l. pairs_from formats at.row_number at.ranking.pairs l) left ∙ judged-end (with_pair formats) at.row_number at.ranking.pairs)
+    rw c.into_pairs.ensures.pairs (c.loop-row_number.invariant.goes ∙ ap (λ l. pairs_from formats at.row_number at.ranking.pairs l) left ∙ judged-end
+        (with_pair formats) at.row_number at.ranking.pairs)
 
 pub returns-in_err-ranking-clause-pairs : goal.returns-in_err-ranking-clause-pairs
 returns-in_err-ranking-clause-pairs c =
@@ -22,7 +23,8 @@ returns-in_err-ranking-clause-pairs c =
     let more : c.in_ok-found.found ≡ true = search rules in
     let next : c.loop-row_number.records ≡ fields_of c.read.new.fields ∷ c.read.new.self = rw more at c.in_ok-found.ensures.next in
     let faulty = c.in_err-ranking.ensures.pairs in
-    rw (p.1, p.2) (faulty.0, IsFault-map _ _ _ (λ fault. c.loop-row_number.invariant.goes ∙ ap (λ l. pairs_from formats at.row_number at.ranking.pairs l) next ∙ judged-fault (with_pair formats) at.row_number at.ranking.pairs _ _ _ fault) faulty.1)
+    rw (p.1, p.2) (faulty.0, IsFault-map _ _ _ (λ fault. c.loop-row_number.invariant.goes ∙ ap (λ l. pairs_from formats at.row_number at.ranking.pairs l) next
+        ∙ judged-fault (with_pair formats) at.row_number at.ranking.pairs _ _ _ fault) faulty.1)
 
 pub loop-row_number-preserved : goal.loop-row_number-preserved
 loop-row_number-preserved c =
@@ -31,6 +33,7 @@ loop-row_number-preserved c =
     let more : c.in_ok-found.found ≡ true = search rules in
     let next : c.loop-row_number.records ≡ fields_of c.read.new.fields ∷ c.read.new.self = rw more at c.in_ok-found.ensures.next in
     record {
-      goes = c.loop-row_number.invariant.goes ∙ ap (λ l. pairs_from formats at.row_number at.ranking.pairs l) next ∙ judged-more (with_pair formats) at.row_number at.ranking.pairs _ _ _ c.in_ok-ranking.ensures.pairs;
+      goes = c.loop-row_number.invariant.goes ∙ ap (λ l. pairs_from formats at.row_number at.ranking.pairs l) next ∙ judged-more (with_pair formats)
+          at.row_number at.ranking.pairs _ _ _ c.in_ok-ranking.ensures.pairs;
       count = c.in_ok-ranking.ensures.formats;
     }

@@ -19,11 +19,13 @@ returns-in_err-draft c =
     let p = err_from_is_err_and c.from_residual-in_err-draft.result c.from_residual-in_err-draft.ensures.1 in
     let more : c.in_ok-found.found ≡ true = search rules in
     let next : c.loop-row_number.records ≡ fields_of c.read.new.fields ∷ c.read.new.self = rw more at c.in_ok-found.ensures.next in
-    rw (p.1, p.2) (IsFault-map _ _ _ (λ fault. c.loop-row_number.invariant ∙ ap (λ l. table_from at.row_number at.draft l) next ∙ judged-fault with_record at.row_number at.draft _ _ _ fault) c.in_err-draft.ensures)
+    rw (p.1, p.2) (IsFault-map _ _ _ (λ fault. c.loop-row_number.invariant ∙ ap (λ l. table_from at.row_number at.draft l) next ∙ judged-fault with_record
+        at.row_number at.draft _ _ _ fault) c.in_err-draft.ensures)
 
 pub loop-row_number-preserved : goal.loop-row_number-preserved
 loop-row_number-preserved c =
     let at = c.loop-row_number in
     let more : c.in_ok-found.found ≡ true = search rules in
     let next : c.loop-row_number.records ≡ fields_of c.read.new.fields ∷ c.read.new.self = rw more at c.in_ok-found.ensures.next in
-    c.loop-row_number.invariant ∙ ap (λ l. table_from at.row_number at.draft l) next ∙ judged-more with_record at.row_number at.draft _ _ _ c.in_ok-draft.ensures
+    c.loop-row_number.invariant ∙ ap (λ l. table_from at.row_number at.draft l) next ∙ judged-more with_record at.row_number at.draft _ _ _
+        c.in_ok-draft.ensures

@@ -32,7 +32,8 @@ loop-b-preserved c =
     let digit = rw c.if-not-is_ascii_digit.false at c.is_ascii_digit.ensures.cases in
     let step = digits_value-step c.args.text.now c.loop-b.b-index c.loop-b-test.true digit in
     record {
-      value = ap (λ v. v * 10 + c.from.result) c.loop-b.invariant.value ∙ ap (λ d. digits_value 10 (take c.loop-b.b-index c.args.text.now) * 10 + d) c.from.ensures ∙ sym step;
+      value = ap (λ v. v * 10 + c.from.result) c.loop-b.invariant.value ∙ ap (λ d. digits_value 10 (take c.loop-b.b-index c.args.text.now) * 10 + d)
+          c.from.ensures ∙ sym step;
       digits = below_more _ _ c.loop-b.invariant.digits digit;
     }
 

@@ -12,7 +12,8 @@ loop-place-preserved c =
     let known = c.requires.known c.loop-place.place s inside in
     let long = c.loop-place.auto.spans in
     let kept = c.fill.ensures.len in
-    spans_next c.loop-place.place c.args.signatures.now c.loop-place.spans s _ c.widened.result c.format-format.result.0 c.format-format.ensures inside c.index-signatures-place.is (omega (arith, known, long, kept)) c.widened.ensures c.loop-place.invariant
+    spans_next c.loop-place.place c.args.signatures.now c.loop-place.spans s _ c.widened.result c.format-format.result.0 c.format-format.ensures inside
+        c.index-signatures-place.is (omega (arith, known, long, kept)) c.widened.ensures c.loop-place.invariant
 
 pub returns : goal.returns
 returns c =

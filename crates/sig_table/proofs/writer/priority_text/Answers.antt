@@ -10,7 +10,9 @@ use Rattle.sig_table.proofs.writer.priority_text.Goals as goal
 
 -- one pair more
 one_more : (formats : List Puid) (pairs : List (ℕ × ℕ)) (i : ℕ) (d : ℕ × ℕ) (first : List ℕ) → i < length pairs
-    → first ++ flat_map (row_text default_writer) (map (pair_record formats) (take (i + 1) pairs)) ≡ (first ++ flat_map (row_text default_writer) (map (pair_record formats) (take i pairs))) ++ row_text default_writer (pair_record formats (get_or pairs i d))
+    → first ++ flat_map (row_text default_writer) (map (pair_record formats) (take (i + 1) pairs))
+        ≡ (first ++ flat_map (row_text default_writer) (map (pair_record formats) (take i pairs))) ++ row_text default_writer
+        (pair_record formats (get_or pairs i d))
 one_more formats pairs i d first within =
     let rows : List (List ℕ) → List ℕ = row_text default_writer in
     rw (take_more pairs i d within, map-append, flat_map-append) (
@@ -23,16 +25,19 @@ grows : (formats : List Puid) (pairs : List (ℕ × ℕ)) (i : ℕ) (d : ℕ × 
     → more ≡ first ++ flat_map (row_text default_writer) (map (pair_record formats) (take (i + 1) pairs))
 grows formats pairs i d row first lines more within is adds goes = adds ∙ rw (is, goes) (sym (one_more formats pairs i d first within))
 
-whole : (formats : List Puid) (pairs : List (ℕ × ℕ)) (i : ℕ) (header : List (List ℕ)) (start first lines : List ℕ) → length pairs ≤ i → start ≡ [] → header ≡ priority_header → first ≡ start ++ row_text default_writer header
+whole : (formats : List Puid) (pairs : List (ℕ × ℕ)) (i : ℕ) (header : List (List ℕ)) (start first lines : List ℕ) → length pairs ≤ i → start ≡ []
+    → header ≡ priority_header → first ≡ start ++ row_text default_writer header
     → lines ≡ first ++ flat_map (row_text default_writer) (map (pair_record formats) (take i pairs)) → lines ≡ pairs_csv formats pairs
 whole formats pairs i header start first lines end empty is begins goes =
     goes ∙ rw (begins, empty, is, take_all i pairs end) (sym (pairs_csv-rows formats pairs))
 
 pub loop-pair-preserved : goal.loop-pair-preserved
-loop-pair-preserved c = grows _ _ c.loop-pair.pair-index _ _ _ _ _ c.loop-pair-test.true c.in_ok-pair_record.ensures c.in_ok-lines-2.ensures c.loop-pair.invariant
+loop-pair-preserved c = grows _ _ c.loop-pair.pair-index _ _ _ _ _ c.loop-pair-test.true c.in_ok-pair_record.ensures c.in_ok-lines-2.ensures
+    c.loop-pair.invariant
 
 pub returns : goal.returns
 returns c =
     let all : c.loop-pair.lines ≡ pairs_csv c.args.formats.now c.args.pairs.now =
-    whole _ _ c.loop-pair.pair-index _ _ _ c.loop-pair.lines (omega arith) c.in_ok-start.ensures c.in_ok-header.ensures.fields c.in_ok-lines.ensures c.loop-pair.invariant in
+    whole _ _ c.loop-pair.pair-index _ _ _ c.loop-pair.lines (omega arith) c.in_ok-start.ensures c.in_ok-header.ensures.fields c.in_ok-lines.ensures
+        c.loop-pair.invariant in
     rw (← all) c.into_text.ensures

@@ -6,4 +6,5 @@ use Rattle.sig_table.proofs.writer.signature_text.Given as goal
 
 -- the header, and the lines of each signature so far
 abbrev pub invariant-loop-signature : goal.invariant-loop-signature
-invariant-loop-signature l = l.lines ≡ l.initial.lines ++ flat_map (row_text default_writer) (flat_map (records_of_signature l.table.formats) (take l.signature-index l.table.signatures))
+invariant-loop-signature l = l.lines ≡ l.initial.lines ++ flat_map (row_text default_writer)
+    (flat_map (records_of_signature l.table.formats) (take l.signature-index l.table.signatures))

@@ -6,4 +6,5 @@ use Rattle.sig_table.proofs.writer.with_signature.Given as goal
 
 -- a line for each sequence so far
 abbrev pub invariant-loop-sequence : goal.invariant-loop-sequence
-invariant-loop-sequence l = l.lines ≡ l.initial.lines ++ flat_map (row_text default_writer) (map (sequence_record (name_of l.formats l.signature.format) l.signature.number) (take l.sequence-index l.signature.sequences))
+invariant-loop-sequence l = l.lines ≡ l.initial.lines ++ flat_map (row_text default_writer)
+    (map (sequence_record (name_of l.formats l.signature.format) l.signature.number) (take l.sequence-index l.signature.sequences))

@@ -5,4 +5,5 @@ use Rattle.sig_bits.proofs.byte_class.ByteClass.without.Goals as goal
 
 pub returns : goal.returns
 unfolding Holds
-returns c = λ b within. HasBit-turned c.loop-byte.byte-items c.args.self.bits (λ k below. c.loop-byte.invariant.turned k (omega arith)) (search rules) b (omega arith)
+returns c = λ b within. HasBit-turned c.loop-byte.byte-items c.args.self.bits (λ k below. c.loop-byte.invariant.turned k (omega arith)) (search rules) b
+    (omega arith)

@@ -9,7 +9,8 @@ use Rattle.sig_match.proofs.whole.advance.add_after_bracket.Goals as goal
 use Rattle.sig_match.proofs.whole.advance.add_after_bracket.Goals.{then-is_part_word+in_ok-add, else-is_part_word}
 
 pub loop-start-init : goal.loop-start-init
-loop-start-init c = Gains-start (PartWord c.args.part.now) (part_len c.args.part.now) (PartWord-length c.args.part.now) c.args.file.now c.args.interval c.args.ends.now.items
+loop-start-init c = Gains-start (PartWord c.args.part.now) (part_len c.args.part.now) (PartWord-length c.args.part.now) c.args.file.now c.args.interval
+    c.args.ends.now.items
 
 pub loop-start-preserved : goal.loop-start-preserved
 loop-start-preserved c =
@@ -21,7 +22,8 @@ loop-start-preserved c =
     let fits : at + len ≤ length file = omega arith in
     elim c.if-is_part_word.branch [
       | then-is_part_word+in_ok-add w ↦
-          rw w.ends-is (Gains-here (PartWord part) (part_len part) (PartWord-length part) file c.args.interval at (at + len) _ _ _ within (omega arith) fits (c.is_part_word.ensures.0 w.if-is_part_word.true) c.loop-start.invariant w.in_ok-add.ensures)
+          rw w.ends-is (Gains-here (PartWord part) (part_len part) (PartWord-length part) file c.args.interval at (at + len) _ _ _ within (omega arith) fits
+              (c.is_part_word.ensures.0 w.if-is_part_word.true) c.loop-start.invariant w.in_ok-add.ensures)
       | else-is_part_word w ↦
           rw w.ends-is (
           Gains-none (PartWord part) (part_len part) (PartWord-length part) file c.args.interval at (at + 1) _ _ (omega arith)
@@ -36,5 +38,6 @@ loop-start-preserved c =
 
 pub returns : goal.returns
 returns c =
-    Gains-passed (PartWord c.args.part.now) (part_len c.args.part.now) (PartWord-length c.args.part.now) c.args.file.now c.args.interval c.loop-start.start _ c.loop-start.ends.items
+    Gains-passed (PartWord c.args.part.now) (part_len c.args.part.now) (PartWord-length c.args.part.now) c.args.file.now c.args.interval c.loop-start.start _
+        c.loop-start.ends.items
     (λ a low room. omega arith) c.loop-start.invariant

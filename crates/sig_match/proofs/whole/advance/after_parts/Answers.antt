@@ -22,7 +22,8 @@ loop-part-preserved c =
     let at : c.loop-part.part-index < length c.args.parts.now = omega arith in
     rw c.swap.ensures.x_after (record {
       within = λ a h. (next.sound a h).within;
-      carries = Carries-part c.args.parts.now c.loop-part.part-index c.part-item.result c.part-item.result c.args.file.now (IsIn c.args.frontier.now) _ _ at c.part-item.is c.loop-part.invariant.carries (rw (← c.deref.ensures.value) next);
+      carries = Carries-part c.args.parts.now c.loop-part.part-index c.part-item.result c.part-item.result c.args.file.now (IsIn c.args.frontier.now) _ _ at
+          c.part-item.is c.loop-part.invariant.carries (rw (← c.deref.ensures.value) next);
     })
 
 pub returns : goal.returns

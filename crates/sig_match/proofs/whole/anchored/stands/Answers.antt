@@ -17,7 +17,8 @@ slice_from items i = take_all (length items - i) (drop i items) (let len = lengt
 pub items-init : goal.items-init
 items-init c = record {
   within = omega arith;
-  still = StillToCome-all c.position-position.result c.longest_of-longest.result c.items-items.result.now c.args.file.now c.starts.result c.add.new.frontier.items c.longest_of-longest.ensures c.starts.ensures (rw c.new-frontier.ensures.items at c.in_ok-add.ensures);
+  still = StillToCome-all c.position-position.result c.longest_of-longest.result c.items-items.result.now c.args.file.now c.starts.result
+      c.add.new.frontier.items c.longest_of-longest.ensures c.starts.ensures (rw c.new-frontier.ensures.items at c.in_ok-add.ensures);
 }
 
 pub returns-then-may_end_anywhere : goal.returns-then-may_end_anywhere
@@ -28,7 +29,8 @@ returns-then-may_end_anywhere c =
     let is_run : IsRun later run = c.in_ok-gather_run.ensures in
     let len : length later ≤ length run = let ok = c.gather_run.new.run.ok.0 in omega arith in
     let all : drop c.items.done items ≡ map item.Byte run = sym (slice_from items c.items.done) ∙ sym (take_all (length run) later len) ∙ is_run.bytes in
-    let by_run = stands_by_run c.position-position.result items (drop c.items.done items) run c.args.file.now c.items.frontier.items (c.may_end_anywhere.ensures c.if-may_end_anywhere.true) all c.items.invariant.still in
+    let by_run = stands_by_run c.position-position.result items (drop c.items.done items) run c.args.file.now c.items.frontier.items
+        (c.may_end_anywhere.ensures c.if-may_end_anywhere.true) all c.items.invariant.still in
     let has = rw (c.deref.ensures.value, c.deref-then-may_end_anywhere.ensures.value) at c.has_run.ensures in
     let same : c.items-items.result.now ≡ c.args.sequence.now.items = c.items-items.ensures.items ∙ c.expr.ensures.items in
     rw (← same, ← c.position-position.ensures) (λ t. by_run.0 (has.0 t), λ h. has.1 (by_run.1 h))
@@ -44,7 +46,8 @@ items-preserved c =
     let ends = rw c.deref-in-items.ensures.value at c.in_ok-done.ensures.ends in
     record {
       within = omega arith;
-      still = rw c.swap.ensures.x_after (StillToCome-more c.position-position.result items c.items.done n c.args.file.now c.items.frontier.items c.advance.new.ends.items c.items.invariant.still (subst P whole ends));
+      still = rw c.swap.ensures.x_after (StillToCome-more c.position-position.result items c.items.done n c.args.file.now c.items.frontier.items
+          c.advance.new.ends.items c.items.invariant.still (subst P whole ends));
     }
 
 pub returns : goal.returns
@@ -55,7 +58,9 @@ returns c =
     let frontier = c.items.frontier.items in
     let still : StillToCome p items [] file frontier =
     elim c.items-test.branch [
-      | then-items-test+else-not-is_empty w ↦ StillToCome-none p items (drop c.items.done items) file frontier (nil_from_length frontier (let ok = c.items.frontier.ok.0 in let none = eqb-true _ _ (sym w.is_empty.ensures ∙ w.if-not-is_empty.false) in omega arith)) c.items.invariant.still
+      | then-items-test+else-not-is_empty w ↦ StillToCome-none p items (drop c.items.done items) file frontier
+          (nil_from_length frontier (let ok = c.items.frontier.ok.0 in let none = eqb-true _ _ (sym w.is_empty.ensures ∙ w.if-not-is_empty.false) in
+          omega arith)) c.items.invariant.still
       | else-items-test w ↦ StillToCome-done p items c.items.done file frontier (omega arith) c.items.invariant.still
     ] in
     let by_end = stands_by_end p items file frontier still in

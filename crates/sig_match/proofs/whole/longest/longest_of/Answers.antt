@@ -15,4 +15,5 @@ loop-item-preserved c =
     let next : take (i + 1) xs ≡ take i xs ++ x ∷ [] = take_more xs i x at ∙ ap (λ (y : Item). take i xs ++ y ∷ []) (sym c.item-item.is) in
     let sum : c.loop-item.sum + c.in_ok-len.len ≡ c.in_ok-sum.sum = sym c.in_ok-sum.ensures.1 in
     let P : List Item → ℕ → Type 0 = λ l n. Bounds (Lang l) n in
-    subst (λ (l : List Item). P l c.in_ok-sum.sum) (sym next) (subst (λ (n : ℕ). P (take i xs ++ x ∷ []) n) sum (Bounds-item (take i xs) x c.loop-item.sum c.in_ok-len.len c.loop-item.invariant c.in_ok-len.ensures))
+    subst (λ (l : List Item). P l c.in_ok-sum.sum) (sym next) (subst (λ (n : ℕ). P (take i xs ++ x ∷ []) n) sum
+        (Bounds-item (take i xs) x c.loop-item.sum c.in_ok-len.len c.loop-item.invariant c.in_ok-len.ensures))

@@ -17,12 +17,14 @@ loop-alternative-preserved c =
     map_more (λ v. v.items) xs i v at ∙ ap (λ w. map (λ v. v.items) (take i xs) ++ w.items ∷ []) (sym c.alternative-item.is) in
     let last = rw c.as_slice.ensures.value at c.in_ok-len.ensures in
     let P : List (List Atom) → Type 0 = λ l. Bounds (Word (item.Alt l)) c.max-greatest.result in
-    subst P (sym next) (Bounds-alternative (map (λ v. v.items) (take i xs)) v.items c.loop-alternative.greatest c.in_ok-len.len c.max-greatest.result (omega arith) (omega arith) c.loop-alternative.invariant last)
+    subst P (sym next) (Bounds-alternative (map (λ v. v.items) (take i xs)) v.items c.loop-alternative.greatest c.in_ok-len.len c.max-greatest.result
+        (omega arith) (omega arith) c.loop-alternative.invariant last)
 
 pub returns : goal.returns
 returns c =
     let xs = c.as_slice-alternative-items.result.now in
     let i = c.loop-alternative.alternative-index in
     let P : List (List Atom) → Type 0 = λ l. Bounds (Word (item.Alt l)) c.loop-alternative.greatest in
-    let all : map (λ v. v.items) (take i xs) ≡ c.args.alternatives.now = ap (λ l. map (λ v. v.items) l) (take_all i xs (omega arith)) ∙ c.as_slice-alternative-items.ensures in
+    let all : map (λ v. v.items) (take i xs) ≡ c.args.alternatives.now =
+        ap (λ l. map (λ v. v.items) l) (take_all i xs (omega arith)) ∙ c.as_slice-alternative-items.ensures in
     subst P all c.loop-alternative.invariant

@@ -11,7 +11,8 @@ loop-index-preserved c =
     let len : length c.loop-index.marks.items ≡ c.loop-index.index = let ok = c.loop-index.marks.ok.0 in omega arith in
     record {
       len = omega (arith, c.in_ok-push.ensures.len);
-      marks = rw c.in_ok-push.ensures.items (MarksBelow-push c.args.table.now c.args.file.now c.loop-index.index c.loop-index.marks.items c.in_ok-is_hit.field-0 len c.in_ok-is_hit.ensures.0 c.in_ok-is_hit.ensures.1 inv.marks);
+      marks = rw c.in_ok-push.ensures.items (MarksBelow-push c.args.table.now c.args.file.now c.loop-index.index c.loop-index.marks.items c.in_ok-is_hit.field-0
+          len c.in_ok-is_hit.ensures.0 c.in_ok-is_hit.ensures.1 inv.marks);
     }
 
 pub returns-clause-marks : goal.returns-clause-marks

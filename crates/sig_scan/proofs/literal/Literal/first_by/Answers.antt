@@ -31,7 +31,8 @@ returns-then-stands_at c =
       record {
         low = omega arith;
         high = omega arith;
-        before = Nowhere-passed l bytes k c.byte.result c.byte-in-places.result end c.args.from place n c.requires.inside c.byte.ensures c.byte-in-places.ensures
+        before = Nowhere-passed l bytes k c.byte.result c.byte-in-places.result end c.args.from place n c.requires.inside c.byte.ensures
+            c.byte-in-places.ensures
             c.in_ok-n.ensures.0.before (omega arith) c.places.invariant.nowhere;
       },
       c.stands_at.ensures.0 c.if-stands_at.true,

@@ -1,4 +1,6 @@
-use Rattle.sig_scan.proofs.Common.{◌≡◌, ◌∙◌, ◌++◌, ◌∷◌, [], ◌+◌, ◌<◌, All, All-push, Bool, List, ap, arith, false, get_or, length, length-map, map, refl, rules, slice_get, slice_get-within, slice_get_read, subst, sym, AreFirst, AreLiteralsOf, Course, CourseView, IsBoundedCourse, SequenceView, StageView, course_if, course_in, Some, length-append}
+use Rattle.sig_scan.proofs.Common.{◌≡◌, ◌∙◌, ◌++◌, ◌∷◌, [], ◌+◌, ◌<◌, All, All-push, Bool, List, ap, arith, false, get_or, length, length-map, map, refl, rules,
+    slice_get, slice_get-within, slice_get_read, subst, sym, AreFirst, AreLiteralsOf, Course, CourseView, IsBoundedCourse, SequenceView, StageView, course_if,
+    course_in, Some, length-append}
 use Rattle.sig_scan.proofs.CompiledLemmas.{AreAdded, AreAdded-next, AreAdded-none, AreAdded-push, IsProgramOf-added, course_if-bounded}
 use Rattle.sig_scan.proofs.HeldLemmas.{AreHeld-push}
 use Rattle.sig_scan.proofs.ProgramLemmas.{AreCourses-push}
@@ -79,7 +81,8 @@ invariant_of-result c =
         few = search rules;
         within = c.loop-index.invariant.within;
         bounded = c.loop-index.invariant.bounded;
-        early_literals = subst (λ l. Early l courses) c.deref-3.ensures.value (subst (Early c.deref-3.result.now) c.deref-5.ensures.value c.in_ok-early.ensures);
+        early_literals = subst (λ l. Early l courses) c.deref-3.ensures.value
+            (subst (Early c.deref-3.result.now) c.deref-5.ensures.value c.in_ok-early.ensures);
         late_literals = subst (λ l. Late l courses) c.deref-6.ensures.value (subst (Late c.deref-6.result.now) c.deref-8.ensures.value c.in_ok-late.ensures);
       },
       search rules,

@@ -1,4 +1,5 @@
-use Rattle.sig_scan.proofs.Common.{◌≡◌, ap, ◌+◌, ◌<◌, ◌∙◌, All, Bool, List, Some, arith, false, length, subst, sym, true, ℕ, set, length-set, slice_get-get_or, slice_get_within, slice_get, slice_get-within, TableView, AreSequencesOf, ProgramView, EndsPast, IsScanOf, ScanView, AreNeeded}
+use Rattle.sig_scan.proofs.Common.{◌≡◌, ap, ◌+◌, ◌<◌, ◌∙◌, All, Bool, List, Some, arith, false, length, subst, sym, true, ℕ, set, length-set, slice_get-get_or,
+    slice_get_within, slice_get, slice_get-within, TableView, AreSequencesOf, ProgramView, EndsPast, IsScanOf, ScanView, AreNeeded}
 use Rattle.sig_scan.proofs.MarkedLemmas.{AreMarked-all, AreMarkedTo, AreMarkedTo-none, AreMarkedTo-set, AreMarkedTo-skip}
 use Rattle.sig_scan.proofs.ScanLemmas.{All-at}
 use Rattle.sig_scan.proofs.scan.Scan.finish.Goals as goal
@@ -11,7 +12,8 @@ loop-k-init c =
     let Owned : ScanView → Type 0 = λ v. (λ (l : List Bool). All (λ g. g < length l) c.self.inside.program.now.owners) v.may_hit in
     record {
       program = ap (λ (v : ScanView). v.program) (sym c.self.view_is);
-      owned = subst (λ (l : List Bool). All (λ g. g < length l) c.self.inside.program.now.owners) (sym same) (subst Owned c.self.view_is c.self.invariant.owned);
+      owned = subst (λ (l : List Bool). All (λ g. g < length l) c.self.inside.program.now.owners) (sym same)
+          (subst Owned c.self.view_is c.self.invariant.owned);
       past = c.close.ensures.past;
       len = ap length same;
       marked = λ table file of.
@@ -57,7 +59,8 @@ loop-k-preserved c =
                 let known = was.0 in
                 let mark : slice_get marks own ≡ Some true = slice_get-get_or marks own false inside ∙ ap (λ (b : Bool). Some b) w.if-marks-signature.true in
                 let low = slice_get_within program.owners k own owner in
-                let many : length known.sequences ≡ length program.owners = known.are.count ∙ ap (λ (v : ProgramView). length v.owners) c.loop-k.invariant.program in
+                let many : length known.sequences ≡ length program.owners = known.are.count ∙ ap (λ (v : ProgramView). length v.owners)
+                    c.loop-k.invariant.program in
                 let s = slice_get-within known.sequences k (omega arith) in
                 let needed = subst (λ (v : ProgramView). AreNeeded table v.owners known.sequences) c.loop-k.invariant.program known.are.needed in
                 let own_is = subst (λ (v : ProgramView). slice_get v.owners k ≡ Some own) (sym c.loop-k.invariant.program) owner in (

@@ -6,11 +6,14 @@ use Rattle.sig_table.proofs.ranking.Ranking.of.Goals as goal
 
 pub insert-requires-clause-other : goal.insert-requires-clause-other
 insert-requires-clause-other c =
-    next_is_of_two _ _ c.priorities-pair-items.result.now c.priorities-pair-items.ensures c.format_count.ensures.table.priorities c.loop-pair.pair-index (0, 0) c.loop-pair-test.true
+    next_is_of_two _ _ c.priorities-pair-items.result.now c.priorities-pair-items.ensures c.format_count.ensures.table.priorities c.loop-pair.pair-index (0, 0)
+        c.loop-pair-test.true
 
 pub insert-requires-clause-judged : goal.insert-requires-clause-judged
 insert-requires-clause-judged c = (
   0,
-  subst (λ pairs. pair_fault pairs 0 (get_or c.priorities-pair-items.result.now c.loop-pair.pair-index (0, 0)) ≡ None) (sym (ap (λ (r : RankingView). r.pairs) c.loop-pair.invariant))
-      (next_is_fine _ _ c.priorities-pair-items.result.now c.priorities-pair-items.ensures c.format_count.ensures.table.priorities c.loop-pair.pair-index (0, 0) c.loop-pair-test.true),
+  subst (λ pairs. pair_fault pairs 0 (get_or c.priorities-pair-items.result.now c.loop-pair.pair-index (0, 0)) ≡ None)
+      (sym (ap (λ (r : RankingView). r.pairs) c.loop-pair.invariant))
+      (next_is_fine _ _ c.priorities-pair-items.result.now c.priorities-pair-items.ensures c.format_count.ensures.table.priorities c.loop-pair.pair-index (0, 0)
+          c.loop-pair-test.true),
 )

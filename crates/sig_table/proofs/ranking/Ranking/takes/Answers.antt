@@ -14,12 +14,14 @@ none_told (Some x) false is = (λ t. absurd (false≢true t), λ none. absurd (c
 pub returns-then-eq : goal.returns-then-eq
 returns-then-eq c = (
   λ t. absurd (false≢true t),
-  λ more. absurd (are_two c.args.self.now.format_count c.args.self.now.pairs (c.args.higher.0, c.args.lower.0) more (eqb-true c.args.higher.0 c.args.lower.0 (sym c.eq.ensures ∙ c.if-eq.true))),
+  λ more. absurd (are_two c.args.self.now.format_count c.args.self.now.pairs (c.args.higher.0, c.args.lower.0) more
+      (eqb-true c.args.higher.0 c.args.lower.0 (sym c.eq.ensures ∙ c.if-eq.true))),
 )
 
 pub returns : goal.returns
 returns c =
     let told = none_told c.fault.result c.is_none.result c.is_none.ensures in
     let two : c.args.higher.0 ≡ c.args.lower.0 → ⊥ = λ same. false≢true (sym c.if-eq.false ∙ c.eq.ensures ∙ eq-eqb c.args.higher.0 c.args.lower.0 same) in
-    let law = added c.args.self.now.format_count c.args.self.now.pairs 0 (c.args.higher.0, c.args.lower.0) (rw (← c.self.view_is) c.self.invariant.priorities) c.requires.higher c.requires.lower two in
+    let law = added c.args.self.now.format_count c.args.self.now.pairs 0 (c.args.higher.0, c.args.lower.0) (rw (← c.self.view_is) c.self.invariant.priorities)
+        c.requires.higher c.requires.lower two in
     (λ t. law.0 (sym c.fault.ensures.fault ∙ told.0 t), λ more. told.1 (c.fault.ensures.fault ∙ law.1 more))

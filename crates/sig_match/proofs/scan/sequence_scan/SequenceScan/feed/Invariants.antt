@@ -10,5 +10,6 @@ abbrev pub invariant-loop-byte : goal.invariant-loop-byte
 invariant-loop-byte l = record {
   set_long : length l.self-inside.set.items ≡ set_len (whole_tree l.self-inside.auto);
   next_long : length l.self-inside.next.items ≡ set_len (whole_tree l.self-inside.auto);
-  goes_on : (file : List ℕ) (s : SequenceView) → IsSequenceScanOf file s l.fn.self → IsSequenceScanOf (file ++ take l.byte-index l.piece) s (record { sequence = l.self-inside.auto; set = l.self-inside.set.items });
+  goes_on : (file : List ℕ) (s : SequenceView) → IsSequenceScanOf file s l.fn.self
+      → IsSequenceScanOf (file ++ take l.byte-index l.piece) s (record { sequence = l.self-inside.auto; set = l.self-inside.set.items });
 }
