@@ -7,6 +7,7 @@
 //! do.
 
 ghost use Rattle.std.specs.Prelude.{◌≡◌, ℕ, ◌+◌, ◌-◌, ◌^◌, ◌<◌, ◌≤◌, ◌↔◌, Bool, true, false, List, length, take, Option, IfOk, OnErr, IsErr, IsTrue, is_err};
+ghost use Rattle.std.specs.Io.KnownBytes.{Keeps};
 ghost use Rattle.sig_bits.specs.Device.{Gives, IsAtEnd};
 
 use crate::fault::DeviceFault;
@@ -34,6 +35,7 @@ pub trait Input {
         ensures lowers { IfOk result (λ n. limit self.old ≡ n + limit self.new) }
         ensures gives { IfOk result (λ n. Gives (to_come self.old) (take n buf.new) (to_come self.new)) }
         ensures stays { OnErr result (limit self.new ≡ limit self.old) }
+        ensures keeps { OnErr result (Keeps (to_come self.old) (to_come self.new)) }
         ensures ends { IfOk result (λ n. n ≡ 0 → 0 < length buf.new → IsAtEnd (to_come self.new)) };
 }
 
@@ -78,6 +80,7 @@ impl<R: Read> Input for FromRead<R> {
         ensures lowers { IfOk result (λ n. self.old.budget ≡ n + self.new.budget) }
         ensures gives { IfOk result (λ n. Gives (R.remaining self.old.reader) (take n buf.new) (R.remaining self.new.reader)) }
         ensures stays { OnErr result (self.new.budget ≡ self.old.budget) }
+        ensures keeps { OnErr result (Keeps (R.remaining self.old.reader) (R.remaining self.new.reader)) }
         ensures ends { IfOk result (λ n. n ≡ 0 → 0 < length buf.new → IsAtEnd (R.remaining self.new.reader)) }
 
         // A reader that failed is not read again, and one that gave all bytes that are taken is not

@@ -34,7 +34,7 @@ pub trait Output {
 
         // After a failed write only a front of its bytes may be written.
         ensures front { OnErr result (AddsFront (written self.old) bytes.now (written self.new)) }
-        ensures no_room { OnErr result (limit self.new ≤ limit self.old) };
+        ensures stays_within { OnErr result (limit self.new ≤ limit self.old) };
 }
 
 /// The output to any writer.
@@ -88,7 +88,7 @@ impl<W: Write> Output for FromWrite<W> {
         ensures lowers { OnOk result (self.old.budget ≡ length bytes.now + self.new.budget) }
         ensures adds { OnOk result (Adds (W.contents self.old.writer) bytes.now (W.contents self.new.writer)) }
         ensures front { OnErr result (AddsFront (W.contents self.old.writer) bytes.now (W.contents self.new.writer)) }
-        ensures no_room { OnErr result (self.new.budget ≤ self.old.budget) }
+        ensures stays_within { OnErr result (self.new.budget ≤ self.old.budget) }
 
         // A writer that failed is not written again, and one with no room for all the bytes is not
         // written at all.

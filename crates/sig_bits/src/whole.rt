@@ -65,10 +65,7 @@ fn make_room(bytes: &mut Vec<u8>, filled: usize) -> Result<(), ReadWholeError>
         return Ok(());
     }
     let piece = bytes.len().clamp(FIRST_PIECE, PIECE);
-    let Some(len) = bytes.len().checked_add(piece) else {
-        return Err(ReadWholeError::OutOfMemory);
-    };
     bytes
-        .resize(len, 0)
+        .resize(bytes.len() + piece, 0)
         .map_err(|_| ReadWholeError::OutOfMemory)
 }
