@@ -93,7 +93,8 @@ fn build(builder: &mut Builder, alloc: Global, step: Step) -> Result<(), AllocEr
     }
 }
 
-// The items of a text. Most texts have one for each two bytes.
+// The items of a text. Most texts have one for each two bytes; room for more is given back, so a
+// text that is one list keeps room for one item.
 #[tactic(auto, unfolding(crate::specs::Passes::built_from))]
 fn build_items(alloc: Global, text: &[u8]) -> Result<Vec<Item>, AllocError>
     ensures { IfOk result (λ v. v.items ≡ items_of text.now) }
@@ -115,7 +116,9 @@ fn build_items(alloc: Global, text: &[u8]) -> Result<Vec<Item>, AllocError>
         state = state.next(step);
         place += 1;
     }
-    Ok(builder.items)
+    let mut items = builder.items;
+    items.shrink_to_fit();
+    Ok(items)
 }
 
 /// The expression that a text spells.
