@@ -4,6 +4,8 @@ mod BelowLemmas
 mod DraftLemmas
 pub mod Exports
 mod FaultLemmas
+mod FileFaultLemmas
+mod FileLemmas
 mod FormatsAgainLemmas
 mod GatheredLemmas
 mod JudgingLemmas
@@ -28,7 +30,6 @@ mod RowAgainLemmas
 mod RowFaultLemmas
 mod RowLemmas
 mod RowTextLemmas
-mod SignatureFaultLemmas
 mod SignatureRowLemmas
 mod SlotLemmas
 mod SpanLemmas

@@ -6,7 +6,7 @@ use Rattle.sig_table.proofs.JudgingLemmas.{unless-err}
 use Rattle.sig_table.specs.declared.error.TableError.{TableError}
 use Rattle.sig_table.specs.declared.row.Row.{Row}
 use Rattle.sig_table.specs.Views.{TableView}
-use Rattle.sig_table.specs.Judging.{IsFault, unless}
+use Rattle.sig_table.specs.Judging.{IsFault, Judges, unless}
 use Rattle.sig_table.specs.Loading.{fault_in, pairs_of, signatures_of, table_of, with_record, with_row}
 use Rattle.sig_table.specs.Rows.{row_of}
 
@@ -26,7 +26,7 @@ module _ (n : ℕ) (t : TableView) (fields : List (List ℕ)) where
 -- a draft that judges the row is one with the record
 pub with_record-added : (n : ℕ) (t : TableView) (fields : List (List ℕ)) (row : Row) (r : Result TableView TableError) → row_of n fields ≡ Ok row
     → MatchResult r (λ more. (fault_in t n row ≡ None) × (more ≡ with_row t row)) (λ e. IsFault (unless (fault_in t n row) (Ok t)) e)
-    → MatchResult r (λ more. with_record n t fields ≡ Ok more) (λ e. IsFault (with_record n t fields) e)
+    → Judges r (with_record n t fields)
 with_record-added n t fields row (Ok more) read h = with_record-more n t fields row read h.0 ∙ ap (λ x. Ok x) (sym h.1)
 with_record-added n t fields row (Err e) read h = IsFault-map _ _ e (λ f. with_record-faulty n t fields row e read f) h
 

@@ -1,12 +1,12 @@
 -- The pairs with that of a record more.
-use Rattle.std.proofs.Common.{◌≡◌, ℕ, false, List, [], ◌∷◌, ◌++◌, sym, ap, ◌∙◌, refl, Result, Ok, Err, None}
-use Rattle.std.specs.Result.{MatchResult}
-use Rattle.sig_table.proofs.FaultLemmas.{IsFault-map}
+use Rattle.std.proofs.Common.{◌≡◌, ℕ, false, List, [], ◌∷◌, ◌++◌, sym, ap, refl, Ok, Err, None}
+use Rattle.sig_table.proofs.FaultLemmas.{IsFault-map, IsFault-told}
 use Rattle.sig_table.proofs.JudgingLemmas.{unless-err}
 use Rattle.sig_table.specs.declared.error.TableError.{TableError}
 use Rattle.sig_table.specs.declared.puid.Puid.{Puid}
-use Rattle.sig_table.specs.Judging.{IsFault, unless}
-use Rattle.sig_table.specs.Loading.{is_of_signatures, pair_fault, pair_of, with_pair}
+use Rattle.sig_table.specs.Files.{PairRowsView, with_pair_row}
+use Rattle.sig_table.specs.Judging.{IsFault, is_read, unless}
+use Rattle.sig_table.specs.Loading.{pair_fault, pair_of, with_pair}
 use Rattle.sig_table.specs.RankingViews.{RankingView}
 
 module _ (formats : List Puid) (n : ℕ) (pairs : List (ℕ × ℕ)) (fields : List (List ℕ)) where
@@ -24,13 +24,18 @@ module _ (formats : List Puid) (n : ℕ) (pairs : List (ℕ × ℕ)) (fields : L
   unfolding with_pair
   with_pair-faulty x pair e read fault = rw read (unless-err (pair_fault pairs n pair) x _ e fault)
 
--- a ranking that judges the pair is one with the record
-pub with_pair-added : (formats : List Puid) (n : ℕ) (old : RankingView) (fields : List (List ℕ)) (pair : ℕ × ℕ) (r : Result RankingView TableError)
-    → pair_of formats n fields ≡ Ok pair
-    → MatchResult r (λ more. (pair_fault old.pairs n pair ≡ None) × (more ≡ record old { pairs = old.pairs ++ pair ∷ [] }))
-        (λ e. (is_of_signatures e ≡ false) × IsFault (unless (pair_fault old.pairs n pair) (Ok old)) e)
-    → MatchResult r (λ more. with_pair formats n old.pairs fields ≡ Ok more.pairs)
-        (λ e. (is_of_signatures e ≡ false) × IsFault (with_pair formats n old.pairs fields) e)
-with_pair-added formats n old fields pair (Ok more) read h =
-    with_pair-more formats n old.pairs fields pair read h.0 ∙ ap (λ (x : RankingView). Ok x.pairs) (sym h.1)
-with_pair-added formats n old fields pair (Err e) read h = (h.0, IsFault-map _ _ e (λ f. with_pair-faulty formats n old.pairs fields old pair e read f) h.1)
+-- pairs with their formats, with a record more
+module _ (formats : List Puid) (n : ℕ) (old : RankingView) (fields : List (List ℕ)) (pair : ℕ × ℕ) where
+  pub with_pair_row-more : (more : RankingView) → pair_of formats n fields ≡ Ok pair
+      → (pair_fault old.pairs n pair ≡ None) × (more ≡ record old { pairs = old.pairs ++ pair ∷ [] })
+      → with_pair_row n (record { formats = formats; pairs = old.pairs }) fields ≡ Ok (record { formats = formats; pairs = more.pairs })
+  with_pair_row-more more read h = rw (with_pair-more formats n old.pairs fields pair read h.0)
+      (ap (λ (x : RankingView). Ok (record { formats = formats; pairs = x.pairs })) (sym h.1))
+
+  pub with_pair_row-faulty : (e : TableError) → pair_of formats n fields ≡ Ok pair → IsFault (unless (pair_fault old.pairs n pair) (Ok old)) e
+      → IsFault (with_pair_row n (record { formats = formats; pairs = old.pairs }) fields) e
+  with_pair_row-faulty e read h = IsFault-map _ _ e (λ fault. rw (with_pair-faulty formats n old.pairs fields old pair e read fault) refl) h
+
+pub with_pair_row-unread : (n : ℕ) (rows : PairRowsView) (fields : List (List ℕ)) (e : TableError) → is_read e ≡ false → pair_of rows.formats n fields ≡ Err e
+    → IsFault (with_pair_row n rows fields) e
+with_pair_row-unread n rows fields e no_read read = IsFault-told _ _ no_read (rw (with_pair-unread rows.formats n rows.pairs fields e read) refl)

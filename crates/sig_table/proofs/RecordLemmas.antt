@@ -1,12 +1,12 @@
 -- A reader gives the records of a text one after the other.
-use Rattle.std.proofs.Common.{◌≡◌, ◌⊎◌, ℕ, zero, suc, ◌≤◌, Bool, true, false, List, [], ◌∷◌, length, Option, Some, None, sym, ap, ◌∙◌, refl, add-one, arith,
+use Rattle.std.proofs.Common.{◌≡◌, ◌⊎◌, ℕ, zero, suc, ◌+◌, ◌≤◌, Bool, true, false, List, [], ◌∷◌, length, Option, Some, None, sym, ap, ◌∙◌, refl, add-one, arith,
     inl, inr, Result, Ok, Err}
 use Rattle.std.proofs.lemmas.Bool.{cases_Bool, false≢true}
 use Rattle.std.specs.Bool.{MatchBool}
 use Rattle.std.specs.Borrow.{Bor}
 use Rattle.csv.proofs.ReadFacts.{rows-end, rows-more}
 use Rattle.csv.specs.Machine.{Read, next_record, step, is_end, fields_after, field_after, ends_at_end}
-use Rattle.csv.specs.Reading.{AreRecords, ExplainsRead, Reached, ReadRecord, ReadsNext, default_config, has_failed, is_flexible, pending_of, Ready,
+use Rattle.csv.specs.Reading.{AreRecords, ExplainsRead, Reached, ReadRecord, ReadsNext, default_config, has_failed, is_bom, is_flexible, pending_of, Ready,
     reader_state, reader_trim, records_from, stops_reader, strip_bom, took_first}
 use Rattle.csv.specs.declared.error.Error.{Error}
 use Rattle.csv.specs.declared.error.ErrorKind.{ErrorKind}
@@ -164,6 +164,33 @@ pub records_left-new : (reader : Reader (Bor (List ℕ))) (text : List ℕ) → 
     → records_left reader ≡ records_of text
 unfolding records_left records_of
 records_left-new reader text start left = rw (start, left) refl
+
+-- so many turns find no more records
+few_turns : (cfg : Config) (n : ℕ) (s : State) (xs : List ℕ) → length (records_from cfg n s xs) ≤ n
+unfolding records_from
+few_turns cfg zero s xs = omega arith
+few_turns cfg (suc n) s xs = elim (found_or_not (next_record cfg s [] [] xs)) [
+  | inl none ↦ rw none (omega arith)
+  | inr p ↦ let more = few_turns cfg n p.0.1 p.0.2 in rw p.1 (omega arith)
+]
+
+bom_stripped : (text : List ℕ) → length (strip_bom text) ≤ length text
+unfolding strip_bom
+bom_stripped [] = omega arith
+bom_stripped (a ∷ []) = omega arith
+bom_stripped (a ∷ b ∷ []) = omega arith
+bom_stripped (a ∷ b ∷ c ∷ rest) = elim (cases_Bool (is_bom a b c)) [
+  | inl t ↦ rw t (omega arith)
+  | inr f ↦ rw f (omega arith)
+]
+
+-- a text has no more records than bytes, and one
+pub records_of-few : (text : List ℕ) → length (records_of text) ≤ length text + 1
+unfolding records_of
+records_of-few text =
+    let turns = few_turns default_config (length (strip_bom text) + 1) st.StartRecord (strip_bom text) in
+    let stripped = bom_stripped text in
+    omega arith
 
 module _ (a b : Reader (Bor (List ℕ))) (is : IsReader a) where
   pub left-read : (found : Bool) (fields : List (List ℕ)) → (reader_trim a ≡ trim.None → Ready a → ReadRecord known a b found fields)

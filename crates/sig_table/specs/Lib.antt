@@ -23,6 +23,7 @@ pub mod Views
 pub mod Budgets
 pub mod CsvTexts
 pub mod Drafts
+pub mod Files
 pub mod FormatSets
 pub mod Records
 pub mod Spans

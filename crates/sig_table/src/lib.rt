@@ -16,6 +16,7 @@ mod passing;
 mod position;
 mod puid;
 mod ranking;
+mod reading;
 mod records;
 mod row;
 mod sequence;
@@ -33,11 +34,11 @@ pub use laws::{
     pairs_are_spelled, rows_are_gathered, rows_are_refused, rows_are_spelled,
     some_is_not_outranked, written_is_loaded, written_priorities_are_loaded,
 };
-pub use loader::{is_priority_header, is_signature_header};
 pub use passing::{take_pair, take_row};
 pub use position::Position;
 pub use puid::{Puid, Registry, printed_is_read};
 pub use ranking::Ranking;
+pub use reading::{is_priority_header, is_signature_header};
 pub use records::Records;
 pub use row::read_offset;
 pub use sequence::Sequence;

@@ -1,30 +1,28 @@
 //! From the two files to the table: the signature file whole, and then the priority file.
 //!
 //! A file is judged after it was read to its end, so a failed read comes before a fault of the
-//! bytes that came. A record is split and judged against the rows before it, and then the next one
-//! is split. So a faulty row ends the load, and one record is in memory at a time.
-//! Rows and pairs go by one fold (`judged`), whose laws hold for both. A reader of `csv` drops a
-//! UTF-8 byte order mark.
+//! bytes that came. Its rows are judged in turn (`reading`), by one fold (`judged`) whose laws hold
+//! for rows and pairs. A reader of `csv` drops a UTF-8 byte order mark.
 
-ghost use Rattle.std.specs.Prelude.{◌≡◌, ◌<◌, ◌≤◌, ◌⊎◌, [], List, ℕ, length, Some, true, false, Ok, Err, OnOk, IfOk, IfErr, IfSome, IsErr, IsErrOf, IsTrue, MatchResult};
+ghost use Rattle.std.specs.Prelude.{◌≡◌, ◌<◌, ◌≤◌, ◌⊎◌, [], List, ℕ, length, true, false, Ok, Err, OnOk, IfOk, IfErr, IfSome, IsErr, IsErrOf, IsTrue, MatchResult};
 ghost use Rattle.csv.specs.Records.{fields_of};
 ghost use Rattle.sig_bits.specs.Device.{IsAtEnd};
-ghost use Rattle.sig_table.specs.Loading.{is_of_signatures, is_priority_header, is_signature_header, empty_table, pair_of, pairs_from, pairs_of, index_in, records_of, signatures_of, table_from, table_of, with_pair, with_record};
+ghost use Rattle.sig_table.specs.Loading.{is_of_signatures, pair_of, pairs_of, index_in, records_of, signatures_of, table_of};
 ghost use Rattle.sig_table.specs.Judging.{IsFault, Exact, is_judged, is_read};
 ghost use Rattle.sig_table.specs.Tables.{ArePriorities, HasAllSignatures, IsTable};
 ghost use Rattle.std.specs.Option.{ok_or};
-ghost use Rattle.sig_table.specs.declared.row.Row.{Row};
 ghost use Rattle.sig_table.specs.declared.error.TableError.{TableError};
 
 use crate::draft::Draft;
 use crate::ranking::Ranking;
-use crate::records::Records;
+use crate::reading::{FromRows, read_file};
 use crate::row::{field, read_puid, read_row};
 use crate::{Puid, Table, TableError, TableFile};
 use csv::ByteRecord;
 use indexmap::IndexSet;
 use sig_bits::{Input, ReadWholeError, read_whole};
 use std::alloc::Global;
+use std::marker::Model;
 
 impl Table {
     /// Reads the signature file whole and judges it, then the priority file.
@@ -90,75 +88,32 @@ fn read_text<R: Input>(alloc: Global, input: &mut R, file: TableFile) -> Result<
     }
 }
 
-// The formats and signatures of the signature file. A reader of `csv` is 16 KiB, so each file is
-// judged in a frame of its own.
-#[inline(never)]
-#[tactic(auto, unfolding(crate::specs::Loading::signatures_of))]
+// The formats and signatures of the signature file.
 fn read_signatures(alloc: Global, text: &[u8]) -> Result<Draft, TableError>
     ensures { MatchResult result
         (λ draft. signatures_of (records_of text.now) ≡ Ok draft)
         (λ e. IsFault (signatures_of (records_of text.now)) e) }
 {
-    let mut records = Records::new(alloc, text);
-    let mut header = ByteRecord::new(alloc);
-    let found = records.read(&mut header)?;
-    if found && is_signature_header(&header) {
-        return read_rows(alloc, &mut records);
+    read_file(alloc, TableFile::Signatures, text, Draft::new(alloc))
+}
+
+impl FromRows for Draft {
+    ghost use Rattle.sig_table.specs.Loading.{with_record};
+
+    ghost judge = { with_record };
+
+    fn with_row(
+        self,
+        alloc: Global,
+        fields: &ByteRecord,
+        row_number: usize,
+    ) -> Result<Draft, TableError> {
+        let row = read_row(alloc, fields, row_number)?;
+        self.add(alloc, row, row_number)
     }
-    Err(TableError::Header {
-        file: TableFile::Signatures,
-    })
 }
 
-// The rows in turn, each judged after those before it. No memory holds more of them than a number.
-fn read_rows(alloc: Global, records: &mut Records) -> Result<Draft, TableError>
-    ensures { MatchResult result
-        (λ draft. table_from 1 empty_table records.old ≡ Ok draft)
-        (λ e. IsFault (table_from 1 empty_table records.old) e) }
-{
-    let mut draft = Draft::new(alloc);
-    let mut record = ByteRecord::new(alloc);
-    for row_number in 1..usize::MAX {
-        let found = records.read(&mut record)?;
-        if !found {
-            return Ok(draft);
-        }
-        draft = add_row(alloc, draft, &record, row_number)?;
-    }
-    Err(TableError::OutOfMemory)
-}
-
-// The draft with the row of the record.
-fn add_row(
-    alloc: Global,
-    draft: Draft,
-    fields: &ByteRecord,
-    row_number: usize,
-) -> Result<Draft, TableError>
-    ensures { MatchResult result
-        (λ more. with_record row_number draft (fields_of fields.now) ≡ Ok more)
-        (λ e. IsFault (with_record row_number draft (fields_of fields.now)) e) }
-{
-    let row = read_row(alloc, fields, row_number)?;
-    draft.add(alloc, row, row_number)
-}
-
-/// Whether the record is the header of a signature file.
-pub fn is_signature_header(line: &ByteRecord) -> bool
-    ensures { result ≡ is_signature_header (fields_of line.now) }
-{
-    line.len() == 6
-        && field(line, 0) == b"puid".as_slice()
-        && field(line, 1) == b"signature".as_slice()
-        && field(line, 2) == b"position".as_slice()
-        && field(line, 3) == b"offset".as_slice()
-        && field(line, 4) == b"max_offset".as_slice()
-        && field(line, 5) == b"expression".as_slice()
-}
-
-// The pairs of the priority file, in a frame of its own, too.
-#[inline(never)]
-#[tactic(auto, unfolding(crate::specs::Loading::pairs_of))]
+// The pairs of the priority file, of the formats of the draft.
 fn read_priorities(
     alloc: Global,
     draft: &Draft,
@@ -169,57 +124,66 @@ fn read_priorities(
         (λ e. (is_of_signatures e ≡ false) × IsFault (pairs_of draft.now.formats (records_of text.now)) e) }
     ensures limits { IfOk result (λ pairs. ArePriorities (length draft.now.formats) pairs.keys) }
 {
-    let mut records = Records::new(alloc, text);
-    let mut header = ByteRecord::new(alloc);
-    let found = records.read(&mut header)?;
-    if found && is_priority_header(&header) {
-        return read_pairs(alloc, draft, &mut records);
-    }
-    Err(TableError::Header {
-        file: TableFile::Priorities,
-    })
+    let start = PairRows::new(alloc, draft.formats())?;
+    let rows = read_file(alloc, TableFile::Priorities, text, start)?;
+    Ok(rows.into_pairs())
 }
 
-// The pairs of the rows in turn, each judged after those before it.
-fn read_pairs(
-    alloc: Global,
-    draft: &Draft,
-    records: &mut Records,
-) -> Result<IndexSet<(u16, u16)>, TableError>
-    ensures pairs { MatchResult result
-        (λ pairs. pairs_from draft.now.formats 1 [] records.old ≡ Ok pairs.keys)
-        (λ e. (is_of_signatures e ≡ false) × IsFault (pairs_from draft.now.formats 1 [] records.old) e) }
-    ensures limits { IfOk result (λ pairs. ArePriorities (length draft.now.formats) pairs.keys) }
-{
-    let Ok(mut ranking) = Ranking::new(alloc, draft.formats().len()) else {
-        return Err(TableError::OutOfMemory);
-    };
-    let mut record = ByteRecord::new(alloc);
-    for row_number in 1..usize::MAX {
-        let found = records.read(&mut record)?;
-        if !found {
-            return Ok(ranking.into_pairs());
-        }
-        ranking = add_pair(draft, ranking, &record, row_number)?;
-    }
-    Err(TableError::OutOfMemory)
-}
-
-// The ranking with the pair of the record.
-fn add_pair(
-    draft: &Draft,
+// The pairs of the rows so far, and the formats that they are of.
+#[derive(Drop)]
+struct PairRows<'a> {
+    formats: &'a IndexSet<Puid>,
     ranking: Ranking,
-    fields: &ByteRecord,
-    row_number: usize,
-) -> Result<Ranking, TableError>
-    requires { ranking.format_count ≡ length draft.now.formats }
-    ensures pairs { MatchResult result
-        (λ more. with_pair draft.now.formats row_number ranking.pairs (fields_of fields.now) ≡ Ok more.pairs)
-        (λ e. (is_of_signatures e ≡ false) × IsFault (with_pair draft.now.formats row_number ranking.pairs (fields_of fields.now)) e) }
-    ensures formats { IfOk result (λ more. more.format_count ≡ length draft.now.formats) }
-{
-    let pair = read_pair(draft.formats(), fields, row_number)?;
-    ranking.add(pair, row_number)
+}
+
+impl<'a> Model for PairRows<'a> {
+    ghost use Rattle.std.specs.Prelude.{◌≡◌, ◌≤◌, length};
+    ghost use Rattle.sig_table.specs.Files.{PairRowsView};
+
+    ghost Value = { PairRowsView };
+
+    ghost view = { λ r. record { formats = r.formats.now.keys; pairs = r.ranking.pairs } };
+
+    ghost invariant = { λ r. (length r.formats.now.keys ≤ 1000) × (r.ranking.format_count ≡ length r.formats.now.keys) };
+}
+
+impl<'a> PairRows<'a> {
+    // No row yet.
+    fn new(alloc: Global, formats: &'a IndexSet<Puid>) -> Result<PairRows<'a>, TableError>
+        requires { length formats.now.keys ≤ 1000 }
+        ensures start { IfOk result (λ rows. rows ≡ record { formats = formats.now.keys; pairs = [] }) }
+        ensures memory { IfErr result (λ e. e ≡ TableError.OutOfMemory) }
+    {
+        match Ranking::new(alloc, formats.len()) {
+            Ok(ranking) => Ok(PairRows { formats, ranking }),
+            Err(_) => Err(TableError::OutOfMemory),
+        }
+    }
+
+    fn into_pairs(self) -> IndexSet<(u16, u16)>
+        ensures pairs { result.keys ≡ self.entry.pairs }
+        ensures limits { ArePriorities (length self.entry.formats) result.keys }
+    {
+        self.ranking.into_pairs()
+    }
+}
+
+impl FromRows for PairRows<'_> {
+    ghost use Rattle.sig_table.specs.Files.{with_pair_row};
+
+    ghost judge = { with_pair_row };
+
+    fn with_row(
+        self,
+        _: Global,
+        fields: &ByteRecord,
+        row_number: usize,
+    ) -> Result<Self, TableError> {
+        let PairRows { formats, ranking } = self;
+        let pair = read_pair(formats, fields, row_number)?;
+        let ranking = ranking.add(pair, row_number)?;
+        Ok(PairRows { formats, ranking })
+    }
 }
 
 // The pair that the record writes, of these formats. Both PUIDs are read before either is looked
@@ -232,7 +196,7 @@ pub(crate) fn read_pair(
 ) -> Result<(u16, u16), TableError>
     requires { length formats.now.keys ≤ 1000 }
     ensures pair { result ≡ pair_of formats.now.keys row_number (fields_of line.now) }
-    ensures later { IfErr result (λ e. (is_of_signatures e ≡ false) × (is_read e ≡ false)) }
+    ensures no_read { IfErr result (λ e. is_read e ≡ false) }
     ensures higher { IfOk result (λ pair. pair.0 < length formats.now.keys) }
     ensures lower { IfOk result (λ pair. pair.1 < length formats.now.keys) }
     ensures other { IfOk result (λ pair. ¬ (pair.0 ≡ pair.1)) }
@@ -264,13 +228,4 @@ fn read_format(formats: &IndexSet<Puid>, puid: &Puid, row_number: usize) -> Resu
         Some(index) => Ok(index as u16),
         None => Err(TableError::PriorityUnknown { row: row_number }),
     }
-}
-
-/// Whether the record is the header of a priority file.
-pub fn is_priority_header(line: &ByteRecord) -> bool
-    ensures { result ≡ is_priority_header (fields_of line.now) }
-{
-    line.len() == 2
-        && field(line, 0) == b"higher".as_slice()
-        && field(line, 1) == b"lower".as_slice()
 }

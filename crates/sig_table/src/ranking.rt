@@ -8,7 +8,7 @@
 ghost use Rattle.std.specs.Prelude.{◌≡◌, ◌⊎◌, ℕ, ◌<◌, ◌≤◌, ◌↔◌, ◌∷◌, ◌++◌, [], List, IsTrue, IfOk, IfSome, MatchResult, None, Ok, false, length};
 ghost use Rattle.sig_table.specs.FormatSets.{HasFormat};
 ghost use Rattle.sig_table.specs.Judging.{passed, unless};
-ghost use Rattle.sig_table.specs.Loading.{is_listed, is_of_signatures, pair_fault};
+ghost use Rattle.sig_table.specs.Loading.{is_listed, pair_fault};
 ghost use Rattle.sig_table.specs.Ranking.{Outranks, is_above};
 ghost use Rattle.sig_table.specs.RankingViews.{AreBelow};
 ghost use Rattle.sig_table.specs.Judging.{IsFault, is_read};
@@ -105,7 +105,7 @@ impl Ranking {
         requires other { ¬ (pair.0 ≡ pair.1) }
         ensures { MatchResult result
             (λ r. (pair_fault self.pairs row_number pair ≡ None) × (r ≡ record self { pairs = self.pairs ++ pair ∷ [] }))
-            (λ e. (is_of_signatures e ≡ false) × IsFault (unless (pair_fault self.pairs row_number pair) (Ok self)) e) }
+            (λ e. IsFault (unless (pair_fault self.pairs row_number pair) (Ok self)) e) }
     {
         if let Some(fault) = self.fault(pair, row_number) {
             return Err(fault);
@@ -140,7 +140,6 @@ impl Ranking {
         requires lower { pair.1 < self.now.format_count }
         ensures fault { result ≡ pair_fault self.now.pairs row_number pair }
         ensures no_read { IfSome result (λ e. is_read e ≡ false) }
-        ensures later { IfSome result (λ e. is_of_signatures e ≡ false) }
     {
         if self.contains(pair) {
             return Some(TableError::PriorityTwice { row: row_number });

@@ -4,7 +4,7 @@
 //! of them is in memory at a time. Records may have any number of fields, and none is taken for a
 //! header: both is the loader's to judge.
 
-ghost use Rattle.std.specs.Prelude.{◌≡◌, ◌∷◌, [], true, IfOk, IfErr};
+ghost use Rattle.std.specs.Prelude.{◌≡◌, ◌+◌, ◌≤◌, ◌∷◌, [], length, true, IfOk, IfErr};
 ghost use Rattle.std.specs.Bool.{MatchBool};
 ghost use Rattle.csv.specs.Reading.{error_kind, stops_reader};
 ghost use Rattle.csv.specs.Records.{fields_of};
@@ -36,7 +36,8 @@ impl<'a> Model for Records<'a> {
 impl<'a> Records<'a> {
     /// All records of the text.
     pub fn new(alloc: Global, text: &'a [u8]) -> Records<'a>
-        ensures { result ≡ records_of text.now }
+        ensures records { result ≡ records_of text.now }
+        ensures few { length result ≤ length text.now + 1 }
     {
         let reader = ReaderBuilder::new()
             .has_headers(false)

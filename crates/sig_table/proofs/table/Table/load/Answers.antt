@@ -3,7 +3,7 @@ use Rattle.std.proofs.lemmas.Result.{err_from_is_err_and}
 use Rattle.sig_table.specs.Loading.{records_of}
 use Rattle.sig_table.proofs.FaultLemmas.{Exact-from_IsFault, Exact-last}
 use Rattle.sig_table.proofs.LoadLemmas.{table_of-unranked, table_of-unread, table_of-whole}
-use Rattle.sig_table.proofs.SignatureFaultLemmas.{is_judged-of}
+use Rattle.sig_table.proofs.FileFaultLemmas.{is_judged-of}
 use Rattle.sig_table.proofs.table.Table.load.Goals as goal
 
 pub returns-in_err-draft-clause-exact : goal.returns-in_err-draft-clause-exact

@@ -2,7 +2,7 @@ use Rattle.std.proofs.lemmas.Result.{err_from_is_err_and}
 use Rattle.sig_table.proofs.FaultLemmas.{IsFault-map}
 use Rattle.sig_table.proofs.LoadLemmas.{with_record-added, with_record-unread}
 use Rattle.sig_table.proofs.RowLemmas.{IsRow-row_of}
-use Rattle.sig_table.proofs.loader.add_row.Goals as goal
+use Rattle.sig_table.proofs.loader.DraftFromRows.with_row.Goals as goal
 
 pub add-requires : goal.add-requires
 add-requires c = IsRow-row_of _ _ c.in_ok-row.row c.in_ok-row.ensures
