@@ -1,12 +1,12 @@
 -- Bits of bytes, and of lists of bytes.
-use Rattle.std.proofs.Common.{◌≡◌, ◌≢◌, ◌↔◌, ◌⊎◌, inl, inr, ⊎_elim, ℕ, ◌+◌, ◌-◌, ◌*◌, ◌/◌, ◌%◌, ◌^◌, ◌<◌, ◌≤◌, min, max, List, length, get_or, set,
-    get_or-set_same, get_or-set_other, replicate, refl, sym, ap, ◌∙◌, arith, subst, w8, bit_and, bit_or}
+use Rattle.std.proofs.Common.{◌≡◌, ◌≢◌, ◌↔◌, ◌⊎◌, inl, inr, ⊎_elim, ℕ, ◌+◌, ◌-◌, ◌*◌, ◌/◌, ◌%◌, ◌^◌, ◌<◌, ◌≤◌, min, max, List, length, get_or, set}
+use Rattle.std.proofs.Common.{get_or-set_same, get_or-set_other, replicate, refl, sym, ap, ◌∙◌, arith, subst, w8, bit_and, bit_or}
 use Rattle.std.specs.Int.{bit_at, bit_not, trailing_zeros}
 use Rattle.std.proofs.lemmas.List.{get_or_past, get_or-replicate, length-replicate}
 use Rattle.std.proofs.Math.Nat.{div-one}
 use Rattle.std.proofs.lemmas.Nat.{and_le_l, shr-shr, shr_le}
-use Rattle.std.proofs.lemmas.Nat.Bits.{bit_at_and, bit_at_or, bit_at_not, bit_at-zero, bit_at-lt, bit_at_above, bit_at-trailing_zeros, bit_at_ones,
-    bit_at_set_same, bit_at_set_other}
+use Rattle.std.proofs.lemmas.Nat.Bits.{bit_at_and, bit_at_or, bit_at_not, bit_at-zero, bit_at-lt, bit_at_above, bit_at-trailing_zeros, bit_at_ones}
+use Rattle.std.proofs.lemmas.Nat.Bits.{bit_at_set_same, bit_at_set_other}
 use Rattle.std.proofs.lemmas.Bool.{cases_eq, cases_lt}
 use Rattle.sig_bits.specs.BitSets.{HasBit}
 
@@ -78,7 +78,7 @@ pub HasBit-within : (bits : List ℕ) (i : ℕ) → HasBit bits i → i < 8 * le
 unfolding HasBit
 HasBit-within bits i h =
     ⊎_elim (λ within. omega arith) (λ past. absurd (let e = rw (get_or_past bits (i / 8) 0 past) at h in omega (arith, bit_at-zero (i % 8))))
-        (cases_lt (i / 8) (length bits))
+    (cases_lt (i / 8) (length bits))
 
 -- zeros have no bit
 pub zeros_have_no_bit : (n i : ℕ) → HasBit (replicate n 0) i → ⊥
@@ -100,7 +100,7 @@ unfolding HasBit
 HasBit-joined joined old src len len' each i =
     let read : get_or joined (i / 8) 0 ≡ bit_or (get_or old (i / 8) 0) (get_or src (i / 8) 0) =
     ⊎_elim (each (i / 8)) (λ past. rw (get_or_past joined (i / 8) 0 (omega arith), get_or_past old (i / 8) 0 (omega arith), get_or_past src (i / 8) 0 past)
-        refl) (cases_lt (i / 8) (length src)) in
+    refl) (cases_lt (i / 8) (length src)) in
     rw read (bit_at_or-iff (get_or old (i / 8) 0) (get_or src (i / 8) 0) (i % 8))
 
 -- bytes of which the common bits are kept one by one have the bits of both
@@ -110,7 +110,7 @@ unfolding HasBit
 HasBit-common common old src len len' each i =
     let read : get_or common (i / 8) 0 ≡ bit_and (get_or old (i / 8) 0) (get_or src (i / 8) 0) =
     ⊎_elim (each (i / 8)) (λ past. rw (get_or_past common (i / 8) 0 (omega arith), get_or_past old (i / 8) 0 (omega arith)) refl)
-        (cases_lt (i / 8) (length src)) in
+    (cases_lt (i / 8) (length src)) in
     rw read (bit_at_and-iff (get_or old (i / 8) 0) (get_or src (i / 8) 0) (i % 8))
 
 -- bytes that are turned one by one have the bits that the list lacks
@@ -125,7 +125,7 @@ bit_at_set-iff : (x i j : ℕ) → i < 8 → (bit_at (bit_or x (1 * 2 ^ i % 256)
 bit_at_set-iff x i j within =
     ⊎_elim (λ same. (λ _. inl same, λ _. rw same (bit_at_set_same w8 x i within)))
     (λ other. let kept : bit_at (bit_or x (1 * 2 ^ i % 256)) j ≡ bit_at x j = bit_at_set_other w8 x i within j other in
-        (λ h. inr (sym kept ∙ h), λ h. kept ∙ ⊎_elim (λ same. absurd (other same)) (λ had. had) h))
+    (λ h. inr (sym kept ∙ h), λ h. kept ∙ ⊎_elim (λ same. absurd (other same)) (λ had. had) h))
     (cases_eq j i)
 
 -- a bit that is set joins the others
@@ -144,7 +144,7 @@ HasBit-set bits i j within =
     rw (read, had)
     (λ h. ⊎_elim (λ e. inl (omega arith)) (λ e. inr e) (law.0 h), λ h. law.1 (⊎_elim (λ e. inl (ap (λ n. n % 8) e)) (λ e. inr e) h)))
     (λ (other : j / 8 ≢ i / 8). rw (get_or-set_other bits (i / 8) (j / 8) new 0 other)
-        (λ h. inr h, λ h. ⊎_elim (λ e. absurd (other (ap (λ n. n / 8) e))) (λ e. e) h))
+    (λ h. inr h, λ h. ⊎_elim (λ e. absurd (other (ap (λ n. n / 8) e))) (λ e. e) h))
     (cases_eq (j / 8) (i / 8))
 
 -- the bits of a list and those of another at one byte
@@ -171,7 +171,7 @@ unfolding HasBit
 every_bit_at_one_byte a b i small none h =
     let turned = bit_at_not-iff (get_or b (i / 8) 0) (i % 8) small (omega arith) in
     ⊎_elim (λ has. has) (λ lacks. absurd (no_common_bit (get_or a (i / 8) 0) _ (i % 8) none h (turned.1 lacks)))
-        (cases_eq (bit_at (get_or b (i / 8) 0) (i % 8)) 1)
+    (cases_eq (bit_at (get_or b (i / 8) 0) (i % 8)) 1)
 
 -- a byte of zeros has no bit
 pub no_bit_at_zero : (bits : List ℕ) (i : ℕ) → get_or bits (i / 8) 0 ≡ 0 → HasBit bits i → ⊥
@@ -219,7 +219,7 @@ bit_from_here bits b a from same h =
 -- the lowest bit of what is left of the byte at b
 pub lowest_from_here : (bits : List ℕ) (b : ℕ) → ((k : ℕ) → get_or bits k 0 < 256) → get_or bits (b / 8) 0 / 2 ^ (b % 8) ≢ 0
     → (HasBit bits (b + trailing_zeros w8 (get_or bits (b / 8) 0 / 2 ^ (b % 8))))
-        × ((a : ℕ) → b ≤ a → a < b + trailing_zeros w8 (get_or bits (b / 8) 0 / 2 ^ (b % 8)) → HasBit bits a → ⊥)
+    × ((a : ℕ) → b ≤ a → a < b + trailing_zeros w8 (get_or bits (b / 8) 0 / 2 ^ (b % 8)) → HasBit bits a → ⊥)
 lowest_from_here bits b small some =
     let x : ℕ = get_or bits (b / 8) 0 in
     let rest : ℕ = x / 2 ^ (b % 8) in

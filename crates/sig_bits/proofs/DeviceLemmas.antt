@@ -13,7 +13,7 @@ Adds-more (Some xs) None c bytes done n h k = absurd h
 Adds-more (Some xs) (Some ys) None bytes done n h k = absurd k
 Adds-more (Some xs) (Some ys) (Some zs) bytes done n h k =
     k ∙ ap (λ l. l ++ take n (drop done bytes)) h ∙ append_assoc xs (take done bytes) (take n (drop done bytes)) ∙ ap (λ l. xs ++ l)
-        (sym (take-add done n bytes))
+    (sym (take-add done n bytes))
 
 -- the same of what an input gives
 pub Gives-more : (a b c : Option (List ℕ)) (x y : List ℕ) → Gives a x b → Gives b y c → Gives a (x ++ y) c

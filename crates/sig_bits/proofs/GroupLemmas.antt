@@ -1,6 +1,6 @@
 -- Groups of bytes that a span of bytes splits.
-use Rattle.std.proofs.Common.{◌≡◌, ◌≢◌, ◌↔◌, ◌∙◌, ◌⊎◌, ℕ, ◌+◌, ◌<◌, ◌≤◌, inl, inr, List, length, slice_index, get_or-set_other, get_or-set_same, set, replicate,
-    refl, sym, ap, subst, arith}
+use Rattle.std.proofs.Common.{◌≡◌, ◌≢◌, ◌↔◌, ◌∙◌, ◌⊎◌, ℕ, ◌+◌, ◌<◌, ◌≤◌, inl, inr, List, length, slice_index, get_or-set_other, get_or-set_same, set, replicate}
+use Rattle.std.proofs.Common.{refl, sym, ap, subst, arith}
 use Rattle.std.proofs.Math.ListN.{length-set}
 use Rattle.std.proofs.lemmas.Bool.{cases_eq, cases_lt}
 use Rattle.std.proofs.lemmas.List.{get_or-replicate, get_or_past, length-replicate}
@@ -78,9 +78,11 @@ module _ (old split others : List ℕ) (first last : ℕ) (leads : AreLeads old)
   split_together a b in_a in_b = elim (same_or_not first last a (slice_index old a)) [
     | inl one ↦ elim (same_or_not first last b (slice_index old b)) [
       | inl two ↦ (
-        λ both. let same : slice_index old a ≡ slice_index old b = sym ((done a in_a).same one) ∙ both ∙ (done b in_b).same two in
-            (same, same_further first last a (slice_index old a) b one (same_back first last b (slice_index old a)
-                (subst (SameSide first last b) (sym same) two))),
+        λ both. let same : slice_index old a ≡ slice_index old b = sym ((done a in_a).same one) ∙ both ∙ (done b in_b).same two in (
+          same,
+          same_further first last a (slice_index old a) b one (same_back first last b (slice_index old a)
+              (subst (SameSide first last b) (sym same) two)),
+        ),
         λ k. (done a in_a).same one ∙ k.0 ∙ sym ((done b in_b).same two),
       )
       | inr two ↦ (
@@ -155,8 +157,14 @@ pub record SplitSoFar (old split others : List ℕ) (first last b : ℕ) : Type 
   pub found : (lead : ℕ) → IsOther old others first last b lead
 
 pub none_split : (old : List ℕ) (first last : ℕ) → length old ≡ 256 → SplitSoFar old old (replicate 256 0) first last 0
-none_split old first last long = record { long = long; wide = length-replicate {A = ℕ} 256 0; done = λ a low. absurd (omega arith); later =
-    λ a low. refl; found = λ lead some. absurd (some (led_by_zero lead)) }
+none_split old first last long = record {
+  long = long;
+  wide = length-replicate {A = ℕ} 256 0;
+  done = λ a low. absurd (omega arith);
+  later =
+      λ a low. refl;
+  found = λ lead some. absurd (some (led_by_zero lead));
+}
 
 -- a byte on its lead's side
 pub same_split : (old split others : List ℕ) (first last b : ℕ) → SplitSoFar old split others first last b → SameSide first last b (slice_index old b)
@@ -233,8 +241,11 @@ other_split old split others new first last b so low no_side has = record {
     | inl same ↦
         let k = so.found lead (λ zero. some (same ∙ zero)) in
         (omega (arith, same, k.0), ap (slice_index old) same ∙ k.1, λ side. k.2 (subst (λ n. SameSide first last n lead) same side))
-    | inr here ↦ (omega (arith, here.1), ap (slice_index old) here.1 ∙ sym here.0,
-        λ side. no_side (subst (SameSide first last b) here.0 (subst (λ n. SameSide first last n lead) here.1 side)))
+    | inr here ↦ (
+      omega (arith, here.1),
+      ap (slice_index old) here.1 ∙ sym here.0,
+      λ side. no_side (subst (SameSide first last b) here.0 (subst (λ n. SameSide first last n lead) here.1 side)),
+    )
   ];
 }
   where

@@ -1,6 +1,6 @@
 -- Vectors of 32 bytes, lane by lane.
-use Rattle.std.proofs.Common.{◌≡◌, ◌↔◌, ⊎_elim, ℕ, zero, suc, ◌+◌, ◌-◌, ◌%◌, ◌/◌, ◌^◌, ◌<◌, ◌≤◌, ◌≢◌, Bool, true, false, not, cond, eqb, eqb-true, List, [],
-    ◌∷◌, length, map, get_or, replicate, refl, sym, ap, subst, ◌∙◌, arith, w8, w64}
+use Rattle.std.proofs.Common.{◌≡◌, ◌↔◌, ⊎_elim, ℕ, zero, suc, ◌+◌, ◌-◌, ◌%◌, ◌/◌, ◌^◌, ◌<◌, ◌≤◌, ◌≢◌, Bool, true, false, not, cond, eqb, eqb-true, List, []}
+use Rattle.std.proofs.Common.{◌∷◌, length, map, get_or, replicate, refl, sym, ap, subst, ◌∙◌, arith, w8, w64}
 use Rattle.std.specs.Int.{bit_at, trailing_zeros}
 use Rattle.std.specs.Simd.Lanes.{zip2, mask_l, top}
 use Rattle.std.proofs.lemmas.Bool.{cases_eq, cases_lt, eqb-false}
@@ -47,7 +47,7 @@ pub joined_of_mask : (lanes : List ℕ) → length lanes ≡ 32 → IsJoined (λ
     (mask_l (map (top 7) (zip2 differs lanes (replicate 32 0))) % 2 ^ 64)
 joined_of_mask lanes len =
     let bits : length (map (top 7) (zip2 differs lanes (replicate 32 0))) ≡ 32 =
-        length-map (zip2 differs lanes (replicate 32 0)) (top 7) ∙ length-zip2 differs lanes (replicate 32 0) len ∙ len in
+    length-map (zip2 differs lanes (replicate 32 0)) (top 7) ∙ length-zip2 differs lanes (replicate 32 0) len ∙ len in
     let whole = mask_l-mod (map (top 7) (zip2 differs lanes (replicate 32 0))) 64 (omega arith) in
     subst (IsJoined (λ k. get_or lanes k 0) 0 32) (sym whole)
     (subst (λ n. IsJoined (λ k. get_or lanes k 0) 0 n (mask_l (map (top 7) (zip2 differs lanes (replicate n 0))))) len (joined_by_mask lanes))
@@ -102,7 +102,7 @@ pub bits_of_mask : (lanes : List ℕ) → length lanes ≡ 32 → (k : ℕ) → 
 bits_of_mask lanes len k low =
     let read : bit_at (mask_l (map (top 7) (zip2 differs lanes (replicate 32 0))) % 2 ^ 64) k ≡ cond (some (get_or lanes k 0)) 1 0 =
     ap (λ m. bit_at m k) (mask_is lanes len) ∙ bit_mask_l (map some lanes) k ∙ ap (λ (t : Bool). cond t 1 0)
-        (get_or-map some lanes k 0 false (omega (arith, len))) in
+    (get_or-map some lanes k 0 false (omega (arith, len))) in
     let law = some_is (get_or lanes k 0) in
     (λ one. law.0 (sym read ∙ one), λ ne. read ∙ law.1 ne)
 

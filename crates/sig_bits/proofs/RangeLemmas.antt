@@ -1,6 +1,6 @@
 -- Ranges of bits, and what moves a place up.
-use Rattle.std.proofs.Common.{◌≡◌, ◌≢◌, ◌↔◌, ◌⊎◌, inl, inr, ⊎_elim, ℕ, zero, suc, ◌+◌, ◌-◌, ◌*◌, ◌/◌, ◌%◌, ◌^◌, ◌<◌, ◌≤◌, List, get_or, refl, sym, ap, ◌∙◌,
-    arith, bit_or}
+use Rattle.std.proofs.Common.{◌≡◌, ◌≢◌, ◌↔◌, ◌⊎◌, inl, inr, ⊎_elim, ℕ, zero, suc, ◌+◌, ◌-◌, ◌*◌, ◌/◌, ◌%◌, ◌^◌, ◌<◌, ◌≤◌, List, get_or, refl, sym, ap, ◌∙◌}
+use Rattle.std.proofs.Common.{arith, bit_or}
 use Rattle.std.specs.Int.{bit_at}
 use Rattle.std.proofs.lemmas.Nat.Bits.{bit_at_above, bit_at-zero, bit_at_cat_low, bit_at_lowest, bit_at-suc}
 use Rattle.std.proofs.lemmas.Bool.{cases_eq, cases_lt}
@@ -34,7 +34,7 @@ shifted_thrice d0 d1 d2 d3 bits a b c d ab bc cd one two three j =
       λ h. ⊎_elim
           (λ h0. (three j).1 (inl ((two j).1 (inl ((one j).1 (inl h0))))))
           (λ s. ⊎_elim (λ s1. (three j).1 (inl ((two j).1 (inl ((one j).1 (inr s1))))))
-              (λ r. ⊎_elim (λ s2. (three j).1 (inl ((two j).1 (inr s2)))) (λ s3. (three j).1 (inr s3)) (second.0 r)) (first.0 s))
+          (λ r. ⊎_elim (λ s2. (three j).1 (inl ((two j).1 (inr s2)))) (λ s3. (three j).1 (inr s3)) (second.0 r)) (first.0 s))
           h,
     )
 
@@ -123,7 +123,7 @@ HasBit-shifted new old src first last some small each below above j =
       λ h. joined.1 (⊎_elim (λ e. inl e) (λ (i, e). inr (law.1 (i, (omega arith, e.3)))) h),
     ))
     (λ past. let same = HasBit-same_byte new old j (above (j / 8) past) in
-        (λ h. inl (same.0 h), λ h. ⊎_elim (λ e. same.1 e) (λ (i, e). absurd (omega arith)) h))
+    (λ h. inl (same.0 h), λ h. ⊎_elim (λ e. same.1 e) (λ (i, e). absurd (omega arith)) h))
     (cases_lt (j / 8) last))
     (cases_lt (j / 8) first)
 

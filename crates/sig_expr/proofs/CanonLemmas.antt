@@ -1,12 +1,12 @@
 -- Canonical texts of what is left of a list.
-use Rattle.std.proofs.Common.{◌≡◌, ℕ, ◌+◌, ◌<◌, List, [], ◌∷◌, ◌++◌, length, drop, get_or, map, refl, add-one, drop-cons, Vec, Global, Bool, true, false, cond,
-    nat_eq, Option, Some, None, arith, length-append}
+use Rattle.std.proofs.Common.{◌≡◌, ℕ, ◌+◌, ◌<◌, List, [], ◌∷◌, ◌++◌, length, drop, get_or, map, refl, add-one, drop-cons, Vec, Global, Bool, true, false, cond}
+use Rattle.std.proofs.Common.{nat_eq, Option, Some, None, arith, length-append}
 use Rattle.hex.specs.Hex.{encode_upper, encode_with}
 use Rattle.sig_expr.specs.declared.item.Atom.{Atom}
 use Rattle.sig_expr.specs.declared.item.Item.{Item}
 use Rattle.sig_expr.specs.declared.item.Item.TheVariants as item
-use Rattle.sig_expr.specs.Canon.{atom_text, alternative_text, alternatives_text, item_text, canon, gap_text, from_text, count_text, between_text, range_text,
-    not_text}
+use Rattle.sig_expr.specs.Canon.{atom_text, alternative_text, alternatives_text, item_text, canon, gap_text, from_text, count_text, between_text, range_text}
+use Rattle.sig_expr.specs.Canon.{not_text}
 
 some_if : (b : Bool) (x y : List ℕ) → 0 < length x → 0 < length y → 0 < length (cond b x y)
 some_if true x y hx hy = hx

@@ -1,6 +1,6 @@
 -- An end that is read byte by byte holds its word.
-use Rattle.std.proofs.Common.{◌≡◌, ℕ, ◌+◌, ◌<◌, ◌≤◌, min, Bool, true, false, cond, List, [], ◌∷◌, ◌++◌, length, take, Some, refl, sym, ◌∙◌, ap, arith, nat_le,
-    nat_lt, slice_set, append_assoc, append-nil, add-one}
+use Rattle.std.proofs.Common.{◌≡◌, ℕ, ◌+◌, ◌<◌, ◌≤◌, min, Bool, true, false, cond, List, [], ◌∷◌, ◌++◌, length, take, Some, refl, sym, ◌∙◌, ap, arith, nat_le}
+use Rattle.std.proofs.Common.{nat_lt, slice_set, append_assoc, append-nil, add-one}
 use Rattle.std.proofs.Math.Seq.{take-suc-set}
 use Rattle.std.proofs.Math.ListN.{length-set}
 use Rattle.std.proofs.lemmas.Bool.Decides.{nat_tests}
@@ -47,7 +47,7 @@ bytes_after e [] room h = sym (append-nil _)
 bytes_after e (b ∷ bs) room h =
     let counted = push_counts e b (omega arith) in
     bytes_after (push_of e b) bs (push_room e b room) (omega arith) ∙ ap (λ (x : List ℕ). x ++ bs) (push_bytes e b room (omega arith)) ∙ append_assoc
-        (take e.len e.bytes) (b ∷ []) bs
+    (take e.len e.bytes) (b ∷ []) bs
 
 -- an end of one to eight bytes holds them
 pub word_of_end : (a : List ℕ) → 0 < length a → length a ≤ 8 → word_of (end_of_word a) ≡ Some a

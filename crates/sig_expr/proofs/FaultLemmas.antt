@@ -48,7 +48,7 @@ means_range : (not : Bool) (a b : _) (n : ℕ) → MeansFirst (range_fault not a
 unfolding range_fault
 means_range not a b n =
     means_if (nat_eq a.len b.len) _ _ (means_if (nat_lt 8 a.len) _ _ (λ t h. h) (means_words _ (word_of a) (word_of b) (λ x y. means_order not x y n)))
-        (λ t h. h)
+    (λ t h. h)
 
 means_not : (a : _) (n : ℕ) → MeansFirst (not_fault a n)
 unfolding not_fault

@@ -1,6 +1,6 @@
 -- The first fault of a text is the one that is answered.
-use Rattle.std.proofs.Common.{◌≡◌, ◌⊎◌, inl, inr, ℕ, ◌+◌, ◌<◌, ◌≤◌, Bool, true, false, List, [], ◌∷◌, ◌++◌, length, map, Option, Some, None, Result, Ok, Err,
-    refl, ap, arith, nat_lt, append_assoc, length-append}
+use Rattle.std.proofs.Common.{◌≡◌, ◌⊎◌, inl, inr, ℕ, ◌+◌, ◌<◌, ◌≤◌, Bool, true, false, List, [], ◌∷◌, ◌++◌, length, map, Option, Some, None, Result, Ok, Err}
+use Rattle.std.proofs.Common.{refl, ap, arith, nat_lt, append_assoc, length-append}
 use Rattle.std.proofs.lemmas.Bool.Decides.{nat_tests}
 use Rattle.sig_expr.specs.declared.error.ExprError.{ExprError}
 use Rattle.sig_expr.specs.declared.item.Item.{Item}
@@ -25,8 +25,8 @@ use Rattle.sig_expr.specs.Profile.{AtomsSound, AlternativesSound, ItemSound, Ite
 use Rattle.sig_expr.proofs.Scans.{run, run_at, pieces, pieces_in, Scans, piece_of}
 use Rattle.sig_expr.specs.FirstFaults.{AtomHas, IsRefused, FirstOfAtoms, FirstOfAlternatives, FirstOfItem, FirstOfItems, IsFirstFault}
 use Rattle.sig_expr.specs.Refusals.{IsFaulty}
-use Rattle.sig_expr.proofs.ScanLemmas.{at, IsOutside, either, scans_nothing, scans_whole, atom_scans, alternative_scans, gap_scans, range_scans, not_scans,
-    not_range_scans, item_scans}
+use Rattle.sig_expr.proofs.ScanLemmas.{at, IsOutside, either, scans_nothing, scans_whole, atom_scans, alternative_scans, gap_scans, range_scans, not_scans}
+use Rattle.sig_expr.proofs.ScanLemmas.{not_range_scans, item_scans}
 use Rattle.sig_expr.proofs.FrontLemmas.{TokenText, TokenLegal, Good, feed_good, stops_nowhere}
 use Rattle.sig_expr.proofs.ProfileLemmas.{Quiet, quiet_atom, quiet_atoms, quiet_item, quiet_text, text_goes_on, read_text}
 use Rattle.sig_expr.proofs.RefusedLemmas.{atom_refused, gap_refused, range_text_refused, not_text_refused, judged_atom, judged_gap}
@@ -49,7 +49,7 @@ FaultyPiece u =
 
 faulty_at : (s : Step) (u v : List ℕ) (c : Context) (k : Token) (w : List ℕ) (b m n : ℕ) (p : Piece) (ps : List Piece) (y : State) (f : ExprError)
     → Good c (w ++ b ∷ []) s → FaultyPiece u → run_at s (run (next_of (at c k) s) u) ≡ Some y → pieces_in s ++ pieces (next_of (at c k) s) u ≡ p ∷ ps
-        → fault_of p m ≡ Some f
+    → fault_of p m ≡ Some f
     → fault_at s m (fault_from (next_of (at c k) s) m n (u ++ v)) ≡ Some f
 faulty_at step.Refused u v c k w b m n p ps y f good later ran found faulty = absurd (cc)
 faulty_at (step.More k') u v c k w b m n p ps y f good later ran found faulty =
@@ -86,7 +86,7 @@ quiet_behind [] v s o n y f ran quiet found_so =
     rw (same) (rw none at (found_so o))
 quiet_behind (b ∷ u) v s o n y f ran quiet found_so =
     quiet_behind_at (feed_of s b) u v (next_of s (feed_of s b)) (opened_of s o n) (n + 1) _ y f (omega arith)
-        (quiet_behind u v (next_of s (feed_of s b)) (opened_of s o n) (n + 1) y f) ran quiet found_so
+    (quiet_behind u v (next_of s (feed_of s b)) (opened_of s o n) (n + 1) y f) ran quiet found_so
 
 -- the same of a front whose pieces are known
 past : (s : State) (u v : List ℕ) (ps : List Piece) (n : ℕ) (y : State) (f : ExprError) → Scans s u ps y → Quiet ps → FindsFault y (n + length u) v f
@@ -115,7 +115,7 @@ faulty_atoms (p ∷ ps) many some t v n f short h =
     let shorts = cut_short t h.0 h.1 h.2 short in
     rw (h.2, append_assoc h.0 h.1 v) (either h.5 (λ refused. faulty_atom (context.List many some) p h.0 (h.1 ++ v) n f shorts.0 h.3 refused)
     (λ later. past _ h.0 (h.1 ++ v) (piece_of p ∷ []) n _ f (atom_scans (context.List many some) p h.0 h.3) (quiet_atom p later.0, tt)
-        (faulty_atoms ps many true h.1 v (n + length h.0) f shorts.1 later.1)))
+    (faulty_atoms ps many true h.1 v (n + length h.0) f shorts.1 later.1)))
 
 feeds_bar : (many : Bool) → feed_of (at (context.List many true) token.Between) 124 ≡ step.Whole piece.Bar
 unfolding feed_of begin_of list_start_of
@@ -139,7 +139,7 @@ faulty_bars (a ∷ rest) many t v n f short h =
     rw (h.2, append_assoc h.0 h.1 v) (past_sign (context.List many true) 124 piece.Bar (h.0 ++ (h.1 ++ v)) n f (feeds_bar many) (λ m. refl)
     (either h.6 (λ first. faulty_atoms a true false h.0 (h.1 ++ v) (n + 1) f shorts.0 first)
     (λ later. past _ h.0 (h.1 ++ v) (map piece_of a) (n + 1) _ f (alternative_scans true a h.0 h.3 h.4) (quiet_atoms a later.0)
-        (faulty_bars rest true h.1 v (n + 1 + length h.0) f shorts.1 later.1))))
+    (faulty_bars rest true h.1 v (n + 1 + length h.0) f shorts.1 later.1))))
 
 -- alternatives of a list, one of which is faulty
 faulty_list : (as' : List (List Atom)) (c : Context) (t v : List ℕ) (n : ℕ) (f : ExprError) → IsOutside c → length t ≤ 8192
@@ -150,7 +150,7 @@ faulty_list (a ∷ rest) c t v n f o short h =
     rw (h.2, append_assoc h.0 h.1 v) (past_sign c 40 piece.Open (h.0 ++ (h.1 ++ v)) n f (feeds_open c o) (λ m. refl)
     (either h.6 (λ first. faulty_atoms a false false h.0 (h.1 ++ v) (n + 1) f shorts.0 first)
     (λ later. past _ h.0 (h.1 ++ v) (map piece_of a) (n + 1) _ f (alternative_scans false a h.0 h.3 h.4) (quiet_atoms a later.0)
-        (faulty_bars rest false h.1 v (n + 1 + length h.0) f shorts.1 later.1))))
+    (faulty_bars rest false h.1 v (n + 1 + length h.0) f shorts.1 later.1))))
 
 -- a faulty item
 faulty_item : (i : Item) (c : Context) (u v : List ℕ) (n : ℕ) (f : ExprError) → IsOutside c → length u ≤ 8192 → ItemText i u → FirstOfItem i u n f
@@ -175,7 +175,7 @@ faulty_items (i ∷ e) c t n f o short h =
     let shorts = cut_short t h.0 h.1 h.2 short in
     rw h.2 (either h.5 (λ first. faulty_item i c h.0 h.1 n f o shorts.0 h.3 first)
     (λ later. past _ h.0 h.1 _ n _ f (item_scans c o i h.0 h.3) (quiet_item i later.0)
-        (faulty_items e context.After h.1 (n + length h.0) f tt shorts.1 later.1)))
+    (faulty_items e context.After h.1 (n + length h.0) f tt shorts.1 later.1)))
 
 -- items with a first fault are spelled, and there is one
 first_spells : (e : List Item) (t : List ℕ) (n : ℕ) (f : ExprError) → FirstOfItems e t n f → Spells e t × (0 < length e)
@@ -217,7 +217,7 @@ judged_alternatives sign [] t n h = inl tt
 judged_alternatives sign (a ∷ rest) t n h =
     either (judged_atoms a h.0 (n + 1) h.4)
     (λ sound. either (judged_alternatives (124 ∷ []) rest h.1 (n + 1 + length h.0) h.5) (λ s. inl (sound, s, h.3))
-        (λ k. inr (k.0, (h.0, h.1, h.2, h.3, h.4, h.5, inr (sound, k.1)))))
+    (λ k. inr (k.0, (h.0, h.1, h.2, h.3, h.4, h.5, inr (sound, k.1)))))
     (λ k. inr (k.0, (h.0, h.1, h.2, h.3, h.4, h.5, inl k.1)))
 
 judged_item : (i : Item) (t : List ℕ) (n : ℕ) → ItemText i t → ItemSound i ⊎ ((f : ExprError) × FirstOfItem i t n f)

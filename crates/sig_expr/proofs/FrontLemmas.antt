@@ -1,6 +1,6 @@
 -- What a reading has behind it: each front that is read is a front of a text.
-use Rattle.std.proofs.Common.{◌≡◌, inl, inr, ℕ, ◌+◌, ◌*◌, ◌/◌, ◌%◌, ◌<◌, ◌≤◌, Bool, true, false, cond, List, [], ◌∷◌, ◌++◌, length, Option, Some, None, refl,
-    sym, ◌∙◌, ap, rules, arith, nat_eq, nat_lt, append_assoc, append-nil, length-append}
+use Rattle.std.proofs.Common.{◌≡◌, inl, inr, ℕ, ◌+◌, ◌*◌, ◌/◌, ◌%◌, ◌<◌, ◌≤◌, Bool, true, false, cond, List, [], ◌∷◌, ◌++◌, length, Option, Some, None, refl}
+use Rattle.std.proofs.Common.{sym, ◌∙◌, ap, rules, arith, nat_eq, nat_lt, append_assoc, append-nil, length-append}
 use Rattle.std.specs.Prelude.{◌&&◌, ⊤}
 use Rattle.std.proofs.lemmas.Fmt.{decimal_digit, decimal_step}
 use Rattle.std.proofs.lemmas.Bool.Decides.{nat_tests}
@@ -19,11 +19,11 @@ use Rattle.sig_expr.specs.declared.lexer.Piece.TheVariants as piece
 use Rattle.sig_expr.specs.declared.lexer.Step.{Step}
 use Rattle.sig_expr.specs.declared.lexer.Step.TheVariants as step
 use Rattle.sig_expr.specs.Ends.{empty_end}
-use Rattle.sig_expr.specs.Reading.{decimal_of, pair_of, with_digit, part_of, item_start_of, list_start_of, begin_of, number_of, closed_gap_of, star_of, end_of,
-    closed_bracket_of, go_on_of, feed_of, next_of, is_between, is_after, context_of, behind_part}
+use Rattle.sig_expr.specs.Reading.{decimal_of, pair_of, with_digit, part_of, item_start_of, list_start_of, begin_of, number_of, closed_gap_of, star_of, end_of}
+use Rattle.sig_expr.specs.Reading.{closed_bracket_of, go_on_of, feed_of, next_of, is_between, is_after, context_of, behind_part}
 use Rattle.sig_expr.specs.Passes.{stop_from, stop_at}
-use Rattle.sig_expr.specs.Spelling.{PairText, WordText, NumberText, GapText, RangeText, NotText, AtomText, AlternativeText, AlternativesText, ListText,
-    ItemText, Spells, IsText}
+use Rattle.sig_expr.specs.Spelling.{PairText, WordText, NumberText, GapText, RangeText, NotText, AtomText, AlternativeText, AlternativesText, ListText}
+use Rattle.sig_expr.specs.Spelling.{ItemText, Spells, IsText}
 use Rattle.sig_expr.proofs.PairLemmas.{small_digit}
 use Rattle.sig_expr.proofs.ScanLemmas.{pair_byte}
 
@@ -135,11 +135,11 @@ list_good : (many some : Bool) (b : ℕ) → Good (context.List many some) (b �
 unfolding list_start_of
 list_good many some b =
     good_if (context.List many some) _ (nat_eq b 124 && some) _ _
-        (λ e. let both = both_true (nat_eq b 124) some e in (one_sign b 124 both.0, (many, ap (λ (x : Bool). context.List many x) both.1)))
+    (λ e. let both = both_true (nat_eq b 124) some e in (one_sign b 124 both.0, (many, ap (λ (x : Bool). context.List many x) both.1)))
     (good_if (context.List many some) _ (nat_eq b 41 && (some && many)) _ _
-        (λ e. let both = both_true (nat_eq b 41) (some && many) e in let two = both_true some many both.1 in
-        (one_sign b 41 both.0, ap (λ (x : Bool). context.List many x) two.0 ∙ ap (λ (x : Bool). context.List x true) two.1))
-        (part_good (context.List many some) b))
+    (λ e. let both = both_true (nat_eq b 41) (some && many) e in let two = both_true some many both.1 in
+    (one_sign b 41 both.0, ap (λ (x : Bool). context.List many x) two.0 ∙ ap (λ (x : Bool). context.List x true) two.1))
+    (part_good (context.List many some) b))
 
 begin_good : (c : Context) (b : ℕ) → Good c (b ∷ []) (begin_of c b)
 unfolding begin_of
@@ -174,8 +174,10 @@ number_good : (c : Context) (least : Option ℕ) (b : ℕ) (w : List ℕ) → To
 unfolding number_of
 number_good c None b w h o = good_digit c _ (decimal_of b) _ _ (λ v e. ((b ∷ [], rw h refl, one_digit b v e), o)) tt
 number_good c (Some m) b w h o =
-    good_digit c _ (decimal_of b) _ _ (λ v e. ((h.0, b ∷ [], rw h.1 (ap (λ (x : List ℕ). 123 ∷ x) (append_assoc h.0 (45 ∷ []) (b ∷ []))), h.2, one_digit b v e),
-        o))
+    good_digit c _ (decimal_of b) _ _ (λ v e. (
+      (h.0, b ∷ [], rw h.1 (ap (λ (x : List ℕ). 123 ∷ x) (append_assoc h.0 (45 ∷ []) (b ∷ []))), h.2, one_digit b v e),
+      o,
+    ))
     (good_if c _ (nat_eq b 42) _ _ (λ e. ((h.0, rw (h.1, is_sign b 42 e) (ap (λ (x : List ℕ). 123 ∷ x) (append_assoc h.0 (45 ∷ []) (42 ∷ []))), h.2), o)) tt)
 
 -- behind a number
@@ -186,8 +188,16 @@ gap_good c None n b w h o =
     good_if c _ (nat_eq b 125) _ _ (λ e. (inl (h.0, rw (h.1, is_sign b 125 e) refl, h.2, refl), o))
     (good_if c _ (nat_eq b 45) _ _ (λ e. ((h.0, rw (h.1, is_sign b 45 e) refl, h.2), o)) tt)
 gap_good c (Some m) n b w h o =
-    good_if c _ (nat_eq b 125) _ _ (λ e. (inr (h.0, h.1, rw (h.2, is_sign b 125 e) (ap (λ (x : List ℕ). 123 ∷ x) (append_assoc h.0 (45 ∷ h.1) (125 ∷ []))), h.3,
-        h.4), o)) tt
+    good_if c _ (nat_eq b 125) _ _ (λ e. (
+      inr (
+        h.0,
+        h.1,
+        rw (h.2, is_sign b 125 e) (ap (λ (x : List ℕ). 123 ∷ x) (append_assoc h.0 (45 ∷ h.1) (125 ∷ []))),
+        h.3,
+        h.4,
+      ),
+      o,
+    )) tt
 
 and_low : (n : ℕ) → (nat_lt 0 n && nat_lt n 10000) ≡ true → (0 < n) × (n < 10000)
 and_low n e = let both = both_true (nat_lt 0 n) (nat_lt n 10000) e in
@@ -199,12 +209,20 @@ digit_good : (c : Context) (least : Option ℕ) (n b : ℕ) (w : List ℕ) → T
 unfolding star_of
 digit_good c None n b w h o =
     good_digit c _ (decimal_of b) _ _ (λ v d. good_if c _ (nat_lt 0 n && nat_lt n 10000) _ _
-        (λ e. let k = and_low n e in ((h.0 ++ b ∷ [], rw h.1 refl, more_digits n v b h.0 k.0 k.1 h.2 d), o)) tt)
+    (λ e. let k = and_low n e in ((h.0 ++ b ∷ [], rw h.1 refl, more_digits n v b h.0 k.0 k.1 h.2 d), o)) tt)
     (gap_good c None n b w h o)
 digit_good c (Some m) n b w h o =
     good_digit c _ (decimal_of b) _ _ (λ v d. good_if c _ (nat_lt 0 n && nat_lt n 10000) _ _
-        (λ e. let k = and_low n e in ((h.0, h.1 ++ b ∷ [], rw h.2 (ap (λ (x : List ℕ). 123 ∷ x) (append_assoc h.0 (45 ∷ h.1) (b ∷ []))), h.3,
-        more_digits n v b h.1 k.0 k.1 h.4 d), o)) tt)
+    (λ e. let k = and_low n e in (
+      (
+        h.0,
+        h.1 ++ b ∷ [],
+        rw h.2 (ap (λ (x : List ℕ). 123 ∷ x) (append_assoc h.0 (45 ∷ h.1) (b ∷ []))),
+        h.3,
+        more_digits n v b h.1 k.0 k.1 h.4 d,
+      ),
+      o,
+    )) tt)
     (gap_good c (Some m) n b w h o)
 
 -- an end begins
@@ -218,8 +236,17 @@ joined : (u v : List ℕ) → ((u ++ 58 ∷ []) ++ v) ++ 93 ∷ [] ≡ u ++ (58 
 joined u v = append_assoc (u ++ 58 ∷ []) v (93 ∷ []) ∙ append_assoc u (58 ∷ []) (v ++ (93 ∷ []))
 
 digits_pair : (h b x v : ℕ) → hex_digit_value h ≡ Some x → hex_digit_value b ≡ Some v → PairText (pair_of x v) (h ∷ b ∷ [])
-digits_pair h b x v p q = record { high = h; low = b; high_value = x; low_value = v; text = refl; is_high = p; is_low = q; byte =
-    pair_byte x v (small_digit h x p) (small_digit b v q) }
+digits_pair h b x v p q = record {
+  high = h;
+  low = b;
+  high_value = x;
+  low_value = v;
+  text = refl;
+  is_high = p;
+  is_low = q;
+  byte =
+      pair_byte x v (small_digit h x p) (small_digit b v q);
+}
 
 some_more : (a : List ℕ) (b : ℕ) → 0 < length (a ++ b ∷ [])
 some_more a b = simp length-append (omega arith)
@@ -230,19 +257,48 @@ bracket_good : (c : Context) (not : Bool) (first : Option End) (e : End) (b : �
 unfolding closed_bracket_of
 bracket_good c true (Some f) e b w h =
     let k = h.4 in
-    good_if c _ (nat_eq b 93) _ _ (λ s. ((k.0, h.1, record { first = k.1; second = h.2; text =
-        rw (h.3, k.2, is_sign b 93 s) (ap (λ (x : List ℕ). 91 ∷ 33 ∷ x) (joined k.1 h.2)); is_first = k.3; is_second = h.5; some_first = k.4; some_second =
-        h.6 }), tt))
+    good_if c _ (nat_eq b 93) _ _ (λ s. (
+      (
+        k.0,
+        h.1,
+        record {
+          first = k.1;
+          second = h.2;
+          text =
+              rw (h.3, k.2, is_sign b 93 s) (ap (λ (x : List ℕ). 91 ∷ 33 ∷ x) (joined k.1 h.2));
+          is_first = k.3;
+          is_second = h.5;
+          some_first = k.4;
+          some_second =
+              h.6;
+        },
+      ),
+      tt,
+    ))
     (end_good c true (Some f) e b h.0 h.1 h.2 w h.3 h.4 h.5)
 bracket_good c false (Some f) e b w h =
     let k = h.4 in
-    good_if c _ (nat_eq b 93) _ _ (λ s. ((k.0, h.1, record { first = k.1; second = h.2; text =
-        rw (h.3, k.2, is_sign b 93 s) (ap (λ (x : List ℕ). 91 ∷ x) (joined k.1 h.2)); is_first = k.3; is_second = h.5; some_first = k.4; some_second = h.6 }),
-        tt))
+    good_if c _ (nat_eq b 93) _ _ (λ s. (
+      (
+        k.0,
+        h.1,
+        record {
+          first = k.1;
+          second = h.2;
+          text =
+              rw (h.3, k.2, is_sign b 93 s) (ap (λ (x : List ℕ). 91 ∷ x) (joined k.1 h.2));
+          is_first = k.3;
+          is_second = h.5;
+          some_first = k.4;
+          some_second = h.6;
+        },
+      ),
+      tt,
+    ))
     (end_good c false (Some f) e b h.0 h.1 h.2 w h.3 h.4 h.5)
 bracket_good c true None e b w h =
     good_if c _ (nat_eq b 93 && true) _ _ (λ s. let both = both_true (nat_eq b 93) true s in
-        ((h.1, record { end = h.2; text = rw (h.3, h.4, is_sign b 93 both.0) refl; is_end = h.5; some = h.6 }), tt))
+    ((h.1, record { end = h.2; text = rw (h.3, h.4, is_sign b 93 both.0) refl; is_end = h.5; some = h.6 }), tt))
     (good_if c _ (nat_eq b 58) _ _ (λ s. ((h.1, h.2, rw (h.3, h.4, is_sign b 58 s) refl, h.5, h.6), tt))
     (end_good c true None e b h.0 h.1 h.2 w h.3 h.4 h.5))
 bracket_good c false None e b w h =
@@ -265,9 +321,18 @@ go_on_good c token.Bracket b w h l =
     (end_good c false None empty_end b w [] [] w (sym (append-nil w)) h refl)
 go_on_good c (token.EndStart not first) b w h l = end_good c not first empty_end b w [] [] w (sym (append-nil w)) h refl
 go_on_good c (token.EndHalf not first e x) b w h l =
-    good_digit c _ (hex_digit_value b) _ _ (λ v d. ((h.0, h.1 ++ pair_of x v ∷ [], h.2 ++ (h.3 ∷ b ∷ []),
-        rw h.4 (append_assoc h.0 (h.2 ++ h.3 ∷ []) (b ∷ []) ∙ ap (λ (y : List ℕ). h.0 ++ y) (append_assoc h.2 (h.3 ∷ []) (b ∷ []))), h.5,
-        word_more h.1 h.2 (pair_of x v) (h.3 ∷ b ∷ []) h.6 (digits_pair h.3 b x v h.7 d), some_more h.1 (pair_of x v)), tt)) tt
+    good_digit c _ (hex_digit_value b) _ _ (λ v d. (
+      (
+        h.0,
+        h.1 ++ pair_of x v ∷ [],
+        h.2 ++ (h.3 ∷ b ∷ []),
+        rw h.4 (append_assoc h.0 (h.2 ++ h.3 ∷ []) (b ∷ []) ∙ ap (λ (y : List ℕ). h.0 ++ y) (append_assoc h.2 (h.3 ∷ []) (b ∷ []))),
+        h.5,
+        word_more h.1 h.2 (pair_of x v) (h.3 ∷ b ∷ []) h.6 (digits_pair h.3 b x v h.7 d),
+        some_more h.1 (pair_of x v),
+      ),
+      tt,
+    )) tt
 go_on_good c (token.EndPair not first e) b w h l = bracket_good c not first e b w h
 
 -- what stands before the next alternative: the bracket of the list, or a bar
@@ -281,7 +346,7 @@ Reached context.Start x = x ≡ []
 Reached context.After x = (e : List Item) × (0 < length e) × Spells e x
 Reached (context.List many some) x =
     (e : List Item) × (as' : List (List Atom)) × (a : List Atom) × (y z v : List ℕ) × (x ≡ y ++ (z ++ sign_of 40 as' ∷ v)) × Spells e y
-        × AlternativesText (40 ∷ []) as' z × AlternativeText a v × (some ≡ true → 0 < length a) × (many ≡ true → 0 < length as')
+    × AlternativesText (40 ∷ []) as' z × AlternativeText a v × (some ≡ true → 0 < length a) × (many ≡ true → 0 < length as')
 
 spells_more : (e : List Item) (x : List ℕ) (i : Item) (w : List ℕ) → Spells e x → ItemText i w → Spells (e ++ i ∷ []) (x ++ w)
 spells_more [] x i w h k = rw h (w, [], sym (append-nil w), k, refl)
@@ -302,9 +367,14 @@ sign_more (b ∷ as') a = refl
 alternatives_more : (s : ℕ) (as' : List (List Atom)) (z : List ℕ) (a : List Atom) (v : List ℕ) → AlternativesText (s ∷ []) as' z → 0 < length a
     → AlternativeText a v → AlternativesText (s ∷ []) (as' ++ a ∷ []) (z ++ sign_of s as' ∷ v)
 alternatives_more s [] z a v h some k = rw h (v, [], ap (λ (y : List ℕ). s ∷ y) (sym (append-nil v)), some, k, refl)
-alternatives_more s (b ∷ as') z a v h some k =
-    (h.0, h.1 ++ (sign_of 124 as' ∷ v), rw (h.2, sign_bar as') (ap (λ (y : List ℕ). s ∷ y) (append_assoc h.0 h.1 (124 ∷ v))), h.3, h.4,
-        alternatives_more 124 as' h.1 a v h.5 some k)
+alternatives_more s (b ∷ as') z a v h some k = (
+  h.0,
+  h.1 ++ (sign_of 124 as' ∷ v),
+  rw (h.2, sign_bar as') (ap (λ (y : List ℕ). s ∷ y) (append_assoc h.0 h.1 (124 ∷ v))),
+  h.3,
+  h.4,
+  alternatives_more 124 as' h.1 a v h.5 some k,
+)
 
 some_item : (e : List Item) (i : Item) → 0 < length (e ++ i ∷ [])
 some_item e i = simp length-append (omega arith)
@@ -328,9 +398,21 @@ reached_item (context.List m s) x i w o h k = absurd o
 reached_part : (c : Context) (x : List ℕ) (i : Item) (p : Atom) (w : List ℕ) → Reached c x → ItemText i w → AtomText p w → Reached (behind_part c) (x ++ w)
 reached_part context.Start x i p w h k q = reached_item context.Start x i w tt h k
 reached_part context.After x i p w h k q = reached_item context.After x i w tt h k
-reached_part (context.List m s) x i p w h k q =
-    (h.0, h.1, h.2 ++ p ∷ [], h.3, h.4, h.5 ++ w, rw h.6 (append_assoc h.3 (h.4 ++ sign_of 40 h.1 ∷ h.5) w ∙ ap (λ (y : List ℕ). h.3 ++ y)
-        (append_assoc h.4 (sign_of 40 h.1 ∷ h.5) w)), h.7, h.8, parts_more h.2 h.5 p w h.9 q, (λ e. some_atom h.2 p), h.11)
+reached_part (context.List m s) x i p w h k q = (
+  h.0,
+  h.1,
+  h.2 ++ p ∷ [],
+  h.3,
+  h.4,
+  h.5 ++ w,
+  rw h.6 (append_assoc h.3 (h.4 ++ sign_of 40 h.1 ∷ h.5) w ∙ ap (λ (y : List ℕ). h.3 ++ y)
+      (append_assoc h.4 (sign_of 40 h.1 ∷ h.5) w)),
+  h.7,
+  h.8,
+  parts_more h.2 h.5 p w h.9 q,
+  (λ e. some_atom h.2 p),
+  h.11,
+)
 
 never : {P : Type 0} → false ≡ true → P
 never e = absurd (cc)
@@ -341,15 +423,26 @@ reached_open context.After x w o h k = rw k (h.0, [], [], x, [], [], refl, h.2, 
 reached_open (context.List m s) x w o h k = absurd o
 
 reached_bar : (many : Bool) (x w : List ℕ) → Reached (context.List many true) x → w ≡ 124 ∷ [] → Reached (context.List true false) (x ++ w)
-reached_bar many x w h k =
-    (h.0, h.1 ++ h.2 ∷ [], [], h.3, h.4 ++ sign_of 40 h.1 ∷ h.5, [], rw (h.6, k, sign_more h.1 h.2) (append_assoc h.3 (h.4 ++ sign_of 40 h.1 ∷ h.5) (124 ∷ [])),
-        h.7, alternatives_more 40 h.1 h.4 h.2 h.5 h.8 (h.10 refl) h.9, refl, (λ e. never e), (λ e. some_list h.1 h.2))
+reached_bar many x w h k = (
+  h.0,
+  h.1 ++ h.2 ∷ [],
+  [],
+  h.3,
+  h.4 ++ sign_of 40 h.1 ∷ h.5,
+  [],
+  rw (h.6, k, sign_more h.1 h.2) (append_assoc h.3 (h.4 ++ sign_of 40 h.1 ∷ h.5) (124 ∷ [])),
+  h.7,
+  alternatives_more 40 h.1 h.4 h.2 h.5 h.8 (h.10 refl) h.9,
+  refl,
+  (λ e. never e),
+  (λ e. some_list h.1 h.2),
+)
 
 reached_close : (x w : List ℕ) → Reached (context.List true true) x → w ≡ 41 ∷ [] → Reached context.After (x ++ w)
 reached_close x w h k =
     let inside = h.4 ++ sign_of 40 h.1 ∷ h.5 in
     let list : ListText (h.1 ++ h.2 ∷ []) (inside ++ (41 ∷ [])) =
-        record { inside = inside; text = refl; is_inside = alternatives_more 40 h.1 h.4 h.2 h.5 h.8 (h.10 refl) h.9; two = two_lists h.1 h.2 (h.11 refl) } in
+    record { inside = inside; text = refl; is_inside = alternatives_more 40 h.1 h.4 h.2 h.5 h.8 (h.10 refl) h.9; two = two_lists h.1 h.2 (h.11 refl) } in
     let text : x ++ w ≡ h.3 ++ (inside ++ (41 ∷ [])) = rw (h.6, k) (append_assoc h.3 inside (41 ∷ [])) in
     (h.0 ++ item.Alt (h.1 ++ h.2 ∷ []) ∷ [], some_item h.0 _, rw text (spells_more h.0 h.3 (item.Alt (h.1 ++ h.2 ∷ [])) (inside ++ (41 ∷ [])) h.7 list))
 
@@ -409,7 +502,7 @@ is_text_at step.Refused t later c k x w b n h g e = absurd (cc)
 is_text_at (step.More k') t later c k x w b n h g e = rw (← append_assoc w (b ∷ []) t) (later c k' x (w ++ b ∷ []) (n + 1) h g.0 g.1 e)
 is_text_at (step.Whole p) t later c k x w b n h g e =
     rw (← append_assoc w (b ∷ []) t, ← append_assoc x (w ++ b ∷ []) t)
-        (later (context_of c p) token.Between (x ++ (w ++ b ∷ [])) [] (n + 1) (reached_piece c p x (w ++ b ∷ []) h g.0 g.1) refl tt e)
+    (later (context_of c p) token.Between (x ++ (w ++ b ∷ [])) [] (n + 1) (reached_piece c p x (w ++ b ∷ []) h g.0 g.1) refl tt e)
 
 reads_on : (t : List ℕ) → ReadsOn t
 unfolding stop_from

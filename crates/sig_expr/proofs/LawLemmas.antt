@@ -16,8 +16,8 @@ use Rattle.sig_expr.proofs.ShortestLemmas.{is_expression}
 pub use Rattle.hex.specs.Hex.{encode_upper, upper_digits}
 unfoldable pub use Rattle.hex.specs.Hex.{encode_with}
 -- the order of words, and whether one is outside a range
-pub use Rattle.sig_expr.proofs.BeforeLemmas.{IsBefore-cases, IsBefore-either, IsBefore-lower, IsBefore-same, IsUpTo-before, IsUpTo-behind, IsUpTo-cases,
-    IsUpTo-first, IsUpTo-itself, IsUpTo-rest, IsUpTo-same, not_before_itself}
+pub use Rattle.sig_expr.proofs.BeforeLemmas.{IsBefore-cases, IsBefore-either, IsBefore-lower, IsBefore-same, IsUpTo-before, IsUpTo-behind, IsUpTo-cases}
+pub use Rattle.sig_expr.proofs.BeforeLemmas.{IsUpTo-first, IsUpTo-itself, IsUpTo-rest, IsUpTo-same, not_before_itself}
 pub use Rattle.sig_expr.proofs.OrderLemmas.{leaves_no_all}
 -- canonical texts
 pub use Rattle.sig_expr.proofs.ShortestLemmas.{canon_spells, expression_read}

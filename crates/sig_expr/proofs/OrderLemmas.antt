@@ -76,8 +76,11 @@ none_behind (x ∷ b) (y ∷ w) bytes len all h = elim (cases_Bool (nat_eq x 255
   | inl same ↦
       let most = same_number x 255 same in
       let byte = All-head IsByte y w bytes in
-      elim (IsBefore-cases x y b w h) [ inl lower ↦ omega arith | inr level ↦
-          none_behind b w (All-tail IsByte y w bytes) (omega arith) (rw same at all) level.1 ]
+      elim (IsBefore-cases x y b w h) [
+        | inl lower ↦ omega arith
+        | inr level ↦
+            none_behind b w (All-tail IsByte y w bytes) (omega arith) (rw same at all) level.1
+      ]
   | inr differs ↦ absurd (cc (rw differs at all))
 ]
 

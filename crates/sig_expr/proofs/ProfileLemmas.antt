@@ -1,6 +1,6 @@
 -- Texts of the profile are read, and what is read is in the profile.
-use Rattle.std.proofs.Common.{◌≡◌, ℕ, ◌+◌, ◌<◌, ◌≤◌, Bool, true, false, cond, List, [], ◌∷◌, ◌++◌, length, map, Option, Some, None, Ok, refl, sym, ◌∙◌, ap,
-    rules, arith, nat_eq, nat_lt, append_assoc, append-nil}
+use Rattle.std.proofs.Common.{◌≡◌, ℕ, ◌+◌, ◌<◌, ◌≤◌, Bool, true, false, cond, List, [], ◌∷◌, ◌++◌, length, map, Option, Some, None, Ok, refl, sym, ◌∙◌, ap}
+use Rattle.std.proofs.Common.{rules, arith, nat_eq, nat_lt, append_assoc, append-nil}
 use Rattle.std.specs.Prelude.{◌&&◌, ⊤}
 use Rattle.std.specs.Ordering.{nat_cmp}
 use Rattle.std.specs.Cmp.Lexicographic.{slice_cmp}
@@ -299,7 +299,7 @@ builds_atoms : (is : List Item) (as' : List (List Atom)) (a ps : List Atom) → 
 builds_atoms is as' a [] k = rw append-nil refl
 builds_atoms is as' a (p ∷ ps) k =
     ap (λ (u : Built). built_all u (map piece_of ps)) (builds_atom is as' a p k.0) ∙ builds_atoms is as' (a ++ p ∷ []) ps k.1 ∙ ap
-        (λ (x : List Atom). within is as' x) (append_assoc a (p ∷ []) ps)
+    (λ (x : List Atom). within is as' x) (append_assoc a (p ∷ []) ps)
 
 builds_barred : (is : List Item) (as' : List (List Atom)) (a : List Atom) (rest : List (List Atom)) → AlternativesSound rest
     → built_all (within is as' a) (barred rest ++ (piece.Close ∷ [])) ≡ outside (is ++ item.Alt (as' ++ a ∷ rest) ∷ [])
@@ -363,7 +363,7 @@ pub items_text : (e : List Item) (t : List ℕ) → 0 < length e → Spells e t 
 items_text e t some h k =
     let scans = text_scans e t some h in
     let all : built_from fresh start t ≡ outside e = built_pieces fresh start t ∙ ap (λ (ps : List Piece). built_all fresh ps) scans.found ∙ builds_items [] e k
-        in
+    in
     ap (λ (u : Built). u.items) all
 
 pub some_items : (e e' : List Item) (t : List ℕ) → 0 < length e → Spells e t → Spells e' t → 0 < length e'

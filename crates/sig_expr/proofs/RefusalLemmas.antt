@@ -1,6 +1,6 @@
 -- What is read and what is refused, in plain words.
-use Rattle.std.proofs.Common.{◌≡◌, ◌≢◌, ℕ, ◌+◌, ◌-◌, ◌<◌, ◌≤◌, Bool, true, false, cond, List, [], ◌∷◌, ◌++◌, length, take, suc, length-append, Option, Some,
-    None, Result, Ok, Err, refl, sym, ◌∙◌, ap, arith, nat_lt, append_assoc, append-nil}
+use Rattle.std.proofs.Common.{◌≡◌, ◌≢◌, ℕ, ◌+◌, ◌-◌, ◌<◌, ◌≤◌, Bool, true, false, cond, List, [], ◌∷◌, ◌++◌, length, take, suc, length-append, Option, Some}
+use Rattle.std.proofs.Common.{None, Result, Ok, Err, refl, sym, ◌∙◌, ap, arith, nat_lt, append_assoc, append-nil}
 use Rattle.std.specs.Prelude.{IsOk}
 use Rattle.std.proofs.lemmas.Bool.Decides.{nat_tests}
 use Rattle.std.proofs.Math.Seq.{take-append_seam, take-append-add}
@@ -15,8 +15,8 @@ use Rattle.sig_expr.specs.declared.lexer.Token.TheVariants as token
 use Rattle.sig_expr.specs.declared.lexer.State.{State}
 use Rattle.sig_expr.specs.declared.lexer.Step.{Step}
 use Rattle.sig_expr.specs.declared.lexer.Step.TheVariants as step
-use Rattle.sig_expr.specs.Reading.{feed_of, next_of, is_end_of, start, behind_part, is_between, begin_of, item_start_of, list_start_of, part_of, go_on_of,
-    number_of, star_of, closed_gap_of, end_of, closed_bracket_of}
+use Rattle.sig_expr.specs.Reading.{feed_of, next_of, is_end_of, start, behind_part, is_between, begin_of, item_start_of, list_start_of, part_of, go_on_of}
+use Rattle.sig_expr.specs.Reading.{number_of, star_of, closed_gap_of, end_of, closed_bracket_of}
 use Rattle.sig_expr.proofs.Scans.{run, run_at}
 use Rattle.sig_expr.specs.Passes.{stop_of, stop_from, stop_at, fault_in, items_of}
 use Rattle.sig_expr.specs.Texts.{expr_of, unless_stop, unless_fault}
@@ -136,8 +136,10 @@ Completes s n = (u : List ℕ) × (stop_from s n u ≡ None)
 completes_by : (c : Context) (k : Token) (n : ℕ) (b : Bool) → is_between k ≡ b → Completes (at c k) n
 completes_by c token.Between n b e = (context_rest c, context_done c n)
 completes_by c k n true e = absurd (cc)
-completes_by c k n false e = (token_rest k ++ context_rest (behind_part c),
-    stop_behind (at c k) n (token_rest k) (context_rest (behind_part c)) (at (behind_part c) token.Between) (token_done c k e) ∙ context_done (behind_part c) _)
+completes_by c k n false e = (
+  token_rest k ++ context_rest (behind_part c),
+  stop_behind (at c k) n (token_rest k) (context_rest (behind_part c)) (at (behind_part c) token.Between) (token_done c k e) ∙ context_done (behind_part c) _,
+)
 
 -- a front that is read, and a byte behind it that is refused, unless the text ends there
 record Stopped (s : State) (n : ℕ) (t : List ℕ) (m : ℕ) : Type 0 where

@@ -1,6 +1,6 @@
 -- What a gap or a bracket is refused for, by the lowest number.
-use Rattle.std.proofs.Common.{◌≡◌, ◌≢◌, ◌⊎◌, inl, inr, ℕ, ◌+◌, ◌<◌, ◌≤◌, Bool, true, false, List, [], ◌∷◌, ◌++◌, length, Option, Some, None, refl, ◌∙◌, ap,
-    arith, nat_eq, nat_lt, length-append}
+use Rattle.std.proofs.Common.{◌≡◌, ◌≢◌, ◌⊎◌, inl, inr, ℕ, ◌+◌, ◌<◌, ◌≤◌, Bool, true, false, List, [], ◌∷◌, ◌++◌, length, Option, Some, None, refl, ◌∙◌, ap}
+use Rattle.std.proofs.Common.{arith, nat_eq, nat_lt, length-append}
 use Rattle.std.specs.Prelude.{◌&&◌}
 use Rattle.std.specs.Ordering.{nat_cmp}
 use Rattle.std.specs.Cmp.Lexicographic.{slice_cmp}
@@ -86,7 +86,7 @@ not_over x h = by_test (nat_lt 65535 x) refl
 -- what is read of ends of one length, of at most eight bytes
 both_ends : (a b : List ℕ) → 0 < length a → 0 < length b → AreEnds a b
     → (nat_eq (end_of_word a).len (end_of_word b).len ≡ true) × (nat_lt 8 (end_of_word a).len ≡ false) × (word_of (end_of_word a) ≡ Some a)
-        × (word_of (end_of_word b) ≡ Some b)
+    × (word_of (end_of_word b) ≡ Some b)
 both_ends a b some some' h =
     let p = len_of_word a in
     let q = len_of_word b in
@@ -217,7 +217,7 @@ judged_gap least (Some max) n =
     either (below 65535 least) (λ o. inr (error.GapNumber n, record { place = refl; has = inl o; lowest = number_lowest least (Some max) }))
     (λ p. either (below 65535 max) (λ o. inr (error.GapNumber n, record { place = refl; has = inr o; lowest = number_lowest least (Some max) }))
     (λ q. either (below 0 max) (λ r. either (below max least) (λ o. inr
-        (error.GapOrder n, record { place = refl; has = o; lowest = order_lowest least max p q r }))
+    (error.GapOrder n, record { place = refl; has = o; lowest = order_lowest least max p q r }))
     (λ k. inl (k, q, r)))
     (λ z. inr (error.GapEmpty n, record { place = refl; has = omega arith; lowest = empty_lowest least max p q }))))
 
@@ -261,8 +261,10 @@ record RangeQuiet (not : Bool) (a b : List ℕ) : Type 0 where
 judged_class : (not : Bool) (a b : List ℕ) (n : ℕ) → AreEnds a b → IsBefore a b → (x y : Bool) → are_all 0 a ≡ x → are_all 255 b ≡ y → RangeQuiet not a b
     ⊎ Refused n (RangeHas not a b)
 judged_class false a b n h k x y p q = inl (record { ends = h; order = k; leaves = refl })
-judged_class true a b n h k true true p q = inr (error.ClassEmpty n,
-    record { place = refl; has = (h, λ w. no_word a b h.0 p q w); lowest = class_lowest a b k })
+judged_class true a b n h k true true p q = inr (
+  error.ClassEmpty n,
+  record { place = refl; has = (h, λ w. no_word a b h.0 p q w); lowest = class_lowest a b k },
+)
 judged_class true a b n h k false y p q = inl (record { ends = h; order = k; leaves = rw p refl })
 judged_class true a b n h k true false p q = inl (record { ends = h; order = k; leaves = rw (p, q) refl })
 
@@ -278,8 +280,10 @@ judged_range not a b n =
     either (below (length a) (length b)) (λ l. differ (λ e. omega arith))
     (λ g. either (below (length b) (length a)) (λ l. differ (λ e. omega arith))
     (λ g'. let same : length a ≡ length b = omega arith in
-    either (below 8 (length a)) (λ o. inr (error.BracketTooLong n,
-        record { place = refl; has = inl o; lowest = long_lowest not a b (λ k. omega (arith, k.1)) same }))
+    either (below 8 (length a)) (λ o. inr (
+      error.BracketTooLong n,
+      record { place = refl; has = inl o; lowest = long_lowest not a b (λ k. omega (arith, k.1)) same },
+    ))
     (λ short. judged_order not a b n (same, short) (slice_cmp nat_cmp a b) refl)))
   where
     differ : length a ≢ length b → RangeQuiet not a b ⊎ Refused n (RangeHas not a b)

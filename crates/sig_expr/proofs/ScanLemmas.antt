@@ -1,6 +1,6 @@
 -- The texts of pieces are read.
-use Rattle.std.proofs.Common.{◌≡◌, ◌⊎◌, inl, inr, ℕ, ◌+◌, ◌*◌, ◌/◌, ◌%◌, ◌<◌, ◌≤◌, Bool, true, false, List, [], ◌∷◌, ◌++◌, length, map, Option, Some, None,
-    refl, sym, ◌∙◌, ap, rules, arith, nat_eq, nat_lt, append_assoc}
+use Rattle.std.proofs.Common.{◌≡◌, ◌⊎◌, inl, inr, ℕ, ◌+◌, ◌*◌, ◌/◌, ◌%◌, ◌<◌, ◌≤◌, Bool, true, false, List, [], ◌∷◌, ◌++◌, length, map, Option, Some, None}
+use Rattle.std.proofs.Common.{refl, sym, ◌∙◌, ap, rules, arith, nat_eq, nat_lt, append_assoc}
 use Rattle.std.proofs.lemmas.Fmt.{decimal_by_steps}
 use Rattle.std.proofs.lemmas.Bool.Decides.{nat_tests}
 use Rattle.hex.specs.Hex.{hex_digit_value}
@@ -19,10 +19,10 @@ use Rattle.sig_expr.specs.declared.lexer.Piece.TheVariants as piece
 use Rattle.sig_expr.specs.declared.lexer.Step.{Step}
 use Rattle.sig_expr.specs.declared.lexer.Step.TheVariants as step
 use Rattle.sig_expr.specs.Ends.{empty_end, push_of}
-use Rattle.sig_expr.specs.Reading.{decimal_of, pair_of, part_of, item_start_of, list_start_of, begin_of, number_of, closed_gap_of, star_of, end_of,
-    closed_bracket_of, go_on_of, feed_of, next_of, is_between, context_of, behind_part}
-use Rattle.sig_expr.specs.Spelling.{PairText, WordText, NumberText, GapText, RangeText, NotText, AtomText, AlternativeText, AlternativesText, ListText,
-    ItemText, Spells}
+use Rattle.sig_expr.specs.Reading.{decimal_of, pair_of, part_of, item_start_of, list_start_of, begin_of, number_of, closed_gap_of, star_of, end_of}
+use Rattle.sig_expr.specs.Reading.{closed_bracket_of, go_on_of, feed_of, next_of, is_between, context_of, behind_part}
+use Rattle.sig_expr.specs.Spelling.{PairText, WordText, NumberText, GapText, RangeText, NotText, AtomText, AlternativeText, AlternativesText, ListText}
+use Rattle.sig_expr.specs.Spelling.{ItemText, Spells}
 use Rattle.sig_expr.proofs.PairLemmas.{small_digit}
 use Rattle.sig_expr.proofs.Scans.{run, run_at, pieces, pieces_in, Scans, end_after, end_of_word, piece_of, barred, listed, pieces_of, all_pieces}
 
@@ -101,7 +101,7 @@ pair_scans : (c : Context) (b : ℕ) (t : List ℕ) → PairText b t → Scans (
 unfolding feed_of go_on_of
 pair_scans c b t p =
     let same : b ≡ pair_of p.high_value p.low_value = p.byte ∙ sym
-        (pair_byte p.high_value p.low_value (small_digit p.high p.high_value p.is_high) (small_digit p.low p.low_value p.is_low)) in
+    (pair_byte p.high_value p.low_value (small_digit p.high p.high_value p.is_high) (small_digit p.low p.low_value p.is_low)) in
     rw (p.text, same)
     (scans_more _ p.high (token.Half p.high_value) _ _ _ (begin_digit c _ _ p.is_high)
     (scans_whole _ p.low (piece.Byte (pair_of p.high_value p.low_value)) _ _ _ (rw p.is_low refl) (scans_nothing _)))
@@ -132,7 +132,7 @@ unfolding go_on_of
 word_scans c not first e [] t h = rw h (scans_nothing _)
 word_scans c not first e (b ∷ bs) t h =
     rw h.2 (scans_append _ h.0 [] _ h.1 [] _ (end_pair_scans c _ not first e refl (λ d x q. bracket_digit not first e d x q) b h.0 h.3)
-        (word_scans c not first (push_of e b) bs h.1 h.4))
+    (word_scans c not first (push_of e b) bs h.1 h.4))
 
 -- an end is read, behind what lets it begin
 first_scans : (c : Context) (k : Token) (not : Bool) (first : Option End) → is_between k ≡ false
@@ -141,7 +141,7 @@ first_scans : (c : Context) (k : Token) (not : Bool) (first : Option End) → is
 first_scans c k not first inside goes [] t some h = absurd (omega arith)
 first_scans c k not first inside goes (b ∷ bs) t some h =
     rw h.2 (scans_append _ h.0 [] _ h.1 [] _ (end_pair_scans c k not first empty_end inside goes b h.0 h.3)
-        (word_scans c not first (push_of empty_end b) bs h.1 h.4))
+    (word_scans c not first (push_of empty_end b) bs h.1 h.4))
 
 start_digit : (not : Bool) (first : Option End) (h x : ℕ) → hex_digit_value h ≡ Some x
     → go_on_of (token.EndStart not first) h ≡ step.More (token.EndHalf not first empty_end x)
@@ -178,7 +178,7 @@ unfolding feed_of
 range_scans c a b t h =
     rw h.text (scans_more _ 91 token.Bracket _ _ _ (begin_bracket c)
     (scans_append _ h.first [] _ _ _ _ (first_scans c _ false None refl open_digit a h.first h.some_first h.is_first)
-        (second_scans c false a b h.second h.some_second h.is_second)))
+    (second_scans c false a b h.second h.some_second h.is_second)))
 
 -- a range that is excluded is read
 pub not_range_scans : (c : Context) (a b t : List ℕ) → RangeText (91 ∷ 33 ∷ []) a b t
@@ -188,7 +188,7 @@ not_range_scans c a b t h =
     rw h.text (scans_more _ 91 token.Bracket _ _ _ (begin_bracket c)
     (scans_more _ 33 (token.EndStart true None) _ _ _ refl
     (scans_append _ h.first [] _ _ _ _ (first_scans c _ true None refl (start_digit true None) a h.first h.some_first h.is_first)
-        (second_scans c true a b h.second h.some_second h.is_second))))
+    (second_scans c true a b h.second h.some_second h.is_second))))
 
 -- a word that is excluded is read
 pub not_scans : (c : Context) (a t : List ℕ) → NotText a t → Scans (at c token.Between) t (piece.Not (end_of_word a) ∷ []) (at (behind_part c) token.Between)
@@ -260,11 +260,11 @@ list_scans c outside [] t h = absurd (omega (arith, h.two))
 list_scans context.Start outside (a ∷ rest) t h =
     let k = h.is_inside in
     rw (h.text, k.2) (scans_whole _ 40 piece.Open _ _ _ refl (rw (append_assoc k.0 k.1 (41 ∷ []))
-        (list_parts_scan a rest k.0 k.1 k.3 (omega (arith, h.two)) k.4 k.5)))
+    (list_parts_scan a rest k.0 k.1 k.3 (omega (arith, h.two)) k.4 k.5)))
 list_scans context.After outside (a ∷ rest) t h =
     let k = h.is_inside in
     rw (h.text, k.2) (scans_whole _ 40 piece.Open _ _ _ refl (rw (append_assoc k.0 k.1 (41 ∷ []))
-        (list_parts_scan a rest k.0 k.1 k.3 (omega (arith, h.two)) k.4 k.5)))
+    (list_parts_scan a rest k.0 k.1 k.3 (omega (arith, h.two)) k.4 k.5)))
 
 pub below : (a b : ℕ) → (a < b) ⊎ (b ≤ a)
 below a b = below_by (nat_lt a b) refl

@@ -1,16 +1,16 @@
 -- Canonical texts spell their expressions, and none is longer than another spelling.
-use Rattle.std.proofs.Common.{◌≡◌, inl, inr, ℕ, ◌≤◌, Bool, true, false, cond, List, [], ◌∷◌, ◌++◌, length, decimal, Option, Some, None, Ok, refl, rules, arith,
-    nat_eq, length-append}
+use Rattle.std.proofs.Common.{◌≡◌, inl, inr, ℕ, ◌≤◌, Bool, true, false, cond, List, [], ◌∷◌, ◌++◌, length, decimal, Option, Some, None, Ok, refl, rules, arith}
+use Rattle.std.proofs.Common.{nat_eq, length-append}
 use Rattle.std.proofs.lemmas.Bool.Decides.{nat_tests}
 use Rattle.hex.specs.Hex.{encode_upper, encode_with}
 use Rattle.sig_expr.specs.declared.item.Item.{Item}
 use Rattle.sig_expr.specs.declared.item.Item.TheVariants as item
 use Rattle.sig_expr.specs.declared.item.Atom.{Atom}
 use Rattle.sig_expr.specs.declared.item.Atom.TheVariants as atom
-use Rattle.sig_expr.specs.Canon.{count_text, from_text, between_text, gap_text, range_text, not_text, atom_text, alternative_text, alternatives_text, item_text,
-    canon}
-use Rattle.sig_expr.specs.Spelling.{NumberText, PairText, WordText, GapText, RangeText, NotText, AtomText, AlternativeText, AlternativesText, ListText,
-    ItemText, Spells}
+use Rattle.sig_expr.specs.Canon.{count_text, from_text, between_text, gap_text, range_text, not_text, atom_text, alternative_text, alternatives_text, item_text}
+use Rattle.sig_expr.specs.Canon.{canon}
+use Rattle.sig_expr.specs.Spelling.{NumberText, PairText, WordText, GapText, RangeText, NotText, AtomText, AlternativeText, AlternativesText, ListText}
+use Rattle.sig_expr.specs.Spelling.{ItemText, Spells}
 use Rattle.sig_expr.specs.Profile.{GapSound, IsEnd, RangeSound, AtomSound, AtomsSound, AlternativesSound, ItemSound, ItemsSound, InProfile, IsExpression}
 use Rattle.sig_expr.specs.Texts.{expr_of}
 use Rattle.sig_expr.proofs.PairLemmas.{pair_small, pair_spells, word_spells}
@@ -46,23 +46,42 @@ gap_shortest least None t (inr h) =
     gap_if least None t (nat_eq least 0) _ _ (λ e. (inl (refl, is_zero least 0 e), rw h.1 (omega arith)))
     (λ e. (inr (decimal least, refl, record { digits = refl; few = h.2.few }), rw (h.1, h.2.digits) (omega arith)))
 gap_shortest least (Some max) t (inl h) =
-    gap_if least (Some max) t (nat_eq least max) _ _ (λ e. (inl (decimal max, refl, record { digits = refl; few = h.2.few }, h.3),
-        rw (h.1, h.2.digits) (omega arith)))
+    gap_if least (Some max) t (nat_eq least max) _ _ (λ e. (
+      inl (decimal max, refl, record { digits = refl; few = h.2.few }, h.3),
+      rw (h.1, h.2.digits) (omega arith),
+    ))
     (λ e. let same = h.3 in absurd (grind (arith, nat_tests, e, same)))
 gap_shortest least (Some max) t (inr h) =
-    gap_if least (Some max) t (nat_eq least max) _ _ (λ e. (inl (decimal max, refl, record { digits = refl; few = h.4.few }, is_zero least max e),
-        rw (h.2, h.3.digits, h.4.digits) (omega (arith, length-append (decimal max) (125 ∷ []),
-        length-append (decimal least) (45 ∷ (decimal max ++ (125 ∷ [])))))))
-    (λ e. (inr (decimal least, decimal max, refl, record { digits = refl; few = h.3.few }, record { digits = refl; few = h.4.few }),
-        rw (h.2, h.3.digits, h.4.digits) (omega arith)))
+    gap_if least (Some max) t (nat_eq least max) _ _ (λ e. (
+      inl (decimal max, refl, record { digits = refl; few = h.4.few }, is_zero least max e),
+      rw (h.2, h.3.digits, h.4.digits) (omega (
+        arith,
+        length-append (decimal max) (125 ∷ []),
+        length-append (decimal least) (45 ∷ (decimal max ++ (125 ∷ []))),
+      )),
+    ))
+    (λ e. (
+      inr (decimal least, decimal max, refl, record { digits = refl; few = h.3.few }, record { digits = refl; few = h.4.few }),
+      rw (h.2, h.3.digits, h.4.digits) (omega arith),
+    ))
 
 range_shortest : (o a b t : List ℕ) → RangeText o a b t → RangeText o a b (range_text o a b) × (length (range_text o a b) ≤ length t)
 unfolding range_text
 range_shortest o a b t h =
     let first = word_shortest a h.first h.is_first in
-    let second = word_shortest b h.second h.is_second in
-    (record { first = encode_upper a; second = encode_upper b; text = refl; is_first = first.0; is_second = second.0; some_first = h.some_first; some_second =
-        h.some_second }, rw h.text (simp length-append (omega (arith, first.1, second.1))))
+    let second = word_shortest b h.second h.is_second in (
+      record {
+        first = encode_upper a;
+        second = encode_upper b;
+        text = refl;
+        is_first = first.0;
+        is_second = second.0;
+        some_first = h.some_first;
+        some_second =
+            h.some_second;
+      },
+      rw h.text (simp length-append (omega (arith, first.1, second.1))),
+    )
 
 not_shortest : (a t : List ℕ) → NotText a t → NotText a (not_text a) × (length (not_text a) ≤ length t)
 unfolding not_text
@@ -97,9 +116,10 @@ alternatives_shortest s (a ∷ as') t h =
 list_shortest : (as' : List (List Atom)) (t : List ℕ) → ListText as' t → ListText as' (alternatives_text (40 ∷ []) as' ++ 41 ∷ [])
     × (length (alternatives_text (40 ∷ []) as' ++ 41 ∷ []) ≤ length t)
 list_shortest as' t h =
-    let inside = alternatives_shortest (40 ∷ []) as' h.inside h.is_inside in
-    (record { inside = alternatives_text (40 ∷ []) as'; text = refl; is_inside = inside.0; two = h.two },
-        rw h.text (simp length-append (omega (arith, inside.1))))
+    let inside = alternatives_shortest (40 ∷ []) as' h.inside h.is_inside in (
+      record { inside = alternatives_text (40 ∷ []) as'; text = refl; is_inside = inside.0; two = h.two },
+      rw h.text (simp length-append (omega (arith, inside.1))),
+    )
 
 item_shortest : (i : Item) (t : List ℕ) → ItemText i t → ItemText i (item_text i) × (length (item_text i) ≤ length t)
 item_shortest (item.Byte b) t h = pair_shortest b t h
@@ -166,8 +186,14 @@ alternative_spells (p ∷ ps) h = (atom_text p, alternative_text ps, refl, atom_
 alternatives_spell : (s : List ℕ) (as' : List (List Atom)) → AlternativesSound as' → AlternativesText s as' (alternatives_text s as')
 unfolding alternatives_text
 alternatives_spell s [] h = refl
-alternatives_spell s (a ∷ as') h = (alternative_text a, alternatives_text (124 ∷ []) as', refl, h.2, alternative_spells a h.0,
-    alternatives_spell (124 ∷ []) as' h.1)
+alternatives_spell s (a ∷ as') h = (
+  alternative_text a,
+  alternatives_text (124 ∷ []) as',
+  refl,
+  h.2,
+  alternative_spells a h.0,
+  alternatives_spell (124 ∷ []) as' h.1,
+)
 
 item_spells : (i : Item) → ItemSound i → ItemText i (item_text i)
 item_spells (item.Byte b) h = pair_spells b h

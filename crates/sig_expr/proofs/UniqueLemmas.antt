@@ -1,6 +1,6 @@
 -- A text spells one list of items alone: what is spelled at the front of a text, and what is behind it, is known by the text.
-use Rattle.std.proofs.Common.{◌≡◌, inl, inr, ℕ, ◌+◌, ◌%◌, ◌<◌, ◌≤◌, true, false, nat_eq, if◌then◌else◌, List, [], ◌∷◌, ◌++◌, length, decimal, Option, Some,
-    None, refl, sym, ◌∙◌, ap, arith, append_assoc}
+use Rattle.std.proofs.Common.{◌≡◌, inl, inr, ℕ, ◌+◌, ◌%◌, ◌<◌, ◌≤◌, true, false, nat_eq, if◌then◌else◌, List, [], ◌∷◌, ◌++◌, length, decimal, Option, Some}
+use Rattle.std.proofs.Common.{None, refl, sym, ◌∙◌, ap, arith, append_assoc}
 use Rattle.std.specs.Prelude.{⊤}
 use Rattle.std.proofs.lemmas.Fmt.{decimal_by_steps, decimal_injective, decimal_nonempty}
 use Rattle.hex.specs.Hex.{hex_digit_value}
@@ -8,8 +8,8 @@ use Rattle.sig_expr.specs.declared.item.Item.{Item}
 use Rattle.sig_expr.specs.declared.item.Item.TheVariants as item
 use Rattle.sig_expr.specs.declared.item.Atom.{Atom}
 use Rattle.sig_expr.specs.declared.item.Atom.TheVariants as atom
-use Rattle.sig_expr.specs.Spelling.{PairText, WordText, NumberText, GapText, RangeText, NotText, AtomText, AlternativeText, AlternativesText, ListText,
-    ItemText, Spells}
+use Rattle.sig_expr.specs.Spelling.{PairText, WordText, NumberText, GapText, RangeText, NotText, AtomText, AlternativeText, AlternativesText, ListText}
+use Rattle.sig_expr.specs.Spelling.{ItemText, Spells}
 use Rattle.sig_expr.proofs.ProfileLemmas.{some_items}
 use Rattle.sig_expr.proofs.ScanLemmas.{not_digit}
 
@@ -131,7 +131,7 @@ count_text t u v e = ap (λ (x : List ℕ). x ++ v) e ∙ ap (λ (x : List ℕ).
 between_text : (t u w v : List ℕ) → t ≡ 123 ∷ (u ++ (45 ∷ (w ++ (125 ∷ [])))) → t ++ v ≡ 123 ∷ (u ++ (45 ∷ (w ++ (125 ∷ v))))
 between_text t u w v e =
     ap (λ (x : List ℕ). x ++ v) e ∙ ap (λ (x : List ℕ). 123 ∷ x) (append_assoc u (45 ∷ (w ++ (125 ∷ []))) v) ∙ ap (λ (x : List ℕ). 123 ∷ (u ++ (45 ∷ x)))
-        (append_assoc w (125 ∷ []) v)
+    (append_assoc w (125 ∷ []) v)
 
 inside : (x y : List ℕ) → 123 ∷ x ≡ 123 ∷ y → x ≡ y
 inside x y e = cut_front (123 ∷ []) x y e
@@ -148,11 +148,11 @@ open_or_not least least' max' u u' v v' (inl h) (inl h') e = star_or_brace _ _ (
 open_or_not least least' max' u u' v v' (inl h) (inr h') e = star_or_brace _ _ (sym (star_text u v h.0) ∙ e ∙ between_text u' h'.0 h'.1 v' h'.2)
 open_or_not least least' max' u u' v v' (inr h) (inl h') e =
     dash_or_brace 45 125 refl refl (number_cuts least max' h.0 h'.0 (42 ∷ 125 ∷ v) v' 45 125 h.2 h'.2 dash brace
-        (inside _ _ (sym (open_text u h.0 v h.1) ∙ e ∙ count_text u' h'.0 v' h'.1))).1
+    (inside _ _ (sym (open_text u h.0 v h.1) ∙ e ∙ count_text u' h'.0 v' h'.1))).1
 open_or_not least least' max' u u' v v' (inr h) (inr h') e =
     number_no_star max' h'.1 (125 ∷ v') (125 ∷ v) h'.4
     (number_cuts least least' h.0 h'.0 (42 ∷ 125 ∷ v) (h'.1 ++ (125 ∷ v')) 45 45 h.2 h'.3 dash dash
-        (inside _ _ (sym (open_text u h.0 v h.1) ∙ e ∙ between_text u' h'.0 h'.1 v' h'.2))).2
+    (inside _ _ (sym (open_text u h.0 v h.1) ∙ e ∙ between_text u' h'.0 h'.1 v' h'.2))).2
 
 open_cuts : (least least' : ℕ) (u u' v v' : List ℕ) → GapText least None u → GapText least' None u' → u ++ v ≡ u' ++ v' → (least ≡ least') × (v ≡ v')
 open_cuts least least' u u' v v' (inl h) (inl h') e = (h.1 ∙ sym h'.1, cut_front (42 ∷ []) v v' (sym (star_text u v h.0) ∙ e ∙ star_text u' v' h'.0))
@@ -160,7 +160,7 @@ open_cuts least least' u u' v v' (inl h) (inr h') e = absurd (star_or_brace _ _ 
 open_cuts least least' u u' v v' (inr h) (inl h') e = absurd (star_or_brace _ _ (sym (star_text u' v' h'.0) ∙ sym e ∙ open_text u h.0 v h.1))
 open_cuts least least' u u' v v' (inr h) (inr h') e =
     let cut = number_cuts least least' h.0 h'.0 (42 ∷ 125 ∷ v) (42 ∷ 125 ∷ v') 45 45 h.2 h'.2 dash dash
-        (inside _ _ (sym (open_text u h.0 v h.1) ∙ e ∙ open_text u' h'.0 v' h'.1)) in
+    (inside _ _ (sym (open_text u h.0 v h.1) ∙ e ∙ open_text u' h'.0 v' h'.1)) in
     (cut.0, cut_front (42 ∷ 125 ∷ []) v v' cut.2)
 
 bound_cuts : (least least' max max' : ℕ) (u u' v v' : List ℕ) → GapText least (Some max) u → GapText least' (Some max') u' → u ++ v ≡ u' ++ v'
@@ -170,13 +170,13 @@ bound_cuts least least' max max' u u' v v' (inl h) (inl h') e =
     (h.3 ∙ cut.0 ∙ sym h'.3, cut.0, cut.2)
 bound_cuts least least' max max' u u' v v' (inl h) (inr h') e =
     absurd (dash_or_brace 45 125 refl refl (sym (number_cuts max least' h.0 h'.0 v (h'.1 ++ (125 ∷ v')) 125 45 h.2 h'.3 brace dash
-        (inside _ _ (sym (count_text u h.0 v h.1) ∙ e ∙ between_text u' h'.0 h'.1 v' h'.2))).1))
+    (inside _ _ (sym (count_text u h.0 v h.1) ∙ e ∙ between_text u' h'.0 h'.1 v' h'.2))).1))
 bound_cuts least least' max max' u u' v v' (inr h) (inl h') e =
     absurd (dash_or_brace 45 125 refl refl (number_cuts least max' h.0 h'.0 (h.1 ++ (125 ∷ v)) v' 45 125 h.3 h'.2 dash brace
-        (inside _ _ (sym (between_text u h.0 h.1 v h.2) ∙ e ∙ count_text u' h'.0 v' h'.1))).1)
+    (inside _ _ (sym (between_text u h.0 h.1 v h.2) ∙ e ∙ count_text u' h'.0 v' h'.1))).1)
 bound_cuts least least' max max' u u' v v' (inr h) (inr h') e =
     let cut = number_cuts least least' h.0 h'.0 (h.1 ++ (125 ∷ v)) (h'.1 ++ (125 ∷ v')) 45 45 h.3 h'.3 dash dash
-        (inside _ _ (sym (between_text u h.0 h.1 v h.2) ∙ e ∙ between_text u' h'.0 h'.1 v' h'.2)) in
+    (inside _ _ (sym (between_text u h.0 h.1 v h.2) ∙ e ∙ between_text u' h'.0 h'.1 v' h'.2)) in
     let end = number_cuts max max' h.1 h'.1 v v' 125 125 h.4 h'.4 brace brace cut.2 in
     (cut.0, end.0, end.2)
 
@@ -339,7 +339,7 @@ parts_cut [] (q ∷ qs) u u' v v' s s' h h' k k' e = absurd (no_part q h'.0 (h'.
 parts_cut (p ∷ ps) [] u u' v v' s s' h h' k k' e = absurd (no_part p h.0 (h.1 ++ s ∷ v) v' s' h.3 k' (sym (rw (h.2, h', append_assoc h.0 h.1 (s ∷ v)) at e)))
 parts_cut (p ∷ ps) (q ∷ qs) u u' v v' s s' h h' k k' e =
     let one = atom_cuts p q h.0 h'.0 (h.1 ++ s ∷ v) (h'.1 ++ s' ∷ v') h.3 h'.3
-        (rw (h.2, h'.2, append_assoc h.0 h.1 (s ∷ v), append_assoc h'.0 h'.1 (s' ∷ v')) at e) in
+    (rw (h.2, h'.2, append_assoc h.0 h.1 (s ∷ v), append_assoc h'.0 h'.1 (s' ∷ v')) at e) in
     let more = parts_cut ps qs h.1 h'.1 v v' s s' h.4 h'.4 k k' one.1 in
     (cc (one.0, more.0), more.1)
 

@@ -1,6 +1,6 @@
 -- Writes one after the other.
-use Rattle.std.proofs.Common.{◌≡◌, ℕ, ◌+◌, ◌<◌, Bool, false, List, [], ◌∷◌, ◌++◌, length, Option, Some, None, Result, Ok, Err, OnOk, IsErr, IsTrue, is_err,
-    refl, sym, ◌∙◌, ap, arith, length-append, append_assoc, append-nil}
+use Rattle.std.proofs.Common.{◌≡◌, ℕ, ◌+◌, ◌<◌, Bool, false, List, [], ◌∷◌, ◌++◌, length, Option, Some, None, Result, Ok, Err, OnOk, IsErr, IsTrue, is_err}
+use Rattle.std.proofs.Common.{refl, sym, ◌∙◌, ap, arith, length-append, append_assoc, append-nil}
 use Rattle.sig_bits.specs.Device.{Adds}
 use Rattle.sig_expr.specs.Writing.{Sink, Wrote, Printed}
 
@@ -47,6 +47,11 @@ pub record Says {X E : Type 0} (a : Sink) (t : List ℕ) (r : Result X E) (b : S
   pub adds : OnOk r (Adds a.written t b.written)
 
 pub printed_says : {X E : Type 0} (r : Result X E) (a b : Sink) (t : List ℕ) → 0 < length t → Printed a t r b → Says a t r b
-printed_says (Ok x) a b t some p = record { fails = p.wrote.stays ∙ p.wrote.sound some; stays_failed = λ failed. absurd (cc (p.wrote.sound some)); lowers =
-    p.wrote.lowers; adds = p.wrote.adds }
+printed_says (Ok x) a b t some p = record {
+  fails = p.wrote.stays ∙ p.wrote.sound some;
+  stays_failed = λ failed. absurd (cc (p.wrote.sound some));
+  lowers =
+      p.wrote.lowers;
+  adds = p.wrote.adds;
+}
 printed_says (Err e) a b t some p = record { fails = p.fails; stays_failed = λ failed. refl; lowers = tt; adds = tt }

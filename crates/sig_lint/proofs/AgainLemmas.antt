@@ -13,7 +13,7 @@ there_or_not (Some x) = inr (x, refl)
 pub again : {R S : Type 0} (read : ℕ → Result R TableError) (fault : ℕ → R → Option TableError) (put : R → S)
     → ((n m : ℕ) (row : R) → read n ≡ Ok row → read m ≡ Ok row) → ((n m : ℕ) (row : R) → fault n row ≡ None → fault m row ≡ None)
     → (n m : ℕ) (more : S) → read n >>= (λ row. unless (fault n row) (Ok (put row))) ≡ Ok more
-        → read m >>= (λ row. unless (fault m row) (Ok (put row))) ≡ Ok more
+    → read m >>= (λ row. unless (fault m row) (Ok (put row))) ≡ Ok more
 again read fault put reads fine n m more h =
     let row = binds (read n) (λ row. unless (fault n row) (Ok (put row))) more h in
     elim (there_or_not (fault n row.0)) [

@@ -1,6 +1,6 @@
 -- Equal rows, one after another.
-use Rattle.std.proofs.Common.{◌≡◌, ℕ, suc, zero, ◌+◌, ◌<◌, ◌≤◌, All, Bool, true, false, arith, cond, List, [], ◌∷◌, ◌++◌, None, Option, Some, add-one, ap,
-    length, map, refl, subst, sym, ◌∙◌}
+use Rattle.std.proofs.Common.{◌≡◌, ℕ, suc, zero, ◌+◌, ◌<◌, ◌≤◌, All, Bool, true, false, arith, cond, List, [], ◌∷◌, ◌++◌, None, Option, Some, add-one, ap}
+use Rattle.std.proofs.Common.{length, map, refl, subst, sym, ◌∙◌}
 use Rattle.std.proofs.lemmas.List.{map-append}
 use Rattle.std.proofs.lemmas.List.Elements.{All-append, All-cons, All-head, All-nil, All-tail}
 use Rattle.std.proofs.lemmas.List.Sums.{fold-append}
@@ -36,9 +36,9 @@ pub rows-more : (signatures : List SignatureView) (n : ℕ) (rows more : RowsVie
 unfolding rows_before
 rows-more signatures n rows more owner sequences are place format is step =
     step ∙ ap (λ r. fold with_row r (map (placed owner) sequences)) are ∙ sym
-        (fold-append with_row no_row (rows_before signatures n) (map (placed owner) sequences))
+    (fold-append with_row no_row (rows_before signatures n) (map (placed owner) sequences))
     ∙ ap (λ l. fold with_row no_row (rows_before signatures n ++ l)) (go (slice_get signatures n) format is) ∙ ap
-        (λ k. fold with_row no_row (rows_before signatures k)) (sym (add-one n))
+    (λ k. fold with_row no_row (rows_before signatures k)) (sym (add-one n))
   where
     go : (s : Option SignatureView) → option_map (λ (s : SignatureView). s.format) s ≡ Some owner.format.0
         → option_map (λ (s : SignatureView). s.sequences) s ≡ Some sequences → map (placed owner) sequences ≡ rows_at n s
@@ -93,10 +93,16 @@ unfolding with_row
 row_within bound rows row within mine = go (first_of rows.firsts row.0) refl
   where
     go : (first : Option Owner) → first_of rows.firsts row.0 ≡ first → AreWithin bound (with_first rows row first)
-    go None is = record { firsts = All-append (IsOwner bound) rows.firsts (row ∷ []) within.firsts
-        (All-cons (IsOwner bound) row [] mine (All-nil (IsOwner bound))); found = within.found }
-    go (Some first) is = record { firsts = within.firsts; found =
-        told_within bound rows.found row.1 first within.found mine (looked_up bound _ rows.firsts first within.firsts is) }
+    go None is = record {
+      firsts = All-append (IsOwner bound) rows.firsts (row ∷ []) within.firsts
+          (All-cons (IsOwner bound) row [] mine (All-nil (IsOwner bound)));
+      found = within.found;
+    }
+    go (Some first) is = record {
+      firsts = within.firsts;
+      found =
+          told_within bound rows.found row.1 first within.found mine (looked_up bound _ rows.firsts first within.firsts is);
+    }
 
 fold_within : (bound : ℕ) (more : List (List ℕ × Owner)) (rows : RowsView) → All (IsOwner bound) more → AreWithin bound rows
     → AreWithin bound (fold with_row rows more)
@@ -125,5 +131,5 @@ equal_within table =
     let n = length table.signatures in
     let none : AreWithin n no_row = record { firsts = All-nil (IsOwner n); found = All-nil (ArePlaces n) } in
     let all : AreWithin n (fold with_row no_row (rows_before table.signatures n)) =
-        fold_within n (rows_before table.signatures n) no_row (before_within table.signatures n n (omega arith)) none in
+    fold_within n (rows_before table.signatures n) no_row (before_within table.signatures n n (omega arith)) none in
     all.found

@@ -1,6 +1,6 @@
 -- The fold that goes on behind faults, and the one that ends at the first.
-use Rattle.std.proofs.Common.{◌≡◌, ℕ, suc, ◌+◌, List, [], ◌∷◌, ◌++◌, length, append-nil, append_assoc, add-zero, sym, ap, subst, refl, ◌∙◌, arith, inl, inr,
-    Result, Ok, Err, Option}
+use Rattle.std.proofs.Common.{◌≡◌, ℕ, suc, ◌+◌, List, [], ◌∷◌, ◌++◌, length, append-nil, append_assoc, add-zero, sym, ap, subst, refl, ◌∙◌, arith, inl, inr}
+use Rattle.std.proofs.Common.{Result, Ok, Err, Option}
 use Rattle.sig_table.specs.declared.error.TableError.{TableError}
 use Rattle.sig_table.specs.Judging.{◌>>=◌, judged, passed}
 use Rattle.sig_table.proofs.Exports.{answered}
@@ -19,7 +19,7 @@ module _ {S : Type 0} (tell : List (List ℕ) → TableError → FaultView) (jud
 
   pub faults_from-more : (n : ℕ) (done : S) (fields : List (List ℕ)) (later : List (List (List ℕ)))
       → faults_from tell judge n done (fields ∷ later) ≡ told tell fields (passed done (judge n done fields)).1 ++ faults_from tell judge (n + 1)
-          (passed done (judge n done fields)).0 later
+      (passed done (judge n done fields)).0 later
   unfolding faults_from
   faults_from-more n done fields later = refl
 
@@ -35,7 +35,7 @@ module _ {S : Type 0} (tell : List (List ℕ) → TableError → FaultView) (jud
   -- one record more
   pub faults-more : (all front : List FaultView) (n : ℕ) (done taken : S) (fault : Option TableError) (fields : List (List ℕ)) (later : List (List (List ℕ)))
       → all ≡ front ++ faults_from tell judge n done (fields ∷ later)
-          → (let both : S × Option TableError = (taken, fault) in both ≡ passed done (judge n done fields))
+      → (let both : S × Option TableError = (taken, fault) in both ≡ passed done (judge n done fields))
       → all ≡ (front ++ told tell fields fault) ++ faults_from tell judge (n + 1) taken later
   faults-more all front n done taken fault fields later is took =
       let goes : faults_from tell judge n done (fields ∷ later) ≡ told tell fields fault ++ faults_from tell judge (n + 1) taken later =
@@ -49,7 +49,7 @@ module _ {S : Type 0} (tell : List (List ℕ) → TableError → FaultView) (jud
   pub faults_from-append : (earlier : List (List (List ℕ))) (n : ℕ) (t : S) (fields : List (List ℕ)) (later : List (List (List ℕ)))
       → let here = passed (done_by judge n t earlier) (judge (n + length earlier) (done_by judge n t earlier) fields)
       in faults_from tell judge n t (earlier ++ fields ∷ later) ≡ faults_from tell judge n t earlier
-          ++ (told tell fields here.1 ++ faults_from tell judge (n + length earlier + 1) here.0 later)
+      ++ (told tell fields here.1 ++ faults_from tell judge (n + length earlier + 1) here.0 later)
   unfolding faults_from done_by
   faults_from-append [] n t fields later = rw add-zero refl
   faults_from-append (first ∷ earlier) n t fields later =
@@ -57,7 +57,7 @@ module _ {S : Type 0} (tell : List (List ℕ) → TableError → FaultView) (jud
       let at : (n + 1) + length earlier ≡ n + suc (length earlier) = omega arith in
       let rest = subst (λ k. let here = passed (done_by judge (n + 1) next earlier) (judge k (done_by judge (n + 1) next earlier) fields)
       in faults_from tell judge (n + 1) next (earlier ++ fields ∷ later) ≡ faults_from tell judge (n + 1) next earlier
-          ++ (told tell fields here.1 ++ faults_from tell judge (k + 1) here.0 later)) at
+      ++ (told tell fields here.1 ++ faults_from tell judge (k + 1) here.0 later)) at
       (faults_from-append earlier (n + 1) next fields later) in
       ap (λ l. told tell first (passed t (judge n t first)).1 ++ l) rest ∙ sym (append_assoc (told tell first (passed t (judge n t first)).1) _ _)
 

@@ -1,6 +1,6 @@
 -- Where all names of the priority file are known, none of its formats is told as unknown.
-use Rattle.std.proofs.Common.{◌≡◌, ◌⊎◌, ℕ, ◌+◌, ◌<◌, ◌||◌, Bool, true, false, nat_eq, nat_lt, List, [], ◌∷◌, length, take, drop, sym, ap, refl, ◌∙◌, arith,
-    rules, tests, eq-eqb, inl, inr, Result, Ok, Err, Option, Some, None}
+use Rattle.std.proofs.Common.{◌≡◌, ◌⊎◌, ℕ, ◌+◌, ◌<◌, ◌||◌, Bool, true, false, nat_eq, nat_lt, List, [], ◌∷◌, length, take, drop, sym, ap, refl, ◌∙◌, arith}
+use Rattle.std.proofs.Common.{rules, tests, eq-eqb, inl, inr, Result, Ok, Err, Option, Some, None}
 use Rattle.std.specs.Prelude.{All, fold}
 use Rattle.std.specs.List.{list_any, position_or_len}
 use Rattle.std.proofs.Math.Bool.{or-false}
@@ -148,7 +148,7 @@ unless-fault pairs more n pair e h = elim (cases_Bool (is_listed pairs pair)) [
 
 with_pair-fault : (formats : List Puid) (n : ℕ) (pairs : List (ℕ × ℕ)) (fields : List (List ℕ)) (e : TableError)
     → (nat_eq (length fields) 2 ≡ true → HaveIndexes formats (text_at fields 0) (text_at fields 1)) → with_pair formats n pairs fields ≡ Err e
-        → is_unknown e ≡ false
+    → is_unknown e ≡ false
 unfolding with_pair
 with_pair-fault formats n pairs fields e known h = elim (answered (pair_of formats n fields)) [
   | inl pair ↦ unless-fault pairs _ n pair.0 e (rw pair.1 at h)

@@ -44,14 +44,14 @@ pair_fault-again : (pairs : List (ℕ × ℕ)) (n m : ℕ) (pair : ℕ × ℕ) �
 unfolding pair_fault
 pair_fault-again pairs n m pair h =
     two_tests (is_listed pairs pair) (is_above pairs pair.1 pair.0) (error.PriorityTwice n) (error.PriorityCycle n) (error.PriorityTwice m)
-        (error.PriorityCycle m) h
+    (error.PriorityCycle m) h
 
 with_pair-again : (formats : List Puid) (n m : ℕ) (pairs more : List (ℕ × ℕ)) (fields : List (List ℕ)) → with_pair formats n pairs fields ≡ Ok more
     → with_pair formats m pairs fields ≡ Ok more
 unfolding with_pair
 with_pair-again formats n m pairs more fields h =
     again (λ k. pair_of formats k fields) (λ k pair. pair_fault pairs k pair) (λ pair. pairs ++ pair ∷ []) (pair_of-again formats fields)
-        (pair_fault-again pairs) n m more h
+    (pair_fault-again pairs) n m more h
 
 pub faultless_pairs_load : (names : List Puid) (header : List (List ℕ)) (rows : List (List (List ℕ))) → length names ≤ 1000 → is_priority_header header ≡ true
     → pairs_of names (header ∷ faultless (with_named_pair names) 1 [] rows) ≡ Ok (done_by (with_named_pair names) 1 [] rows)

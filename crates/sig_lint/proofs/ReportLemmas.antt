@@ -1,6 +1,6 @@
 -- What is told of two files, line by line.
-use Rattle.std.proofs.Common.{◌≡◌, ◌==◌, ◌<◌, ◌≤◌, ℕ, suc, zero, Bool, true, false, cond, List, [], ◌∷◌, ◌++◌, All, None, Option, Some, Err, ap, arith, codes,
-    get_or, length, map, refl, subst, sym, ◌∙◌}
+use Rattle.std.proofs.Common.{◌≡◌, ◌==◌, ◌<◌, ◌≤◌, ℕ, suc, zero, Bool, true, false, cond, List, [], ◌∷◌, ◌++◌, All, None, Option, Some, Err, ap, arith, codes}
+use Rattle.std.proofs.Common.{get_or, length, map, refl, subst, sym, ◌∙◌}
 use Rattle.std.proofs.lemmas.Grind.{flat_map-append}
 use Rattle.std.proofs.lemmas.List.{append-nil, map-append}
 use Rattle.std.proofs.lemmas.List.Elements.{All-append, All-cons, All-get_or, All-nil}
@@ -63,16 +63,16 @@ unfolding places_of_gaps
 places_within signatures bound zero within = All-nil (λ p. p < bound)
 places_within signatures bound (suc n) within =
     All-append (λ p. p < bound) (places_of_gaps signatures n) _ (places_within signatures bound n (omega arith))
-        (one_within bound n (is_of_gaps (option_map (λ (s : SignatureView). s.sequences) (slice_get signatures n))) (omega arith))
+    (one_within bound n (is_of_gaps (option_map (λ (s : SignatureView). s.sequences) (slice_get signatures n))) (omega arith))
 
 -- so a signature that is found is one of the table
 pub found_within : (signatures : List SignatureView) (found : List SigId) (i : ℕ) (d : SigId)
     → map (λ (id : SigId). id.0) found ≡ places_of_gaps signatures (length signatures) → i < length found → (get_or found i d).0 < length signatures
 found_within signatures found i d are within =
     let all : All (λ p. p < length signatures) (map (λ (id : SigId). id.0) found) =
-        subst (All (λ p. p < length signatures)) (sym are) (places_within signatures (length signatures) (length signatures) (omega arith)) in
+    subst (All (λ p. p < length signatures)) (sym are) (places_within signatures (length signatures) (length signatures) (omega arith)) in
     subst (λ p. p < length signatures) (get_or-map (λ (id : SigId). id.0) found i d)
-        (All-get_or (λ p. p < length signatures) (map (λ (id : SigId). id.0) found) i d.0 (omega (arith, length-map found (λ (id : SigId). id.0))) all)
+    (All-get_or (λ p. p < length signatures) (map (λ (id : SigId). id.0) found) i d.0 (omega (arith, length-map found (λ (id : SigId). id.0))) all)
 
 -- faults that are some have a first one
 pub faults_told : (signatures priorities : Records) (faults : List FaultView) (text : List ℕ) → faults ≡ lint_faults signatures priorities

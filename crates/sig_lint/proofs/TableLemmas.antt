@@ -53,7 +53,7 @@ unfolding lint_faults table_of
 lint_agrees signatures priorities = elim (answered (signatures_of signatures)) [
   | inl table ↦
       let none : signature_faults signatures ≡ [] = Agrees-ok (signature_faults signatures) (signatures_of signatures) table.0 (agrees-signatures signatures)
-          table.1 in
+      table.1 in
       rw (none, names_of-loaded signatures priorities table.0 table.1, table.1)
       (Agrees-map (priority_faults table.0.formats priorities) (pairs_of table.0.formats priorities) (λ pairs. record table.0 { priorities = pairs })
       (agrees-priorities table.0.formats priorities (formats-few signatures table.0 table.1)))

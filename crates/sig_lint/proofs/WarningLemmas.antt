@@ -11,6 +11,6 @@ places-none signatures = refl
 pub places-more : (signatures : List SignatureView) (n : ℕ) (found more : List ℕ) (sequences : List SequenceView) (b : Bool)
     → found ≡ places_of_gaps signatures n
     → option_map (λ (s : SignatureView). s.sequences) (slice_get signatures n) ≡ Some sequences → b ≡ are_of_gaps sequences → more ≡ found ++ cond b (n ∷ []) []
-        → more ≡ places_of_gaps signatures (n + 1)
+    → more ≡ places_of_gaps signatures (n + 1)
 unfolding places_of_gaps
 places-more signatures n found more sequences b first is test step = rw (add-one n, is, ← test, ← first) step

@@ -1,6 +1,6 @@
 -- Every file has hit formats: whether a sequence stands in a file is decided.
-use Rattle.std.proofs.Common.{◌≡◌, ◌⊎◌, ℕ, zero, suc, ◌+◌, ◌<◌, List, [], ◌∷◌, ◌++◌, All, Option, Some, None, length, option_map, slice_get, ap, refl, subst,
-    sym, ◌∙◌, inl, inr, arith}
+use Rattle.std.proofs.Common.{◌≡◌, ◌⊎◌, ℕ, zero, suc, ◌+◌, ◌<◌, List, [], ◌∷◌, ◌++◌, All, Option, Some, None, length, option_map, slice_get, ap, refl, subst}
+use Rattle.std.proofs.Common.{sym, ◌∙◌, inl, inr, arith}
 use Rattle.std.proofs.lemmas.Bool.{cases_eq}
 use Rattle.std.proofs.lemmas.List.Elements.{All-cons, All-head, All-nil, All-tail}
 use Rattle.std.proofs.lemmas.Option.{get_or_from_slice_get, slice_get_within}
@@ -43,7 +43,7 @@ module _ (table : TableView) (file : List ℕ) (is : IsTable table) (bytes : IsB
         let within : index < length table.signatures = slice_get_within table.signatures index own there.1 in
         let sequences : All IsSequence own.sequences =
         subst (λ (s : SignatureView). All IsSequence s.sequences) (get_or_from_slice_get table.signatures index own own there.1)
-            (is.each index own within).sequences in
+        (is.each index own within).sequences in
         elim (cases_eq own.format format) [
           | inr other ↦ inr (λ hit. let both : Some own ≡ Some hit.signature = sym there.1 ∙ hit.at in let same : own ≡ hit.signature = cc in
               other (ap (λ (s : SignatureView). s.format) same ∙ hit.of_format))

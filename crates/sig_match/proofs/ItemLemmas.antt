@@ -74,12 +74,24 @@ HasExactly-alternative alternatives next file S old others both before after uni
       union.complete o (
       elim (Contains-push_cases alternatives next r.is_word.0 r.is_word.1) [
         | inl known ↦
-            inl (before.complete o (record { start = r.start; is_start = r.is_start; in_order = r.in_order; within = r.within; is_word =
-                (r.is_word.0, known, r.is_word.2) }))
+            inl (before.complete o (record {
+              start = r.start;
+              is_start = r.is_start;
+              in_order = r.in_order;
+              within = r.within;
+              is_word =
+                  (r.is_word.0, known, r.is_word.2);
+            }))
         | inr is_next ↦
             (let P : List Atom → Type 0 = λ a. AlternativeWord a (slice_range file r.start o) in
-            inr (after.complete o (record { start = r.start; is_start = r.is_start; in_order = r.in_order; within = r.within; is_word =
-                subst P (sym is_next) r.is_word.2 })))
+            inr (after.complete o (record {
+              start = r.start;
+              is_start = r.is_start;
+              in_order = r.in_order;
+              within = r.within;
+              is_word =
+                  subst P (sym is_next) r.is_word.2;
+            })))
       ]
       );
 }

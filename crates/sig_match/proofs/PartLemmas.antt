@@ -48,7 +48,7 @@ pub Gains-here : (W : List ℕ → Type 0) (m : ℕ) (fixed : Fixed W m) (file :
     → Gains (IsWithin (record { from = e; to = e })) mid new → Gains (Reaches W file (IsPassed x (at + 1))) old new
 Gains-here W m fixed file x at e old mid new within order fits word before gains =
     let here : Reaches W file (IsPassed x (at + 1)) e = record { start = at; is_start = (within, omega arith); in_order = order; within = fits; is_word = word }
-        in
+    in
     let at_end : e ≡ at + m = Reaches-fixed_end W m fixed file (IsPassed x (at + 1)) e here in
     Gains-more (Reaches W file (IsPassed x at)) (IsWithin (record { from = e; to = e })) (Reaches W file (IsPassed x (at + 1))) old mid new
     (λ o r. Reaches-starts W file _ _ o (λ a _ h. (h.0, let below = h.1 in omega arith)) r)
@@ -92,6 +92,12 @@ Gains-passed W m fixed file x at old new passed before =
     (λ o r.
     let fits = r.within in
     let o_end = Reaches-fixed_end W m fixed file _ o r in
-    record { start = r.start; is_start = (r.is_start, passed r.start r.is_start.1 (omega arith)); in_order = r.in_order; within = r.within; is_word =
-        r.is_word })
+    record {
+      start = r.start;
+      is_start = (r.is_start, passed r.start r.is_start.1 (omega arith));
+      in_order = r.in_order;
+      within = r.within;
+      is_word =
+          r.is_word;
+    })
     before

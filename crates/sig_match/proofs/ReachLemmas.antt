@@ -1,6 +1,6 @@
 -- Where words end that begin at given offsets.
-use Rattle.std.proofs.Common.{◌≡◌, ◌⊎◌, ℕ, ◌+◌, ◌-◌, ◌≤◌, ◌<◌, List, [], ◌∷◌, ◌++◌, length, get_or, take, drop, refl, subst, ap, ◌∙◌, sym, inl, inr, arith,
-    take-add, length-append}
+use Rattle.std.proofs.Common.{◌≡◌, ◌⊎◌, ℕ, ◌+◌, ◌-◌, ◌≤◌, ◌<◌, List, [], ◌∷◌, ◌++◌, length, get_or, take, drop, refl, subst, ap, ◌∙◌, sym, inl, inr, arith}
+use Rattle.std.proofs.Common.{take-add, length-append}
 use Rattle.std.specs.Prelude.{slice_range}
 use Rattle.std.proofs.lemmas.List.{drop-drop, length-take-le, length-drop, take_at, drop_at, take_all}
 use Rattle.sig_match.specs.declared.whole.frontier.Interval.{Interval}

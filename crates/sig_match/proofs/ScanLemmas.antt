@@ -1,11 +1,11 @@
 -- Scans that go on byte by byte, and what stands where they end.
-use Rattle.std.proofs.Common.{◌≡◌, ◌↔◌, ⊎_elim, ℕ, zero, suc, ◌+◌, ◌<◌, ◌≤◌, List, [], ◌∷◌, ◌++◌, length, get_or, set, take, append_assoc, take-add, subst, sym,
-    ap, refl, ◌∙◌, arith, Bool, true, false, not, drop, Option, Some, None}
+use Rattle.std.proofs.Common.{◌≡◌, ◌↔◌, ⊎_elim, ℕ, zero, suc, ◌+◌, ◌<◌, ◌≤◌, List, [], ◌∷◌, ◌++◌, length, get_or, set, take, append_assoc, take-add, subst, sym}
+use Rattle.std.proofs.Common.{ap, refl, ◌∙◌, arith, Bool, true, false, not, drop, Option, Some, None}
 use Rattle.std.specs.Prelude.{All, IfSome, IsTrue, IsSomeAnd, slice_get}
 use Rattle.std.specs.List.{AllZip}
 use Rattle.std.proofs.lemmas.Bool.{cases_lt, cases_eq, false≢true}
-use Rattle.std.proofs.lemmas.List.{get_or-set_same, get_or-set_other, append-nil, get_or_past, length-set, take-append-drop, take-append-le, take_all,
-    take_more}
+use Rattle.std.proofs.lemmas.List.{get_or-set_same, get_or-set_other, append-nil, get_or_past, length-set, take-append-drop, take-append-le, take_all}
+use Rattle.std.proofs.lemmas.List.{take_more}
 use Rattle.std.proofs.lemmas.List.Elements.{All-append, All-cons, All-head, All-nil, All-tail}
 use Rattle.std.proofs.lemmas.Option.{get_or_from_slice_get, slice_get_within}
 use Rattle.sig_auto.specs.Runs.{IsSetOf}
@@ -69,7 +69,7 @@ feed_goes_on file piece s auto from to i within step is =
     let P : SequenceView → Type 0 = λ t. (q : ℕ) → HasBit to q ↔ ((p : ℕ) × HasBit from p × Follows (whole_tree t) p q × Takes (whole_tree t) q b) in
     let more = set_goes_on (whole_tree s) from to (file ++ take i piece) b (subst P is.sequence_is step) is.set_is in
     let longer : (file ++ take i piece) ++ b ∷ [] ≡ file ++ take (i + 1) piece =
-        append_assoc file (take i piece) (b ∷ []) ∙ ap (λ l. file ++ l) (sym (take_more piece i 0 within)) in
+    append_assoc file (take i piece) (b ∷ []) ∙ ap (λ l. file ++ l) (sym (take_more piece i 0 within)) in
     let Q : List ℕ → Type 0 = λ l. IsSetOf (whole_tree s) to l in
     record { sequence_is = is.sequence_is; set_is = subst Q longer more }
 
@@ -101,9 +101,9 @@ Fed piece old new = (file : List ℕ) (sequences : List SequenceView) → AreSeq
 pub fed_nil : (piece : List ℕ) (scans : List SequenceScanView) → scans ≡ [] → Fed piece scans scans
 fed_nil piece scans none file sequences zip = subst (λ l. AreSequenceScansOf (file ++ piece) sequences l) (sym none)
     (still sequences (subst (λ l. AreSequenceScansOf file sequences l) none zip)) where
-  still : (sequences : List SequenceView) → AreSequenceScansOf file sequences [] → AreSequenceScansOf (file ++ piece) sequences []
-  still [] zip = tt
-  still (s ∷ ss) zip = absurd zip
+      still : (sequences : List SequenceView) → AreSequenceScansOf file sequences [] → AreSequenceScansOf (file ++ piece) sequences []
+      still [] zip = tt
+      still (s ∷ ss) zip = absurd zip
 
 -- one more scan is fed
 pub fed_cons : (piece : List ℕ) (scans : List SequenceScanView) (x y : SequenceScanView) (xs ys : List SequenceScanView) → scans ≡ x ∷ xs → FedOne piece x y
@@ -225,13 +225,13 @@ pub mark_cons : (scans : List SequenceScanView) (x : SequenceScanView) (xs : Lis
     → one ≡ true → IsMark xs mark → IsMark scans mark
 mark_cons scans x xs one mark is first stands later file sequences all bytes zip =
     asked sequences all (subst (λ l. AreSequenceScansOf file sequences l) is zip) where
-  asked : (sequences : List SequenceView) → All IsSequence sequences → AreSequenceScansOf file sequences (x ∷ xs) → IsTrue mark
-      ↔ All (λ s. Stands s file) sequences
-  asked [] all zip = absurd zip
-  asked (s ∷ ss) all zip =
-      let front = first file s (All-head IsSequence s ss all) bytes zip.0 in
-      let back = later file ss (All-tail IsSequence s ss all) bytes zip.1 in
-      (λ t. All-cons (λ s. Stands s file) s ss (front.0 stands) (back.0 t), λ each. back.1 (All-tail (λ s. Stands s file) s ss each))
+      asked : (sequences : List SequenceView) → All IsSequence sequences → AreSequenceScansOf file sequences (x ∷ xs) → IsTrue mark
+          ↔ All (λ s. Stands s file) sequences
+      asked [] all zip = absurd zip
+      asked (s ∷ ss) all zip =
+          let front = first file s (All-head IsSequence s ss all) bytes zip.0 in
+          let back = later file ss (All-tail IsSequence s ss all) bytes zip.1 in
+          (λ t. All-cons (λ s. Stands s file) s ss (front.0 stands) (back.0 t), λ each. back.1 (All-tail (λ s. Stands s file) s ss each))
 
 -- it does not
 pub mark_not : (scans : List SequenceScanView) (x : SequenceScanView) (xs : List SequenceScanView) (one : Bool) → scans ≡ x ∷ xs → IsMarkOfOne x one

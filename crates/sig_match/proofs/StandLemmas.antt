@@ -1,6 +1,6 @@
 -- When a sequence stands in a file, by its frontiers.
-use Rattle.std.proofs.Common.{◌≡◌, ℕ, ◌+◌, ◌-◌, ◌≤◌, List, [], ◌++◌, length, map, take, drop, Option, Some, None, inl, inr, refl, subst, sym, ap, ◌∙◌, arith,
-    append_assoc, length-append, length-drop}
+use Rattle.std.proofs.Common.{◌≡◌, ℕ, ◌+◌, ◌-◌, ◌≤◌, List, [], ◌++◌, length, map, take, drop, Option, Some, None, inl, inr, refl, subst, sym, ap, ◌∙◌, arith}
+use Rattle.std.proofs.Common.{append_assoc, length-append, length-drop}
 use Rattle.std.specs.Prelude.{IfSome, slice_range}
 use Rattle.std.proofs.lemmas.List.{take-append-drop, length-take-le, take_at, drop_at, drop_all}
 use Rattle.std.proofs.lemmas.List.Folds.{drop_split}

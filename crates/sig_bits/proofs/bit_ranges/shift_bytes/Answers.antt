@@ -11,7 +11,7 @@ loop-k-preserved c =
       shifted = λ m low high. ⊎_elim
           (λ (same : m ≡ c.loop-k.k).
           rw same (get_or-set_same c.loop-k.dst c.loop-k.k _ 0 within ∙ ap (λ x. bit_or x (shifted_at c.args.src.now c.loop-k.k))
-              (c.loop-k.invariant.behind c.loop-k.k (omega arith))))
+          (c.loop-k.invariant.behind c.loop-k.k (omega arith))))
           (λ (other : m ≢ c.loop-k.k). get_or-set_other c.loop-k.dst c.loop-k.k m _ 0 other ∙ c.loop-k.invariant.shifted m low (omega arith))
           (cases_eq m c.loop-k.k);
       before = λ m low. get_or-set_other c.loop-k.dst c.loop-k.k m _ 0 (omega arith) ∙ c.loop-k.invariant.before m low;

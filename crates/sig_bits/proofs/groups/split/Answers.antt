@@ -25,10 +25,10 @@ loop-b-preserved c =
       | then-others-lead-eq0 w ↦
           let some : b ≢ 0 = λ zero. no_side (let same : lead ≡ b = omega arith in subst (SameSide first last b) (sym same) (λ k. k, λ k. k)) in
           subst (λ l. HasOther c.loop-b.others l lead b) (sym w.others-is)
-              (got_other c.loop-b.others lead b c.loop-b.invariant.wide (omega (arith, low, c.loop-b-test.true)) w.if-others-lead-eq0.true some)
+          (got_other c.loop-b.others lead b c.loop-b.invariant.wide (omega (arith, low, c.loop-b-test.true)) w.if-others-lead-eq0.true some)
       | else-others-lead-eq0 w ↦
           subst (λ l. HasOther c.loop-b.others l lead b) (sym w.others-is)
-              (had_other old c.loop-b.split c.loop-b.others first last b lead c.loop-b.invariant w.if-others-lead-eq0.false)
+          (had_other old c.loop-b.split c.loop-b.others first last b lead c.loop-b.invariant w.if-others-lead-eq0.false)
     ])
 
 pub returns-clause-leads : goal.returns-clause-leads

@@ -14,10 +14,10 @@ pieces-preserved g c =
     let room : c.pieces.filled + 4096 ≤ c.make_room.new.bytes.len = c.in_ok-make_room.ensures.room in
     let at : length (take c.pieces.filled c.deref_mut.result.now) ≡ c.pieces.filled = length-take-le c.pieces.filled c.deref_mut.result.now (omega arith) in
     let front : take c.pieces.filled c.deref_mut.result.now ≡ take c.pieces.filled c.pieces.bytes.items =
-        rw c.deref_mut.ensures.value c.in_ok-make_room.ensures.front in
+    rw c.deref_mut.ensures.value c.in_ok-make_room.ensures.front in
     let within : c.in-Ok.n ≤ length c.read.new.buf = c.in-Ok.ensures.within in
     let fits : c.pieces.filled + c.in-Ok.n ≤ c.make_room.new.bytes.len = let kept = c.read.auto.buf in
-        omega (arith, length-take {A = ℕ}, length-drop {A = ℕ}) in
+    omega (arith, length-take {A = ℕ}, length-drop {A = ℕ}) in
     let sound : g.R.Input.failed c.pieces.input ≡ false = false_from_not _ (λ t. let lie : false ≡ true = c.in-Ok.ensures.stays_failed t in cc) in
     record {
       within = fits;

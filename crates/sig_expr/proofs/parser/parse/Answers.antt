@@ -23,7 +23,7 @@ returns-in-Some-first_fault-clause-refused c =
     let stops : stop_of c.args.text.now ≡ None = search rules in
     let faulty : fault_in c.args.text.now ≡ Some c.in-Some-first_fault.fault = search rules in
     fault_means start 0 0 c.args.text.now c.in-Some-first_fault.fault faulty c.args.text.now
-        (found_first c.in-Some-first_fault.fault c.args.text.now (omega arith) stops faulty)
+    (found_first c.in-Some-first_fault.fault c.args.text.now (omega arith) stops faulty)
 
 pub new-requires : goal.new-requires
 new-requires c =

@@ -7,4 +7,4 @@ use Rattle.sig_expr.proofs.printer.put_alternative.Given as goal
 abbrev pub invariant-loop-atom : goal.invariant-loop-atom
 invariant-loop-atom g l =
     IsLeft g.W.Output.failed g.W.Output.limit g.W.Output.written l.initial.out (alternative_text l.alternative) l.out
-        (alternative_text (drop l.atom-index l.alternative))
+    (alternative_text (drop l.atom-index l.alternative))

@@ -7,12 +7,19 @@ use Rattle.sig_expr.proofs.printer.put_alternatives.Goals as goal
 
 pub loop-alternative-preserved : goal.loop-alternative-preserved
 loop-alternative-preserved g c = λ end w.
-    c.loop-alternative.invariant end (rw (alternatives_text-rest (c.loop-alternative.sign ∷ []) c.args.alternatives.now c.loop-alternative.alternative-index
-        c.alternative-item.result c.loop-alternative-test.true, ← c.alternative-item.is, ← c.as_slice.ensures.value)
+    c.loop-alternative.invariant end (rw (
+      alternatives_text-rest (c.loop-alternative.sign ∷ []) c.args.alternatives.now c.loop-alternative.alternative-index
+          c.alternative-item.result c.loop-alternative-test.true,
+      ← c.alternative-item.is,
+      ← c.as_slice.ensures.value,
+    )
     (wrote_more _ _ _ _ _ c.in_ok-put.ensures.wrote (wrote_more _ _ _ _ _ c.in_ok-put_alternative.ensures.wrote w)))
 
 pub returns : goal.returns
 unfolding alternatives_text
 returns g c =
-    record { fails = tt; wrote = c.loop-alternative.invariant _ (rw (drop_all c.loop-alternative.alternative-index c.args.alternatives.now
-        c.loop-alternative-test.false) (wrote_nothing _)) }
+    record {
+      fails = tt;
+      wrote = c.loop-alternative.invariant _ (rw (drop_all c.loop-alternative.alternative-index c.args.alternatives.now
+          c.loop-alternative-test.false) (wrote_nothing _));
+    }

@@ -7,4 +7,4 @@ use Rattle.sig_expr.proofs.printer.put_alternatives.Given as goal
 abbrev pub invariant-loop-alternative : goal.invariant-loop-alternative
 invariant-loop-alternative g l =
     IsLeft g.W.Output.failed g.W.Output.limit g.W.Output.written l.initial.out (alternatives_text (40 ∷ []) (map (λ v. v.items) l.alternatives)) l.out
-        (alternatives_text (l.sign ∷ []) (map (λ v. v.items) (drop l.alternative-index l.alternatives)))
+    (alternatives_text (l.sign ∷ []) (map (λ v. v.items) (drop l.alternative-index l.alternatives)))

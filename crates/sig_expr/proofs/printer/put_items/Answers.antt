@@ -7,7 +7,7 @@ use Rattle.sig_expr.proofs.printer.put_items.Goals as goal
 pub loop-item-preserved : goal.loop-item-preserved
 loop-item-preserved g c = λ end w.
     c.loop-item.invariant end (rw (canon-rest c.args.items.now c.loop-item.item-index c.item-item.result c.loop-item-test.true, ← c.item-item.is)
-        (wrote_more _ _ _ _ _ c.in_ok-put_item.ensures.wrote w))
+    (wrote_more _ _ _ _ _ c.in_ok-put_item.ensures.wrote w))
 
 pub returns : goal.returns
 unfolding canon

@@ -21,7 +21,7 @@ returns c header rows is =
       | inr old ↦ rw old.1 (three_tests (not (position_or_len (puid_eq row.puid) t.formats == old.0.format)) (nat_le 8 (length old.0.sequences))
           (nat_lt 65535 (slot_count row.sequence))
           (error.SignatureOfTwo a) (error.TooManySequences a) (error.TooManySlots a) (error.SignatureOfTwo b) (error.TooManySequences b) (error.TooManySlots b)
-              (rw old.1 at fine))
+          (rw old.1 at fine))
     ])
     n m more h)
     rows 1 1 empty_table)

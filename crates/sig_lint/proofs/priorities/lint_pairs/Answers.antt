@@ -12,7 +12,7 @@ returns-then-not-found c =
     let none : c.in_ok-found.found ≡ false = search rules in
     let left : c.loop-row_number.records ≡ [] = rw none at c.in_ok-found.ensures in
     faults-end tell judge _ at.all.items at.row_number at.ranking.pairs
-        (at.invariant.goes ∙ ap (λ l. at.all.items ++ faults_from tell judge at.row_number at.ranking.pairs l) left)
+    (at.invariant.goes ∙ ap (λ l. at.all.items ++ faults_from tell judge at.row_number at.ranking.pairs l) left)
 
 pub loop-row_number-preserved : goal.loop-row_number-preserved
 loop-row_number-preserved c =

@@ -13,9 +13,9 @@ loop-fault-preserved c =
     let fault = c.fault-item.result in
     let more : take (at.fault-index + 1) c.args.faults.now ≡ take at.fault-index c.args.faults.now ++ fault ∷ [] =
     subst (λ f. take (at.fault-index + 1) c.args.faults.now ≡ take at.fault-index c.args.faults.now ++ f ∷ []) (sym c.fault-item.is)
-        (take_more c.args.faults.now at.fault-index fault c.loop-fault-test.true) in
+    (take_more c.args.faults.now at.fault-index fault c.loop-fault-test.true) in
     rw more (lines-more (take at.fault-index c.args.faults.now) fault c.line.result at.text.items c.put_fault.new.out.items at.invariant
-        c.in_ok-put_fault.ensures)
+    c.in_ok-put_fault.ensures)
 
 pub returns : goal.returns
 returns c = subst (λ faults. AreFaultLines faults c.loop-fault.text.items) (take_all c.loop-fault.fault-index c.args.faults.now c.loop-fault-test.false)

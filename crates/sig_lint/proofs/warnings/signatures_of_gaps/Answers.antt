@@ -9,4 +9,4 @@ loop-place-init c = ap (λ (l : List SigId). map (λ id. id.0) l) c.new-found.en
 pub loop-place-preserved : goal.loop-place-preserved
 loop-place-preserved c =
     places-more c.args.table.now.signatures c.loop-place.place _ _ c.sequences_of.result.now c.are_of_gaps.result c.loop-place.invariant
-        c.sequences_of.ensures.sequences c.are_of_gaps.ensures c.in_ok-found.ensures
+    c.sequences_of.ensures.sequences c.are_of_gaps.ensures c.in_ok-found.ensures

@@ -16,7 +16,7 @@ pieces-preserved g c =
     let buffer = c.read.new.buf in
     let long : length buffer ≡ c.pieces.piece.len = c.read.auto.buf ∙ c.deref_mut.ensures.len in
     let same : take n c.deref.result.now ≡ take n buffer = ap (λ l. take n l)
-        (c.deref.ensures.value ∙ written buffer (drop (length buffer) c.pieces.piece.items) c.pieces.piece.len long) in
+    (c.deref.ensures.value ∙ written buffer (drop (length buffer) c.pieces.piece.items) c.pieces.piece.len long) in
     let P : List ℕ → Type 0 = λ l. Gives (g.R.Input.to_come c.pieces.input) l (g.R.Input.to_come c.read.new.self) in
     let sound : g.R.Input.failed c.pieces.input ≡ false = false_from_not _ (λ t. let lie : false ≡ true = c.in-Ok.ensures.stays_failed t in cc) in
     record {
@@ -33,4 +33,4 @@ returns-then-n-eq0-clause-hits g c =
     let room : vec_len c.pieces.piece ≡ 262144 = c.pieces.invariant.room in
     let some : 0 < length buffer = omega arith in
     fed_all _ _ _ _ _ (take c.in-Ok.n buffer) _ (ap (λ k. take k buffer) c.if-n-eq0.true) c.in-Ok.ensures.gives (c.in-Ok.ensures.ends c.if-n-eq0.true some)
-        c.finish.ensures c.pieces.invariant.fed
+    c.finish.ensures c.pieces.invariant.fed

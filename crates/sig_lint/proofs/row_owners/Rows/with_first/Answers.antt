@@ -16,5 +16,5 @@ returns c =
     let more : c.insert.new.self.entries ≡ es ++ (text, c.args.owner) ∷ [] =
     c.in_ok-insert.ensures.entries ∙ insert_entry-new (λ (x y : Vec ℕ Global). is_word x.items y.items) c.self.inside.firsts text c.args.owner none in
     ap (λ (l : List (List ℕ × Owner)). record { firsts = l; found = c.self.inside.found.keys })
-        (texts-more (λ (v : Vec ℕ Global). v.items) es c.insert.new.self.entries text c.args.owner more)
+    (texts-more (λ (v : Vec ℕ Global). v.items) es c.insert.new.self.entries text c.args.owner more)
     ∙ ap (λ (r : RowsView). record { firsts = r.firsts ++ (text.items, c.args.owner) ∷ []; found = r.found }) c.self.view_is

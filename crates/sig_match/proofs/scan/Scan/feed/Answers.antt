@@ -9,5 +9,5 @@ returns-clause-goes_on c file =
     let fed = c.feed_each.new.signatures in
     let back = drop (length fed) signatures.items in
     scan_goes_on file c.args.piece.now _ _ c.deref_mut.result.now fed (take signatures.len (fed ++ back)) c.self.view_is c.deref_mut.ensures.value
-        (written fed back signatures.len (c.feed_each.auto.signatures ∙ c.deref_mut.ensures.len)) (IsBytes-from_slice c.args.piece.now c.type_inv.piece)
-        c.feed_each.ensures
+    (written fed back signatures.len (c.feed_each.auto.signatures ∙ c.deref_mut.ensures.len)) (IsBytes-from_slice c.args.piece.now c.type_inv.piece)
+    c.feed_each.ensures

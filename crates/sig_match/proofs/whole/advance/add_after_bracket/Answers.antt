@@ -23,7 +23,7 @@ loop-start-preserved c =
     elim c.if-is_part_word.branch [
       | then-is_part_word+in_ok-add w ↦
           rw w.ends-is (Gains-here (PartWord part) (part_len part) (PartWord-length part) file c.args.interval at (at + len) _ _ _ within (omega arith) fits
-              (c.is_part_word.ensures.0 w.if-is_part_word.true) c.loop-start.invariant w.in_ok-add.ensures)
+          (c.is_part_word.ensures.0 w.if-is_part_word.true) c.loop-start.invariant w.in_ok-add.ensures)
       | else-is_part_word w ↦
           rw w.ends-is (
           Gains-none (PartWord part) (part_len part) (PartWord-length part) file c.args.interval at (at + 1) _ _ (omega arith)
@@ -39,5 +39,5 @@ loop-start-preserved c =
 pub returns : goal.returns
 returns c =
     Gains-passed (PartWord c.args.part.now) (part_len c.args.part.now) (PartWord-length c.args.part.now) c.args.file.now c.args.interval c.loop-start.start _
-        c.loop-start.ends.items
+    c.loop-start.ends.items
     (λ a low room. omega arith) c.loop-start.invariant

@@ -19,7 +19,7 @@ returns c =
     let in_order : IsAtMost max min_len = c.is_at_most.ensures.0 c.if-not-is_at_most.false in
     let bytes = IsBytes-from_slice c.args.file.now c.type_inv.file in
     Gains-same (IsWithin (record { from = c.in-Some.from; to = c.greatest_end-to.result })) (Reaches (Word (item.Gap min_len max)) file (IsWithin x)) _
-        c.add.new.frontier.items
+    c.add.new.frontier.items
     (λ o h. Reaches-gap_at min_len max file x o bytes order in_order (let l = h.0 in omega arith) (let r = h.1 in omega arith))
     (λ o r. (let h = Reaches-gap min_len max file x o r in (let l = h.0 in omega arith, let u = h.1 in omega arith)))
     c.in_ok-add.ensures

@@ -9,4 +9,4 @@ pub returns-clause-ends : goal.returns-clause-ends
 returns-clause-ends c =
     let P : List Item → Type 0 = λ l. HasExactly (Reaches (Lang l) c.args.file.now (IsIn c.args.frontier.now)) c.after_run.new.ends.items in
     subst P (sym c.requires.run.bytes) (HasExactly-run c.args.run.now c.args.file.now (IsIn c.args.frontier.now) c.after_run.new.ends.items
-        c.in_ok-after_run.ensures)
+    c.in_ok-after_run.ensures)

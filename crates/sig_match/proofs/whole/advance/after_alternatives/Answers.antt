@@ -22,7 +22,7 @@ loop-alternative-preserved c =
     let both = rw (c.deref.ensures.value, c.deref-in-loop-alternative.ensures.value) at c.in_ok-ends.ensures in
     let P : List (List Atom) → Type 0 = λ l. HasExactly (ReachesAny l file S) c.in_ok-ends.ends.items in
     subst P (sym next) (HasExactly-alternative (map (λ v. v.items) (take i xs)) v.items file S c.loop-alternative.ends.items c.in_ok-others.others.items
-        c.in_ok-ends.ends.items c.loop-alternative.invariant after both)
+    c.in_ok-ends.ends.items c.loop-alternative.invariant after both)
 
 pub returns : goal.returns
 returns c =
@@ -32,5 +32,5 @@ returns c =
     let i = c.loop-alternative.alternative-index in
     let P : List (List Atom) → Type 0 = λ l. HasExactly (ReachesAny l file S) c.loop-alternative.ends.items in
     let all : map (λ v. v.items) (take i xs) ≡ c.args.alternatives.now =
-        ap (λ l. map (λ v. v.items) l) (take_all i xs (omega arith)) ∙ c.as_slice-alternative-items.ensures in
+    ap (λ l. map (λ v. v.items) l) (take_all i xs (omega arith)) ∙ c.as_slice-alternative-items.ensures in
     subst P all c.loop-alternative.invariant

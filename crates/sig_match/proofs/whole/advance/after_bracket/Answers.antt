@@ -9,9 +9,9 @@ loop-interval-init c = Gains-no_intervals (PartWord c.args.part.now) c.args.file
 pub loop-interval-preserved : goal.loop-interval-preserved
 loop-interval-preserved c =
     Gains-next (PartWord c.args.part.now) c.args.file.now c.args.frontier.now c.loop-interval.interval-index _ _ _ _ (omega arith) refl
-        c.loop-interval.invariant c.in_ok-add_after_bracket.ensures
+    c.loop-interval.invariant c.in_ok-add_after_bracket.ensures
 
 pub returns : goal.returns
 returns c =
     HasExactly-all (PartWord c.args.part.now) c.args.file.now c.args.frontier.now c.loop-interval.interval-index _ c.loop-interval.ends.items (omega arith)
-        c.clear.ensures.items c.loop-interval.invariant
+    c.clear.ensures.items c.loop-interval.invariant

@@ -10,9 +10,9 @@ loop-interval-init c = Gains-no_intervals (Word (item.Gap c.args.min c.args.max)
 pub loop-interval-preserved : goal.loop-interval-preserved
 loop-interval-preserved c =
     Gains-next (Word (item.Gap c.args.min c.args.max)) c.args.file.now c.args.frontier.now c.loop-interval.interval-index _ _ _ _ (omega arith) refl
-        c.loop-interval.invariant c.in_ok-add_after_gap.ensures
+    c.loop-interval.invariant c.in_ok-add_after_gap.ensures
 
 pub returns : goal.returns
 returns c =
     HasExactly-all (Word (item.Gap c.args.min c.args.max)) c.args.file.now c.args.frontier.now c.loop-interval.interval-index _ c.loop-interval.ends.items
-        (omega arith) c.clear.ensures.items c.loop-interval.invariant
+    (omega arith) c.clear.ensures.items c.loop-interval.invariant

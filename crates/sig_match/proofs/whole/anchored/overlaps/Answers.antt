@@ -27,7 +27,7 @@ loop-interval-preserved c =
     let x : Interval = get_or c.args.frontier.now c.loop-interval.interval-index nowhere in
     Meets-none_more (IsWithin c.args.other) c.args.frontier.now c.loop-interval.interval-index x (omega arith) refl
     (λ (o : ℕ) (within : IsWithin x o) (other : IsWithin c.args.other o). let a = within.0 in let b = within.1 in let d = other.0 in let e = other.1 in
-        omega arith)
+    omega arith)
     c.loop-interval.invariant
 
 pub returns : goal.returns

@@ -30,7 +30,7 @@ returns-then-may_end_anywhere c =
     let len : length later ≤ length run = let ok = c.gather_run.new.run.ok.0 in omega arith in
     let all : drop c.items.done items ≡ map item.Byte run = sym (slice_from items c.items.done) ∙ sym (take_all (length run) later len) ∙ is_run.bytes in
     let by_run = stands_by_run c.position-position.result items (drop c.items.done items) run c.args.file.now c.items.frontier.items
-        (c.may_end_anywhere.ensures c.if-may_end_anywhere.true) all c.items.invariant.still in
+    (c.may_end_anywhere.ensures c.if-may_end_anywhere.true) all c.items.invariant.still in
     let has = rw (c.deref.ensures.value, c.deref-then-may_end_anywhere.ensures.value) at c.has_run.ensures in
     let same : c.items-items.result.now ≡ c.args.sequence.now.items = c.items-items.ensures.items ∙ c.expr.ensures.items in
     rw (← same, ← c.position-position.ensures) (λ t. by_run.0 (has.0 t), λ h. has.1 (by_run.1 h))

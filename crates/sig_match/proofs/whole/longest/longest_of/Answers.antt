@@ -16,4 +16,4 @@ loop-item-preserved c =
     let sum : c.loop-item.sum + c.in_ok-len.len ≡ c.in_ok-sum.sum = sym c.in_ok-sum.ensures.1 in
     let P : List Item → ℕ → Type 0 = λ l n. Bounds (Lang l) n in
     subst (λ (l : List Item). P l c.in_ok-sum.sum) (sym next) (subst (λ (n : ℕ). P (take i xs ++ x ∷ []) n) sum
-        (Bounds-item (take i xs) x c.loop-item.sum c.in_ok-len.len c.loop-item.invariant c.in_ok-len.ensures))
+    (Bounds-item (take i xs) x c.loop-item.sum c.in_ok-len.len c.loop-item.invariant c.in_ok-len.ensures))

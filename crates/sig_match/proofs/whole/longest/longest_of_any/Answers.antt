@@ -18,7 +18,7 @@ loop-alternative-preserved c =
     let last = rw c.as_slice.ensures.value at c.in_ok-len.ensures in
     let P : List (List Atom) → Type 0 = λ l. Bounds (Word (item.Alt l)) c.max-greatest.result in
     subst P (sym next) (Bounds-alternative (map (λ v. v.items) (take i xs)) v.items c.loop-alternative.greatest c.in_ok-len.len c.max-greatest.result
-        (omega arith) (omega arith) c.loop-alternative.invariant last)
+    (omega arith) (omega arith) c.loop-alternative.invariant last)
 
 pub returns : goal.returns
 returns c =
@@ -26,5 +26,5 @@ returns c =
     let i = c.loop-alternative.alternative-index in
     let P : List (List Atom) → Type 0 = λ l. Bounds (Word (item.Alt l)) c.loop-alternative.greatest in
     let all : map (λ v. v.items) (take i xs) ≡ c.args.alternatives.now =
-        ap (λ l. map (λ v. v.items) l) (take_all i xs (omega arith)) ∙ c.as_slice-alternative-items.ensures in
+    ap (λ l. map (λ v. v.items) l) (take_all i xs (omega arith)) ∙ c.as_slice-alternative-items.ensures in
     subst P all c.loop-alternative.invariant

@@ -18,4 +18,4 @@ loop-part-preserved c =
     let last : Bounds (PartWord x) c.part_length.result = λ w h. (let len = PartWord-length x w h in let value = c.part_length.ensures.value in omega arith) in
     let P : List Atom → ℕ → Type 0 = λ l n. Bounds (AlternativeWord l) n in
     subst (λ (l : List Atom). P l c.in_ok-sum.sum) (sym next) (subst (λ (n : ℕ). P (take i xs ++ x ∷ []) n) sum
-        (Bounds-part (take i xs) x c.loop-part.sum c.part_length.result c.loop-part.invariant last))
+    (Bounds-part (take i xs) x c.loop-part.sum c.part_length.result c.loop-part.invariant last))

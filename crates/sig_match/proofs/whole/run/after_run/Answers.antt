@@ -9,9 +9,9 @@ loop-interval-init c = Gains-no_intervals (IsThis c.args.run.now) c.args.file.no
 pub loop-interval-preserved : goal.loop-interval-preserved
 loop-interval-preserved c =
     Gains-next (IsThis c.args.run.now) c.args.file.now c.args.frontier.now c.loop-interval.interval-index _ _ _ _ (omega arith) refl c.loop-interval.invariant
-        (rw (← c.new-finder.ensures) c.in_ok-add_after_run.ensures)
+    (rw (← c.new-finder.ensures) c.in_ok-add_after_run.ensures)
 
 pub returns : goal.returns
 returns c =
     HasExactly-all (IsThis c.args.run.now) c.args.file.now c.args.frontier.now c.loop-interval.interval-index _ c.loop-interval.ends.items (omega arith)
-        c.clear.ensures.items c.loop-interval.invariant
+    c.clear.ensures.items c.loop-interval.invariant

@@ -10,7 +10,7 @@ returns-in_err-n c =
     let to = c.args.interval.to in
     let end = c.min-end.result in
     let room : (k : ℕ) → k ≤ to → k + length run ≤ length file → k + length run ≤ end =
-        λ k low fits. (let needle = ap length c.needle.ensures in omega arith) in
+    λ k low fits. (let needle = ap length c.needle.ensures in omega arith) in
     rw c.from_residual.ensures (IsFirst-none file run from end to (omega arith) (omega arith) room c.in_err-n.ensures)
 
 pub returns : goal.returns
@@ -21,5 +21,5 @@ returns c =
     let to = c.args.interval.to in
     let end = c.min-end.result in
     let room : (k : ℕ) → k ≤ to → k + length run ≤ length file → k + length run ≤ end =
-        λ k low fits. (let needle = ap length c.needle.ensures in omega arith) in
+    λ k low fits. (let needle = ap length c.needle.ensures in omega arith) in
     IsFirst-some file run from end to c.in_ok-n.n (omega arith) (omega arith) (let needle = ap length c.needle.ensures in omega arith) room c.in_ok-n.ensures

@@ -19,5 +19,5 @@ loop-interval-preserved c =
     let at : c.loop-interval.interval-index < length c.args.frontier.now = omega arith in
     Meets-none_more (OccursAt c.args.file.now c.args.run.now) c.args.frontier.now c.loop-interval.interval-index x at refl
     (none_first c.args.file.now c.args.run.now x c.first_of.result (sym c.is_some.ensures ∙ c.if-is_some.false)
-        (rw (← c.new-finder.ensures) c.first_of.ensures))
+    (rw (← c.new-finder.ensures) c.first_of.ensures))
     c.loop-interval.invariant

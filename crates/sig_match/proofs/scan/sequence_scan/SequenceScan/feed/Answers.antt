@@ -24,11 +24,11 @@ loop-byte-preserved c =
       next_long = ap length next ∙ inv.set_long;
       goes_on = λ file s is.
           let P : List ℕ → Type 0 = λ l. IsSequenceScanOf (file ++ take c.loop-byte.byte-index c.args.piece.now) s (record { sequence = inside.auto; set = l })
-              in
+          in
           let Q : List ℕ → Type 0 = λ l. IsSequenceScanOf (file ++ take (c.loop-byte.byte-index + 1) c.args.piece.now) s
-              (record { sequence = inside.auto; set = l }) in
+          (record { sequence = inside.auto; set = l }) in
           subst Q (sym set) (feed_goes_on file c.args.piece.now s inside.auto c.deref.result.now to c.loop-byte.byte-index (omega arith) c.step_set.ensures
-              (subst P (sym c.deref.ensures.value) (inv.goes_on file s is)));
+          (subst P (sym c.deref.ensures.value) (inv.goes_on file s is)));
     }
 
 pub returns : goal.returns
