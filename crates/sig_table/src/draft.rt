@@ -10,6 +10,7 @@ ghost use Rattle.sig_table.specs.Judging.{IsFault, is_read};
 ghost use Rattle.sig_table.specs.Rows.{IsRow};
 ghost use Rattle.sig_table.specs.Tables.{ArePriorities, HasAllSignatures, IsTable};
 
+use crate::priority::Priority;
 use crate::row::Row;
 use crate::slots::has_too_many_slots;
 use crate::spans::Span;
@@ -190,7 +191,7 @@ impl Draft {
     pub(crate) fn into_table(
         self,
         alloc: Global,
-        priorities: IndexSet<(u16, u16)>,
+        priorities: IndexSet<Priority>,
     ) -> Result<Table, TableError>
         requires { ArePriorities (length self.formats) priorities.keys }
         ensures table { IfOk result (λ table. table ≡ record self { priorities = priorities.keys }) }

@@ -6,6 +6,7 @@
 ghost use Rattle.std.specs.Prelude.{◌≡◌, ℕ, ◌<◌, ◌⊎◌, ◌↔◌, IsTrue};
 ghost use Rattle.sig_table.specs.FormatSets.{HasFormat};
 
+use crate::FormatId;
 use sig_bits::{get_bit, or_into, set_bit};
 
 // How many bytes hold a bit for each format.
@@ -26,19 +27,19 @@ impl FormatSet {
     }
 
     // Whether the format is in it.
-    pub(crate) fn contains(&self, format: u16) -> bool
-        requires { format < 1000 }
-        ensures { IsTrue result ↔ HasFormat self.now format }
+    pub(crate) fn contains(&self, format: FormatId) -> bool
+        requires { format.0 < 1000 }
+        ensures { IsTrue result ↔ HasFormat self.now format.0 }
     {
-        get_bit(&self.bits, format as usize)
+        get_bit(&self.bits, format.0 as usize)
     }
 
     // Adds one format.
-    pub(crate) fn insert(&mut self, format: u16)
-        requires { format < 1000 }
-        ensures { (f : ℕ) → HasFormat self.new f ↔ ((f ≡ format) ⊎ HasFormat self.old f) }
+    pub(crate) fn insert(&mut self, format: FormatId)
+        requires { format.0 < 1000 }
+        ensures { (f : ℕ) → HasFormat self.new f ↔ ((f ≡ format.0) ⊎ HasFormat self.old f) }
     {
-        set_bit(&mut self.bits, format as usize);
+        set_bit(&mut self.bits, format.0 as usize);
     }
 
     // Adds the formats of the other.

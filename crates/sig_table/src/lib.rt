@@ -14,6 +14,7 @@ mod loader;
 mod numbers;
 mod passing;
 mod position;
+mod priority;
 mod puid;
 mod ranking;
 mod reading;

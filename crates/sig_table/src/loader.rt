@@ -4,20 +4,20 @@
 //! bytes that came. Its rows are judged in turn (`reading`), by one fold (`judged`) whose laws hold
 //! for rows and pairs. A reader of `csv` drops a UTF-8 byte order mark.
 
-ghost use Rattle.std.specs.Prelude.{◌≡◌, ◌<◌, ◌≤◌, ◌⊎◌, [], List, ℕ, length, true, false, Ok, Err, OnOk, IfOk, IfErr, IfSome, IsErr, IsErrOf, IsTrue, MatchResult};
+ghost use Rattle.std.specs.Prelude.{◌≡◌, ◌<◌, ◌≤◌, ◌⊎◌, [], List, ℕ, length, true, false, None, Some, Ok, Err, OnOk, IfOk, IfErr, IfSome, IsErr, IsErrOf, IsTrue, MatchResult};
 ghost use Rattle.csv.specs.Records.{fields_of};
 ghost use Rattle.sig_bits.specs.Device.{IsAtEnd};
 ghost use Rattle.sig_table.specs.Loading.{is_of_signatures, pair_of, pairs_of, index_in, records_of, signatures_of, table_of};
 ghost use Rattle.sig_table.specs.Judging.{IsFault, Exact, is_judged, is_read};
 ghost use Rattle.sig_table.specs.Tables.{ArePriorities, HasAllSignatures, IsTable};
-ghost use Rattle.std.specs.Option.{ok_or};
 ghost use Rattle.sig_table.specs.declared.error.TableError.{TableError};
 
 use crate::draft::Draft;
+use crate::priority::Priority;
 use crate::ranking::Ranking;
 use crate::reading::{FromRows, read_file};
 use crate::row::{field, read_puid, read_row};
-use crate::{Puid, Table, TableError, TableFile};
+use crate::{FormatId, Puid, Table, TableError, TableFile};
 use csv::ByteRecord;
 use indexmap::IndexSet;
 use sig_bits::{Input, ReadWholeError, read_whole};
@@ -118,7 +118,7 @@ fn read_priorities(
     alloc: Global,
     draft: &Draft,
     text: &[u8],
-) -> Result<IndexSet<(u16, u16)>, TableError>
+) -> Result<IndexSet<Priority>, TableError>
     ensures pairs { MatchResult result
         (λ pairs. pairs_of draft.now.formats (records_of text.now) ≡ Ok pairs.keys)
         (λ e. (is_of_signatures e ≡ false) × IsFault (pairs_of draft.now.formats (records_of text.now)) e) }
@@ -160,7 +160,7 @@ impl<'a> PairRows<'a> {
         }
     }
 
-    fn into_pairs(self) -> IndexSet<(u16, u16)>
+    fn into_pairs(self) -> IndexSet<Priority>
         ensures pairs { result.keys ≡ self.entry.pairs }
         ensures limits { ArePriorities (length self.entry.formats) result.keys }
     {
@@ -193,7 +193,7 @@ pub(crate) fn read_pair(
     formats: &IndexSet<Puid>,
     line: &ByteRecord,
     row_number: usize,
-) -> Result<(u16, u16), TableError>
+) -> Result<Priority, TableError>
     requires { length formats.now.keys ≤ 1000 }
     ensures pair { result ≡ pair_of formats.now.keys row_number (fields_of line.now) }
     ensures no_read { IfErr result (λ e. is_read e ≡ false) }
@@ -215,17 +215,22 @@ pub(crate) fn read_pair(
     if higher == lower {
         return Err(TableError::PrioritySelf { row: row_number });
     }
-    Ok((higher, lower))
+    Ok(Priority::new(higher, lower))
 }
 
 // The index of the format of this name.
-fn read_format(formats: &IndexSet<Puid>, puid: &Puid, row_number: usize) -> Result<u16, TableError>
+fn read_format(
+    formats: &IndexSet<Puid>,
+    puid: &Puid,
+    row_number: usize,
+) -> Result<FormatId, TableError>
     requires { length formats.now.keys ≤ 1000 }
-    ensures format { result ≡ ok_or (index_in formats.now.keys puid.now) (TableError.PriorityUnknown row_number) }
-    ensures within { IfOk result (λ format. format < length formats.now.keys) }
+    ensures format { IfOk result (λ format. index_in formats.now.keys puid.now ≡ Some format.0) }
+    ensures unknown { IfErr result (λ e. (index_in formats.now.keys puid.now ≡ None) × (e ≡ TableError.PriorityUnknown row_number)) }
+    ensures within { IfOk result (λ format. format.0 < length formats.now.keys) }
 {
     match formats.get_index_of(puid) {
-        Some(index) => Ok(index as u16),
+        Some(index) => Ok(FormatId(index as u16)),
         None => Err(TableError::PriorityUnknown { row: row_number }),
     }
 }

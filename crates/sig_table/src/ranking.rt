@@ -15,6 +15,7 @@ ghost use Rattle.sig_table.specs.Judging.{IsFault, is_read};
 ghost use Rattle.sig_table.specs.Tables.{ArePriorities};
 
 use crate::format_set::FormatSet;
+use crate::priority::Priority;
 use crate::{FormatId, Table, TableError};
 use indexmap::IndexSet;
 use std::alloc::{AllocError, Global};
@@ -23,7 +24,7 @@ use std::marker::Model;
 /// Priorities among the formats of a table, without a cycle and none twice.
 #[derive(Debug, Drop)]
 pub struct Ranking {
-    pairs: IndexSet<(u16, u16)>,
+    pairs: IndexSet<Priority>,
     below: Vec<FormatSet>,
 }
 
@@ -54,7 +55,7 @@ impl Ranking {
     pub fn outranks(&self, higher: FormatId, lower: FormatId) -> bool
         ensures { IsTrue result ↔ Outranks self.now.pairs higher.0 lower.0 }
     {
-        self.contains((higher.0, lower.0))
+        self.contains(Priority::new(higher, lower))
     }
 
     /// Whether the pair can be added: it is not listed, and closes no cycle.
@@ -68,7 +69,7 @@ impl Ranking {
         if higher == lower {
             return false;
         }
-        self.fault((higher.0, lower.0), 0).is_none()
+        self.fault(Priority::new(higher, lower), 0).is_none()
     }
 
     /// Adds a pair behind the others.
@@ -76,10 +77,10 @@ impl Ranking {
         requires { ArePriorities self.format_count (self.pairs ++ (higher.0, lower.0) ∷ []) }
         ensures { IfOk result (λ r. r ≡ record self { pairs = self.pairs ++ (higher.0, lower.0) ∷ [] }) }
     {
-        self.insert((higher.0, lower.0))
+        self.insert(Priority::new(higher, lower))
     }
 
-    pub(crate) fn pairs(&self) -> &[(u16, u16)]
+    pub(crate) fn pairs(&self) -> &[Priority]
         ensures pairs { result.now ≡ self.now.pairs }
         ensures limits { ArePriorities self.now.format_count self.now.pairs }
     {
@@ -99,7 +100,7 @@ impl Ranking {
     }
 
     // Judges the pair of the row, and adds it.
-    pub(crate) fn add(self, pair: (u16, u16), row_number: usize) -> Result<Ranking, TableError>
+    pub(crate) fn add(self, pair: Priority, row_number: usize) -> Result<Ranking, TableError>
         requires higher { pair.0 < self.format_count }
         requires lower { pair.1 < self.format_count }
         requires other { ¬ (pair.0 ≡ pair.1) }
@@ -116,7 +117,7 @@ impl Ranking {
     // Judges the pair of the row. It is added where it has no fault, and else left out.
     pub(crate) fn take(
         self,
-        pair: (u16, u16),
+        pair: Priority,
         row_number: usize,
     ) -> Result<(Ranking, Option<TableError>), AllocError>
         requires higher { pair.0 < self.format_count }
@@ -135,7 +136,7 @@ impl Ranking {
     }
 
     #[tactic(auto, unfolding(crate::specs::Loading::pair_fault))]
-    fn fault(&self, pair: (u16, u16), row_number: usize) -> Option<TableError>
+    fn fault(&self, pair: Priority, row_number: usize) -> Option<TableError>
         requires higher { pair.0 < self.now.format_count }
         requires lower { pair.1 < self.now.format_count }
         ensures fault { result ≡ pair_fault self.now.pairs row_number pair }
@@ -144,29 +145,29 @@ impl Ranking {
         if self.contains(pair) {
             return Some(TableError::PriorityTwice { row: row_number });
         }
-        if self.is_above(pair.1, pair.0) {
+        if self.is_above(pair.lower(), pair.higher()) {
             return Some(TableError::PriorityCycle { row: row_number });
         }
         None
     }
 
-    fn contains(&self, pair: (u16, u16)) -> bool
+    fn contains(&self, pair: Priority) -> bool
         ensures { result ≡ is_listed self.now.pairs pair }
     {
         self.pairs.contains(&pair)
     }
 
     // Whether the pairs lead from the one down to the other.
-    fn is_above(&self, higher: u16, lower: u16) -> bool
-        requires higher { higher < self.now.format_count }
-        requires lower { lower < self.now.format_count }
-        ensures { result ≡ is_above self.now.pairs higher lower }
+    fn is_above(&self, higher: FormatId, lower: FormatId) -> bool
+        requires higher { higher.0 < self.now.format_count }
+        requires lower { lower.0 < self.now.format_count }
+        ensures { result ≡ is_above self.now.pairs higher.0 lower.0 }
     {
-        self.below[higher as usize].contains(lower)
+        self.below[higher.0 as usize].contains(lower)
     }
 
     // Adds a pair that closes no cycle.
-    fn insert(self, pair: (u16, u16)) -> Result<Ranking, AllocError>
+    fn insert(self, pair: Priority) -> Result<Ranking, AllocError>
         requires higher { pair.0 < self.format_count }
         requires lower { pair.1 < self.format_count }
         requires other { ¬ (pair.0 ≡ pair.1) }
@@ -180,11 +181,11 @@ impl Ranking {
         if pairs.insert(pair).is_err() {
             return Err(AllocError);
         }
-        extend_below(&mut below, pair.0, pair.1);
+        extend_below(&mut below, pair.higher(), pair.lower());
         Ok(Ranking { pairs, below })
     }
 
-    pub(crate) fn into_pairs(self) -> IndexSet<(u16, u16)>
+    pub(crate) fn into_pairs(self) -> IndexSet<Priority>
         ensures pairs { result.keys ≡ self.pairs }
         ensures limits { ArePriorities self.format_count result.keys }
     {
@@ -193,27 +194,33 @@ impl Ranking {
 }
 
 // Puts the lower format, and those below it, below the higher one and those above it.
-fn extend_below(below: &mut [FormatSet], higher: u16, lower: u16)
+fn extend_below(below: &mut [FormatSet], higher: FormatId, lower: FormatId)
     requires few { length below.old ≤ 1000 }
-    requires higher { higher < length below.old }
-    requires lower { lower < length below.old }
+    requires higher { higher.0 < length below.old }
+    requires lower { lower.0 < length below.old }
     requires below { (pairs : List (ℕ × ℕ)) × AreBelow below.old pairs }
-    ensures { (pairs : List (ℕ × ℕ)) → AreBelow below.old pairs → AreBelow below.new (pairs ++ (higher, lower) ∷ []) }
+    ensures { (pairs : List (ℕ × ℕ)) → AreBelow below.old pairs → AreBelow below.new (pairs ++ (higher.0, lower.0) ∷ []) }
 {
-    let mut added = below[lower as usize];
+    let mut added = below[lower.0 as usize];
     added.insert(lower);
     for (x, set) in below.iter_mut().enumerate() {
-        extend_set(set, x == higher as usize, higher, lower, &added);
+        extend_set(set, x == higher.0 as usize, higher, lower, &added);
     }
 }
 
 // Adds these formats to the set of the higher format, or of one above it. Where the lower one is
 // there already, so are they.
-fn extend_set(set: &mut FormatSet, is_higher: bool, higher: u16, lower: u16, added: &FormatSet)
-    requires higher { higher < 1000 }
-    requires lower { lower < 1000 }
-    requires there { HasFormat set.old lower → (f : ℕ) → HasFormat added.now f → HasFormat set.old f }
-    ensures { (f : ℕ) → HasFormat set.new f ↔ (HasFormat set.old f ⊎ ((IsTrue is_higher ⊎ HasFormat set.old higher) × HasFormat added.now f)) }
+fn extend_set(
+    set: &mut FormatSet,
+    is_higher: bool,
+    higher: FormatId,
+    lower: FormatId,
+    added: &FormatSet,
+)
+    requires higher { higher.0 < 1000 }
+    requires lower { lower.0 < 1000 }
+    requires there { HasFormat set.old lower.0 → (f : ℕ) → HasFormat added.now f → HasFormat set.old f }
+    ensures { (f : ℕ) → HasFormat set.new f ↔ (HasFormat set.old f ⊎ ((IsTrue is_higher ⊎ HasFormat set.old higher.0) × HasFormat added.now f)) }
 {
     if (is_higher || set.contains(higher)) && !set.contains(lower) {
         set.join(added);

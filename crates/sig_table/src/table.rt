@@ -8,6 +8,7 @@
 ghost use Rattle.std.specs.Prelude.{◌≡◌, ◌<◌, ◌≤◌, ◌↔◌, [], ◌∷◌, ◌++◌, false, IsTrue, IfOk, OnOk, Some, Contains, length, option_map, position, slice_get};
 ghost use Rattle.sig_table.specs.Puids.{puid_eq};
 
+use crate::priority::Priority;
 use crate::spans::{Span, mark_spans};
 use crate::{FormatId, Puid, Sequence, SigId, SignaturesOf};
 use indexmap::IndexSet;
@@ -35,7 +36,7 @@ impl Model for Signature {
 pub struct Table {
     formats: Vec<Puid>,
     signatures: Vec<Signature>,
-    priorities: IndexSet<(u16, u16)>,
+    priorities: IndexSet<Priority>,
     // For each format the span of its signatures.
     spans: Vec<Span>,
 }
@@ -101,7 +102,7 @@ impl Table {
     pub(crate) fn new(
         formats: Vec<Puid>,
         signatures: Vec<Signature>,
-        priorities: IndexSet<(u16, u16)>,
+        priorities: IndexSet<Priority>,
         mut spans: Vec<Span>,
     ) -> Table
         requires table { IsTable (record { formats = formats.items; signatures = signatures.items; priorities = priorities.keys }) }
@@ -202,7 +203,7 @@ impl Table {
         ensures listed { IsTrue result ↔ Outranks self.now.priorities higher.0 lower.0 }
         ensures test { result ≡ ranks self.now.priorities higher.0 lower.0 }
     {
-        self.priorities.contains(&(higher.0, lower.0))
+        self.priorities.contains(&Priority::new(higher, lower))
     }
 
     /// Takes out all signatures of the format of this name, and moves later ones down. The format
@@ -266,7 +267,7 @@ impl Table {
         self.signatures.as_slice()
     }
 
-    pub(crate) fn priorities(&self) -> &[(u16, u16)]
+    pub(crate) fn priorities(&self) -> &[Priority]
         ensures { result.now ≡ self.now.priorities }
     {
         self.priorities.as_slice()

@@ -17,8 +17,9 @@ ghost use Rattle.sig_table.specs.Tables.{IsTable};
 ghost use Rattle.sig_table.specs.Canonical.{name_of, pair_record, pairs_csv, position_fields, priority_csv, records_of_signature, sequence_record, signature_csv, signature_header};
 
 use crate::csv_text::CsvText;
+use crate::priority::Priority;
 use crate::table::Signature;
-use crate::{OutError, Position, Puid, Ranking, Sequence, Table};
+use crate::{FormatId, OutError, Position, Puid, Ranking, Sequence, Table};
 use csv::ByteRecord;
 use sig_bits::{FromWrite, Output};
 use sig_expr::{Expr, print};
@@ -95,7 +96,7 @@ impl Ranking {
 fn write_pairs<W: Output>(
     alloc: Global,
     formats: &[Puid],
-    pairs: &[(u16, u16)],
+    pairs: &[Priority],
     out: &mut W,
 ) -> Result<(), OutError>
     ensures text { OnOk result (Adds (W.written out.old) (pairs_csv formats.now pairs.now) (W.written out.new)) }
@@ -146,7 +147,7 @@ fn with_signature(
 ) -> Result<CsvText, AllocError>
     ensures { IfOk result (λ more. more ≡ lines ++ flat_map (row_text default_writer) (records_of_signature formats.now signature.now)) }
 {
-    let name = name_of(alloc, formats, signature.format().0)?;
+    let name = name_of(alloc, formats, signature.format())?;
     let number = signature.number();
     for sequence in signature.sequences() {
         lines = lines.with(&sequence_record(alloc, &name, number, sequence)?)?;
@@ -225,11 +226,7 @@ fn expression_text(alloc: Global, expr: &Expr) -> Result<Vec<u8>, AllocError>
 }
 
 // The text of the priority file of these formats and pairs.
-fn priority_text(
-    alloc: Global,
-    formats: &[Puid],
-    pairs: &[(u16, u16)],
-) -> Result<Vec<u8>, AllocError>
+fn priority_text(alloc: Global, formats: &[Puid], pairs: &[Priority]) -> Result<Vec<u8>, AllocError>
     ensures { IfOk result (λ text. text.items ≡ pairs_csv formats.now pairs.now) }
 {
     let header = ByteRecord::from_fields(alloc, &[b"higher", b"lower"])?;
@@ -242,19 +239,19 @@ fn priority_text(
 }
 
 // The record of the pair.
-fn pair_record(alloc: Global, formats: &[Puid], pair: (u16, u16)) -> Result<ByteRecord, AllocError>
+fn pair_record(alloc: Global, formats: &[Puid], pair: Priority) -> Result<ByteRecord, AllocError>
     ensures { IfOk result (λ row. fields_of row ≡ pair_record formats.now pair) }
 {
-    let higher = name_of(alloc, formats, pair.0)?;
-    let lower = name_of(alloc, formats, pair.1)?;
+    let higher = name_of(alloc, formats, pair.higher())?;
+    let lower = name_of(alloc, formats, pair.lower())?;
     ByteRecord::from_fields(alloc, &[higher.as_bytes(), lower.as_bytes()])
 }
 
 // The format's name.
-fn name_of(alloc: Global, formats: &[Puid], format: u16) -> Result<String, AllocError>
-    ensures { IfOk result (λ name. string_bytes name ≡ name_of formats.now format) }
+fn name_of(alloc: Global, formats: &[Puid], format: FormatId) -> Result<String, AllocError>
+    ensures { IfOk result (λ name. string_bytes name ≡ name_of formats.now format.0) }
 {
-    match formats.get(format as usize) {
+    match formats.get(format.0 as usize) {
         Some(puid) => puid.to_string(alloc),
         None => Ok(String::new(alloc)),
     }

@@ -11,5 +11,5 @@ invariant-loop-x l = record {
   same_length : length l.below ≡ length l.initial.below;
   later : (k : ℕ) → l.x ≤ k → (set : FormatSet) → get_or l.below k set ≡ get_or l.initial.below k set;
   done : (pairs : List (ℕ × ℕ)) → AreBelow l.initial.below pairs → (k : ℕ) → k < l.x → (set : FormatSet) → get_or l.below k set ≡ set → (f : ℕ)
-      → (HasFormat set f ↔ IsAbove (pairs ++ (l.higher, l.lower) ∷ []) k f);
+      → (HasFormat set f ↔ IsAbove (pairs ++ (l.higher.0, l.lower.0) ∷ []) k f);
 }

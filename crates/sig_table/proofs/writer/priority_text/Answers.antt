@@ -32,8 +32,9 @@ whole formats pairs i header start first lines end empty is begins goes =
     goes ∙ rw (begins, empty, is, take_all i pairs end) (sym (pairs_csv-rows formats pairs))
 
 pub loop-pair-preserved : goal.loop-pair-preserved
-loop-pair-preserved c = grows _ _ c.loop-pair.pair-index _ _ _ _ _ c.loop-pair-test.true c.in_ok-pair_record.ensures c.in_ok-lines-2.ensures
-    c.loop-pair.invariant
+loop-pair-preserved c =
+    grows _ _ c.loop-pair.pair-index c.pair-item.result _ _ _ _ c.loop-pair-test.true
+    (c.in_ok-pair_record.ensures ∙ ap (pair_record c.args.formats.now) c.pair-item.is) c.in_ok-lines-2.ensures c.loop-pair.invariant
 
 pub returns : goal.returns
 returns c =

@@ -18,7 +18,7 @@ invariant_of-result c =
       few = rw (items, long) c.self.invariant.few;
       priorities = rw (keys, items, long) (one_priority_more (length c.self.inside.below.items) pairs c.args.pair c.self.invariant.priorities (higher, lower)
           new (λ up. elim up [ inl same ↦ c.requires.other (sym same) | inr way ↦ fine.1 way ]));
-      below = rw (keys, items) (c.extend_below.ensures pairs (rw c.deref_mut.ensures.value c.self.invariant.below));
+      below = rw (keys, items) (rw (c.higher.ensures, c.lower.ensures) at c.extend_below.ensures pairs (rw c.deref_mut.ensures.value c.self.invariant.below));
     }
 
 pub returns : goal.returns

@@ -8,5 +8,5 @@ pub returns : goal.returns
 unfolding AreBelow
 returns c =
     let higher = c.requires.higher in
-    let row = c.self.invariant.below c.args.higher (rw (← c.self.view_is) at higher) c.index.result.now (sym c.index.ensures) c.args.lower in
-    rw (← c.self.view_is) (same_answer _ _ c.contains.ensures row (is_above-Decides c.self.inside.pairs.keys c.args.higher c.args.lower))
+    let row = c.self.invariant.below c.args.higher.0 (rw (← c.self.view_is) at higher) c.index.result.now (sym c.index.ensures) c.args.lower.0 in
+    rw (← c.self.view_is) (same_answer _ _ c.contains.ensures row (is_above-Decides c.self.inside.pairs.keys c.args.higher.0 c.args.lower.0))

@@ -5,4 +5,5 @@ use Rattle.sig_table.proofs.ranking.Ranking.outranks.Goals as goal
 pub returns : goal.returns
 returns c =
     let listed = listed-Decides c.args.self.now.pairs (c.args.higher.0, c.args.lower.0) in
-    (λ t. listed.0 (sym c.contains.ensures ∙ t), λ there. c.contains.ensures ∙ listed.1 there)
+    let found = rw c.new.ensures at c.contains.ensures in
+    (λ t. listed.0 (sym found ∙ t), λ there. found ∙ listed.1 there)
