@@ -1,10 +1,11 @@
 -- The bytes with which words begin: of rows, of parts and items, and of a whole tree.
-use Rattle.sig_auto.proofs.Common.{◌≡◌, ◌↔◌, ◌⊎◌, ℕ, ◌+◌, ◌-◌, ◌<◌, ◌≤◌, ◌&&◌, Bool, true, false, nat_eq, cond, List, [], ◌∷◌, ◌++◌, length, drop, get_or,
-    IsTrue, slice_index, Option, subst, sym, ◌∙◌, refl, inl, inr, arith, and_parts, eq-eqb, eqb-true, false≢true, lt-ltb, ltb-true, get_or-append_right,
-    get_or-replicate, get_or_append_left, AlternativesSound, AtomSound, AtomsSound, ItemSound, IsBefore, Atom, Item, InOrder, IsSequence, SequenceView,
-    Position, Class, Within, Outside, Begins, BeginsOutside, InClass, any, is_nullable, above, behind, below, between, lower_at, rest, upper_at, BeginsOn,
-    Accepting, Follows, IsBefore-cases, Tree, Never, Empty, Slot, Gap, Then, Or, alternatives_tree, atom_tree, atoms_tree, back_tree, bracket_tree, front_tree,
-    item_tree, items_tree, row_tree, rows_tree, whole_tree, Takes, class_of, classes_of, is_first, slots_of, IsTrim}
+use Rattle.sig_auto.proofs.Common.{◌≡◌, ◌↔◌, ◌⊎◌, ℕ, ◌+◌, ◌-◌, ◌<◌, ◌≤◌, ◌&&◌, Bool, true, false, nat_eq, cond, List, [], ◌∷◌, ◌++◌, length, drop, get_or}
+use Rattle.sig_auto.proofs.Common.{IsTrue, slice_index, Option, subst, sym, ◌∙◌, refl, inl, inr, arith, and_parts, eq-eqb, eqb-true, false≢true, lt-ltb}
+use Rattle.sig_auto.proofs.Common.{ltb-true, get_or-append_right, get_or-replicate, get_or_append_left, AlternativesSound, AtomSound, AtomsSound, ItemSound}
+use Rattle.sig_auto.proofs.Common.{IsBefore, Atom, Item, InOrder, IsSequence, SequenceView, Position, Class, Within, Outside, Begins, BeginsOutside, InClass}
+use Rattle.sig_auto.proofs.Common.{any, is_nullable, above, behind, below, between, lower_at, rest, upper_at, BeginsOn, Accepting, Follows, IsBefore-cases}
+use Rattle.sig_auto.proofs.Common.{Tree, Never, Empty, Slot, Gap, Then, Or, alternatives_tree, atom_tree, atoms_tree, back_tree, bracket_tree, front_tree}
+use Rattle.sig_auto.proofs.Common.{item_tree, items_tree, row_tree, rows_tree, whole_tree, Takes, class_of, classes_of, is_first, slots_of, IsTrim}
 use Rattle.sig_expr.specs.declared.item.Atom.TheVariants as atom
 use Rattle.sig_expr.specs.declared.item.Item.TheVariants as item
 use Rattle.sig_table.specs.declared.position.Position.TheVariants as position
@@ -37,8 +38,14 @@ begins_or a b before byte q = class_joined (Or a b) a b before byte q refl (is_f
 -- the bytes that begin a tree are those that some first slot takes
 begins_slot : (c : Class) (before b : ℕ) → Begins (Slot c) b ↔ ((q : ℕ) × BeginsOn (Slot c) before b q)
 begins_slot c before b = (
-  λ h. (before + 1, (eq-eqb (before + 1) (before + 1) refl, (let one : 0 ≡ before + 1 - before - 1 = omega arith in
-      subst (λ i. InClass (get_or (c ∷ []) i any) b) one h))),
+  λ h. (
+    before + 1,
+    (
+      eq-eqb (before + 1) (before + 1) refl,
+      (let one : 0 ≡ before + 1 - before - 1 = omega arith in
+          subst (λ i. InClass (get_or (c ∷ []) i any) b) one h),
+    ),
+  ),
   λ h. (let at = eqb-true h.0 (before + 1) h.1.0 in let one : h.0 - before - 1 ≡ 0 = omega arith in subst (λ i. InClass (get_or (c ∷ []) i any) b) one h.1.1),
 )
 
@@ -86,8 +93,20 @@ begins_between : (a b : List ℕ) (c : ℕ) → length a ≡ length b → IsBefo
 begins_between [] [] c same order = absurd (cc)
 begins_between [] (y ∷ ys) c same order = absurd (omega arith)
 begins_between (x ∷ xs) [] c same order = absurd (cc)
-begins_between (x ∷ xs) (y ∷ ys) c same order = grind (arith, IsBefore-cases, between_split, some_between, begins_behind, between_same, begins_rows, begins_row,
-    is_only, begins_if, ltb-true, lt-ltb)
+begins_between (x ∷ xs) (y ∷ ys) c same order = grind (
+  arith,
+  IsBefore-cases,
+  between_split,
+  some_between,
+  begins_behind,
+  between_same,
+  begins_rows,
+  begins_row,
+  is_only,
+  begins_if,
+  ltb-true,
+  lt-ltb,
+)
 
 -- ---- parts
 
@@ -108,8 +127,22 @@ outside_one a b c one two small = grind (arith, none_behind a one, none_behind b
 begins_past : (a b : List ℕ) (c : ℕ) → length a ≡ length b → 0 < length a → c < 256
     → Begins (bracket_tree a (Outside (slice_index a 0) (slice_index b 0)) (below a ++ above b)) c ↔ BeginsOutside a b c
 begins_past a b c same some small =
-    grind (arith, begins_by (nat_eq (length a) 1) (Outside (slice_index a 0) (slice_index b 0)) (below a ++ above b) c (BeginsOutside a b c), eqb-true,
-        outside_one a b c, begins_rows, lower_at, behind, below, begins_behind, begins_if, ltb-true, lt-ltb, above, upper_at)
+    grind (
+      arith,
+      begins_by (nat_eq (length a) 1) (Outside (slice_index a 0) (slice_index b 0)) (below a ++ above b) c (BeginsOutside a b c),
+      eqb-true,
+      outside_one a b c,
+      begins_rows,
+      lower_at,
+      behind,
+      below,
+      begins_behind,
+      begins_if,
+      ltb-true,
+      lt-ltb,
+      above,
+      upper_at,
+    )
 
 pub range_answer : {H : Type 0} (p : Atom) (a b x y : List ℕ) (c : ℕ) → p ≡ atom.Range a b → x ≡ a → y ≡ b → AtomSound p
     → (H ↔ ((slice_index x 0 ≤ c) × (c ≤ slice_index y 0))) → H ↔ Begins (atom_tree p) c
@@ -204,5 +237,10 @@ last_nullable (i ∷ items) last h = last_nullable items last (and_parts (is_nul
 pub accepts_ends : (s : SequenceView) (position : Position) (ends : Bool) → position ≡ s.position → IsSequence s
     → ends ≡ (is_nullable (front_tree position) && is_nullable (back_tree position)) → ends ≡ false → IsTrue ends ↔ Accepting (whole_tree s) 0
 accepts_ends s position ends at sequence told refused =
-    grind (arith, accepts_nullable (whole_tree s) (is_nullable (whole_tree s)) (whole_is_trim s sequence) refl, whole_is_trim s sequence, false≢true,
-        last_nullable s.items (back_tree s.position))
+    grind (
+      arith,
+      accepts_nullable (whole_tree s) (is_nullable (whole_tree s)) (whole_is_trim s sequence) refl,
+      whole_is_trim s sequence,
+      false≢true,
+      last_nullable s.items (back_tree s.position),
+    )

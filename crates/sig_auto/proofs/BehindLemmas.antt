@@ -1,8 +1,8 @@
 -- What comes behind a state.
-use Rattle.sig_auto.proofs.Common.{◌||◌, ◌≡◌, ℕ, zero, suc, ◌+◌, ◌-◌, ◌<◌, ◌≤◌, ◌==◌, true, false, List, [], ◌∷◌, drop, get_or, length, Option, Some, None,
-    Fits, w32, refl, sym, ap, is_some, ◌∙◌, subst, inl, inr, arith, IfSome, and_from, and_parts, cases_lt, cond-false, cond-true, eq-eqb, eqb-true, le-leb,
-    leb-true, lt-ltb, ltb-true, ne_eqb, or_cases, any, Behind, Cell, Joint, Joints, IsBehind, IsCellOf, LiesBehind, is_own, slots_in, Lined, entered_first,
-    joint_past, seek, AreJoints, IsJoint, entered, has_slot, leave, own}
+use Rattle.sig_auto.proofs.Common.{◌||◌, ◌≡◌, ℕ, zero, suc, ◌+◌, ◌-◌, ◌<◌, ◌≤◌, ◌==◌, true, false, List, [], ◌∷◌, drop, get_or, length, Option, Some, None}
+use Rattle.sig_auto.proofs.Common.{Fits, w32, refl, sym, ap, is_some, ◌∙◌, subst, inl, inr, arith, IfSome, and_from, and_parts, cases_lt, cond-false, cond-true}
+use Rattle.sig_auto.proofs.Common.{eq-eqb, eqb-true, le-leb, leb-true, lt-ltb, ltb-true, ne_eqb, or_cases, any, Behind, Cell, Joint, Joints, IsBehind, IsCellOf}
+use Rattle.sig_auto.proofs.Common.{LiesBehind, is_own, slots_in, Lined, entered_first, joint_past, seek, AreJoints, IsJoint, entered, has_slot, leave, own}
 use Rattle.sig_auto.proofs.JoinLemmas.{drop_past, drop_some, here_of, onward_here, onward_other}
 use Rattle.sig_auto.proofs.LineLemmas.{exit_at, gone_at, lined_later}
 use Rattle.sig_auto.proofs.WayLemmas.{entered_past, land_past, passes_none}
@@ -20,8 +20,16 @@ drop_more cells xs i c h = sym (drop_twice cells i 1) ∙ ap (drop 1) h
 
 pub seek_enters : (cells xs : List Cell) (i j q : ℕ) → drop i cells ≡ xs → entered (Some j) xs q ≡ entered_first (drop (seek j xs i) cells) q
 seek_enters cells [] i j q h = sym (ap (λ x. entered_first x q) h)
-seek_enters cells (c ∷ xs) i j q h = grind (arith, cond-true, eq-eqb, ne_eqb, onward_other c j, drop_more cells xs i c h, cond-false,
-    seek_enters cells xs (i + 1) j q (drop_more cells xs i c h))
+seek_enters cells (c ∷ xs) i j q h = grind (
+  arith,
+  cond-true,
+  eq-eqb,
+  ne_eqb,
+  onward_other c j,
+  drop_more cells xs i c h,
+  cond-false,
+  seek_enters cells xs (i + 1) j q (drop_more cells xs i c h),
+)
 
 pub seek_above : (xs : List Cell) (i j : ℕ) → i ≤ seek j xs i
 seek_above [] i j = omega arith
@@ -128,7 +136,7 @@ pub passed_on : (cells : List Cell) (joints : Joints) (k : ℕ) (d : Cell) (e : 
 passed_on cells joints k d e h less e_is =
     let c : Cell = get_or cells k d in
     let joint : IsJoint (length cells) c (drop (k + 1) cells) k e =
-        subst (IsJoint (length cells) c (drop (k + 1) cells) k) (sym e_is) (h.each k c (drop (k + 1) cells) e (here_of cells k d less)) in
+    subst (IsJoint (length cells) c (drop (k + 1) cells) k) (sym e_is) (h.each k c (drop (k + 1) cells) e (here_of cells k d less)) in
     let is : e.beside ≡ seek (joint_past c) (drop (k + 1) cells) (k + 1) = joint.beside in
     let above : k + 1 ≤ seek (joint_past c) (drop (k + 1) cells) (k + 1) = seek_above (drop (k + 1) cells) (k + 1) (joint_past c) in
     omega arith
@@ -138,8 +146,11 @@ met_here cells k q d less is = grind (arith, here_of cells k d less, first_here,
 
 pub cell_within : (cells : List Cell) (k : ℕ) (d : Cell) → Lined 0 cells → k < length cells
     → (get_or cells k d).before + (get_or cells k d).count ≤ slots_in cells
-cell_within cells k d lined less = grind (arith, lined_later cells (drop (k + 1) cells) 0 k (get_or cells k d) lined (here_of cells k d less),
-    here_of cells k d less)
+cell_within cells k d lined less = grind (
+  arith,
+  lined_later cells (drop (k + 1) cells) 0 k (get_or cells k d) lined (here_of cells k d less),
+  here_of cells k d less,
+)
 
 pub is_in : (cells : List Cell) (p k : ℕ) → IsCellOf cells p k → k < length cells
 is_in cells p k h = drop_some cells h.rest k h.cell h.is
@@ -185,7 +196,7 @@ behind_after cells joints p k d e enters (Some q) lined h at e_is within is =
     let place : enters ≡ seek c.behind rest (k + 1) = is ∙ joint.enters in
     let more = lined_drop (c.before + c.count) (enters - (k + 1)) rest later.2 in
     let same : drop (enters - (k + 1)) rest ≡ drop enters cells =
-        drop_twice cells (k + 1) (enters - (k + 1)) ∙ ap (λ x. drop x cells) (let z : k + 1 + (enters - (k + 1)) ≡ enters = omega arith in z) in
+    drop_twice cells (k + 1) (enters - (k + 1)) ∙ ap (λ x. drop x cells) (let z : k + 1 + (enters - (k + 1)) ≡ enters = omega arith in z) in
     let most = more.most in
     let top : q ≤ c.before + c.count = within in
     record { before = more.before; most = omega arith; lined = subst (Lined more.before) same more.lined }

@@ -1,8 +1,8 @@
 -- Cells that are made one after the other.
-use Rattle.sig_auto.proofs.Common.{◌≡◌, ℕ, zero, suc, ◌+◌, ◌-◌, ◌<◌, ◌≤◌, ◌==◌, if◌then◌else◌, Bool, true, false, List, [], ◌∷◌, ◌++◌, drop, get_or, length,
-    map, refl, sym, ap, ◌∙◌, subst, arith, append_assoc, length-append, cond-false, cond-true, eqb-false, eqb-true, false≢true, Class, any, Tree, Slot, Then,
-    alternatives_tree, atom_tree, atoms_tree, row_tree, rows_tree, slots_of, Atom, AlternativesSound, AtomSound, AtomsSound, Cell, Puts, cells_in, cells_of,
-    middle}
+use Rattle.sig_auto.proofs.Common.{◌≡◌, ℕ, zero, suc, ◌+◌, ◌-◌, ◌<◌, ◌≤◌, ◌==◌, if◌then◌else◌, Bool, true, false, List, [], ◌∷◌, ◌++◌, drop, get_or, length}
+use Rattle.sig_auto.proofs.Common.{map, refl, sym, ap, ◌∙◌, subst, arith, append_assoc, length-append, cond-false, cond-true, eqb-false, eqb-true, false≢true}
+use Rattle.sig_auto.proofs.Common.{Class, any, Tree, Slot, Then, alternatives_tree, atom_tree, atoms_tree, row_tree, rows_tree, slots_of, Atom}
+use Rattle.sig_auto.proofs.Common.{AlternativesSound, AtomSound, AtomsSound, Cell, Puts, cells_in, cells_of, middle}
 use Rattle.sig_auto.proofs.WholeLemmas.{atom_has_track}
 use Rattle.sig_auto.proofs.BeginLemmas.{atom_not_nullable}
 use Rattle.sig_auto.proofs.JoinLemmas.{drop_past, here_of}
@@ -20,7 +20,7 @@ puts_length t n front behind old new slots h = grind (arith, length-append, leng
 
 pub comes_then : (t a b : Tree) (n front behind : ℕ) (old new next : List Cell) (slots from more mid : ℕ) →
     Comes t (Then a b) n front behind old new slots from → mid ≡ middle from behind (length new) (cells_in a) (cells_in b) → Puts a slots from mid new next more
-        → Comes t b n front behind old next more mid
+    → Comes t b n front behind old next more mid
 comes_then t a b n front behind old new next slots from more mid h is put = grind (arith, puts_length a slots from mid new next more put, append_assoc)
 
 -- ---- rows
@@ -43,11 +43,19 @@ joint_is from behind i j k next last some ended more is = grind (arith, cond-tru
 pub row_steps : (t : Tree) (row : List Class) (j n front behind : ℕ) (old new next : List Cell) (slots from more mid : ℕ) (list : List Cell) (c d : Class)
     (last : Bool) →
     Comes t (row_tree (drop j row)) n front behind old new slots from → j < length row → c ≡ get_or row j d → last ≡ (j + 1 == length row) → list ≡ new
-        → mid ≡ (if last then behind else length list + 1) → Puts (Slot c) slots from mid new next more →
+    → mid ≡ (if last then behind else length list + 1) → Puts (Slot c) slots from mid new next more →
     Comes t (row_tree (drop (j + 1) row)) n front behind old next more mid
 row_steps t row j n front behind old new next slots from more mid list c d last h less is told same mid_is put =
-    grind (arith, here_of row j d less, comes_then t (Slot (get_or row j d)) (row_tree (drop (j + 1) row)) n front behind old new next slots from more mid,
-        row_cells, length_drop, joint_is, eqb-true, eqb-false)
+    grind (
+      arith,
+      here_of row j d less,
+      comes_then t (Slot (get_or row j d)) (row_tree (drop (j + 1) row)) n front behind old new next slots from more mid,
+      row_cells,
+      length_drop,
+      joint_is,
+      eqb-true,
+      eqb-false,
+    )
 
 -- there is room for the next part
 pub part_room : (t a b : Tree) (n front behind : ℕ) (old new : List Cell) (slots from : ℕ) → Comes t (Then a b) n front behind old new slots from
@@ -65,7 +73,7 @@ row_room t row j n front behind old new list slots from h less is few short =
 pub rows_on : {X : Type 0} (items : X → List Class) (t : Tree) (rows : List X) (j n front behind : ℕ) (old new next : List Cell) (slots more : ℕ) (x : X)
     (row : List Class) →
     Comes t (rows_tree (map items (drop j rows))) n front behind old new slots front → j < length rows → x ≡ get_or rows j x → row ≡ items x
-        → Puts (row_tree row) slots front behind new next more →
+    → Puts (row_tree row) slots front behind new next more →
     Comes t (rows_tree (map items (drop (j + 1) rows))) n front behind old next more front
 rows_on items t rows j n front behind old new next slots more x row h less is value put =
     grind (arith, here_of rows j x less, puts_length, append_assoc)
@@ -73,7 +81,7 @@ rows_on items t rows j n front behind old new next slots more x row h less is va
 pub alternatives_on : {X : Type 0} (items : X → List Atom) (t : Tree) (rows : List X) (j n front behind : ℕ) (old new next : List Cell) (slots more : ℕ) (x : X)
     (row : List Atom) →
     Comes t (alternatives_tree (map items (drop j rows))) n front behind old new slots front → j < length rows → x ≡ get_or rows j x → row ≡ items x
-        → Puts (atoms_tree row) slots front behind new next more →
+    → Puts (atoms_tree row) slots front behind new next more →
     Comes t (alternatives_tree (map items (drop (j + 1) rows))) n front behind old next more front
 alternatives_on items t rows j n front behind old new next slots more x row h less is value put =
     grind (arith, here_of rows j x less, puts_length, append_assoc)
@@ -107,7 +115,7 @@ later_cells (x ∷ atoms) (suc j) less h = later_cells atoms j (omega arith) h.1
 pub atoms_on : (t part : Tree) (atoms : List Atom) (j n front behind : ℕ) (old new next list : List Cell) (slots from more mid count : ℕ) (x : Atom)
     (last : Bool) →
     Comes t (atoms_tree (drop j atoms)) n front behind old new slots from → j < length atoms → AtomsSound atoms → x ≡ get_or atoms j x → part ≡ atom_tree x
-        → count ≡ cells_in part → last ≡ (j + 1 == length atoms) → list ≡ new → mid ≡ (if last then behind else length list + count) →
+    → count ≡ cells_in part → last ≡ (j + 1 == length atoms) → list ≡ new → mid ≡ (if last then behind else length list + count) →
     Puts part slots from mid new next more → Comes t (atoms_tree (drop (j + 1) atoms)) n front behind old next more mid
 atoms_on t part atoms j n front behind old new next list slots from more mid count x last h less sound here is counted told same mid_is put =
     let puts = comes_then t part (atoms_tree (drop (j + 1) atoms)) n front behind old new next slots from more mid in

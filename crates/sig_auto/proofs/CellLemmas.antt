@@ -1,9 +1,10 @@
 -- What is known of cells that spell a sequence.
-use Rattle.sig_auto.proofs.Common.{◌||◌, ◌≡◌, ◌↔◌, ℕ, ◌+◌, ◌<◌, ◌≤◌, ◌/◌, ◌==◌, if◌then◌else◌, Bool, true, false, List, drop, get_or, length, IfSome, Option,
-    Some, None, refl, sym, ap, ◌∙◌, subst, inl, inr, arith, option_eq, eqb-true, cases_eq, cases_lt, cond-false, cond-true, eq-eqb, false_from_ne_true,
-    false≢true, ne_eqb, follows, is_first, is_last, is_nullable, Tree, Never, Empty, Slot, Gap, Then, Or, whole_tree, class_of, set_len, slots_of, Accepting,
-    Follows, HasTrack, IsTrim, SequenceView, IsSequence, Behind, Cell, AreReady, EndsAt, IsBehind, IsCellOf, LiesBehind, ComesBehind, is_own, slots_in, HasBit,
-    cells_in, cells_of, cells_of_sequence, IsFlat, Bounded, Lined, Spells, entered_first, is_joint, entered, exit, gone, land}
+use Rattle.sig_auto.proofs.Common.{◌||◌, ◌≡◌, ◌↔◌, ℕ, ◌+◌, ◌<◌, ◌≤◌, ◌/◌, ◌==◌, if◌then◌else◌, Bool, true, false, List, drop, get_or, length, IfSome, Option}
+use Rattle.sig_auto.proofs.Common.{Some, None, refl, sym, ap, ◌∙◌, subst, inl, inr, arith, option_eq, eqb-true, cases_eq, cases_lt, cond-false, cond-true}
+use Rattle.sig_auto.proofs.Common.{eq-eqb, false_from_ne_true, false≢true, ne_eqb, follows, is_first, is_last, is_nullable, Tree, Never, Empty, Slot, Gap, Then}
+use Rattle.sig_auto.proofs.Common.{Or, whole_tree, class_of, set_len, slots_of, Accepting, Follows, HasTrack, IsTrim, SequenceView, IsSequence, Behind, Cell}
+use Rattle.sig_auto.proofs.Common.{AreReady, EndsAt, IsBehind, IsCellOf, LiesBehind, ComesBehind, is_own, slots_in, HasBit, cells_in, cells_of}
+use Rattle.sig_auto.proofs.Common.{cells_of_sequence, IsFlat, Bounded, Lined, Spells, entered_first, is_joint, entered, exit, gone, land}
 use lib.Dec.{eqb}
 use Rattle.sig_auto.proofs.TrimLemmas.{accepting_slot, follows_slot, follows_start}
 use Rattle.sig_auto.proofs.BeginLemmas.{accepts_nullable}
@@ -62,8 +63,16 @@ start_goes cells s q h =
 
 start_ends : (t : Tree) → IsTrim t → HasTrack t → IsFlat t → is_joint (land (Some 0) (cells_of t 0 0 0 (cells_in t))) (cells_in t) ≡ is_nullable t
 start_ends t trim some flat =
-    grind (arith, lands t 0 0 0 (cells_in t) trim flat (whole_fits t), whole_fits t, eq-eqb, stops t 0 0 0 (cells_in t) trim flat (whole_fits t), false≢true,
-        null_of_none t some, ne_eqb)
+    grind (
+      arith,
+      lands t 0 0 0 (cells_in t) trim flat (whole_fits t),
+      whole_fits t,
+      eq-eqb,
+      stops t 0 0 0 (cells_in t) trim flat (whole_fits t),
+      false≢true,
+      null_of_none t some,
+      ne_eqb,
+    )
 
 -- ---- the slots
 
@@ -119,15 +128,22 @@ pub class_told : (cells list : List Cell) (s now : SequenceView) (q k : ℕ) (c 
     → IsCellOf list q k → c.class ≡ class_of (whole_tree now) q
 class_told cells list s now q k c h same is here at =
     let found = class_at cells (drop (k + 1) cells) 0 k q in
-    grind (arith, is_in list q k at, here_of cells k c, slot_parts at.cell q at.slot, found, spelled_lined cells s h,
-        spread_of (whole_tree s) 0 0 0 (cells_in (whole_tree s)))
+    grind (
+      arith,
+      is_in list q k at,
+      here_of cells k c,
+      slot_parts at.cell q at.slot,
+      found,
+      spelled_lined cells s h,
+      spread_of (whole_tree s) 0 0 0 (cells_in (whole_tree s)),
+    )
 
 pub behind_told : (cells list other : List Cell) (s now : SequenceView) (p q : ℕ) (b : Behind) (own enters : Bool) → Spells cells s → s ≡ now → list ≡ cells
     → other ≡ cells → p ≤ slots_of (whole_tree now) → IsBehind list p b →
     own ≡ is_own b.own q → enters ≡ entered_first (drop b.enters other) q → ((own || enters) ≡ true) ↔ Follows (whole_tree now) p q
 behind_told cells list other s now p q b own enters h same is is_other most told own_is enters_is =
     behind_follows cells s now p q b own enters h same (within cells cells s now p h same refl most) (subst (λ x. IsBehind x p b) is told) own_is
-        (enters_is ∙ ap (λ x. entered_first (drop b.enters x) q) is_other)
+    (enters_is ∙ ap (λ x. entered_first (drop b.enters x) q) is_other)
 
 pub out_of_slots : (cells list : List Cell) (s now : SequenceView) (p n : ℕ) → Spells cells s → s ≡ now → list ≡ cells → n ≡ slots_in list → n < p
     → slots_of (whole_tree now) < p
@@ -147,7 +163,7 @@ pub follows_else : (cells list : List Cell) (s now : SequenceView) (p q : ℕ) (
     own ≡ is_own b.own q → enters ≡ entered_first (drop b.enters list) q → own ≡ false → (enters ≡ true) ↔ Follows (whole_tree now) p q
 follows_else cells list s now p q b own enters h same is most told own_is enters_is not =
     subst (λ x. ((x || enters) ≡ true) ↔ Follows (whole_tree now) p q) not
-        (behind_told cells list list s now p q b own enters h same is is most told own_is enters_is)
+    (behind_told cells list list s now p q b own enters h same is is most told own_is enters_is)
 
 pub same_own : (a b : Option ℕ) (r : Bool) → r ≡ option_eq eqb a b → r ≡ true → a ≡ b
 same_own None None r is h = refl
@@ -217,7 +233,7 @@ pub comes_follows : (s : SequenceView) (p q : ℕ) (b : Behind) → ComesBehind 
 comes_follows s p q b h =
     let cells : List Cell = cells_of_sequence s in
     behind_told cells cells cells s s p q b (is_own b.own q) (entered_first (drop b.enters cells) q) (of_sequence s h.sequence) refl refl refl h.state h.is refl
-        refl
+    refl
 
 pub alike : (s : SequenceView) (p q : ℕ) (one other : Behind) → ComesBehind s p one → ComesBehind s q other → one.own ≡ other.own → one.enters ≡ other.enters
     → (next : ℕ) → Follows (whole_tree s) p next ↔ Follows (whole_tree s) q next

@@ -1,8 +1,8 @@
 -- One cell of a step: what is known before it, and behind it.
-use Rattle.sig_auto.proofs.Common.{◌≡◌, ◌≢◌, ◌⊎◌, ◌↔◌, ◌∙◌, ℕ, ◌+◌, ◌-◌, ◌<◌, ◌≤◌, inl, inr, Bool, true, List, drop, get_or, length, Some, ap, arith, refl,
-    subst, sym, slice_get, cases_eq, cases_lt, get_or_from_slice_get, slice_get-get_or, slice_get_within, HasBit, Cell, Joint, Joints, slots_in, GoesWithin,
-    IsAhead, IsCellStep, IsEntered, IsFirstOf, IsLeft, IsPassed, IsSomePassed, LeavesFor, InClass, any, Lined, entered_first, AreJoints, IsJoint, class_in,
-    spread}
+use Rattle.sig_auto.proofs.Common.{◌≡◌, ◌≢◌, ◌⊎◌, ◌↔◌, ◌∙◌, ℕ, ◌+◌, ◌-◌, ◌<◌, ◌≤◌, inl, inr, Bool, true, List, drop, get_or, length, Some, ap, arith, refl}
+use Rattle.sig_auto.proofs.Common.{subst, sym, slice_get, cases_eq, cases_lt, get_or_from_slice_get, slice_get-get_or, slice_get_within, HasBit, Cell, Joint}
+use Rattle.sig_auto.proofs.Common.{Joints, slots_in, GoesWithin, IsAhead, IsCellStep, IsEntered, IsFirstOf, IsLeft, IsPassed, IsSomePassed, LeavesFor, InClass}
+use Rattle.sig_auto.proofs.Common.{any, Lined, entered_first, AreJoints, IsJoint, class_in, spread}
 use Rattle.sig_auto.proofs.BehindLemmas.{a_cell, lined_drop, met_here, passed, seek_above}
 use Rattle.sig_auto.proofs.CellStepLemmas.{above_cell, cell_at, first_above, first_low, first_there, goes_inside, has_some, same_first, same_place, some_cell}
 use Rattle.sig_auto.proofs.JoinLemmas.{drop_past}
@@ -157,7 +157,7 @@ module _ (cells : List Cell) (joints : Joints) (from old new : List ℕ) (byte k
       let c_is : get_or cells k c ≡ c = get_or_from_slice_get cells k c c p.at in
       let on : entered_first (drop k cells) q ≡ entered_first (drop e.beside cells) q =
       passed cells joints k q c e p.joined inside p.joint (λ is. (let first : c.before + 1 ≡ q = ap (λ (d : Cell). d.before + 1) (sym c_is) ∙ is in
-          omega arith)) in
+      omega arith)) in
       let is_many : length joints.each.items ≡ length cells = p.joined.many in
       let behind : slice_get joints.each.items k ≡ Some e =
       slice_get-get_or joints.each.items k e (omega arith) ∙ ap (λ x. Some x) (sym p.joint) in
@@ -296,8 +296,17 @@ start_told cells joints from zeros new byte b lined bit_is none bits =
           λ is. elim is [
             | inl begin ↦ (
                 let f = first_there cells joints.start a_cell (some_cell cells joints.start q begin.1) in
-                inl (joints.start, omega arith, record { slot = (get_or cells joints.start a_cell).before + 1; is = f; bit =
-                    (bits _).1 (inr (bit_is.1 begin.0, f)) }, begin.1))
+                inl (
+                  joints.start,
+                  omega arith,
+                  record {
+                    slot = (get_or cells joints.start a_cell).before + 1;
+                    is = f;
+                    bit =
+                        (bits _).1 (inr (bit_is.1 begin.0, f));
+                  },
+                  begin.1,
+                ))
             | inr (k, i, leaves, go) ↦ inr (k, i, omega arith, leaves, go)
           ],
           λ at. elim at [

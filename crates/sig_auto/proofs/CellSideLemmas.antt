@@ -1,10 +1,11 @@
 -- Bytes that all cells take alike are those that all slots do, and bytes on which cells are entered.
-use Rattle.sig_auto.proofs.Common.{◌≡◌, ◌↔◌, ◌⊎◌, ◌∙◌, ℕ, suc, ◌+◌, ◌-◌, ◌<◌, ◌≤◌, inl, inr, List, [], ◌∷◌, drop, get_or, IfSome, is_some, length,
-    length-append, None, Option, replicate, Some, true, ap, arith, refl, subst, sym, Contains, slice_get, cases_Bool, cases_lt, eqb-true, false≢true, or_cases,
-    or_left, or_right, get_or_append_left, get_or-append_right, get_or-replicate, length-replicate, get_or_from_slice_get, slice_get_within, ByteClass,
-    AddsCuts, AddsLive, in_class, InClass, any, EachSide, EnteredOn, OwnOn, SlotOn, FollowsOn, TakesAlike, SameSide, Class, Outside, Within, class_in, spread,
-    taken_first, whole_tree, class_of, slots_of, cells_in, Cell, Joint, Joints, ComesBehind, IsCellOf, is_own, cells_of_sequence, Behind, Lined, Spells,
-    AreJoints, SequenceView}
+use Rattle.sig_auto.proofs.Common.{◌≡◌, ◌↔◌, ◌⊎◌, ◌∙◌, ℕ, suc, ◌+◌, ◌-◌, ◌<◌, ◌≤◌, inl, inr, List, [], ◌∷◌, drop, get_or, IfSome, is_some, length}
+use Rattle.sig_auto.proofs.Common.{length-append, None, Option, replicate, Some, true, ap, arith, refl, subst, sym, Contains, slice_get, cases_Bool, cases_lt}
+use Rattle.sig_auto.proofs.Common.{eqb-true, false≢true, or_cases, or_left, or_right, get_or_append_left, get_or-append_right, get_or-replicate}
+use Rattle.sig_auto.proofs.Common.{length-replicate, get_or_from_slice_get, slice_get_within, ByteClass, AddsCuts, AddsLive, in_class, InClass, any, EachSide}
+use Rattle.sig_auto.proofs.Common.{EnteredOn, OwnOn, SlotOn, FollowsOn, TakesAlike, SameSide, Class, Outside, Within, class_in, spread, taken_first, whole_tree}
+use Rattle.sig_auto.proofs.Common.{class_of, slots_of, cells_in, Cell, Joint, Joints, ComesBehind, IsCellOf, is_own, cells_of_sequence, Behind, Lined, Spells}
+use Rattle.sig_auto.proofs.Common.{AreJoints, SequenceView}
 use Rattle.sig_auto.specs.Classes.{IsSpelled}
 use Rattle.sig_bits.specs.Groups.{InSpan, SameSide as SpanSide}
 use Rattle.sig_auto.proofs.CellLemmas.{comes_follows, of_sequence, spelled_lined, spelled_slots}

@@ -1,8 +1,8 @@
 -- A step of a set of states, cell by cell.
-use Rattle.sig_auto.proofs.Common.{◌≡◌, ◌⊎◌, ◌↔◌, ℕ, ◌+◌, ◌-◌, ◌<◌, ◌≤◌, nat_le, nat_lt, Bool, true, false, List, [], ◌∷◌, drop, get_or, length, Option, Some,
-    None, arith, refl, slice_get, IsTrue, and_from, and_parts, eq-eqb, eqb-true, false≢true, le-leb, leb-true, lt-ltb, ltb-true, or_cases, or_left, or_right,
-    HasBit, IsShiftedBit, Cell, slots_in, GoesWithin, IsFirstOf, Lined, entered_first, entered, has_slot, onward, get_or_from_slice_get, slice_get-get_or,
-    slice_get_within}
+use Rattle.sig_auto.proofs.Common.{◌≡◌, ◌⊎◌, ◌↔◌, ℕ, ◌+◌, ◌-◌, ◌<◌, ◌≤◌, nat_le, nat_lt, Bool, true, false, List, [], ◌∷◌, drop, get_or, length, Option, Some}
+use Rattle.sig_auto.proofs.Common.{None, arith, refl, slice_get, IsTrue, and_from, and_parts, eq-eqb, eqb-true, false≢true, le-leb, leb-true, lt-ltb, ltb-true}
+use Rattle.sig_auto.proofs.Common.{or_cases, or_left, or_right, HasBit, IsShiftedBit, Cell, slots_in, GoesWithin, IsFirstOf, Lined, entered_first, entered}
+use Rattle.sig_auto.proofs.Common.{has_slot, onward, get_or_from_slice_get, slice_get-get_or, slice_get_within}
 use Rattle.sig_auto.proofs.BehindLemmas.{drop_twice, lined_drop}
 use Rattle.sig_auto.proofs.JoinLemmas.{drop_past, here_of}
 use Rattle.sig_auto.proofs.LineLemmas.{lined_later}
@@ -41,9 +41,14 @@ first_room cells k c lined at = grind (arith, lined_later cells (drop (k + 1) ce
 pub order : (cells : List Cell) (i j : ℕ) (c d : Cell) → Lined 0 cells → slice_get cells i ≡ Some c → slice_get cells j ≡ Some d → i < j
     → c.before + c.count ≤ d.before
 order cells i j c d lined at_i at_j less =
-    grind (arith, lined_later cells (drop (i + 1) cells) 0 i c lined (cell_at cells i c at_i),
-        lined_later (drop (i + 1) cells) (drop (j + 1) cells) (c.before + c.count) (j - (i + 1)) d, cell_at cells i c at_i, cell_at cells j d at_j,
-        drop_twice cells (i + 1) (j - (i + 1)))
+    grind (
+      arith,
+      lined_later cells (drop (i + 1) cells) 0 i c lined (cell_at cells i c at_i),
+      lined_later (drop (i + 1) cells) (drop (j + 1) cells) (c.before + c.count) (j - (i + 1)) d,
+      cell_at cells i c at_i,
+      cell_at cells j d at_j,
+      drop_twice cells (i + 1) (j - (i + 1)),
+    )
 
 -- what a cell has: some slots, behind so many
 pub has_some : (cells : List Cell) (k : ℕ) (c : Cell) → Lined 0 cells → slice_get cells k ≡ Some c → 0 < c.count
@@ -55,8 +60,12 @@ pub same_place : (cells : List Cell) (i j q : ℕ) (c d : Cell) → Lined 0 cell
 same_place cells i j q c d lined at_i at_j low high low_d high_d = grind (arith, order)
 
 pub same_first : (cells : List Cell) (i j s : ℕ) → Lined 0 cells → IsFirstOf cells i s → IsFirstOf cells j s → i ≡ j
-same_first cells i j s lined one two = grind (arith, has_some cells i one.cell lined one.at, has_some cells j two.cell lined two.at,
-    same_place cells i j s one.cell two.cell lined one.at two.at)
+same_first cells i j s lined one two = grind (
+  arith,
+  has_some cells i one.cell lined one.at,
+  has_some cells j two.cell lined two.at,
+  same_place cells i j s one.cell two.cell lined one.at two.at,
+)
 
 -- a first slot behind the cell at a place
 pub first_above : (cells : List Cell) (k i s : ℕ) (c : Cell) → Lined 0 cells → slice_get cells k ≡ Some c → k + 1 ≤ i → IsFirstOf cells i s
@@ -77,8 +86,14 @@ first_low (c ∷ cs) n q lined go = entered_low (c ∷ cs) n (Some c.front) q li
 pub above_cell : (cells : List Cell) (k i q : ℕ) (c : Cell) → Lined 0 cells → slice_get cells k ≡ Some c → k + 1 ≤ i → entered_first (drop i cells) q ≡ true
     → c.before + c.count < q
 above_cell cells k i q c lined at more go =
-    grind (arith, lined_later cells (drop (k + 1) cells) 0 k c lined (cell_at cells k c at), cell_at cells k c at,
-        lined_drop (c.before + c.count) (i - (k + 1)) (drop (k + 1) cells), drop_twice cells (k + 1) (i - (k + 1)), first_low (drop i cells))
+    grind (
+      arith,
+      lined_later cells (drop (k + 1) cells) 0 k c lined (cell_at cells k c at),
+      cell_at cells k c at,
+      lined_drop (c.before + c.count) (i - (k + 1)) (drop (k + 1) cells),
+      drop_twice cells (k + 1) (i - (k + 1)),
+      first_low (drop i cells),
+    )
 
 -- a place from which something is entered is one of a cell
 pub some_cell : (cells : List Cell) (i q : ℕ) → entered_first (drop i cells) q ≡ true → i < length cells

@@ -1,8 +1,9 @@
 -- A step in the words of the cells is a step of the automaton.
-use Rattle.sig_auto.proofs.Common.{◌||◌, ◌≡◌, ◌⊎◌, ◌↔◌, ◌∙◌, ℕ, zero, suc, ◌+◌, ◌<◌, ◌≤◌, nat_le, inl, inr, true, false, List, [], ◌∷◌, drop, get_or, length,
-    Some, arith, refl, subst, sym, slice_get, cases_Bool, cases_eq, cases_lt, cond-false, cond-true, false≢true, le-leb, leb-true, ne_eqb, or_cases, or_left,
-    or_right, get_or_from_slice_get, slice_get-get_or, slice_get_within, HasBit, Cell, Joint, Joints, slots_in, GoesIn, IsCellStep, IsEntered, Lined, Spells,
-    entered_first, AreJoints, IsJoint, IsStepOf, Follows, whole_tree, entered, gone, has_slot, leave, own, SequenceView}
+use Rattle.sig_auto.proofs.Common.{◌||◌, ◌≡◌, ◌⊎◌, ◌↔◌, ◌∙◌, ℕ, zero, suc, ◌+◌, ◌<◌, ◌≤◌, nat_le, inl, inr, true, false, List, [], ◌∷◌, drop, get_or, length}
+use Rattle.sig_auto.proofs.Common.{Some, arith, refl, subst, sym, slice_get, cases_Bool, cases_eq, cases_lt, cond-false, cond-true, false≢true, le-leb}
+use Rattle.sig_auto.proofs.Common.{leb-true, ne_eqb, or_cases, or_left, or_right, get_or_from_slice_get, slice_get-get_or, slice_get_within, HasBit, Cell}
+use Rattle.sig_auto.proofs.Common.{Joint, Joints, slots_in, GoesIn, IsCellStep, IsEntered, Lined, Spells, entered_first, AreJoints, IsJoint, IsStepOf, Follows}
+use Rattle.sig_auto.proofs.Common.{whole_tree, entered, gone, has_slot, leave, own, SequenceView}
 use Rattle.sig_auto.proofs.BehindLemmas.{seek_enters}
 use Rattle.sig_auto.proofs.CellLemmas.{slot_goes, spelled_lined, spelled_slots, start_goes}
 use Rattle.sig_auto.proofs.CellStepLemmas.{cell_at, slot_from}
@@ -39,8 +40,13 @@ left_enters cells joints k p q c e joined at behind late =
 follows_first : (cells : List Cell) (joints : Joints) (s : SequenceView) (q : ℕ) → Spells cells s → AreJoints cells joints
     → (entered_first (drop joints.start cells) q ≡ true) ↔ Follows (whole_tree s) 0 q
 follows_first cells joints s q h joined =
-    grind (arith, follows_start (whole_tree s) (whole_is_trim s h.sequence) 0 q (entered_first (drop joints.start cells) q) refl, whole_is_trim s h.sequence,
-        seek_enters cells cells 0 0 q refl, start_goes cells s q h)
+    grind (
+      arith,
+      follows_start (whole_tree s) (whole_is_trim s h.sequence) 0 q (entered_first (drop joints.start cells) q) refl,
+      whole_is_trim s h.sequence,
+      seek_enters cells cells 0 0 q refl,
+      start_goes cells s q h,
+    )
 
 follows_some : (cells : List Cell) (s : SequenceView) (p q : ℕ) → Spells cells s → 0 < p → p ≤ slots_in cells → (gone cells p q ≡ true)
     ↔ Follows (whole_tree s) p q
@@ -49,8 +55,12 @@ follows_some cells s p q h low high = follows_slot (whole_tree s) (whole_is_trim
 
 -- a slot of a cell is one of all
 in_all : (cells : List Cell) (k p : ℕ) (c : Cell) → Lined 0 cells → slice_get cells k ≡ Some c → has_slot c p ≡ true → (0 < p) × (p ≤ slots_in cells)
-in_all cells k p c lined at slot = grind (arith, slot_parts c p slot, lined_later cells (drop (k + 1) cells) 0 k c lined (cell_at cells k c at),
-    cell_at cells k c at)
+in_all cells k p c lined at slot = grind (
+  arith,
+  slot_parts c p slot,
+  lined_later cells (drop (k + 1) cells) 0 k c lined (cell_at cells k c at),
+  cell_at cells k c at,
+)
 
 goes_behind : (cells : List Cell) (joints : Joints) (s : SequenceView) (from : List ℕ) (q : ℕ) → Spells cells s → AreJoints cells joints
     → (GoesIn cells from q ⊎ IsEntered cells joints from q) ↔ ((p : ℕ) × HasBit from p × Follows (whole_tree s) p q)
@@ -68,7 +78,7 @@ goes_behind cells joints s from q h joined =
               g.in_set,
               (follows_some cells s g.state q h inside.0 inside.1).0
                   (go goes.place g.state goes.cell goes.at g.slot ∙ or_left (own goes.cell g.state q)
-                      (entered (leave goes.cell g.state) (drop (goes.place + 1) cells) q) g.goes),
+                  (entered (leave goes.cell g.state) (drop (goes.place + 1) cells) q) g.goes),
             ))
         | inr is ↦ elim is [
           | inl begin ↦ (0, begin.0, (follows_first cells joints s q h joined).0 begin.1)
@@ -86,8 +96,11 @@ goes_behind cells joints s from q h joined =
         ]
       ],
       λ (p, bit, follows). elim (cases_eq p 0) [
-        | inl start ↦ inr (inl (subst (HasBit from) start bit, (follows_first cells joints s q h joined).1
-            (subst (λ n. Follows (whole_tree s) n q) start follows)))
+        | inl start ↦ inr (inl (
+          subst (HasBit from) start bit,
+          (follows_first cells joints s q h joined).1
+              (subst (λ n. Follows (whole_tree s) n q) start follows),
+        ))
         | inr some ↦ (
             let most = followed_is_state (whole_tree s) p q follows in
             let (k, c, at, slot) = cell_of cells 0 p lined (omega arith) (omega arith) in

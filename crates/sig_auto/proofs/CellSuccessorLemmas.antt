@@ -1,15 +1,15 @@
 -- The successors of a state.
-use Rattle.sig_auto.proofs.Common.{◌≡◌, ◌↔◌, ℕ, ◌+◌, Bool, true, List, [], ◌∷◌, ◌++◌, drop, get_or, Option, Some, None, refl, sym, ap, ◌∙◌, subst, inl, inr,
-    arith, Contains, IfSome, IsStrictlyIncreasing, cases_Bool, cond-false, cond-true, eq-eqb, eqb-true, false_from_ne_true, false≢true, or_cases, or_left,
-    or_right, Contains-append_cases, Contains-append_left, Contains-append_right, InClass, in_class, FollowsOn, whole_tree, class_of, SequenceView, Behind,
-    Cell, ComesBehind, IsCellOf, LiesBehind, followers, is_own, cells_in, cells_of_sequence, Lined, Spells, entered_first, class_in, own_list, own_taken,
-    taken_first}
+use Rattle.sig_auto.proofs.Common.{◌≡◌, ◌↔◌, ℕ, ◌+◌, Bool, true, List, [], ◌∷◌, ◌++◌, drop, get_or, Option, Some, None, refl, sym, ap, ◌∙◌, subst, inl, inr}
+use Rattle.sig_auto.proofs.Common.{arith, Contains, IfSome, IsStrictlyIncreasing, cases_Bool, cond-false, cond-true, eq-eqb, eqb-true, false_from_ne_true}
+use Rattle.sig_auto.proofs.Common.{false≢true, or_cases, or_left, or_right, Contains-append_cases, Contains-append_left, Contains-append_right, InClass}
+use Rattle.sig_auto.proofs.Common.{in_class, FollowsOn, whole_tree, class_of, SequenceView, Behind, Cell, ComesBehind, IsCellOf, LiesBehind, followers, is_own}
+use Rattle.sig_auto.proofs.Common.{cells_in, cells_of_sequence, Lined, Spells, entered_first, class_in, own_list, own_taken, taken_first}
 use Rattle.sig_auto.proofs.CellLemmas.{comes_follows, of_sequence, spelled_lined}
 use Rattle.sig_auto.proofs.BehindLemmas.{is_in, lined_drop}
 use Rattle.sig_auto.proofs.JoinLemmas.{here_of}
 use Rattle.sig_auto.proofs.LineLemmas.{class_at, slot_parts, spread_of}
-use Rattle.sig_auto.proofs.CellTakenLemmas.{Above-lower, Classed, Classed-as, above_rises, classed, contains_cons, contains_here, first_above, in_class_exact,
-    members_from, rises_from}
+use Rattle.sig_auto.proofs.CellTakenLemmas.{Above-lower, Classed, Classed-as, above_rises, classed, contains_cons, contains_here, first_above, in_class_exact}
+use Rattle.sig_auto.proofs.CellTakenLemmas.{members_from, rises_from}
 
 -- the class of a slot by the cell that was found
 pub class_here : (cells : List Cell) (q k : ℕ) (d : Cell) → Lined 0 cells → IsCellOf cells q k → (get_or cells k d).class ≡ class_in cells q
@@ -29,8 +29,13 @@ pub class_is : (cells : List Cell) (s now : SequenceView) (q : ℕ) → Spells c
 class_is cells s now q h same = grind (arith, spread_of (whole_tree s) 0 0 0 (cells_in (whole_tree s)))
 
 pub classes : (cells : List Cell) (s now : SequenceView) → Spells cells s → s ≡ now → Classed (class_of (whole_tree now)) cells
-classes cells s now h same = grind (arith, Classed-as (class_of (whole_tree now)), class_is cells s now, spelled_lined cells s h,
-    classed 0 cells (spelled_lined cells s h))
+classes cells s now h same = grind (
+  arith,
+  Classed-as (class_of (whole_tree now)),
+  class_is cells s now,
+  spelled_lined cells s h,
+  classed 0 cells (spelled_lined cells s h),
+)
 
 own_member : (cells : List Cell) (own : Option ℕ) (byte q : ℕ) → Contains (own_taken cells own byte) q → (own ≡ Some q) × InClass (class_in cells q) byte
 own_member cells None byte q (k, less, is) = absurd (omega arith)
@@ -54,8 +59,11 @@ followers_follow s p b byte h q =
     let walk = members_from (class_of (whole_tree s)) byte q b.enters cells (classes cells s s spells refl) in
     let class : class_in cells q ≡ class_of (whole_tree s) q = class_is cells s s q spells refl in (
       λ at. elim (Contains-append_cases (own_taken cells b.own byte) (taken_first byte (drop b.enters cells)) q at) [
-        | inl one ↦ (let own = own_member cells b.own byte q one in (law.0
-            (or_left (is_own b.own q) (entered_first (drop b.enters cells) q) (own_is_own b.own q own.0)), subst (λ x. InClass x byte) class own.1))
+        | inl one ↦ (let own = own_member cells b.own byte q one in (
+          law.0
+              (or_left (is_own b.own q) (entered_first (drop b.enters cells) q) (own_is_own b.own q own.0)),
+          subst (λ x. InClass x byte) class own.1,
+        ))
         | inr other ↦ (let more = walk.0 other in (law.0 (or_right (is_own b.own q) (entered_first (drop b.enters cells) q) more.0), more.1))
       ],
       λ on. elim (or_cases (is_own b.own q) (entered_first (drop b.enters cells) q) (law.1 on.0)) [

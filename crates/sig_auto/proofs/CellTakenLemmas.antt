@@ -1,9 +1,10 @@
 -- The slots that are entered on a byte.
-use Rattle.sig_auto.proofs.Common.{◌≡◌, ◌⊎◌, ◌↔◌, ℕ, zero, suc, ◌+◌, ◌-◌, ◌<◌, ◌≤◌, ◌&&◌, if◌then◌else◌, true, List, [], ◌∷◌, drop, get_or, length, Option,
-    Some, refl, sym, ap, subst, inl, inr, arith, ⊤, Contains, IsStrictlyIncreasing, and_from, and_left, and_parts, cases_Bool, cond-false, cond-true, eq-eqb,
-    eqb-true, false_from_ne_true, false≢true, le-leb, leb-true, lt-ltb, ltb-true, ne_eqb, or_cases, or_left, or_right, get_or_append_left, get_or-append_right,
-    get_or-replicate, length-replicate, Class, Within, Outside, InClass, any, in_class, Cell, Joint, Joints, Lined, entered_first, joint_past, seek, AreJoints,
-    IsJoint, spread, taken, taken_first, entered, meets, onward}
+use Rattle.sig_auto.proofs.Common.{◌≡◌, ◌⊎◌, ◌↔◌, ℕ, zero, suc, ◌+◌, ◌-◌, ◌<◌, ◌≤◌, ◌&&◌, if◌then◌else◌, true, List, [], ◌∷◌, drop, get_or, length, Option}
+use Rattle.sig_auto.proofs.Common.{Some, refl, sym, ap, subst, inl, inr, arith, ⊤, Contains, IsStrictlyIncreasing, and_from, and_left, and_parts, cases_Bool}
+use Rattle.sig_auto.proofs.Common.{cond-false, cond-true, eq-eqb, eqb-true, false_from_ne_true, false≢true, le-leb, leb-true, lt-ltb, ltb-true, ne_eqb}
+use Rattle.sig_auto.proofs.Common.{or_cases, or_left, or_right, get_or_append_left, get_or-append_right, get_or-replicate, length-replicate, Class, Within}
+use Rattle.sig_auto.proofs.Common.{Outside, InClass, any, in_class, Cell, Joint, Joints, Lined, entered_first, joint_past, seek, AreJoints, IsJoint, spread}
+use Rattle.sig_auto.proofs.Common.{taken, taken_first, entered, meets, onward}
 use Rattle.sig_auto.proofs.BehindLemmas.{drop_more}
 use Rattle.sig_auto.proofs.JoinLemmas.{drop_past, here_of, onward_here, onward_other}
 
@@ -17,8 +18,17 @@ in_class_exact (Outside first last) byte = grind (arith, and_parts, ltb-true, or
 seek_takes : (cells xs : List Cell) (i j byte : ℕ) → drop i cells ≡ xs → taken byte (Some j) xs ≡ taken_first byte (drop (seek j xs i) cells)
 seek_takes cells [] i j byte h = sym (ap (taken_first byte) h)
 seek_takes cells (c ∷ xs) i j byte h =
-    grind (arith, cond-true, eq-eqb, cond-false, and_left, ne_eqb, onward_other c j, drop_more cells xs i c h,
-        seek_takes cells xs (i + 1) j byte (drop_more cells xs i c h))
+    grind (
+      arith,
+      cond-true,
+      eq-eqb,
+      cond-false,
+      and_left,
+      ne_eqb,
+      onward_other c j,
+      drop_more cells xs i c h,
+      seek_takes cells xs (i + 1) j byte (drop_more cells xs i c h),
+    )
 
 first_takes : (c : Cell) (rest : List Cell) (byte : ℕ) → taken_first byte (c ∷ rest)
     ≡ (if in_class c.class byte then (c.before + 1) ∷ taken byte (Some (joint_past c)) rest else taken byte (Some (joint_past c)) rest)
@@ -27,7 +37,7 @@ first_takes c rest byte = grind (arith, eq-eqb, onward_here c)
 here_takes : (cells : List Cell) (joints : Joints) (k byte : ℕ) (d : Cell) (e : Joint) → AreJoints cells joints → k < length cells
     → e ≡ get_or joints.each.items k e →
     taken_first byte (drop k cells) ≡ (if in_class (get_or cells k d).class byte then ((get_or cells k d).before + 1) ∷ taken_first byte (drop e.beside cells)
-        else taken_first byte (drop e.beside cells))
+    else taken_first byte (drop e.beside cells))
 here_takes cells joints k byte d e h less e_is =
     let c : Cell = get_or cells k d in
     let rest : List Cell = drop (k + 1) cells in
@@ -43,8 +53,13 @@ takes_here cells joints k byte d e h less e_is is = grind (arith, here_takes cel
 pub passes_here : (cells : List Cell) (joints : Joints) (k byte : ℕ) (d : Cell) (e : Joint) → AreJoints cells joints → k < length cells
     → e ≡ get_or joints.each.items k e → (InClass (get_or cells k d).class byte → ⊥) →
     taken_first byte (drop k cells) ≡ taken_first byte (drop e.beside cells)
-passes_here cells joints k byte d e h less e_is not = grind (arith, here_takes cells joints k byte d e h less e_is, cond-false, false_from_ne_true,
-    in_class_exact)
+passes_here cells joints k byte d e h less e_is not = grind (
+  arith,
+  here_takes cells joints k byte d e h less e_is,
+  cond-false,
+  false_from_ne_true,
+  in_class_exact,
+)
 
 pub none_taken : (cells : List Cell) (k byte : ℕ) → length cells ≤ k → taken_first byte (drop k cells) ≡ []
 none_taken cells k byte h = ap (taken_first byte) (drop_past cells k h)
@@ -70,8 +85,19 @@ pub taken_only : (f : ℕ → Class) (byte q : ℕ) (cs : List Cell) (j : Option
     × InClass (f q) byte
 taken_only f byte q [] j h (k, less, is) = absurd (omega arith)
 taken_only f byte q (c ∷ cs) j h at =
-    grind (arith, and_parts, contains_cons (c.before + 1) q (taken byte (onward c j) cs), cond-true, or_left, and_from, eq-eqb, in_class_exact c.class byte,
-        or_right, cond-false, taken_only f byte q cs (onward c j) h.1)
+    grind (
+      arith,
+      and_parts,
+      contains_cons (c.before + 1) q (taken byte (onward c j) cs),
+      cond-true,
+      or_left,
+      and_from,
+      eq-eqb,
+      in_class_exact c.class byte,
+      or_right,
+      cond-false,
+      taken_only f byte q cs (onward c j) h.1,
+    )
 
 taken_later : (byte q : ℕ) (c : Cell) (cs : List Cell) (j : Option ℕ) → Contains (taken byte (onward c j) cs) q → Contains (taken byte j (c ∷ cs)) q
 taken_later byte q c cs j at =
@@ -86,8 +112,18 @@ pub taken_all : (f : ℕ → Class) (byte q : ℕ) (cs : List Cell) (j : Option 
     → Contains (taken byte j cs) q
 taken_all f byte q [] j h go takes = absurd (false≢true go)
 taken_all f byte q (c ∷ cs) j h go takes =
-    grind (arith, or_cases, and_parts, eqb-true, in_class_exact c.class byte, cond-true, and_from, contains_here (c.before + 1) (taken byte (onward c j) cs),
-        taken_later byte q c cs j, taken_all f byte q cs (onward c j) h.1)
+    grind (
+      arith,
+      or_cases,
+      and_parts,
+      eqb-true,
+      in_class_exact c.class byte,
+      cond-true,
+      and_from,
+      contains_here (c.before + 1) (taken byte (onward c j) cs),
+      taken_later byte q c cs j,
+      taken_all f byte q cs (onward c j) h.1,
+    )
 
 pub first_members : (f : ℕ → Class) (byte q : ℕ) (cs : List Cell) → Classed f cs → Contains (taken_first byte cs) q
     ↔ ((entered_first cs q ≡ true) × InClass (f q) byte)
@@ -106,8 +142,15 @@ Classed-as f g n (c ∷ cs) same lined h = grind (arith, Classed-as f g (n + c.c
 
 pub classed : (n : ℕ) (cs : List Cell) → Lined n cs → Classed (λ q. get_or (spread cs) (q - (n + 1)) any) cs
 classed n [] lined = tt
-classed n (c ∷ cs) lined = grind (arith, length-replicate, get_or_append_left, get_or-replicate, Classed-as, get_or-append_right,
-    classed (n + c.count) cs lined.2)
+classed n (c ∷ cs) lined = grind (
+  arith,
+  length-replicate,
+  get_or_append_left,
+  get_or-replicate,
+  Classed-as,
+  get_or-append_right,
+  classed (n + c.count) cs lined.2,
+)
 
 pub members_from : (f : ℕ → Class) (byte q k : ℕ) (cells : List Cell) → Classed f cells → Contains (taken_first byte (drop k cells)) q
     ↔ ((entered_first (drop k cells) q ≡ true) × InClass (f q) byte)

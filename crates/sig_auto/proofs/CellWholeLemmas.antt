@@ -1,6 +1,6 @@
 -- The cells of a sequence, made from the first to the last.
-use Rattle.sig_auto.proofs.Common.{◌≡◌, ℕ, zero, suc, ◌+◌, ◌<◌, ◌≤◌, List, [], ◌∷◌, drop, get_or, length, sym, subst, arith, Tree, Then, back_tree, item_tree,
-    items_tree, whole_tree, slots_of, Item, ItemSound, ItemsSound, IsSequence, SequenceView, Cell, Puts, cells_in}
+use Rattle.sig_auto.proofs.Common.{◌≡◌, ℕ, zero, suc, ◌+◌, ◌<◌, ◌≤◌, List, [], ◌∷◌, drop, get_or, length, sym, subst, arith, Tree, Then, back_tree, item_tree}
+use Rattle.sig_auto.proofs.Common.{items_tree, whole_tree, slots_of, Item, ItemSound, ItemsSound, IsSequence, SequenceView, Cell, Puts, cells_in}
 use Rattle.sig_auto.proofs.WholeLemmas.{whole_slots}
 use Rattle.sig_auto.proofs.CellLemmas.{cells_few}
 use Rattle.sig_auto.proofs.BuildLemmas.{Comes, comes_then, part_room, puts_length}
@@ -14,9 +14,14 @@ pub record Makes (s : SequenceView) (rest : Tree) (cells : List Cell) (slots : �
 makes_part : (s : SequenceView) (a b : Tree) (new next : List Cell) (slots more : ℕ) → Makes s (Then a b) new slots
     → Puts a slots (length new) (length new + cells_in a) new next more → Makes s b next more
 makes_part s a b new next slots more h put =
-    grind (arith, puts_length a slots (length new) (length new + cells_in a) new next more put,
-        comes_then (whole_tree s) a b 0 0 (cells_in (whole_tree s)) [] new next slots (length new) more (length new + cells_in a) h.comes, mid_right, mid_left,
-        mid_inner)
+    grind (
+      arith,
+      puts_length a slots (length new) (length new + cells_in a) new next more put,
+      comes_then (whole_tree s) a b 0 0 (cells_in (whole_tree s)) [] new next slots (length new) more (length new + cells_in a) h.comes,
+      mid_right,
+      mid_left,
+      mid_inner,
+    )
 
 -- an item
 pub makes_item : (s : SequenceView) (items : List Item) (j : ℕ) (x : Item) (new next : List Cell) (slots more : ℕ)
@@ -39,5 +44,5 @@ item_is_sound (y ∷ items) (suc j) x less is h = item_is_sound items j x (omega
 -- the gap behind
 pub last_room : (s : SequenceView) (items : List Item) (j : ℕ) (gap : Tree) (new : List Cell) (slots : ℕ) → IsSequence s →
     Makes s (items_tree (drop j items) (back_tree s.position)) new slots → length items ≤ j → back_tree s.position ≡ gap → (slots + slots_of gap ≤ 65535)
-        × (length new + cells_in gap ≤ 65535)
+    × (length new + cells_in gap ≤ 65535)
 last_room s items j gap new slots sequence h past is = grind (arith, cells_few (whole_tree s), drop_past items j past, whole_slots)

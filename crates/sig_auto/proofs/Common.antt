@@ -1,18 +1,19 @@
 -- The names that most proofs cite, passed on from one place. Declares nothing.
-pub use Rattle.std.proofs.Common.{[], ◌%◌, ◌&&◌, ◌*◌, ◌++◌, ◌+◌, ◌-◌, ◌/◌, ◌<◌, ◌==◌, ◌^◌, ◌||◌, ◌↔◌, ◌∙◌, ◌∷◌, ◌≡◌, ◌≢◌, ◌≤◌, ◌⊎◌, Bool, Contains, Fits,
-    IsTrue, List, None, Option, Some, add-one, add_assoc, ap, append_assoc, arith, bit_and, cond, drop, eq-eqb, false, get_or, get_or-set_other,
-    get_or-set_same, if◌then◌else◌, inl, inr, length, length-append, lit<, map, min, mul-suc, mul-zero, nat_eq, nat_le, nat_lt, ne_eqb, refl, replicate, rules,
-    slice_index, subst, suc, sum_by, sym, take, tests, true, w32, w8, zero, ℕ}
+pub use Rattle.std.proofs.Common.{[], ◌%◌, ◌&&◌, ◌*◌, ◌++◌, ◌+◌, ◌-◌, ◌/◌, ◌<◌, ◌==◌, ◌^◌, ◌||◌, ◌↔◌, ◌∙◌, ◌∷◌, ◌≡◌, ◌≢◌, ◌≤◌, ◌⊎◌, Bool, Contains, Fits}
+pub use Rattle.std.proofs.Common.{IsTrue, List, None, Option, Some, add-one, add_assoc, ap, append_assoc, arith, bit_and, cond, drop, eq-eqb, false, get_or}
+pub use Rattle.std.proofs.Common.{get_or-set_other, get_or-set_same, if◌then◌else◌, inl, inr, length, length-append, lit<, map, min, mul-suc, mul-zero, nat_eq}
+pub use Rattle.std.proofs.Common.{nat_le, nat_lt, ne_eqb, refl, replicate, rules, slice_index, subst, suc, sum_by, sym, take, tests, true, w32, w8, zero, ℕ}
 pub use Rattle.std.proofs.Math.Bool.{or-false, or_assoc}
 pub use Rattle.std.proofs.Math.ListN.{length-set, set}
 pub use Rattle.std.proofs.Math.Seq.{drop-cons, take-suc}
-pub use Rattle.std.proofs.lemmas.Bool.{and_from, and_left, and_parts, and_right, cases_Bool, cases_eq, cases_lt, cases_order, cond-false, cond-true, eqb-false,
-    eqb-true, false_from_ne_true, false≢true, le-leb, le-ltb, leb-true, lt-ltb, ltb-true, or_cases, or_from, or_left, or_parts, or_right, true≢false}
+pub use Rattle.std.proofs.lemmas.Bool.{and_from, and_left, and_parts, and_right, cases_Bool, cases_eq, cases_lt, cases_order, cond-false, cond-true, eqb-false}
+pub use Rattle.std.proofs.lemmas.Bool.{eqb-true, false_from_ne_true, false≢true, le-leb, le-ltb, leb-true, lt-ltb, ltb-true, or_cases, or_from, or_left}
+pub use Rattle.std.proofs.lemmas.Bool.{or_parts, or_right, true≢false}
 pub use Rattle.std.proofs.lemmas.Grind.{common_steps}
-pub use Rattle.std.proofs.lemmas.List.{append-nil, drop_all, get_or-append_right, get_or-replicate, get_or_append_left, get_or_default, length-replicate,
-    map-append, take-append-drop, take-append-le, take_all}
-pub use Rattle.std.proofs.lemmas.List.Elements.{All-append, All-cons, All-head, All-nil, All-tail, Contains-append_cases, Contains-append_left,
-    Contains-append_right, Contains-push, Contains-push_cases}
+pub use Rattle.std.proofs.lemmas.List.{append-nil, drop_all, get_or-append_right, get_or-replicate, get_or_append_left, get_or_default, length-replicate}
+pub use Rattle.std.proofs.lemmas.List.{map-append, take-append-drop, take-append-le, take_all}
+pub use Rattle.std.proofs.lemmas.List.Elements.{All-append, All-cons, All-head, All-nil, All-tail, Contains-append_cases, Contains-append_left}
+pub use Rattle.std.proofs.lemmas.List.Elements.{Contains-append_right, Contains-push, Contains-push_cases}
 pub use Rattle.std.proofs.lemmas.List.Sums.{sum_by-cons}
 pub use Rattle.std.proofs.lemmas.Nat.Bits.{bit_at_clear_other, bit_at_clear_same}
 pub use Rattle.std.proofs.lemmas.Option.{get_or_from_slice_get, slice_get-get_or, slice_get_past, slice_get_read, slice_get_within}
@@ -27,8 +28,8 @@ pub use Rattle.sig_bits.specs.BitSets.{IsShiftedBit}
 pub use Rattle.sig_bits.specs.ByteClasses.{Holds}
 pub use Rattle.sig_bits.specs.Bytes.{IsBytes}
 pub use Rattle.sig_bits.specs.declared.byte_class.ByteClass.{ByteClass}
-pub use Rattle.sig_expr.proofs.Exports.{IsBefore-cases, IsBefore-either, IsBefore-lower, IsBefore-same, IsUpTo-before, IsUpTo-behind, IsUpTo-cases,
-    IsUpTo-first, IsUpTo-itself, IsUpTo-rest, IsUpTo-same, leaves_no_all, not_before_itself}
+pub use Rattle.sig_expr.proofs.Exports.{IsBefore-cases, IsBefore-either, IsBefore-lower, IsBefore-same, IsUpTo-before, IsUpTo-behind, IsUpTo-cases}
+pub use Rattle.sig_expr.proofs.Exports.{IsUpTo-first, IsUpTo-itself, IsUpTo-rest, IsUpTo-same, leaves_no_all, not_before_itself}
 unfoldable pub use Rattle.sig_expr.specs.Faults.{are_all}
 pub use Rattle.sig_expr.specs.Profile.{AlternativesSound, AtomSound, AtomsSound, IsExpression, ItemSound, ItemsSound, RangeSound}
 pub use Rattle.sig_expr.specs.Words.{AlternativeWord, IsAtMost, IsBefore, IsBytesOf, IsUpTo, Lang, PartWord, Word}
@@ -59,8 +60,8 @@ unfoldable pub use Rattle.sig_auto.specs.States.{followers}
 pub use Rattle.sig_auto.specs.Taken.{class_in, in_class, own_list, own_taken, spread, taken, taken_first}
 pub use Rattle.sig_auto.specs.Tracks.{Accepting, Follows, GapTrack, Track, slots_from}
 pub use Rattle.sig_auto.specs.TreeSlots.{Takes, class_of, classes_of, set_len, slots_of}
-pub use Rattle.sig_auto.specs.Trees.{Empty, Gap, Never, Or, Slot, Then, Tree, alternatives_tree, atom_tree, atoms_tree, back_tree, bracket_tree, front_tree,
-    item_tree, items_tree, row_tree, rows_tree, whole_tree}
+pub use Rattle.sig_auto.specs.Trees.{Empty, Gap, Never, Or, Slot, Then, Tree, alternatives_tree, atom_tree, atoms_tree, back_tree, bracket_tree, front_tree}
+pub use Rattle.sig_auto.specs.Trees.{item_tree, items_tree, row_tree, rows_tree, whole_tree}
 pub use Rattle.sig_auto.specs.Trim.{HasTrack, IsTrim}
 pub use Rattle.sig_auto.specs.Unfolded.{TakesAll, TreeWord}
 pub use Rattle.sig_auto.specs.Ways.{entered, exit, gone, has, has_slot, is_skipped, land, leave, meets, onward, own}

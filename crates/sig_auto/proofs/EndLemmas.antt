@@ -1,6 +1,6 @@
 -- Where the runs of a file end, byte by byte.
-use Rattle.sig_auto.proofs.Common.{◌≡◌, ℕ, ◌≤◌, List, [], ◌∷◌, ◌++◌, subst, sym, ap, refl, arith, eq-eqb, ne_eqb, EndsIn, Run, Steps, Follows, Tree, Takes,
-    slots_of}
+use Rattle.sig_auto.proofs.Common.{◌≡◌, ℕ, ◌≤◌, List, [], ◌∷◌, ◌++◌, subst, sym, ap, refl, arith, eq-eqb, ne_eqb, EndsIn, Run, Steps, Follows, Tree, Takes}
+use Rattle.sig_auto.proofs.Common.{slots_of}
 use Rattle.sig_auto.proofs.LocalLemmas.{IsSlot, is_first-slot, follows-slots}
 use Rattle.sig_auto.proofs.RunLemmas.{follows_shown, only_last, run_states}
 

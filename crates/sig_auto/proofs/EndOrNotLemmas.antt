@@ -1,6 +1,7 @@
 -- A file has a run that ends in a state, or it has none: which of the two is told by a search over the states before.
-use Rattle.sig_auto.proofs.Common.{◌⊎◌, ℕ, zero, suc, ◌+◌, ◌/◌, ◌%◌, ◌<◌, ◌≤◌, List, [], ◌∷◌, ◌++◌, slice_index, append_assoc, subst, sym, inl, inr, arith,
-    bit_at, cases_eq, false≢true, ne_eqb, append-nil, EndsIn, FollowsOn, IsStepOf, Accepting, Follows, Tree, Takes, class_of, slots_of, IsTrim, HasBit}
+use Rattle.sig_auto.proofs.Common.{◌⊎◌, ℕ, zero, suc, ◌+◌, ◌/◌, ◌%◌, ◌<◌, ◌≤◌, List, [], ◌∷◌, ◌++◌, slice_index, append_assoc, subst, sym, inl, inr, arith}
+use Rattle.sig_auto.proofs.Common.{bit_at, cases_eq, false≢true, ne_eqb, append-nil, EndsIn, FollowsOn, IsStepOf, Accepting, Follows, Tree, Takes, class_of}
+use Rattle.sig_auto.proofs.Common.{slots_of, IsTrim, HasBit}
 use Rattle.sig_auto.proofs.EndLemmas.{begin_only, ends_before, ends_further}
 use Rattle.sig_auto.proofs.LocalLemmas.{follows-slots}
 use Rattle.sig_auto.proofs.RunLemmas.{follows_shown}

@@ -1,7 +1,7 @@
 -- The tree of a sequence is flat.
-use Rattle.sig_auto.proofs.Common.{◌≡◌, ℕ, ◌<◌, false, List, [], ◌∷◌, length, refl, arith, and_left, Class, is_nullable, above, below, between, Tree,
-    alternatives_tree, atom_tree, atoms_tree, back_tree, item_tree, items_tree, row_tree, rows_tree, whole_tree, Atom, Item, AlternativesSound, AtomSound,
-    AtomsSound, ItemSound, ItemsSound, SequenceView, IsSequence, IsFirm, IsFlat}
+use Rattle.sig_auto.proofs.Common.{◌≡◌, ℕ, ◌<◌, false, List, [], ◌∷◌, length, refl, arith, and_left, Class, is_nullable, above, below, between, Tree}
+use Rattle.sig_auto.proofs.Common.{alternatives_tree, atom_tree, atoms_tree, back_tree, item_tree, items_tree, row_tree, rows_tree, whole_tree, Atom, Item}
+use Rattle.sig_auto.proofs.Common.{AlternativesSound, AtomSound, AtomsSound, ItemSound, ItemsSound, SequenceView, IsSequence, IsFirm, IsFlat}
 use Rattle.sig_auto.proofs.WholeLemmas.{Long, Long-append, long_above, long_below, long_between}
 use Rattle.sig_auto.proofs.BeginLemmas.{alternatives_not_nullable, atom_not_nullable, rows_not_nullable}
 use Rattle.sig_expr.specs.declared.item.Atom.TheVariants as atom

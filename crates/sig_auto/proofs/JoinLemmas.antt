@@ -1,7 +1,8 @@
 -- One pass from the last cell to the first.
-use Rattle.sig_auto.proofs.Common.{◌≡◌, ◌≢◌, ℕ, zero, suc, ◌+◌, ◌<◌, ◌≤◌, ◌==◌, ◌&&◌, Bool, false, List, [], ◌∷◌, drop, get_or, length, Some, refl, ap, ◌∙◌,
-    inl, inr, arith, get_or-set_other, get_or-set_same, set, length-set, and_left, cases_eq, cond-false, cond-true, eq-eqb, ne_eqb, get_or_default, Cell, Joint,
-    Bounded, is_joint, joint_past, seek, Joints, drop-cons, AreJoints, IsJoint, is_skipped, land, onward}
+use Rattle.sig_auto.proofs.Common.{◌≡◌, ◌≢◌, ℕ, zero, suc, ◌+◌, ◌<◌, ◌≤◌, ◌==◌, ◌&&◌, Bool, false, List, [], ◌∷◌, drop, get_or, length, Some, refl, ap, ◌∙◌}
+use Rattle.sig_auto.proofs.Common.{inl, inr, arith, get_or-set_other, get_or-set_same, set, length-set, and_left, cases_eq, cond-false, cond-true, eq-eqb}
+use Rattle.sig_auto.proofs.Common.{ne_eqb, get_or_default, Cell, Joint, Bounded, is_joint, joint_past, seek, Joints, drop-cons, AreJoints, IsJoint, is_skipped}
+use Rattle.sig_auto.proofs.Common.{land, onward}
 
 -- the cells from place k on are joined
 pub record Joining (cells : List Cell) (k : ℕ) (first : List ℕ) (lands : List Bool) (joints : List Joint) : Type 0 where
@@ -79,9 +80,9 @@ pub joining_at : (cells : List Cell) (n m : ℕ) (first new_first : List ℕ) (l
     (d : Cell) →
     Bounded (length cells) cells → Joining cells n first lands joints → n ≡ m + 1 →
     joint.enters ≡ get_or first (get_or cells m d).behind 0 → joint.beside ≡ get_or first (joint_past (get_or cells m d)) 0
-        → joint.ends ≡ get_or lands (get_or cells m d).behind false →
+    → joint.ends ≡ get_or lands (get_or cells m d).behind false →
     new_joints ≡ set joints m joint → new_lands ≡ set lands (get_or cells m d).front (get_or lands (joint_past (get_or cells m d)) false)
-        → new_first ≡ set first (get_or cells m d).front m →
+    → new_first ≡ set first (get_or cells m d).front m →
     Joining cells m new_first new_lands new_joints
 joining_at cells n m first new_first lands new_lands joints new_joints joint d all h is enters beside ends joints_are lands_are first_are =
     grind (arith, joining_steps cells [] m (get_or cells m d) first new_first lands new_lands joints new_joints joint all, here_of cells m d)

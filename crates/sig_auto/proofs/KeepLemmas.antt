@@ -1,7 +1,7 @@
 -- A number that is taken out of a set of bits.
-use Rattle.sig_auto.proofs.Common.{common_steps, ◌≡◌, ◌≢◌, ◌↔◌, ◌⊎◌, ℕ, ◌-◌, ◌*◌, ◌/◌, ◌%◌, ◌^◌, ◌<◌, Bool, List, arith, bit_and, false, get_or,
-    get_or-set_other, get_or-set_same, length, replicate, take, ◌++◌, w8, ◌∙◌, IsTrue, take-append-le, take_all, false≢true, bit_at_clear_other,
-    bit_at_clear_same, HasBit, zeros_have_no_bit}
+use Rattle.sig_auto.proofs.Common.{common_steps, ◌≡◌, ◌≢◌, ◌↔◌, ◌⊎◌, ℕ, ◌-◌, ◌*◌, ◌/◌, ◌%◌, ◌^◌, ◌<◌, Bool, List, arith, bit_and, false, get_or}
+use Rattle.sig_auto.proofs.Common.{get_or-set_other, get_or-set_same, length, replicate, take, ◌++◌, w8, ◌∙◌, IsTrue, take-append-le, take_all, false≢true}
+use Rattle.sig_auto.proofs.Common.{bit_at_clear_other, bit_at_clear_same, HasBit, zeros_have_no_bit}
 use Rattle.std.proofs.Common.{set}
 
 pub HasBit-kept : (bits : List ℕ) (i : ℕ) (is_kept : Bool) → is_kept ≡ false → i < 8 * length bits → (j : ℕ)
@@ -10,8 +10,15 @@ unfolding HasBit
 HasBit-kept bits i is_kept not within j =
     let own = get_or-set_same bits (i / 8) in
     let others = get_or-set_other bits (i / 8) (j / 8) in
-    grind (arith, common_steps, false≢true, own, others, bit_at_clear_same w8 (get_or bits (i / 8) 0) (i % 8),
-        bit_at_clear_other w8 (get_or bits (i / 8) 0) (i % 8))
+    grind (
+      arith,
+      common_steps,
+      false≢true,
+      own,
+      others,
+      bit_at_clear_same w8 (get_or bits (i / 8) 0) (i % 8),
+      bit_at_clear_other w8 (get_or bits (i / 8) 0) (i % 8),
+    )
 
 -- one number that is added to no others
 pub alone : {New : Type 0} (zeros : List ℕ) (n q i : ℕ) → zeros ≡ replicate n 0 → (New ↔ ((q ≡ i) ⊎ HasBit zeros q)) → New ↔ (q ≡ i)

@@ -1,8 +1,9 @@
 -- The cells of a tree lead as the tree does: what goes behind a slot.
-use Rattle.sig_auto.proofs.Common.{◌||◌, ◌≡◌, ◌⊎◌, ℕ, ◌+◌, ◌<◌, ◌≤◌, ◌&&◌, nat_le, nat_lt, true, false, List, [], ◌∷◌, ◌++◌, Option, Some, None, refl, sym, ap,
-    ◌∙◌, subst, inl, inr, arith, add_assoc, or-false, and_from, and_left, and_parts, cases_Bool, cases_eq, cases_lt, cond-false, cond-true, eq-eqb, eqb-true,
-    false_from_ne_true, false≢true, le-leb, le-ltb, lt-ltb, or_from, Class, follows, is_first, is_last, is_nullable, Tree, Never, Empty, Slot, Gap, Then, Or,
-    slots_of, IsTrim, gap_slots, Cell, cells_in, cells_of, gap_cell, middle, slot_cell, IsFlat, entered, exit, gone, has_slot, land, leave, own}
+use Rattle.sig_auto.proofs.Common.{◌||◌, ◌≡◌, ◌⊎◌, ℕ, ◌+◌, ◌<◌, ◌≤◌, ◌&&◌, nat_le, nat_lt, true, false, List, [], ◌∷◌, ◌++◌, Option, Some, None, refl, sym, ap}
+use Rattle.sig_auto.proofs.Common.{◌∙◌, subst, inl, inr, arith, add_assoc, or-false, and_from, and_left, and_parts, cases_Bool, cases_eq, cases_lt, cond-false}
+use Rattle.sig_auto.proofs.Common.{cond-true, eq-eqb, eqb-true, false_from_ne_true, false≢true, le-leb, le-ltb, lt-ltb, or_from, Class, follows, is_first}
+use Rattle.sig_auto.proofs.Common.{is_last, is_nullable, Tree, Never, Empty, Slot, Gap, Then, Or, slots_of, IsTrim, gap_slots, Cell, cells_in, cells_of}
+use Rattle.sig_auto.proofs.Common.{gap_cell, middle, slot_cell, IsFlat, entered, exit, gone, has_slot, land, leave, own}
 use Rattle.sig_auto.proofs.LocalLemmas.{follows-slots, is_last-slot}
 use Rattle.sig_auto.proofs.WayLemmas.{Passes, entered_past, exit_here, exit_later, gone_here, gone_later, land_firm, land_past, passes_none}
 use Rattle.sig_auto.proofs.ShapeLemmas.{Fits, IsInner, fits_first, fits_left, fits_right, fits_second, mid_inner, no_skips, null_of_none, passes, some_cells}
@@ -52,13 +53,39 @@ ends Empty i n a b p trim flat fits low high h = absurd (omega arith)
 ends (Slot c) i n a b p trim flat fits low high h = grind (arith, one_exit, slot_has, cond-true, le-leb)
 ends (Gap min max) i n a b p trim flat fits low high h = grind (arith, eqb-true, cond-false, one_exit, gap_has, cond-true, lt-ltb, le-leb)
 ends (Then t u) i n a b p trim flat fits low high h =
-    grind (arith, exit_later, has_out t i n a, fits_second t u i a b fits, then_last_high t u n p, and_parts, then_last_low t u n p, exit_here, has_in t i n a,
-        fits_first t u i a b trim.3 fits, lands u (i + cells_in t) (n + slots_of t), ends u (i + cells_in t) (n + slots_of t), ends t i n a)
+    grind (
+      arith,
+      exit_later,
+      has_out t i n a,
+      fits_second t u i a b fits,
+      then_last_high t u n p,
+      and_parts,
+      then_last_low t u n p,
+      exit_here,
+      has_in t i n a,
+      fits_first t u i a b trim.3 fits,
+      lands u (i + cells_in t) (n + slots_of t),
+      ends u (i + cells_in t) (n + slots_of t),
+      ends t i n a,
+    )
 ends (Or t u) i n a b p trim flat fits low high h =
-    grind (arith, exit_later, has_out t i n a b p, fits_right t u i a b flat.5 fits, exit_here, has_in t i n a b p low, land_firm,
-        no_skips u (i + cells_in t) (n + slots_of t) a b flat.3, fits_left t u i a b flat.4 fits,
-        ends u (i + cells_in t) (n + slots_of t) a b p trim.1 flat.1 (fits_right t u i a b flat.5 fits),
-        ends t i n a b p trim.0 flat.0 (fits_left t u i a b flat.4 fits) low, last_out, or-false, is_last, slots_of)
+    grind (
+      arith,
+      exit_later,
+      has_out t i n a b p,
+      fits_right t u i a b flat.5 fits,
+      exit_here,
+      has_in t i n a b p low,
+      land_firm,
+      no_skips u (i + cells_in t) (n + slots_of t) a b flat.3,
+      fits_left t u i a b flat.4 fits,
+      ends u (i + cells_in t) (n + slots_of t) a b p trim.1 flat.1 (fits_right t u i a b flat.5 fits),
+      ends t i n a b p trim.0 flat.0 (fits_left t u i a b flat.4 fits) low,
+      last_out,
+      or-false,
+      is_last,
+      slots_of,
+    )
 
 -- no joint, or one within the tree
 abbrev pub Stays : ℕ → ℕ → Option ℕ → Type 0
@@ -82,7 +109,7 @@ inner_passes t u i n a b o h =
           subst (λ x. Passes x (cells_of u (i + cells_in t) n (middle a b i (cells_in t) (cells_in u)) b)) (sym at.1)
           (passes u (i + cells_in t) n (middle a b i (cells_in t) (cells_in u)) b at.0
           (λ k e. (let is : middle a b i (cells_in t) (cells_in u) ≡ i + cells_in t = mid_inner a b i (cells_in t) (cells_in u) k (omega arith) in
-              absurd (omega arith)))
+          absurd (omega arith)))
           (λ within. absurd (omega arith)))
     ]
 
@@ -97,16 +124,27 @@ stays (Then t u) i n a b p trim flat fits low high h =
     let front : List Cell = cells_of t i n a m in
     let back : List Cell = cells_of u (i + cells_in t) (n + slots_of t) m b in
     elim (cases_lt (n + slots_of t) p) [
-      | inl over ↦ grind (arith, Stays-is, exit_later, has_out, Stays-wider, fits_second, then_last_high,
-          stays u (i + cells_in t) (n + slots_of t) m b p trim.1 flat.1 (fits_second t u i a b fits) over)
+      | inl over ↦ grind (
+        arith,
+        Stays-is,
+        exit_later,
+        has_out,
+        Stays-wider,
+        fits_second,
+        then_last_high,
+        stays u (i + cells_in t) (n + slots_of t) m b p trim.1 flat.1 (fits_second t u i a b fits) over,
+      )
       | inr under ↦
           let at = exit_here front back p (has_in t i n a m p low under) in
           elim (cases_Bool (is_last t n p)) [
             | inl last ↦
                 let needs : is_nullable u ≡ false = subst (λ x. (x && is_nullable u) ≡ false) last (sym (then_last_low t u n p under) ∙ h) in
                 let some : 0 < cells_in t = some_cells t (omega arith) in
-                let more : 0 < cells_in u = elim (cases_eq (cells_in u) 0) [ inl none ↦ absurd (false≢true (sym needs ∙ null_of_none u trim.3 none)) | inr k ↦
-                    omega arith ] in
+                let more : 0 < cells_in u = elim (cases_eq (cells_in u) 0) [
+                  | inl none ↦ absurd (false≢true (sym needs ∙ null_of_none u trim.3 none))
+                  | inr k ↦
+                      omega arith
+                ] in
                 let mid : m ≡ i + cells_in t = mid_inner a b i (cells_in t) (cells_in u) more some in
                 let stop = stops u (i + cells_in t) (n + slots_of t) m b trim.1 flat.1 (fits_second t u i a b fits) needs in
                 inr (
@@ -120,16 +158,31 @@ stays (Then t u) i n a b p trim flat fits low high h =
             | inr not ↦
                 let one = stays t i n a m p trim.0 flat.0 (fits_first t u i a b trim.3 fits) low under not in
                 Stays-is i (cells_in t + cells_in u) (exit front p) (exit (front ++ back) p)
-                    (at ∙ land_past back (exit front p) (inner_passes t u i (n + slots_of t) a b (exit front p) one))
+                (at ∙ land_past back (exit front p) (inner_passes t u i (n + slots_of t) a b (exit front p) one))
                 (Stays-wider i (cells_in t) i (cells_in t + cells_in u) (exit front p) (omega arith) (omega arith) one)
           ]
     ]
 stays (Or t u) i n a b p trim flat fits low high h =
-    grind (arith, Stays-is i (cells_in t + cells_in u), exit_later, has_out t i n a b p, Stays-wider (i + cells_in t) (cells_in u) i (cells_in t + cells_in u),
-        Stays-wider i (cells_in t) i (cells_in t + cells_in u), fits_right t u i a b flat.5 fits, exit_here, has_in t i n a b p low, land_firm,
-        no_skips u (i + cells_in t) (n + slots_of t) a b flat.3, fits_left t u i a b flat.4 fits,
-        stays u (i + cells_in t) (n + slots_of t) a b p trim.1 flat.1 (fits_right t u i a b flat.5 fits),
-        stays t i n a b p trim.0 flat.0 (fits_left t u i a b flat.4 fits) low, last_out, or-false, is_last, slots_of)
+    grind (
+      arith,
+      Stays-is i (cells_in t + cells_in u),
+      exit_later,
+      has_out t i n a b p,
+      Stays-wider (i + cells_in t) (cells_in u) i (cells_in t + cells_in u),
+      Stays-wider i (cells_in t) i (cells_in t + cells_in u),
+      fits_right t u i a b flat.5 fits,
+      exit_here,
+      has_in t i n a b p low,
+      land_firm,
+      no_skips u (i + cells_in t) (n + slots_of t) a b flat.3,
+      fits_left t u i a b flat.4 fits,
+      stays u (i + cells_in t) (n + slots_of t) a b p trim.1 flat.1 (fits_right t u i a b flat.5 fits),
+      stays t i n a b p trim.0 flat.0 (fits_left t u i a b flat.4 fits) low,
+      last_out,
+      or-false,
+      is_last,
+      slots_of,
+    )
 
 -- ---- the slots that go behind a slot
 
@@ -165,8 +218,14 @@ goes (Then t u) i n a b p q trim flat fits low high =
     let front : List Cell = cells_of t i n a m in
     let back : List Cell = cells_of u (i + cells_in t) (n + slots_of t) m b in
     elim (cases_lt (n + slots_of t) p) [
-      | inl over ↦ grind (arith, gone_later, has_out, fits_second, then_goes_high,
-          goes u (i + cells_in t) (n + slots_of t) m b p q trim.1 flat.1 (fits_second t u i a b fits) over)
+      | inl over ↦ grind (
+        arith,
+        gone_later,
+        has_out,
+        fits_second,
+        then_goes_high,
+        goes u (i + cells_in t) (n + slots_of t) m b p q trim.1 flat.1 (fits_second t u i a b fits) over,
+      )
       | inr under ↦
           gone_here front back p q (has_in t i n a m p low under)
           ∙ ap (λ x. x || entered (exit front p) back q) (goes t i n a m p q trim.0 flat.0 (fits_first t u i a b trim.3 fits) low under)
@@ -174,13 +233,26 @@ goes (Then t u) i n a b p q trim flat fits low high =
             | inl last ↦ grind (arith, ends, fits_first, begins, fits_second)
             | inr not ↦
                 entered_past back (exit front p) q (inner_passes t u i (n + slots_of t) a b (exit front p)
-                    (stays t i n a m p trim.0 flat.0 (fits_first t u i a b trim.3 fits) low under not))
+                (stays t i n a m p trim.0 flat.0 (fits_first t u i a b trim.3 fits) low under not))
                 ∙ sym (and_left (is_last t n p) (is_first u (n + slots_of t) q) not)
           ])
           ∙ sym (then_goes_low t u n p q under)
     ]
 goes (Or t u) i n a b p q trim flat fits low high =
-    grind (arith, gone_later, has_out t i n a b p, fits_right t u i a b flat.5 fits, gone_here, has_in t i n a b p low, entered_past,
-        left_passes t u i n a b p trim.0 flat.0 (fits_left t u i a b flat.4 fits) fits low, fits_left t u i a b flat.4 fits, or-false,
-        goes u (i + cells_in t) (n + slots_of t) a b p q trim.1 flat.1 (fits_right t u i a b flat.5 fits),
-        goes t i n a b p q trim.0 flat.0 (fits_left t u i a b flat.4 fits) low, goes_out, follows, slots_of)
+    grind (
+      arith,
+      gone_later,
+      has_out t i n a b p,
+      fits_right t u i a b flat.5 fits,
+      gone_here,
+      has_in t i n a b p low,
+      entered_past,
+      left_passes t u i n a b p trim.0 flat.0 (fits_left t u i a b flat.4 fits) fits low,
+      fits_left t u i a b flat.4 fits,
+      or-false,
+      goes u (i + cells_in t) (n + slots_of t) a b p q trim.1 flat.1 (fits_right t u i a b flat.5 fits),
+      goes t i n a b p q trim.0 flat.0 (fits_left t u i a b flat.4 fits) low,
+      goes_out,
+      follows,
+      slots_of,
+    )

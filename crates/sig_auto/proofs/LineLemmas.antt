@@ -1,8 +1,9 @@
 -- The cells of a tree in order: their slots, classes and joints.
-use Rattle.sig_auto.proofs.Common.{◌||◌, ◌≡◌, ℕ, zero, suc, ◌+◌, ◌-◌, ◌<◌, ◌≤◌, true, List, [], ◌∷◌, ◌++◌, drop, get_or, length, replicate, refl, sym, ap, ◌∙◌,
-    subst, arith, append_assoc, length-append, lit<, and_parts, cond-false, cond-true, eqb-true, leb-true, ltb-true, append-nil, get_or_append_left,
-    get_or-append_right, get_or-replicate, length-replicate, any, Tree, Never, Empty, Slot, Gap, Then, Or, classes_of, slots_of, Cell, cells_in, cells_of,
-    middle, slots_in, Bounded, Lined, spread, entered, exit, gone, has_slot, land, leave, own}
+use Rattle.sig_auto.proofs.Common.{◌||◌, ◌≡◌, ℕ, zero, suc, ◌+◌, ◌-◌, ◌<◌, ◌≤◌, true, List, [], ◌∷◌, ◌++◌, drop, get_or, length, replicate, refl, sym, ap, ◌∙◌}
+use Rattle.sig_auto.proofs.Common.{subst, arith, append_assoc, length-append, lit<, and_parts, cond-false, cond-true, eqb-true, leb-true, ltb-true, append-nil}
+use Rattle.sig_auto.proofs.Common.{get_or_append_left, get_or-append_right, get_or-replicate, length-replicate, any, Tree, Never, Empty, Slot, Gap, Then, Or}
+use Rattle.sig_auto.proofs.Common.{classes_of, slots_of, Cell, cells_in, cells_of, middle, slots_in, Bounded, Lined, spread, entered, exit, gone, has_slot}
+use Rattle.sig_auto.proofs.Common.{land, leave, own}
 use Rattle.sig_auto.proofs.ShapeLemmas.{gap_positive, gap_some, mid_inner, mid_left, mid_right}
 
 total_append : (u v : List Cell) → slots_in (u ++ v) ≡ slots_in u + slots_in v
@@ -55,8 +56,12 @@ bounded (Then t u) i n a b most front behind h =
     Bounded-append most (cells_of t i n a m) (cells_of u (i + cells_in t) (n + slots_of t) m b)
     (bounded t i n a m most front mid (omega arith)) (bounded u (i + cells_in t) (n + slots_of t) m b most mid behind (omega arith))
 bounded (Or t u) i n a b most front behind h =
-    grind (arith, Bounded-append most (cells_of t i n a b) (cells_of u (i + cells_in t) (n + slots_of t) a b), bounded t i n a b most front behind,
-        bounded u (i + cells_in t) (n + slots_of t) a b most front behind)
+    grind (
+      arith,
+      Bounded-append most (cells_of t i n a b) (cells_of u (i + cells_in t) (n + slots_of t) a b),
+      bounded t i n a b most front behind,
+      bounded u (i + cells_in t) (n + slots_of t) a b most front behind,
+    )
 
 -- ---- classes
 

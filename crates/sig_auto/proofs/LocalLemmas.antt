@@ -1,7 +1,8 @@
 -- The tracks of a tree are the lists whose first slot begins, whose neighbours go next to each other, and whose last slot ends.
-use Rattle.sig_auto.proofs.Common.{◌||◌, ◌≡◌, ◌⊎◌, ◌↔◌, ℕ, zero, suc, ◌+◌, ◌<◌, ◌≤◌, ◌==◌, Bool, true, nat_lt, List, [], ◌∷◌, ◌++◌, replicate, Option, Some,
-    None, subst, sym, ap, ◌∙◌, refl, inl, inr, arith, and_from, and_parts, cases_lt, eq-eqb, eqb-true, false≢true, le-leb, leb-true, lt-ltb, ltb-true, or_cases,
-    or_left, or_right, append-nil, is_first, is_last, follows, is_nullable, slots_from, Track, Tree, Never, Empty, Slot, Gap, Then, Or, slots_of, gap_slots}
+use Rattle.sig_auto.proofs.Common.{◌||◌, ◌≡◌, ◌⊎◌, ◌↔◌, ℕ, zero, suc, ◌+◌, ◌<◌, ◌≤◌, ◌==◌, Bool, true, nat_lt, List, [], ◌∷◌, ◌++◌, replicate, Option, Some}
+use Rattle.sig_auto.proofs.Common.{None, subst, sym, ap, ◌∙◌, refl, inl, inr, arith, and_from, and_parts, cases_lt, eq-eqb, eqb-true, false≢true, le-leb}
+use Rattle.sig_auto.proofs.Common.{leb-true, lt-ltb, ltb-true, or_cases, or_left, or_right, append-nil, is_first, is_last, follows, is_nullable, slots_from}
+use Rattle.sig_auto.proofs.Common.{Track, Tree, Never, Empty, Slot, Gap, Then, Or, slots_of, gap_slots}
 
 -- behind p these slots may stand, up to the end of a track
 abbrev pub Chain : Tree → ℕ → ℕ → List ℕ → Type 0
@@ -66,8 +67,14 @@ is_first-slot Empty before q h = absurd (false≢true h)
 is_first-slot (Slot c) before q h = let e = eqb-true q (before + 1) h in (omega arith, omega arith)
 is_first-slot (Gap min max) before q h = grind (arith, and_parts, ltb-true, eqb-true)
 is_first-slot (Then a b) before q h =
-    grind (arith, first_then a b before q, wide_left before (slots_of a) (slots_of b) q, wide_right before (slots_of a) (slots_of b) q,
-        is_first-slot a before q, is_first-slot b (before + slots_of a) q)
+    grind (
+      arith,
+      first_then a b before q,
+      wide_left before (slots_of a) (slots_of b) q,
+      wide_right before (slots_of a) (slots_of b) q,
+      is_first-slot a before q,
+      is_first-slot b (before + slots_of a) q,
+    )
 is_first-slot (Or a b) before q h = grind (arith, first_or, wide_left, wide_right, is_first-slot a before q, is_first-slot b (before + slots_of a) q)
 
 pub is_last-slot : (tree : Tree) (before p : ℕ) → is_last tree before p ≡ true → IsSlot tree before p
@@ -75,10 +82,26 @@ is_last-slot Never before p h = absurd (false≢true h)
 is_last-slot Empty before p h = absurd (false≢true h)
 is_last-slot (Slot c) before p h = let e = eqb-true p (before + 1) h in (omega arith, omega arith)
 is_last-slot (Gap min max) before p h = let is = gap_ends min max before p h in (is.0, is.2)
-is_last-slot (Then a b) before p h = grind (arith, wide_left, wide_right, is_last-slot a before p, is_last-slot b (before + slots_of a) p, either, and_parts,
-    and_from)
-is_last-slot (Or a b) before p h = grind (arith, wide_left, wide_right, is_last-slot a before p, is_last-slot b (before + slots_of a) p, either, is_last,
-    slots_of)
+is_last-slot (Then a b) before p h = grind (
+  arith,
+  wide_left,
+  wide_right,
+  is_last-slot a before p,
+  is_last-slot b (before + slots_of a) p,
+  either,
+  and_parts,
+  and_from,
+)
+is_last-slot (Or a b) before p h = grind (
+  arith,
+  wide_left,
+  wide_right,
+  is_last-slot a before p,
+  is_last-slot b (before + slots_of a) p,
+  either,
+  is_last,
+  slots_of,
+)
 
 pub follows-slots : (tree : Tree) (before p q : ℕ) → follows tree before p q ≡ true → IsSlot tree before p × IsSlot tree before q
 follows-slots Never before p q h = absurd (false≢true h)
@@ -87,12 +110,31 @@ follows-slots (Slot c) before p q h = absurd (false≢true h)
 follows-slots (Gap min None) before p q h = grind (arith, gap_goes_none min before p q h)
 follows-slots (Gap min (Some max)) before p q h = grind (arith, gap_goes_some min max before p q h)
 follows-slots (Then a b) before p q h =
-    grind (arith, follows_then a b before p q, wide_left before (slots_of a) (slots_of b) p, wide_left before (slots_of a) (slots_of b) q,
-        wide_right before (slots_of a) (slots_of b) p, wide_right before (slots_of a) (slots_of b) q, is_last-slot a before p,
-        is_first-slot b (before + slots_of a) q, follows-slots a before p q, follows-slots b (before + slots_of a) p q)
+    grind (
+      arith,
+      follows_then a b before p q,
+      wide_left before (slots_of a) (slots_of b) p,
+      wide_left before (slots_of a) (slots_of b) q,
+      wide_right before (slots_of a) (slots_of b) p,
+      wide_right before (slots_of a) (slots_of b) q,
+      is_last-slot a before p,
+      is_first-slot b (before + slots_of a) q,
+      follows-slots a before p q,
+      follows-slots b (before + slots_of a) p q,
+    )
 follows-slots (Or a b) before p q h =
-    grind (arith, wide_left before (slots_of a) (slots_of b) p, wide_left before (slots_of a) (slots_of b) q, wide_right before (slots_of a) (slots_of b) p,
-        wide_right before (slots_of a) (slots_of b) q, follows-slots a before p q, follows-slots b (before + slots_of a) p q, either, follows, slots_of)
+    grind (
+      arith,
+      wide_left before (slots_of a) (slots_of b) p,
+      wide_left before (slots_of a) (slots_of b) q,
+      wide_right before (slots_of a) (slots_of b) p,
+      wide_right before (slots_of a) (slots_of b) q,
+      follows-slots a before p q,
+      follows-slots b (before + slots_of a) p q,
+      either,
+      follows,
+      slots_of,
+    )
 
 -- a branch's chains are the tree's
 pub Chain-or_left : (a b : Tree) (before p : ℕ) (t : List ℕ) → Chain a before p t → Chain (Or a b) before p t
@@ -148,14 +190,23 @@ gap_begins min max before some = grind (arith, and_from, lt-ltb, eq-eqb)
 pub gap_local_none : (min before k : ℕ) → IsLocal (Gap min None) before (slots_from (before + 1) min ++ replicate k (before + min + 1))
 gap_local_none zero before zero = refl
 gap_local_none zero before (suc k) = grind (arith, gap_begins 0 None before, gap_stay 0 before k)
-gap_local_none (suc m) before k = grind (arith, gap_begins (suc m) None before, gap_climb (suc m) None before (before + 1) m (replicate k (before + suc m + 1)),
-    gap_tail (suc m) before k)
+gap_local_none (suc m) before k = grind (
+  arith,
+  gap_begins (suc m) None before,
+  gap_climb (suc m) None before (before + 1) m (replicate k (before + suc m + 1)),
+  gap_tail (suc m) before k,
+)
 
 pub gap_local_some : (min max before k : ℕ) → min ≤ k → k ≤ max → IsLocal (Gap min (Some max)) before (slots_from (before + 1) k)
 gap_local_some min max before zero least greatest = eq-eqb min 0 (omega arith)
 gap_local_some min max before (suc n) least greatest =
-    grind (arith, gap_begins min (Some max) before, append-nil, gap_climb min (Some max) before (before + 1) n [],
-        gap_ends-from min (Some max) before (before + 1 + n))
+    grind (
+      arith,
+      gap_begins min (Some max) before,
+      append-nil,
+      gap_climb min (Some max) before (before + 1) n [],
+      gap_ends-from min (Some max) before (before + 1 + n),
+    )
 
 -- a track begins, goes on and ends so
 pub track_local : (tree : Tree) (before : ℕ) (t : List ℕ) → Track tree before t → IsLocal tree before t
@@ -205,7 +256,7 @@ gap_chain_none min before p (q ∷ t) low h =
                 let more = gap_chain_none min before q t (omega arith) h.1 in
                 let sum : q + more.0 ≡ before + min = more.2 in
                 let rest : t ≡ slots_from (p + 1 + 1) more.0 ++ replicate more.1 (before + min + 1) =
-                    subst (λ x. t ≡ slots_from (x + 1) more.0 ++ replicate more.1 (before + min + 1)) next more.3 in
+                subst (λ x. t ≡ slots_from (x + 1) more.0 ++ replicate more.1 (before + min + 1)) next more.3 in
                 (suc more.0, more.1, omega arith, cc)
             | inr last ↦
                 let same : q ≡ before + min + 1 = omega arith in
@@ -269,8 +320,16 @@ local_track (Then a b) before (q ∷ t) h =
     ]
 local_track (Or a b) before [] h = grind (arith, either, local_track a before [], local_track b (before + slots_of a) [])
 local_track (Or a b) before (q ∷ t) h =
-    grind (arith, first_or a b before q, Chain-or_left_from a b before q t, is_first-slot a before q, is_first-slot b (before + slots_of a) q,
-        Chain-or_right_from a b before q t, local_track a before (q ∷ t), local_track b (before + slots_of a) (q ∷ t))
+    grind (
+      arith,
+      first_or a b before q,
+      Chain-or_left_from a b before q t,
+      is_first-slot a before q,
+      is_first-slot b (before + slots_of a) q,
+      Chain-or_right_from a b before q t,
+      local_track a before (q ∷ t),
+      local_track b (before + slots_of a) (q ∷ t),
+    )
 
 -- what a track shows
 Chain-is_last : (tree : Tree) (before x p : ℕ) (u : List ℕ) → Chain tree before x (u ++ p ∷ []) → is_last tree before p ≡ true

@@ -1,8 +1,8 @@
 -- The words of the rows of a bracket: those before an end, after an end, and from one end to another.
-use Rattle.sig_auto.proofs.Common.{◌≡◌, ◌⊎◌, ◌↔◌, ℕ, ◌+◌, ◌-◌, ◌<◌, ◌≤◌, Bool, true, false, nat_lt, nat_eq, cond, List, [], ◌∷◌, ◌++◌, length, refl, inl, inr,
-    arith, eq-eqb, lt-ltb, ne_eqb, Class, Within, InClass, any, only, above, behind, below, between, inner_at, lower_at, only_these, rest, upper_at, row_tree,
-    rows_tree, TreeWord, IsBytes, IsBefore-cases, IsBefore-lower, IsBefore-same, IsUpTo-before, IsUpTo-behind, IsUpTo-cases, IsUpTo-first, IsUpTo-itself,
-    IsUpTo-rest, IsBefore, IsBytesOf, IsUpTo}
+use Rattle.sig_auto.proofs.Common.{◌≡◌, ◌⊎◌, ◌↔◌, ℕ, ◌+◌, ◌-◌, ◌<◌, ◌≤◌, Bool, true, false, nat_lt, nat_eq, cond, List, [], ◌∷◌, ◌++◌, length, refl, inl, inr}
+use Rattle.sig_auto.proofs.Common.{arith, eq-eqb, lt-ltb, ne_eqb, Class, Within, InClass, any, only, above, behind, below, between, inner_at, lower_at}
+use Rattle.sig_auto.proofs.Common.{only_these, rest, upper_at, row_tree, rows_tree, TreeWord, IsBytes, IsBefore-cases, IsBefore-lower, IsBefore-same}
+use Rattle.sig_auto.proofs.Common.{IsUpTo-before, IsUpTo-behind, IsUpTo-cases, IsUpTo-first, IsUpTo-itself, IsUpTo-rest, IsBefore, IsBytesOf, IsUpTo}
 use Rattle.sig_auto.proofs.ByteLemmas.{IsBytes-nil, IsBytes-cons, IsBytes-head, IsBytes-tail}
 
 -- a word of a row: a byte of its first class, and a word of the others
@@ -81,30 +81,71 @@ shorter b x v xs h = let len = h.0 in (omega arith, IsBytes-tail b v h.1)
 of_below : (xs w : List ℕ) → IsBytes xs → TreeWord (rows_tree (below xs)) w → IsBytesOf (length xs) w × IsBefore w xs
 of_below [] w bytes h = absurd h
 of_below (x ∷ xs) w bytes h =
-    grind (arith, IsBytes-head x xs bytes, of_rows (lower_at x xs) (behind x (below xs)) w h, longer x x, IsBefore-lower, of_behind x (below xs) w,
-        IsBytes-tail x xs bytes, IsBefore-same x x, of_below xs, rest, of_rest)
+    grind (
+      arith,
+      IsBytes-head x xs bytes,
+      of_rows (lower_at x xs) (behind x (below xs)) w h,
+      longer x x,
+      IsBefore-lower,
+      of_behind x (below xs) w,
+      IsBytes-tail x xs bytes,
+      IsBefore-same x x,
+      of_below xs,
+      rest,
+      of_rest,
+    )
 
 below_word : (xs w : List ℕ) → IsBytesOf (length xs) w → IsBefore w xs → TreeWord (rows_tree (below xs)) w
 below_word [] [] bytes h = absurd (cc)
 below_word [] (b ∷ w) bytes h = absurd (cc)
 below_word (x ∷ xs) [] bytes h = let len = bytes.0 in absurd (omega arith)
 below_word (x ∷ xs) (b ∷ w) bytes h =
-    grind (arith, IsBefore-cases b x w xs h, rows_left (lower_at x xs) (behind x (below xs)) (b ∷ w), shorter b x w xs bytes,
-        rows_right (lower_at x xs) (behind x (below xs)) (b ∷ w), behind_word x (below xs) w, below_word xs w (shorter b x w xs bytes), first_word, lt-ltb)
+    grind (
+      arith,
+      IsBefore-cases b x w xs h,
+      rows_left (lower_at x xs) (behind x (below xs)) (b ∷ w),
+      shorter b x w xs bytes,
+      rows_right (lower_at x xs) (behind x (below xs)) (b ∷ w),
+      behind_word x (below xs) w,
+      below_word xs w (shorter b x w xs bytes),
+      first_word,
+      lt-ltb,
+    )
 
 of_above : (xs w : List ℕ) → IsBytes xs → TreeWord (rows_tree (above xs)) w → IsBytesOf (length xs) w × IsBefore xs w
 of_above [] w bytes h = absurd h
 of_above (x ∷ xs) w bytes h =
-    grind (arith, of_rows (behind x (above xs)) (upper_at x xs) w h, of_behind x (above xs) w, IsBytes-tail x xs bytes, longer x x, IsBytes-head x xs bytes,
-        IsBefore-same x x xs, IsBefore-lower x, of_above xs, rest, of_rest)
+    grind (
+      arith,
+      of_rows (behind x (above xs)) (upper_at x xs) w h,
+      of_behind x (above xs) w,
+      IsBytes-tail x xs bytes,
+      longer x x,
+      IsBytes-head x xs bytes,
+      IsBefore-same x x xs,
+      IsBefore-lower x,
+      of_above xs,
+      rest,
+      of_rest,
+    )
 
 above_word : (xs w : List ℕ) → IsBytesOf (length xs) w → IsBefore xs w → TreeWord (rows_tree (above xs)) w
 above_word [] [] bytes h = absurd (cc)
 above_word [] (b ∷ w) bytes h = let len = bytes.0 in absurd (omega arith)
 above_word (x ∷ xs) [] bytes h = absurd (cc)
 above_word (x ∷ xs) (b ∷ w) bytes h =
-    grind (arith, IsBefore-cases x b xs w h, rows_right (behind x (above xs)) (upper_at x xs) (b ∷ w), IsBytes-head b w bytes.1, shorter b x w xs bytes,
-        rows_left (behind x (above xs)) (upper_at x xs) (b ∷ w), behind_word x (above xs) w, above_word xs w (shorter b x w xs bytes), first_word, lt-ltb)
+    grind (
+      arith,
+      IsBefore-cases x b xs w h,
+      rows_right (behind x (above xs)) (upper_at x xs) (b ∷ w),
+      IsBytes-head b w bytes.1,
+      shorter b x w xs bytes,
+      rows_left (behind x (above xs)) (upper_at x xs) (b ∷ w),
+      behind_word x (above xs) w,
+      above_word xs w (shorter b x w xs bytes),
+      first_word,
+      lt-ltb,
+    )
 
 -- the words before these bytes
 pub below_is : (xs w : List ℕ) → IsBytes xs → TreeWord (rows_tree (below xs)) w ↔ (IsBytesOf (length xs) w × IsBefore w xs)
@@ -128,16 +169,22 @@ of_split x y xs ys w order same a b (inr h) =
       | inl first ↦
           let r = of_behind x (above xs) w first in
           let k = of_above xs r.0 (IsBytes-tail x xs a) r.2 in
-          rw r.1 (longer x x r.0 xs (IsBytes-head x xs a) k.0, IsUpTo-before (x ∷ xs) (x ∷ r.0) (IsBefore-same x x xs r.0 refl k.1),
-              IsUpTo-before (x ∷ r.0) (y ∷ ys) (IsBefore-lower x y r.0 ys order))
+          rw r.1 (
+            longer x x r.0 xs (IsBytes-head x xs a) k.0,
+            IsUpTo-before (x ∷ xs) (x ∷ r.0) (IsBefore-same x x xs r.0 refl k.1),
+            IsUpTo-before (x ∷ r.0) (y ∷ ys) (IsBefore-lower x y r.0 ys order),
+          )
       | inr others ↦ elim (of_rows (inner_at x y xs) (behind y (below ys) ++ only_these (y ∷ ys) ∷ []) w others) [
         | inl inner ↦ grind (arith, of_inner, longer, IsUpTo-before, IsBefore-lower)
         | inr rest ↦ elim (of_rows (behind y (below ys)) (only_these (y ∷ ys) ∷ []) w rest) [
           | inl last ↦
               let r = of_behind y (below ys) w last in
               let k = of_below ys r.0 (IsBytes-tail y ys b) r.2 in
-              rw r.1 (longer y x r.0 xs high (rw same k.0), IsUpTo-before (x ∷ xs) (y ∷ r.0) (IsBefore-lower x y xs r.0 order),
-                  IsUpTo-before (y ∷ r.0) (y ∷ ys) (IsBefore-same y y r.0 ys refl k.1))
+              rw r.1 (
+                longer y x r.0 xs high (rw same k.0),
+                IsUpTo-before (x ∷ xs) (y ∷ r.0) (IsBefore-lower x y xs r.0 order),
+                IsUpTo-before (y ∷ r.0) (y ∷ ys) (IsBefore-same y y r.0 ys refl k.1),
+              )
           | inr end ↦ elim end [
             | inl is_end ↦
                 rw (of_only (y ∷ ys) w is_end) ((omega arith, b), IsUpTo-before (x ∷ xs) (y ∷ ys) (IsBefore-lower x y xs ys order), IsUpTo-itself (y ∷ ys))
@@ -174,8 +221,21 @@ of_between : (xs ys w : List ℕ) → length xs ≡ length ys → IsBefore xs ys
 of_between [] ys w same order a b h = absurd h
 of_between (x ∷ xs) [] w same order a b h = absurd h
 of_between (x ∷ xs) (y ∷ ys) w same order a b h =
-    grind (arith, IsBefore-cases x y xs ys order, of_split x y xs ys w, between_split x y xs ys, of_behind x (between xs ys) w, between_same x y xs ys,
-        IsBytes-tail x xs a, IsBytes-tail y ys b, longer x x, IsBytes-head x xs a, IsUpTo-behind x x xs, IsUpTo-behind x y, of_between xs ys)
+    grind (
+      arith,
+      IsBefore-cases x y xs ys order,
+      of_split x y xs ys w,
+      between_split x y xs ys,
+      of_behind x (between xs ys) w,
+      between_same x y xs ys,
+      IsBytes-tail x xs a,
+      IsBytes-tail y ys b,
+      longer x x,
+      IsBytes-head x xs a,
+      IsUpTo-behind x x xs,
+      IsUpTo-behind x y,
+      of_between xs ys,
+    )
 
 between_word : (xs ys w : List ℕ) → length xs ≡ length ys → IsBefore xs ys → IsBytesOf (length xs) w → IsUpTo xs w → IsUpTo w ys
     → TreeWord (rows_tree (between xs ys)) w
@@ -184,8 +244,20 @@ between_word [] (y ∷ ys) w same order bytes low high = absurd (omega arith)
 between_word (x ∷ xs) [] w same order bytes low high = absurd (omega arith)
 between_word (x ∷ xs) (y ∷ ys) [] same order bytes low high = absurd (low refl)
 between_word (x ∷ xs) (y ∷ ys) (b ∷ v) same order bytes low high =
-    grind (arith, IsBefore-cases x y xs ys order, between_split x y xs ys, split_word x y b xs ys v, between_same x y xs ys, behind_word x (between xs ys) v,
-        shorter b x v xs bytes, IsUpTo-rest x b xs v, IsUpTo-rest b y v ys, IsUpTo-first x b xs v low, IsUpTo-first b y v ys high, between_word xs ys v)
+    grind (
+      arith,
+      IsBefore-cases x y xs ys order,
+      between_split x y xs ys,
+      split_word x y b xs ys v,
+      between_same x y xs ys,
+      behind_word x (between xs ys) v,
+      shorter b x v xs bytes,
+      IsUpTo-rest x b xs v,
+      IsUpTo-rest b y v ys,
+      IsUpTo-first x b xs v low,
+      IsUpTo-first b y v ys high,
+      between_word xs ys v,
+    )
 
 -- the words from the first to the second
 pub between_is : (xs ys w : List ℕ) → length xs ≡ length ys → IsBefore xs ys → IsBytes xs → IsBytes ys → TreeWord (rows_tree (between xs ys)) w

@@ -1,7 +1,7 @@
 -- The rows of a bracket as they are pushed: those that agree with its bytes on more and more places.
-use Rattle.sig_auto.proofs.Common.{arith, ◌≡◌, ℕ, ◌+◌, ◌-◌, ◌<◌, ◌≤◌, false, nat_eq, min, List, [], ◌∷◌, ◌++◌, drop, length, map, take, slice_index, sym, ap,
-    ◌∙◌, refl, add-one, append_assoc, leb-true, lt-ltb, append-nil, drop_all, map-append, take-append-drop, drop-cons, take-suc, Class, Within, only, above,
-    behind, behind_these, below, between, inner_at, only_these, rest}
+use Rattle.sig_auto.proofs.Common.{arith, ◌≡◌, ℕ, ◌+◌, ◌-◌, ◌<◌, ◌≤◌, false, nat_eq, min, List, [], ◌∷◌, ◌++◌, drop, length, map, take, slice_index, sym, ap}
+use Rattle.sig_auto.proofs.Common.{◌∙◌, refl, add-one, append_assoc, leb-true, lt-ltb, append-nil, drop_all, map-append, take-append-drop, drop-cons, take-suc}
+use Rattle.sig_auto.proofs.Common.{Class, Within, only, above, behind, behind_these, below, between, inner_at, only_these, rest}
 
 drop_place : (l : List ℕ) (j : ℕ) → j < length l → drop j l ≡ slice_index l j ∷ drop (j + 1) l
 drop_place l j h = drop-cons l j 0 h ∙ ap (λ k. slice_index l j ∷ drop k l) (sym (add-one j))
@@ -86,8 +86,8 @@ whole_row a j h = sym (map-append only (take j a) (slice_index a j ∷ drop (j +
 -- behind these bytes, the rows of two words that differ at the next
 pub between_differs : (a b : List ℕ) (j : ℕ) → j < length a → j < length b → take j a ≡ take j b → nat_eq (slice_index a j) (slice_index b j) ≡ false →
     behind_these (take j a) (between (drop j a) (drop j b)) ≡ only_these a
-        ∷ (behind_these (take (j + 1) a) (above (drop (j + 1) a)) ++ (behind_these (take j a) (inner_at (slice_index a j) (slice_index b j) (drop (j + 1) a))
-        ++ (behind_these (take (j + 1) b) (below (drop (j + 1) b)) ++ only_these b ∷ [])))
+    ∷ (behind_these (take (j + 1) a) (above (drop (j + 1) a)) ++ (behind_these (take j a) (inner_at (slice_index a j) (slice_index b j) (drop (j + 1) a))
+    ++ (behind_these (take (j + 1) b) (below (drop (j + 1) b)) ++ only_these b ∷ [])))
 between_differs a b j in_a in_b agreed differ = grind (arith, whole_row, behind_more, take_place, drop_place, map-append)
 
 -- five growths, one after the other

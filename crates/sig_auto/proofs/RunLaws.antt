@@ -1,6 +1,6 @@
 -- The laws of the automaton, for proofs of other crates.
-use Rattle.sig_auto.proofs.Common.{◌≡◌, ◌↔◌, ◌⊎◌, ℕ, ◌+◌, ◌<◌, ◌≤◌, List, [], ◌∷◌, ◌++◌, inl, inr, arith, Accepts, EndsIn, IsStepOf, Accepting, Follows, Tree,
-    whole_tree, Takes, slots_of, IsBytes, slot_count, Stands, IsSequence, SequenceView}
+use Rattle.sig_auto.proofs.Common.{◌≡◌, ◌↔◌, ◌⊎◌, ℕ, ◌+◌, ◌<◌, ◌≤◌, List, [], ◌∷◌, ◌++◌, inl, inr, arith, Accepts, EndsIn, IsStepOf, Accepting, Follows, Tree}
+use Rattle.sig_auto.proofs.Common.{whole_tree, Takes, slots_of, IsBytes, slot_count, Stands, IsSequence, SequenceView}
 use Rattle.sig_auto.proofs.EndLemmas.{begin_only, ends_before, ends_further, last_is_slot, next_is_slot}
 use Rattle.sig_auto.proofs.EndOrNotLemmas.{accepting_or_not, ends_or_not, some_or_none, step_or_not}
 use Rattle.sig_auto.proofs.RunLemmas.{accepts_is_taken, run_states}
@@ -10,8 +10,12 @@ use Rattle.sig_auto.proofs.WordLemmas.{word_is_unfolded}
 
 -- some run of a file accepts exactly where the sequence stands in the file
 pub runs_accept_what_stands : (s : SequenceView) (file : List ℕ) → IsSequence s → IsBytes file → Accepts (whole_tree s) file ↔ Stands s file
-runs_accept_what_stands s file sequence bytes = grind (arith, accepts_is_taken (whole_tree s) file, taken_is_word (whole_tree s) file,
-    word_is_unfolded s file sequence bytes)
+runs_accept_what_stands s file sequence bytes = grind (
+  arith,
+  accepts_is_taken (whole_tree s) file,
+  taken_is_word (whole_tree s) file,
+  word_is_unfolded s file sequence bytes,
+)
 
 -- an automaton has as many slots as the limit of a sequence counts
 pub slots_are_counted : (s : SequenceView) → IsSequence s → slots_of (whole_tree s) ≡ slot_count s

@@ -1,6 +1,6 @@
 -- The runs that accept a file are the tracks whose slots take its bytes.
-use Rattle.sig_auto.proofs.Common.{◌≡◌, ◌↔◌, ℕ, ◌<◌, ◌==◌, if◌then◌else◌, true, List, [], ◌∷◌, ◌++◌, append_assoc, subst, sym, ap, refl, arith, eq-eqb, ne_eqb,
-    is_first, is_last, follows, is_nullable, Accepts, Run, Steps, Accepting, Follows, Track, Tree, TakesAll}
+use Rattle.sig_auto.proofs.Common.{◌≡◌, ◌↔◌, ℕ, ◌<◌, ◌==◌, if◌then◌else◌, true, List, [], ◌∷◌, ◌++◌, append_assoc, subst, sym, ap, refl, arith, eq-eqb, ne_eqb}
+use Rattle.sig_auto.proofs.Common.{is_first, is_last, follows, is_nullable, Accepts, Run, Steps, Accepting, Follows, Track, Tree, TakesAll}
 use Rattle.sig_auto.proofs.LocalLemmas.{Chain, IsLocal, follows-slots, is_first-slot, local_track, track_ends, track_goes, track_local, track_slot}
 
 -- behind the start a slot begins, behind another it goes

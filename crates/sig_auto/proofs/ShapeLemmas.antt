@@ -1,7 +1,8 @@
 -- How many cells a tree takes, and between which joints they stand.
-use Rattle.sig_auto.proofs.Common.{◌≡◌, ◌⊎◌, ℕ, ◌+◌, ◌<◌, ◌≤◌, ◌==◌, if◌then◌else◌, true, false, List, [], ◌∷◌, ◌++◌, Option, Some, None, refl, sym, subst, inl,
-    inr, arith, ⊤, and_from, cases_eq, cond-false, cond-true, eq-eqb, eqb-false, eqb-true, false≢true, ne_eqb, or_left, or_right, is_nullable, Tree, Never,
-    Empty, Slot, Gap, Then, Or, slots_of, HasTrack, gap_slots, Cell, cells_in, cells_of, middle, IsFirm}
+use Rattle.sig_auto.proofs.Common.{◌≡◌, ◌⊎◌, ℕ, ◌+◌, ◌<◌, ◌≤◌, ◌==◌, if◌then◌else◌, true, false, List, [], ◌∷◌, ◌++◌, Option, Some, None, refl, sym, subst, inl}
+use Rattle.sig_auto.proofs.Common.{inr, arith, ⊤, and_from, cases_eq, cond-false, cond-true, eq-eqb, eqb-false, eqb-true, false≢true, ne_eqb, or_left, or_right}
+use Rattle.sig_auto.proofs.Common.{is_nullable, Tree, Never, Empty, Slot, Gap, Then, Or, slots_of, HasTrack, gap_slots, Cell, cells_in, cells_of, middle}
+use Rattle.sig_auto.proofs.Common.{IsFirm}
 use Rattle.sig_auto.proofs.WayLemmas.{NoSkips, NoSkips-append, Passes}
 
 -- ---- trees with no cell
@@ -28,8 +29,11 @@ no_cells Never i n a b h = refl
 no_cells Empty i n a b h = refl
 no_cells (Slot c) i n a b h = absurd (omega arith)
 no_cells (Gap min max) i n a b h = grind (arith, cond-true, gap_some min max)
-no_cells (Then t u) i n a b h = grind (arith, no_cells t i n a (middle a b i (cells_in t) (cells_in u)),
-    no_cells u (i + cells_in t) (n + slots_of t) (middle a b i (cells_in t) (cells_in u)) b)
+no_cells (Then t u) i n a b h = grind (
+  arith,
+  no_cells t i n a (middle a b i (cells_in t) (cells_in u)),
+  no_cells u (i + cells_in t) (n + slots_of t) (middle a b i (cells_in t) (cells_in u)) b,
+)
 no_cells (Or t u) i n a b h = grind (arith, no_cells t i n a b, no_cells u (i + cells_in t) (n + slots_of t) a b)
 
 pub null_of_none : (t : Tree) → HasTrack t → cells_in t ≡ 0 → is_nullable t ≡ true

@@ -1,7 +1,8 @@
 -- The words of a tree, by its tracks and the classes of their slots.
-use Rattle.sig_auto.proofs.Common.{◌≡◌, ◌↔◌, ℕ, zero, suc, ◌+◌, ◌-◌, ◌<◌, ◌≤◌, List, [], ◌∷◌, ◌++◌, length, get_or, replicate, refl, sym, ap, subst, ◌∙◌, inl,
-    inr, arith, Option, Some, None, length-append, ⊤, length-replicate, get_or-replicate, get_or_append_left, get_or-append_right, Class, InClass, any, Tree,
-    Never, Empty, Slot, Gap, Then, Or, slots_of, classes_of, class_of, GapTrack, slots_from, Track, TakesAll, TreeWord, IsBytes, gap_slots}
+use Rattle.sig_auto.proofs.Common.{◌≡◌, ◌↔◌, ℕ, zero, suc, ◌+◌, ◌-◌, ◌<◌, ◌≤◌, List, [], ◌∷◌, ◌++◌, length, get_or, replicate, refl, sym, ap, subst, ◌∙◌, inl}
+use Rattle.sig_auto.proofs.Common.{inr, arith, Option, Some, None, length-append, ⊤, length-replicate, get_or-replicate, get_or_append_left}
+use Rattle.sig_auto.proofs.Common.{get_or-append_right, Class, InClass, any, Tree, Never, Empty, Slot, Gap, Then, Or, slots_of, classes_of, class_of, GapTrack}
+use Rattle.sig_auto.proofs.Common.{slots_from, Track, TakesAll, TreeWord, IsBytes, gap_slots}
 use Rattle.sig_auto.proofs.ByteLemmas.{IsBytes-nil, IsBytes-cons, IsBytes-head, IsBytes-tail, IsBytes-append}
 
 -- each slot takes the byte in its place, where f gives the classes
@@ -79,7 +80,7 @@ Reads-right : (f : ℕ → Class) (a b : Tree) (before : ℕ) → Reads f (Then 
 Reads-right f a b before h k q below is =
     let same : slots_of a + k - slots_of a ≡ k = omega arith in
     h (slots_of a + k) q (omega arith) (omega arith) ∙ get_or-append_right (classes_of a) (classes_of b) (slots_of a) (slots_of a + k) any (length_classes a)
-        (omega arith) ∙ ap (λ i. get_or (classes_of b) i any) same
+    (omega arith) ∙ ap (λ i. get_or (classes_of b) i any) same
 
 -- all slots of a gap take all bytes
 Reads-gap : (f : ℕ → Class) (min : ℕ) (max : Option ℕ) (before q : ℕ) → Reads f (Gap min max) before → before < q → q ≤ before + gap_slots min max → f q ≡ any
@@ -136,8 +137,14 @@ taken_word f (Slot c) before (b ∷ []) t h track taken =
 taken_word f (Slot c) before (b ∷ d ∷ w) t h track taken = let k = rw track at taken in absurd k.1
 taken_word f (Gap min max) before w t h track taken = gap_taken f min max before w t h track taken
 taken_word f (Then a b) before w t h track taken =
-    grind (arith, TakesBy-split f track.0 track.1 w, Reads-left f a b before h, Reads-right f a b before h, taken_word f a before,
-        taken_word f b (before + slots_of a))
+    grind (
+      arith,
+      TakesBy-split f track.0 track.1 w,
+      Reads-left f a b before h,
+      Reads-right f a b before h,
+      taken_word f a before,
+      taken_word f b (before + slots_of a),
+    )
 taken_word f (Or a b) before w t h (inl track) taken = inl (taken_word f a before w t (Reads-left f a b before h) track taken)
 taken_word f (Or a b) before w t h (inr track) taken = inr (taken_word f b (before + slots_of a) w t (Reads-right f a b before h) track taken)
 

@@ -1,10 +1,12 @@
 -- In a tree in which each slot stands in some track, the slots that begin, end and go next to each other do so in some track.
-use Rattle.sig_auto.proofs.Common.{◌≡◌, ◌↔◌, Bool, false, ℕ, zero, suc, ◌+◌, ◌-◌, ◌≤◌, ◌==◌, if◌then◌else◌, true, List, [], ◌∷◌, ◌++◌, Option, Some, None,
-    append_assoc, subst, sym, ap, ◌∙◌, refl, inl, inr, arith, cases_eq, cases_lt, eq-eqb, ne_eqb, IsAtMost, gap_slots, is_first, is_last, follows, is_nullable,
-    Accepting, Follows, slots_from, Track, Tree, Never, Empty, Slot, Gap, Then, Or, slots_of, HasTrack, IsTrim}
-use Rattle.sig_auto.proofs.LocalLemmas.{Chain, Chain-or_left, Chain-or_left_from, Chain-or_right, Chain-or_right_from, Chain-then, Chain-then_cut,
-    Chain-then_right, Chain-then_right_from, IsLocal, IsLocal-or_left, IsLocal-or_right, IsLocal-then, IsSlot, is_first-slot, is_last-slot, gap_begins,
-    gap_climb, gap_ends-from, gap_local_none, gap_local_some, gap_next, follows-slots, local_track}
+use Rattle.sig_auto.proofs.Common.{◌≡◌, ◌↔◌, Bool, false, ℕ, zero, suc, ◌+◌, ◌-◌, ◌≤◌, ◌==◌, if◌then◌else◌, true, List, [], ◌∷◌, ◌++◌, Option, Some, None}
+use Rattle.sig_auto.proofs.Common.{append_assoc, subst, sym, ap, ◌∙◌, refl, inl, inr, arith, cases_eq, cases_lt, eq-eqb, ne_eqb, IsAtMost, gap_slots, is_first}
+use Rattle.sig_auto.proofs.Common.{is_last, follows, is_nullable, Accepting, Follows, slots_from, Track, Tree, Never, Empty, Slot, Gap, Then, Or, slots_of}
+use Rattle.sig_auto.proofs.Common.{HasTrack, IsTrim}
+use Rattle.sig_auto.proofs.LocalLemmas.{Chain, Chain-or_left, Chain-or_left_from, Chain-or_right, Chain-or_right_from, Chain-then, Chain-then_cut}
+use Rattle.sig_auto.proofs.LocalLemmas.{Chain-then_right, Chain-then_right_from, IsLocal, IsLocal-or_left, IsLocal-or_right, IsLocal-then, IsSlot}
+use Rattle.sig_auto.proofs.LocalLemmas.{is_first-slot, is_last-slot, gap_begins, gap_climb, gap_ends-from, gap_local_none, gap_local_some, gap_next}
+use Rattle.sig_auto.proofs.LocalLemmas.{follows-slots, local_track}
 use Rattle.sig_auto.proofs.RunLemmas.{accepting_shown, follows_shown}
 
 -- a tree that has a track
@@ -59,8 +61,15 @@ reach (Then a b) before p trim slot =
           )
     ]
 reach (Or a b) before p trim slot =
-    grind (arith, IsLocal-or_right a b before, Chain-or_right_from a b before p, IsLocal-or_left a b before, Chain-or_left_from a b before p,
-        reach b (before + slots_of a) p trim.1, reach a before p trim.0)
+    grind (
+      arith,
+      IsLocal-or_right a b before,
+      Chain-or_right_from a b before p,
+      IsLocal-or_left a b before,
+      Chain-or_left_from a b before p,
+      reach b (before + slots_of a) p trim.1,
+      reach a before p trim.0,
+    )
 
 -- some slots come behind p, up to an end
 pub goes_on : (tree : Tree) (before p : ℕ) → IsTrim tree → IsSlot tree before p → (v : List ℕ) × Chain tree before p v
@@ -85,15 +94,24 @@ goes_on (Or a b) before p trim slot = grind (arith, Chain-or_right, Chain-or_lef
 
 -- the tests find tracks
 pub begins_track : (tree : Tree) (before q : ℕ) → IsTrim tree → is_first tree before q ≡ true → (v : List ℕ) × Track tree before (q ∷ v)
-begins_track tree before q trim h = grind (arith, goes_on tree before q trim (is_first-slot tree before q h), is_first-slot tree before q h,
-    local_track tree before)
+begins_track tree before q trim h = grind (
+  arith,
+  goes_on tree before q trim (is_first-slot tree before q h),
+  is_first-slot tree before q h,
+  local_track tree before,
+)
 
 pub ends_track : (tree : Tree) (before p : ℕ) → IsTrim tree → is_last tree before p ≡ true → (u : List ℕ) × Track tree before (u ++ p ∷ [])
 ends_track tree before p trim h = grind (arith, reach tree before p trim (is_last-slot tree before p h), is_last-slot tree before p h, local_track tree before)
 
 pub goes_track : (tree : Tree) (before p q : ℕ) → IsTrim tree → follows tree before p q ≡ true → (u v : List ℕ) × Track tree before (u ++ p ∷ q ∷ v)
-goes_track tree before p q trim h = grind (arith, follows-slots tree before p q h, reach tree before p trim, goes_on tree before q trim,
-    local_track tree before)
+goes_track tree before p q trim h = grind (
+  arith,
+  follows-slots tree before p q h,
+  reach tree before p trim,
+  goes_on tree before q trim,
+  local_track tree before,
+)
 
 -- the test of two states is whether one follows the other
 pub follows_exact : (tree : Tree) → IsTrim tree → (p q : ℕ) → ((if p == 0 then is_first tree 0 q else follows tree 0 p q) ≡ true) ↔ Follows tree p q

@@ -1,6 +1,7 @@
 -- Cells one after the other.
-use Rattle.sig_auto.proofs.Common.{◌||◌, ◌≡◌, ℕ, ◌&&◌, true, false, List, [], ◌∷◌, ◌++◌, Option, Some, None, refl, sym, ap, ◌∙◌, arith, ⊤, or_assoc, and_left,
-    and_right, cond-false, cond-true, false≢true, or_from, or_parts, Cell, entered, exit, gone, has, has_slot, is_skipped, land, leave, meets, onward}
+use Rattle.sig_auto.proofs.Common.{◌||◌, ◌≡◌, ℕ, ◌&&◌, true, false, List, [], ◌∷◌, ◌++◌, Option, Some, None, refl, sym, ap, ◌∙◌, arith, ⊤, or_assoc, and_left}
+use Rattle.sig_auto.proofs.Common.{and_right, cond-false, cond-true, false≢true, or_from, or_parts, Cell, entered, exit, gone, has, has_slot, is_skipped, land}
+use Rattle.sig_auto.proofs.Common.{leave, meets, onward}
 
 -- no cell begins behind the joint
 abbrev pub Passes : Option ℕ → List Cell → Type 0

@@ -1,9 +1,10 @@
 -- The tree of a sequence has no slot in vain, and as many slots as are counted.
-use Rattle.sig_auto.proofs.Common.{◌≡◌, ℕ, ◌+◌, ◌-◌, ◌*◌, ◌<◌, Bool, true, false, nat_lt, ◌&&◌, cond, List, [], ◌∷◌, ◌++◌, length, refl, sym, ap, ◌∙◌, inl,
-    arith, length-append, mul-suc, mul-zero, eq-eqb, lt-ltb, ne_eqb, sum_by, ⊤, sum_by-cons, Class, Within, above, behind, below, between, lower_at, only_these,
-    rest, upper_at, Tree, alternatives_tree, atom_tree, atoms_tree, back_tree, bracket_tree, item_tree, items_tree, row_tree, rows_tree, whole_tree, slots_of,
-    HasTrack, IsTrim, IsBytes, IsBefore-cases, leaves_no_all, Atom, Item, are_all, AlternativesSound, AtomSound, AtomsSound, ItemSound, ItemsSound, IsBefore,
-    SequenceView, above_rows, atom_slots, below_rows, between_rows, bracket_slots, item_slots, slot_count, IsSequence}
+use Rattle.sig_auto.proofs.Common.{◌≡◌, ℕ, ◌+◌, ◌-◌, ◌*◌, ◌<◌, Bool, true, false, nat_lt, ◌&&◌, cond, List, [], ◌∷◌, ◌++◌, length, refl, sym, ap, ◌∙◌, inl}
+use Rattle.sig_auto.proofs.Common.{arith, length-append, mul-suc, mul-zero, eq-eqb, lt-ltb, ne_eqb, sum_by, ⊤, sum_by-cons, Class, Within, above, behind, below}
+use Rattle.sig_auto.proofs.Common.{between, lower_at, only_these, rest, upper_at, Tree, alternatives_tree, atom_tree, atoms_tree, back_tree, bracket_tree}
+use Rattle.sig_auto.proofs.Common.{item_tree, items_tree, row_tree, rows_tree, whole_tree, slots_of, HasTrack, IsTrim, IsBytes, IsBefore-cases, leaves_no_all}
+use Rattle.sig_auto.proofs.Common.{Atom, Item, are_all, AlternativesSound, AtomSound, AtomsSound, ItemSound, ItemsSound, IsBefore, SequenceView, above_rows}
+use Rattle.sig_auto.proofs.Common.{atom_slots, below_rows, between_rows, bracket_slots, item_slots, slot_count, IsSequence}
 use Rattle.sig_auto.proofs.ByteLemmas.{IsBytes-head, IsBytes-tail}
 use Rattle.sig_auto.proofs.RowLemmas.{split_rows}
 use Rattle.sig_expr.specs.declared.item.Atom.TheVariants as atom
@@ -50,13 +51,23 @@ slots_rows n (r ∷ rs) h = grind (arith, slots_row r, mul-suc, slots_rows n rs 
 -- the rows of the words before an end, after an end, and between two
 pub long_below : (xs : List ℕ) → Long (length xs) (below xs)
 long_below [] = tt
-long_below (x ∷ xs) = grind (arith, length_rest xs, Long-append (length (x ∷ xs)) (lower_at x xs) (behind x (below xs)), Long-behind x (length xs),
-    long_below xs)
+long_below (x ∷ xs) = grind (
+  arith,
+  length_rest xs,
+  Long-append (length (x ∷ xs)) (lower_at x xs) (behind x (below xs)),
+  Long-behind x (length xs),
+  long_below xs,
+)
 
 pub long_above : (xs : List ℕ) → Long (length xs) (above xs)
 long_above [] = tt
-long_above (x ∷ xs) = grind (arith, length_rest xs, Long-append (length (x ∷ xs)) (behind x (above xs)) (upper_at x xs), Long-behind x (length xs),
-    long_above xs)
+long_above (x ∷ xs) = grind (
+  arith,
+  length_rest xs,
+  Long-append (length (x ∷ xs)) (behind x (above xs)) (upper_at x xs),
+  Long-behind x (length xs),
+  long_above xs,
+)
 
 length_below : (xs : List ℕ) → length (below xs) ≡ below_rows xs
 length_below [] = refl
@@ -84,8 +95,13 @@ long_split x y xs ys same = grind (arith, length_rest, length_only, Long-append,
 pub long_between : (xs ys : List ℕ) → length xs ≡ length ys → Long (length xs) (between xs ys)
 long_between [] ys h = tt
 long_between (x ∷ xs) [] h = tt
-long_between (x ∷ xs) (y ∷ ys) h = grind (arith, split_rows x y xs ys, Long-behind x (length xs) (length (x ∷ xs)) (between xs ys), long_split x y xs ys,
-    long_between xs ys)
+long_between (x ∷ xs) (y ∷ ys) h = grind (
+  arith,
+  split_rows x y xs ys,
+  Long-behind x (length xs) (length (x ∷ xs)) (between xs ys),
+  long_split x y xs ys,
+  long_between xs ys,
+)
 
 length_between : (xs ys : List ℕ) → length (between xs ys) ≡ between_rows xs ys
 length_between [] ys = refl
@@ -97,8 +113,16 @@ slots_between xs ys h = slots_rows (length xs) (between xs ys) (long_between xs 
 
 slots_outside : (xs ys : List ℕ) → length xs ≡ length ys → slots_of (rows_tree (below xs ++ above ys)) ≡ length xs * (below_rows xs + above_rows ys)
 slots_outside xs ys h =
-    grind (arith, slots_rows (length xs) (below xs ++ above ys), Long-append (length xs) (below xs) (above ys) (long_below xs), long_below xs, long_above ys,
-        length-append, length_below xs, length_above ys)
+    grind (
+      arith,
+      slots_rows (length xs) (below xs ++ above ys),
+      Long-append (length xs) (below xs) (above ys) (long_below xs),
+      long_below xs,
+      long_above ys,
+      length-append,
+      length_below xs,
+      length_above ys,
+    )
 
 -- a row has a track, and rows have one where there is one
 row_trim : (cs : List Class) → IsTrim (row_tree cs) × HasTrack (row_tree cs)
@@ -123,8 +147,16 @@ some_above : (xs : List ℕ) → IsBytes xs → are_all 255 xs ≡ false → 0 <
 unfolding are_all
 some_above [] bytes h = absurd (cc)
 some_above (x ∷ xs) bytes h =
-    grind (arith, length-append, length_if (nat_lt x 255) (Within (x + 1) 255 ∷ rest xs), IsBytes-head x xs bytes, eq-eqb, IsBytes-tail x xs bytes,
-        length_behind x (above xs), some_above xs (IsBytes-tail x xs bytes))
+    grind (
+      arith,
+      length-append,
+      length_if (nat_lt x 255) (Within (x + 1) 255 ∷ rest xs),
+      IsBytes-head x xs bytes,
+      eq-eqb,
+      IsBytes-tail x xs bytes,
+      length_behind x (above xs),
+      some_above xs (IsBytes-tail x xs bytes),
+    )
 
 some_other : (xs : List ℕ) → 0 < length xs → 0 < length (below xs ++ above xs)
 some_other [] h = absurd (omega arith)
@@ -139,8 +171,19 @@ pub some_between : (xs ys : List ℕ) → length xs ≡ length ys → IsBefore x
 some_between [] [] same order = absurd (cc)
 some_between [] (y ∷ ys) same order = absurd (omega arith)
 some_between (x ∷ xs) [] same order = absurd (cc)
-some_between (x ∷ xs) (y ∷ ys) same order = grind (arith, IsBefore-cases, ne_eqb, split_rows, eq-eqb, length_behind, some_between xs ys, length-append,
-    length_above, length_if, length_below)
+some_between (x ∷ xs) (y ∷ ys) same order = grind (
+  arith,
+  IsBefore-cases,
+  ne_eqb,
+  split_rows,
+  eq-eqb,
+  length_behind,
+  some_between xs ys,
+  length-append,
+  length_above,
+  length_if,
+  length_below,
+)
 
 -- a tree of this many slots, which has a track, and no slot in vain
 record IsSound (tree : Tree) (n : ℕ) : Type 0 where

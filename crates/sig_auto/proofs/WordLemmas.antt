@@ -1,10 +1,11 @@
 -- The words of a sequence's tree are the files in which the sequence stands.
-use Rattle.sig_auto.proofs.Common.{◌≡◌, ◌⊎◌, ◌↔◌, ℕ, ◌<◌, List, [], ◌∷◌, ◌++◌, length, refl, sym, ap, subst, ◌∙◌, inl, inr, arith, append_assoc, Contains,
-    slice_index, cases_order, Contains-append_cases, Contains-append_left, Contains-append_right, Contains-push, Contains-push_cases, Class, Outside, Within,
-    above, below, Tree, Slot, Then, alternatives_tree, atom_tree, atoms_tree, back_tree, bracket_tree, front_tree, item_tree, items_tree, rows_tree, whole_tree,
-    TreeWord, IsBytes, IsBefore-cases, IsBefore-either, IsBefore-lower, IsUpTo-before, IsUpTo-first, IsUpTo-same, not_before_itself, Atom, Item,
-    AlternativesSound, AtomsSound, IsExpression, ItemSound, ItemsSound, RangeSound, AlternativeWord, IsBefore, IsBytesOf, IsUpTo, Lang, PartWord, Word,
-    Position, SequenceView, Cut, Stands, StandsAt, IsSequence}
+use Rattle.sig_auto.proofs.Common.{◌≡◌, ◌⊎◌, ◌↔◌, ℕ, ◌<◌, List, [], ◌∷◌, ◌++◌, length, refl, sym, ap, subst, ◌∙◌, inl, inr, arith, append_assoc, Contains}
+use Rattle.sig_auto.proofs.Common.{slice_index, cases_order, Contains-append_cases, Contains-append_left, Contains-append_right, Contains-push}
+use Rattle.sig_auto.proofs.Common.{Contains-push_cases, Class, Outside, Within, above, below, Tree, Slot, Then, alternatives_tree, atom_tree, atoms_tree}
+use Rattle.sig_auto.proofs.Common.{back_tree, bracket_tree, front_tree, item_tree, items_tree, rows_tree, whole_tree, TreeWord, IsBytes, IsBefore-cases}
+use Rattle.sig_auto.proofs.Common.{IsBefore-either, IsBefore-lower, IsUpTo-before, IsUpTo-first, IsUpTo-same, not_before_itself, Atom, Item, AlternativesSound}
+use Rattle.sig_auto.proofs.Common.{AtomsSound, IsExpression, ItemSound, ItemsSound, RangeSound, AlternativeWord, IsBefore, IsBytesOf, IsUpTo, Lang, PartWord}
+use Rattle.sig_auto.proofs.Common.{Word, Position, SequenceView, Cut, Stands, StandsAt, IsSequence}
 use Rattle.sig_auto.proofs.ByteLemmas.{IsBytes-nil, IsBytes-cons, IsBytes-head, IsBytes-left, IsBytes-right}
 use Rattle.sig_auto.proofs.RowLemmas.{above_is, below_is, between_is, rows_append}
 use Rattle.sig_expr.specs.declared.item.Atom.TheVariants as atom
@@ -47,10 +48,22 @@ not_range_word a b w sound =
     let here = one_not_range (slice_index a 0) (slice_index b 0) w in
     let is_a = single a one in
     let is_b = single b other in (
-      λ h. (let k = here.0 h in (rw one k.0, elim k.1 [ inl before ↦ inl (subst (IsBefore w) (sym is_a) before) | inr after ↦
-          inr (subst (λ (e : List ℕ). IsBefore e w) (sym is_b) after) ])),
-      λ h. here.1 (rw one at h.0, elim h.1 [ inl before ↦ inl (subst (IsBefore w) is_a before) | inr after ↦
-          inr (subst (λ (e : List ℕ). IsBefore e w) is_b after) ]),
+      λ h. (let k = here.0 h in (
+        rw one k.0,
+        elim k.1 [
+          | inl before ↦ inl (subst (IsBefore w) (sym is_a) before)
+          | inr after ↦
+              inr (subst (λ (e : List ℕ). IsBefore e w) (sym is_b) after)
+        ],
+      )),
+      λ h. here.1 (
+        rw one at h.0,
+        elim h.1 [
+          | inl before ↦ inl (subst (IsBefore w) is_a before)
+          | inr after ↦
+              inr (subst (λ (e : List ℕ). IsBefore e w) is_b after)
+        ],
+      ),
     )) (
       λ h. grind (arith, rows_append, below_is, above_is),
       λ h. grind (arith, rows_append, below_is, above_is),
@@ -75,8 +88,16 @@ SomeWord-later a rest w h = (h.0, Contains-append_right (a ∷ []) rest h.0 h.1,
 pub alternatives_is : (alternatives : List (List Atom)) (w : List ℕ) → AlternativesSound alternatives → TreeWord (alternatives_tree alternatives) w
     ↔ SomeWord alternatives w
 alternatives_is [] w sound = (λ h. absurd h, λ h. (let below = h.1.1 in absurd (omega arith)))
-alternatives_is (a ∷ rest) w sound = grind (arith, atoms_is, SomeWord-later, alternatives_is rest w sound.1, Contains-append_left, Contains-push,
-    Contains-append_cases, Contains-push_cases)
+alternatives_is (a ∷ rest) w sound = grind (
+  arith,
+  atoms_is,
+  SomeWord-later,
+  alternatives_is rest w sound.1,
+  Contains-append_left,
+  Contains-push,
+  Contains-append_cases,
+  Contains-push_cases,
+)
 
 -- an item
 pub item_is : (i : Item) (w : List ℕ) → ItemSound i → TreeWord (item_tree i) w ↔ Word i w

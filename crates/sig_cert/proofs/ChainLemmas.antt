@@ -1,6 +1,6 @@
 -- Steps that are judged one after another: the tables of a pair, and the pairs.
-use Rattle.std.proofs.Common.{◌≡◌, ◌⊎◌, ℕ, suc, ◌+◌, ◌-◌, ◌*◌, ◌<◌, ◌≤◌, ◌==◌, Bool, true, false, if◌then◌else◌, List, [], ◌∷◌, ◌++◌, length, map, refl, sym,
-    ap, ◌∙◌, subst, arith, inl, inr, length-append, Ok, Err}
+use Rattle.std.proofs.Common.{◌≡◌, ◌⊎◌, ℕ, suc, ◌+◌, ◌-◌, ◌*◌, ◌<◌, ◌≤◌, ◌==◌, Bool, true, false, if◌then◌else◌, List, [], ◌∷◌, ◌++◌, length, map, refl, sym}
+use Rattle.std.proofs.Common.{ap, ◌∙◌, subst, arith, inl, inr, length-append, Ok, Err}
 use Rattle.std.specs.Prelude.{All, flat_map}
 use Rattle.std.specs.List.{range_with_len}
 use Rattle.std.proofs.Math.Nat.{suc-mul, mul-le-mul}
@@ -84,7 +84,7 @@ pub tables_go_on : (version : Version) (table : TableView) (pair n : ℕ) (at : 
     → Chained (TablesJudged version table pair n all) left Whole bytes → Chained (TablesJudged version table pair (n + 1) later) rest Whole bytes
 tables_go_on version table pair n at first all later left rest bytes Whole is p t judged chain = λ outcome after.
     chain outcome (subst (λ xs. TablesJudged version table pair n xs left outcome) (sym is)
-        (inr (rest, subst (λ site. TableJudged version table first site left (Ok rest)) (site at pair n p t) judged, after)))
+    (inr (rest, subst (λ site. TableJudged version table first site left (Ok rest)) (site at pair n p t) judged, after)))
   where
     site : (at : Site) (pair n : ℕ) → at.pair ≡ pair → at.table ≡ n → at ≡ record { pair = pair; table = n }
     site at pair n p t = λ i. record { pair = p i; table = t i }
@@ -97,7 +97,7 @@ pub tables_stop : (version : Version) (table : TableView) (pair n : ℕ) (at : S
 tables_stop version table pair n at first all later left bytes fault Whole is p t (inl memory) chain = inl memory
 tables_stop version table pair n at first all later left bytes fault Whole is p t (inr judged) chain =
     inr (chain (Err fault) (subst (λ xs. TablesJudged version table pair n xs left (Err fault)) (sym is)
-        (inl (fault, subst (λ site. TableJudged version table first site left (Err fault)) (site at pair n p t) judged, refl))))
+    (inl (fault, subst (λ site. TableJudged version table first site left (Err fault)) (site at pair n p t) judged, refl))))
   where
     site : (at : Site) (pair n : ℕ) → at.pair ≡ pair → at.table ≡ n → at ≡ record { pair = pair; table = n }
     site at pair n p t = λ i. record { pair = p i; table = t i }

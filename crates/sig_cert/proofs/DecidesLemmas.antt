@@ -18,7 +18,7 @@ pub closed_if_accepted : (table : TableView) (certificate view after : List ℕ)
     → Judges (CertificateJudged table) view after result → MatchResult result (λ done. after ≡ []) (λ e. Unit {0}) → OnOk result (Closed table certificate)
 closed_if_accepted table certificate view after (Ok done) bytes same judged end =
     accepted_is_closed table certificate bytes (subst (λ c. CertificateJudged table c (Ok [])) same
-        (subst (λ a. CertificateJudged table view (Ok a)) end judged))
+    (subst (λ a. CertificateJudged table view (Ok a)) end judged))
 closed_if_accepted table certificate view after (Err e) bytes same judged end = tt
 
 -- where only a closed certificate is accepted, an accepted one decides its table

@@ -7,8 +7,8 @@ pub use Rattle.sig_cert.proofs.DecidedLemmas.{accepts_hits, closed_decides, hits
 pub use Rattle.sig_cert.proofs.FileRowLemmas.{file_row_is_row}
 pub use Rattle.sig_cert.proofs.LeftLemmas.{NoneOutranks, two_of, TwoLeft}
 pub use Rattle.sig_cert.proofs.MatchedLemmas.{one_is_left}
-pub use Rattle.sig_cert.proofs.MemberLemmas.{first_is_there, first_or_later, is_format_pair, is_signature_of, is_signature_pair, later_is_there,
-    mapped_is_there, none_is_there}
+pub use Rattle.sig_cert.proofs.MemberLemmas.{first_is_there, first_or_later, is_format_pair, is_signature_of, is_signature_pair, later_is_there}
+pub use Rattle.sig_cert.proofs.MemberLemmas.{mapped_is_there, none_is_there}
 pub use Rattle.sig_cert.proofs.PairLemmas.{length-format_pairs}
 pub use Rattle.sig_cert.proofs.ProductLemmas.{blockers_have_sequences, HasSequences, one_product, one_there, signature_at}
 pub use Rattle.sig_cert.proofs.ReachedLemmas.{reached_is_of_file, states_are_reached}

@@ -1,6 +1,6 @@
 -- When a check may run out of memory, step by step.
-use Rattle.std.proofs.Common.{◌≡◌, Bool, true, false, not, ℕ, ◌<◌, ◌≤◌, List, [], ◌∷◌, length, take, slice_index, Err, MatchOption, Option, Result, Some, eqb,
-    inl, inr, refl, sym, ap, ◌∙◌, subst, arith}
+use Rattle.std.proofs.Common.{◌≡◌, Bool, true, false, not, ℕ, ◌<◌, ◌≤◌, List, [], ◌∷◌, length, take, slice_index, Err, MatchOption, Option, Result, Some, eqb}
+use Rattle.std.proofs.Common.{inl, inr, refl, sym, ap, ◌∙◌, subst, arith}
 use Rattle.std.specs.Cmp.Lexicographic.{pointwise}
 use Rattle.std.proofs.Math.Bool.{and-eq-true_iff}
 use Rattle.std.proofs.lemmas.Bool.{eqb-true, false≢true}
@@ -51,7 +51,7 @@ pub version_passed : (table : TableView) (view after field : List ℕ) (o : Opti
     → VersionPassed table view
 version_passed table view after field o v took is told behind =
     let byte : slice_index field 0 ≡ version_byte v = subst (λ x. MatchOption x ((w : Version) → ¬ (slice_index field 0 ≡ version_byte w))
-        (λ w. slice_index field 0 ≡ version_byte w)) is told in
+    (λ w. slice_index field 0 ≡ version_byte w)) is told in
     record {
       whole = took.whole;
       version = v;

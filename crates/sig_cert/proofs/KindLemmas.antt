@@ -17,9 +17,19 @@ pub unrelated_judged : (version : Version) (table : TableView) (n : ℕ) (pair :
     → Took 1 before kind rest → slice_index kind 0 ≡ 1 → ¬ AreRelated table pair
     → Judges (TablesJudged version table n 0 (signature_pairs table pair)) rest after result → Judges (PairJudged version table n pair) before after result
 unrelated_judged version table n pair before kind rest after (Ok done) took is unrelated judged =
-    inr (took.whole, inr (inr (unrelated, one_byte before 1 took.whole (ap (λ k. slice_index k 0) (sym took.is_field) ∙ is)),
-        inr (unrelated, subst (λ r. TablesJudged version table n 0 (signature_pairs table pair) r (Ok after)) took.behind judged)))
+    inr (
+      took.whole,
+      inr (
+        inr (unrelated, one_byte before 1 took.whole (ap (λ k. slice_index k 0) (sym took.is_field) ∙ is)),
+        inr (unrelated, subst (λ r. TablesJudged version table n 0 (signature_pairs table pair) r (Ok after)) took.behind judged),
+      ),
+    )
 unrelated_judged version table n pair before kind rest after (Err fault) took is unrelated (inl memory) = inl memory
 unrelated_judged version table n pair before kind rest after (Err fault) took is unrelated (inr judged) =
-    inr (inr (took.whole, inr (inr (unrelated, one_byte before 1 took.whole (ap (λ k. slice_index k 0) (sym took.is_field) ∙ is)),
-        inr (unrelated, subst (λ r. TablesJudged version table n 0 (signature_pairs table pair) r (Err fault)) took.behind judged))))
+    inr (inr (
+      took.whole,
+      inr (
+        inr (unrelated, one_byte before 1 took.whole (ap (λ k. slice_index k 0) (sym took.is_field) ∙ is)),
+        inr (unrelated, subst (λ r. TablesJudged version table n 0 (signature_pairs table pair) r (Err fault)) took.behind judged),
+      ),
+    ))

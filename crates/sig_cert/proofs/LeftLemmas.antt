@@ -1,6 +1,6 @@
 -- Two formats that are left for a file: signatures of both hit it, and no format that is hit outranks one of them.
-use Rattle.std.proofs.Common.{◌≡◌, ℕ, ◌<◌, ◌≤◌, ◌&&◌, ◌||◌, Bool, true, false, not, List, [], ◌∷◌, All, AllPairs, Contains, get_or, length, nat_eq, inl, inr,
-    refl, sym, ap, ◌∙◌, subst, arith}
+use Rattle.std.proofs.Common.{◌≡◌, ℕ, ◌<◌, ◌≤◌, ◌&&◌, ◌||◌, Bool, true, false, not, List, [], ◌∷◌, All, AllPairs, Contains, get_or, length, nat_eq, inl, inr}
+use Rattle.std.proofs.Common.{refl, sym, ap, ◌∙◌, subst, arith}
 use Rattle.std.specs.List.{list_any}
 use Rattle.std.proofs.lemmas.Bool.{false≢true}
 use Rattle.std.proofs.lemmas.Bool.Decides.{Decides-and, Decides-eqb}
@@ -66,7 +66,7 @@ kept_stays : (table : TableView) (file : List ℕ) (hits : List Hit) (hit : Hit)
     → NoneOutranks table file hit.format.0
 kept_stays table file hits hit all kept higher place there listed =
     let above : list_any (λ other. is_listed table other.format.0 hit.format.0) hits ≡ true =
-        found_above table hits higher hit.format.0 (all.none_missing higher place there) (listed_is_found table higher hit.format.0 listed) in
+    found_above table hits higher hit.format.0 (all.none_missing higher place there) (listed_is_found table higher hit.format.0 listed) in
     false≢true (sym (ap not above) ∙ kept)
 
 -- the formats of hits rise
@@ -83,13 +83,13 @@ two_of table file [] is two = absurd (omega arith)
 two_of table file (a ∷ []) is two = absurd (omega arith)
 two_of table file (a ∷ (b ∷ more)) is two =
     let rise = AllPairs-filter (λ (x y : Hit). x.format.0 < y.format.0) (is_kept table is.hits) is.hits
-        (hits_rise is.hits (AllPairs-from_increasing (formats_of is.hits) is.all_hits.in_order)) in
+    (hits_rise is.hits (AllPairs-from_increasing (formats_of is.hits) is.all_hits.in_order)) in
     let each : All (IsFirstHit table file) (a ∷ (b ∷ more)) = subst (All (IsFirstHit table file)) (sym is.kept)
-        (All-filter (is_kept table is.hits) (IsFirstHit table file) is.hits is.all_hits.each) in
+    (All-filter (is_kept table is.hits) (IsFirstHit table file) is.hits is.all_hits.each) in
     let kept : All (λ hit. is_kept table is.hits hit ≡ true) (a ∷ (b ∷ more)) =
-        subst (All (λ hit. is_kept table is.hits hit ≡ true)) (sym is.kept) (filter_passes (is_kept table is.hits) is.hits) in
+    subst (All (λ hit. is_kept table is.hits hit ≡ true)) (sym is.kept) (filter_passes (is_kept table is.hits) is.hits) in
     let order : AllPairs (λ (x y : Hit). x.format.0 < y.format.0) (a ∷ (b ∷ more)) =
-        subst (AllPairs (λ (x y : Hit). x.format.0 < y.format.0)) (sym is.kept) rise in
+    subst (AllPairs (λ (x y : Hit). x.format.0 < y.format.0)) (sym is.kept) rise in
     record {
       first = a.format.0;
       second = b.format.0;

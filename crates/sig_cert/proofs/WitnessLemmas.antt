@@ -25,5 +25,5 @@ pub left_are_formats : (table : TableView) (file : List ℕ) (left : List Hit) �
     → All (λ hit. hit.format.0 < length table.formats) left
 left_are_formats table file left is hits = λ k d within.
     let each : All (IsFirstHit table file) left = subst (All (IsFirstHit table file)) (sym hits.kept)
-        (All-filter _ (IsFirstHit table file) hits.hits hits.all_hits.each) in
+    (All-filter _ (IsFirstHit table file) hits.hits hits.all_hits.each) in
     is_format table file _ _ is (each k d within).hits

@@ -23,9 +23,9 @@ use Rattle.sig_table.specs.declared.error.TableError.TheVariants as table
 use Rattle.sig_command.specs.CommandLine.{AreTaken, Asks, HasFaultKind, IsHelpAsked, fault_of_words, subcommand_of_words}
 use Rattle.sig_command.specs.Endings.{AnswersBy, EndsByFault, KeepsErrors, KeepsOutput, ReportsMemory, TellsBy}
 use Rattle.sig_command.specs.Faults.{Reports, ReportsLine, TellsWrite}
-use Rattle.sig_command.specs.Requests.{Behind, CutsSomeWords, CutsWords, IsCutRequest, IsFaultOf, IsFirstFault, IsFolderFault, IsLaterFault, IsListFault,
-    IsNamesFaultOf, Joins, KeepsOrCuts, ListsIf, ListsRequest, ListsSomeWords, ListsWords, ReportsFaultOf, ReportsLineOf, Shows, ShowsBefore, ShowsSomeWords,
-    ShowsWords, TellsOf}
+use Rattle.sig_command.specs.Requests.{Behind, CutsSomeWords, CutsWords, IsCutRequest, IsFaultOf, IsFirstFault, IsFolderFault, IsLaterFault, IsListFault}
+use Rattle.sig_command.specs.Requests.{IsNamesFaultOf, Joins, KeepsOrCuts, ListsIf, ListsRequest, ListsSomeWords, ListsWords, ReportsFaultOf, ReportsLineOf}
+use Rattle.sig_command.specs.Requests.{Shows, ShowsBefore, ShowsSomeWords, ShowsWords, TellsOf}
 use Rattle.sig_command.specs.Several.{ReportsFiles}
 use Rattle.sig_command.proofs.SeveralLemmas.{memory_before}
 use Rattle.sig_command.specs.Statuses.{kind_status, names_status, status_of, table_status}
@@ -35,8 +35,8 @@ use Rattle.sig_command.specs.declared.args.FileNames.TheVariants as source
 use Rattle.sig_command.specs.declared.args.Request.{Request}
 use Rattle.sig_command.specs.declared.args.Request.TheVariants.{Check, Conflicts, Dead, Find, Lint, Match, MatchMany, Show, Witness}
 use Rattle.sig_command.specs.declared.fault.Fault.{Fault}
-use Rattle.sig_command.specs.declared.fault.Fault.TheVariants.{CannotOpen, CutShort, FaultyTable, IsFolder, Names, NoFile, NotInTable, NotText, Run, SomeFiles,
-    SummaryOfOne, Table}
+use Rattle.sig_command.specs.declared.fault.Fault.TheVariants.{CannotOpen, CutShort, FaultyTable, IsFolder, Names, NoFile, NotInTable, NotText, Run, SomeFiles}
+use Rattle.sig_command.specs.declared.fault.Fault.TheVariants.{SummaryOfOne, Table}
 
 -- memory can run out for whatever is asked
 pub memory_of : {R : Type 0} (failed : R → Bool) (held : Holding) (request : Request) → IsFaultOf failed held request (Run run.OutOfMemory)
@@ -116,7 +116,7 @@ faults_are_listed : {R : Type 0} (failed : R → Bool) (held : Holding) (request
 faults_are_listed failed held (Lint table) is_failed before after is lists = let told = lists refl in (told.0, (table, refl, told.1))
 faults_are_listed failed held request is_failed before after is lists =
     absurd (no_such failed held request FaultyTable (λ same. let bad : FaultyTable ≡ Run run.OutOfMemory = same in cc)
-        (λ same. let bad : FaultyTable ≡ SummaryOfOne = same in cc) (λ never. never) (later_faulty failed held request) is)
+    (λ same. let bad : FaultyTable ≡ SummaryOfOne = same in cc) (λ never. never) (later_faulty failed held request) is)
 
 -- so where this is the fault
 pub listed : {R : Type 0} (failed : R → Bool) (held : Holding) (request : Request) (reason : Fault) (is_failed : Bool) (before after : Option (List ℕ))
@@ -124,7 +124,7 @@ pub listed : {R : Type 0} (failed : R → Bool) (held : Holding) (request : Requ
     × ListsRequest held request before after
 listed failed held request reason is_failed before after is lists same =
     faults_are_listed failed held request is_failed before after (subst (IsFaultOf failed held request) same is)
-        (subst (λ fault. ListsIf held request fault is_failed before after) same lists)
+    (subst (λ fault. ListsIf held request fault is_failed before after) same lists)
 
 -- ---- a fault is reported
 
@@ -150,14 +150,14 @@ pub fault_is_reported : {R E : Type 0} (failed : R → Bool) (WriteFailed : Type
     → ReportsFaultOf failed WriteFailed held request status before after (is_failed last) (written err) (written last)
 fault_is_reported failed WriteFailed held request reason status is_failed written err mid last before after out_failed is write lists told joins ends sound
     reports = record {
-  reason = reason;
-  is = is;
-  write = write;
-  ends = ends;
-  lists = λ same. (listed failed held request reason out_failed before after is lists same).1;
-  line = λ whole. line_is_reported failed held request reason status is_failed written err mid before after (written last) told joins (sound whole)
-      (reports whole);
-}
+      reason = reason;
+      is = is;
+      write = write;
+      ends = ends;
+      lists = λ same. (listed failed held request reason out_failed before after is lists same).1;
+      line = λ whole. line_is_reported failed held request reason status is_failed written err mid before after (written last) told joins (sound whole)
+          (reports whole);
+    }
 
 -- before there is a request to look at, memory ran out
 pub memory_is_reported : {R E : Type 0} (failed : R → Bool) (WriteFailed : Type 0) (held : Holding) (request : Request) (status : ℕ) (is_failed : E → Bool)
@@ -170,8 +170,11 @@ memory_is_reported failed WriteFailed held request status is_failed written err 
   write = λ tells. absurd (no_write tells);
   ends = ends;
   lists = λ same. let bad : Run run.OutOfMemory ≡ FaultyTable = same in cc;
-  line = λ whole. (written err, memory_first failed held request before after (written err),
-      subst (λ (s : ℕ). Reports (Run run.OutOfMemory) s (written err) (written last)) (sym ends) (reports whole));
+  line = λ whole. (
+    written err,
+    memory_first failed held request before after (written err),
+    subst (λ (s : ℕ). Reports (Run run.OutOfMemory) s (written err) (written last)) (sym ends) (reports whole),
+  );
 }
   where
     no_write : TellsWrite (Run run.OutOfMemory) → ⊥
@@ -196,7 +199,7 @@ no_files : {R : Type 0} (failed : R → Bool) (held : Holding) (request : Reques
     → IsFaultOf failed held request SomeFiles → ⊥
 no_files failed held request never is =
     no_such failed held request SomeFiles (λ same. let bad : SomeFiles ≡ Run run.OutOfMemory = same in cc)
-        (λ same. let bad : SomeFiles ≡ SummaryOfOne = same in cc) (first_files failed held request) never is
+    (λ same. let bad : SomeFiles ≡ SummaryOfOne = same in cc) (first_files failed held request) never is
 
 -- and then each fault is told
 files_are_reported : {R : Type 0} (failed : R → Bool) (held : Holding) (request : Request) (status : ℕ) (before after : Option (List ℕ)) (is_failed : Bool)
@@ -260,7 +263,7 @@ some_line failed held words request reason status is_failed written err mid befo
         ⊎ ReportsFiles (written err) err_after
     one reason other joins reports =
         let line : ReportsLineOf failed held request reason status before after (written err) err_after =
-            line_is_reported failed held request reason status is_failed written err mid before after err_after told joins sound reports in
+        line_is_reported failed held request reason status is_failed written err mid before after err_after told joins sound reports in
         inl (record { mid = line.0; shown = shown line.0 line.1.0; rest = (reason, other, line.2) })
 
     go : (reason : Fault) → IsFaultOf failed held request reason → Joins failed held request reason before after (is_failed mid) (written err) (written mid)
@@ -318,9 +321,9 @@ fault_keeps_errors failed held words request reason status is_failed written err
   quiet = λ low. absurd (never_low status reason ends low);
   reported = λ three whole.
       subst (λ (s : ℕ). Behind (ShowsWords failed held words false false) (ReportsLine s) (written err) (written last)
-          ⊎ ReportsFiles (written err) (written last)) three
+      ⊎ ReportsFiles (written err) (written last)) three
       (some_line failed held words request reason status is_failed written err mid before after (written last) asks is told joins (sound whole)
-          (reports whole));
+      (reports whole));
 }
 
 -- where nothing is shown, whatever may be shown

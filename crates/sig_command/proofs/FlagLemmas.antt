@@ -1,6 +1,6 @@
 -- Whether words name a priority file, word by word.
-use Rattle.std.proofs.Common.{◌≡◌, ◌||◌, ◌+◌, ◌<◌, ◌∙◌, ℕ, Bool, true, false, not, List, [], ◌∷◌, add-one, ap, codes, cond, drop, drop-cons, get_or, length,
-    refl, suc, sym}
+use Rattle.std.proofs.Common.{◌≡◌, ◌||◌, ◌+◌, ◌<◌, ◌∙◌, ℕ, Bool, true, false, not, List, [], ◌∷◌, add-one, ap, codes, cond, drop, drop-cons, get_or, length}
+use Rattle.std.proofs.Common.{refl, suc, sym}
 use Rattle.std.specs.Prelude.{String, string_bytes, take_while}
 use Rattle.std.specs.List.{list_any}
 use Rattle.std.specs.Str.{bytes_eq}

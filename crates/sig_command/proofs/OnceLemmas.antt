@@ -40,7 +40,7 @@ same_table files paths one other r q =
     let signatures : r.0 ≡ q.0 = same_Some r.0 q.0 (sym r.2 ∙ q.2) in
     let priorities : r.1 ≡ q.1 = same_priorities files paths.priorities r.1 q.1 r.3 q.3 in
     let same : table_of (records_of r.0) (records_of r.1) ≡ table_of (records_of q.0) (records_of q.1) =
-        ap₂ (λ s p. table_of (records_of s) (records_of p)) signatures priorities in
+    ap₂ (λ s p. table_of (records_of s) (records_of p)) signatures priorities in
     ap (table_or one) (sym r.4 ∙ same ∙ q.4)
 
 -- the verdict of a yes
@@ -94,9 +94,11 @@ each_once files table certificate ask t Are checked_before checked_after before 
   where
     one : Decided t → (visit : Visit) (text : List ℕ) → AreLinesAt ask t (Some files) visit text → IsOneLineOf ask t visit text
     one decided visit text is =
-        let lines = is.2 in
-        (lines.hits, one_is_left t lines.file lines.hits decided lines.bytes (subst (λ b. AreAsked b t lines.file lines.hits) left lines.are_asked),
-            lines.are_lines)
+        let lines = is.2 in (
+          lines.hits,
+          one_is_left t lines.file lines.hits decided lines.bytes (subst (λ b. AreAsked b t lines.file lines.hits) left lines.are_asked),
+          lines.are_lines,
+        )
 
 pub one_line_each : (files : Files) (table : TablePaths) (certificate : Bor (List ℕ)) (options : MatchOptions) (names : FileNames) (is_yes : Bool)
     (checked_before checked_after before after : Option (List ℕ)) → options.all ≡ false
@@ -104,6 +106,10 @@ pub one_line_each : (files : Files) (table : TablePaths) (certificate : Bor (Lis
     → Answers (Some files) (MatchMany options table names) is_yes before after → (t : TableView) × (ask : MatchAsk) × AsksEach (Some files) options ask
     × AddsOneLineOfEach ask t (AreVisitsOf ask (Some files) names) before after
 one_line_each files table certificate options names is_yes checked_before checked_after before after left checked matched =
-    let each = matched.1 in
-    (each.0, each.2, each.3, each_once files table certificate each.2 each.0 (AreVisitsOf each.2 (Some files) names) checked_before checked_after before after
-        (each.3.all ∙ left) checked each.1 each.4)
+    let each = matched.1 in (
+      each.0,
+      each.2,
+      each.3,
+      each_once files table certificate each.2 each.0 (AreVisitsOf each.2 (Some files) names) checked_before checked_after before after
+          (each.3.all ∙ left) checked each.1 each.4,
+    )

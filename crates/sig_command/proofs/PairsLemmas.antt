@@ -43,15 +43,27 @@ module _ {R E : Type 0} (failed : R → Bool) (held : Holding) (table : TablePat
       → (out_before out_after : Option (List ℕ))
       → Settles IsAny progress is_yes ask t out_before out_after (is_failed after) (written before) (written after)
       → (options.priorities ≡ None → ShowsIf progress Pairs (is_failed after) before after (written before) (written after))
-          → TellsOf failed held (Conflicts table options progress) true is_failed written before after
+      → TellsOf failed held (Conflicts table options progress) true is_failed written before after
   answer_told progress is_yes t is ask asks out_before out_after settles quiet = go options.priorities refl
     where
       go : (priorities : Option (Bor (List ℕ))) → options.priorities ≡ priorities
           → TellsOf failed held (Conflicts table options progress) true is_failed written before after
       go None none = progress_told progress true (quiet none)
       go (Some name) some =
-          inr (inr (refl, ap is_some some, λ whole. (t, is, ask, asks, is_yes, out_before, out_after,
-              record { refused = settles.refused; adds = settles.adds; tells = λ sound. settles.tells whole })))
+          inr (inr (
+            refl,
+            ap is_some some,
+            λ whole. (
+              t,
+              is,
+              ask,
+              asks,
+              is_yes,
+              out_before,
+              out_after,
+              record { refused = settles.refused; adds = settles.adds; tells = λ sound. settles.tells whole },
+            ),
+          ))
 
 -- ---- the faults
 
@@ -103,12 +115,12 @@ pub pairs_keep : {F R W : Type 0} (made_failed : F → Bool) (failed : R → Boo
     (progress : Bool) (t : TableView) → IsTableOf held table t → (ask : ConflictsAsk) → AsksPairs options t ask
     → (is_failed : W → Bool) (written : W → Option (List ℕ)) (before after : W) (fault : PairsFault)
     → StopsPairs made_failed fault ask t (is_failed after) (written before) (written after) → (IsBeforeSearch fault → after ≡ before)
-        → KeepsOrCuts failed held (Conflicts table options progress) is_failed written before after
+    → KeepsOrCuts failed held (Conflicts table options progress) is_failed written before after
 pairs_keep made_failed failed held table options progress t is ask asks is_failed written before after (pairs.CannotOpen name) stops untouched =
     λ whole. inl (untouched tt)
 pairs_keep made_failed failed held table options progress t is ask asks is_failed written before after (pairs.NoFile folder name) stops untouched =
     λ whole. inr (pairs_are_cut made_failed held table options progress t is ask asks (is_failed after) (written before) (written after)
-        (pairs.NoFile folder name) stops (λ never. never) whole)
+    (pairs.NoFile folder name) stops (λ never. never) whole)
 pairs_keep made_failed failed held table options progress t is ask asks is_failed written before after (pairs.Cut error) stops untouched =
     λ whole. inr (pairs_are_cut made_failed held table options progress t is ask asks (is_failed after) (written before) (written after) (pairs.Cut error) stops
-        (λ never. never) whole)
+    (λ never. never) whole)

@@ -1,6 +1,6 @@
 -- What words ask for, and what they do not.
-use Rattle.std.proofs.Common.{Bool, true, false, not, IfSome, ◌≡◌, ◌≢◌, ◌⊎◌, ℕ, ◌<◌, List, [], ◌∷◌, None, Option, Some, ap, ap₂, arith, codes, inl, inr, map,
-    option_map, refl, subst, sym, ◌∙◌}
+use Rattle.std.proofs.Common.{Bool, true, false, not, IfSome, ◌≡◌, ◌≢◌, ◌⊎◌, ℕ, ◌<◌, List, [], ◌∷◌, None, Option, Some, ap, ap₂, arith, codes, inl, inr, map}
+use Rattle.std.proofs.Common.{option_map, refl, subst, sym, ◌∙◌}
 use Rattle.std.specs.Borrow.{Bor}
 use Rattle.std.specs.Prelude.{is_some}
 use Rattle.std.proofs.Math.ListN.{get_or}
@@ -75,7 +75,7 @@ pub no_match : (rows : List Row) → ((table : TablePaths) (text : Text) (texts 
 no_match rows missing unlisted (Match all table file) asks =
     let same : asks.0 ≡ rows = rows_of_found (codes "match") rows asks.0 asks.1 in
     missing table file.now [] (subst (NamesTable table) same asks.2) (subst (λ (r : List Row). first_of (codes "NAMES") r ≡ None) same asks.4)
-        (subst (λ (r : List Row). all_of (codes "FILE") r ≡ Some (file.now ∷ [])) same asks.3)
+    (subst (λ (r : List Row). all_of (codes "FILE") r ≡ Some (file.now ∷ [])) same asks.3)
 no_match rows missing unlisted (MatchMany options table names) asks =
     let same : asks.0 ≡ rows = rows_of_found (codes "match") rows asks.0 asks.1 in
     named (subst (NamesTable table) same asks.2) (subst (NamesFiles names options) same asks.3)
@@ -91,7 +91,7 @@ no_check rows missing (Conflicts table options progress) asks = other_later (cod
 no_check rows missing (Check table certificate) asks =
     let same : asks.0 ≡ rows = rows_of_found (codes "check") rows asks.0 asks.1 in
     missing table certificate.now (subst (NamesTable table) same asks.2)
-        (subst (λ (r : List Row). first_of (codes "CERT") r ≡ Some certificate.now) same asks.3)
+    (subst (λ (r : List Row). first_of (codes "CERT") r ≡ Some certificate.now) same asks.3)
 no_check rows missing asked asks = other_name (codes "check") (name_of asked) rows asks.0 (omega arith) asks.1
 
 pub no_witness : (rows : List Row) → ((table : TablePaths) (text : Text) → NamesTable table rows → first_of (codes "FILE") rows ≡ Some text → ⊥)
@@ -106,7 +106,7 @@ pub no_find : (rows : List Row) → ((table : TablePaths) (budget : ℕ) (text :
 no_find rows missing (Find table budget out hex progress) asks =
     let same : asks.0 ≡ rows = rows_of_found (codes "find") rows asks.0 asks.1 in
     missing table budget out.now (subst (NamesTable table) same asks.2) (subst (NamesBudget budget) same asks.3)
-        (subst (λ (r : List Row). first_of (codes "OUT") r ≡ Some out.now) same asks.4)
+    (subst (λ (r : List Row). first_of (codes "OUT") r ≡ Some out.now) same asks.4)
 no_find rows missing asked asks = other_name (codes "find") (name_of asked) rows asks.0 (omega arith) asks.1
 
 pub no_conflicts : (rows : List Row) → ((table : TablePaths) (options : ConflictsOptions) → NamesTable table rows → NamesOptions options rows → ⊥)

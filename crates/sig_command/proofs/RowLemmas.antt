@@ -1,6 +1,6 @@
 -- The values of an argument, by the rows of a parse.
-use Rattle.std.proofs.Common.{◌≡◌, ◌<◌, ◌≤◌, Bool, true, false, not, ◌||◌, ◌⊎◌, List, [], ◌∷◌, Option, Some, None, ap, arith, codes, get_or, inl, inr, length,
-    map, refl, subst, sym, ◌∙◌}
+use Rattle.std.proofs.Common.{◌≡◌, ◌<◌, ◌≤◌, Bool, true, false, not, ◌||◌, ◌⊎◌, List, [], ◌∷◌, Option, Some, None, ap, arith, codes, get_or, inl, inr, length}
+use Rattle.std.proofs.Common.{map, refl, subst, sym, ◌∙◌}
 use Rattle.std.specs.Prelude.{IsSomeAnd, find, is_some, option_and_then, option_map, slice_get}
 use Rattle.std.specs.Borrow.{Bor}
 use Rattle.std.specs.Str.{bytes_eq}

@@ -1,6 +1,6 @@
 -- What is written of many files.
-use Rattle.std.proofs.Common.{◌≡◌, ◌≢◌, ◌⊎◌, ◌∙◌, ℕ, List, [], ◌∷◌, ◌++◌, Bool, None, Option, Some, Ok, Err, Result, IfErr, IfOk, OnOk, ap, false, inl, inr,
-    true, map, refl, subst, sym}
+use Rattle.std.proofs.Common.{◌≡◌, ◌≢◌, ◌⊎◌, ◌∙◌, ℕ, List, [], ◌∷◌, ◌++◌, Bool, None, Option, Some, Ok, Err, Result, IfErr, IfOk, OnOk, ap, false, inl, inr}
+use Rattle.std.proofs.Common.{true, map, refl, subst, sym}
 use Rattle.std.specs.Prelude.{All, is_ok, option_map, ◌&&◌, ◌||◌}
 use Rattle.std.specs.Borrow.{Bor}
 use Rattle.std.proofs.lemmas.Bool.{false≢true}
@@ -10,8 +10,8 @@ use Rattle.sig_bits.specs.Device.{Adds}
 use Rattle.sig_table.specs.Views.{TableView}
 use Rattle.sig_engines.specs.FormatNames.{NameList}
 use Rattle.sig_engines.specs.Listed.{AreListed}
-use Rattle.sig_engines.specs.ManyFiles.{AddsAll, AreListedVisits, CutsAll, IsPrinted, IsPrintedBy, StopsAll, Printed, PrintedFile, is_whole, out_text,
-    out_texts, run_text, visits_of}
+use Rattle.sig_engines.specs.ManyFiles.{AddsAll, AreListedVisits, CutsAll, IsPrinted, IsPrintedBy, StopsAll, Printed, PrintedFile, is_whole, out_text}
+use Rattle.sig_engines.specs.ManyFiles.{out_texts, run_text, visits_of}
 use Rattle.sig_engines.specs.Stores.{GivesInput, Holding, IsTableOf, Opens, SomeFailed}
 use Rattle.sig_engines.specs.Visits.{AreVisits, Visit}
 use Rattle.sig_engines.specs.declared.ask.MatchAsk.{MatchAsk}
@@ -21,8 +21,8 @@ use Rattle.sig_engines.specs.declared.error.RunError.TheVariants.{OutOfMemory, R
 use Rattle.sig_engines.specs.declared.store.TablePaths.{TablePaths}
 use Rattle.sig_command.proofs.StoreLemmas.{has_opened, lacks_unopened, opened}
 use Rattle.sig_command.specs.Faults.{TellsWrite}
-use Rattle.sig_command.specs.Requests.{Answers, AreNamesOf, AsksEach, CutsMany, IsBeforeRun, IsCutRequest, IsFaultOf, IsFolderFault, IsListFault, IsLoadFault,
-    IsNamesFaultOf, IsRunFault, Joins, KeepsOrCuts, Shows, ShowsAsked, TellsMany, TellsOf, TellsRun, answer_of}
+use Rattle.sig_command.specs.Requests.{Answers, AreNamesOf, AsksEach, CutsMany, IsBeforeRun, IsCutRequest, IsFaultOf, IsFolderFault, IsListFault, IsLoadFault}
+use Rattle.sig_command.specs.Requests.{IsNamesFaultOf, IsRunFault, Joins, KeepsOrCuts, Shows, ShowsAsked, TellsMany, TellsOf, TellsRun, answer_of}
 use Rattle.sig_command.specs.Several.{AddsLinesOfEach, AddsTold, AreLinesAt, AreListedIn, AreTexts, AreVisitsOf, IsAnswered, IsList, TellsOfEach}
 use Rattle.sig_command.specs.declared.args.FileNames.{FileNames}
 use Rattle.sig_command.specs.declared.args.FileNames.TheVariants.{Input, Words}
@@ -30,8 +30,8 @@ use Rattle.sig_command.specs.declared.args.FileNames.TheVariants as source
 use Rattle.sig_command.specs.declared.args.MatchOptions.{MatchOptions}
 use Rattle.sig_command.specs.declared.args.Request.TheVariants.{MatchMany}
 use Rattle.sig_command.specs.declared.fault.Fault.{Fault}
-use Rattle.sig_command.specs.declared.fault.Fault.TheVariants.{CannotOpen, CutShort, FaultyTable, IsFolder, Names, NoFile, NotInTable, NotText, Run, SomeFiles,
-    SummaryOfOne, Table}
+use Rattle.sig_command.specs.declared.fault.Fault.TheVariants.{CannotOpen, CutShort, FaultyTable, IsFolder, Names, NoFile, NotInTable, NotText, Run, SomeFiles}
+use Rattle.sig_command.specs.declared.fault.Fault.TheVariants.{SummaryOfOne, Table}
 
 -- ---- files of which none has a fault
 
@@ -59,7 +59,7 @@ module _ {R : Type 0} (failed : R → Bool) (ask : MatchAsk) (table : TableView)
   all_answered (f ∷ files) each whole =
       let parts = both_parts (is_ok f.printed) (is_whole files) whole in
       All-cons Has f files (answered_at f.visit f.visit.told f.printed refl (All-head Is f files each) parts.0)
-          (all_answered files (All-tail Is f files each) parts.1)
+      (all_answered files (All-tail Is f files each) parts.1)
 
   -- what is told of files of which none has a fault
   pub tells_each : (Are : List Visit → Type 0) (before after : Option (List ℕ)) (err_failed : Bool) (err_before err_after : Option (List ℕ))
@@ -79,8 +79,13 @@ module _ {R : Type 0} (failed : R → Bool) (ask : MatchAsk) (table : TableView)
 
   lines_of_all : (files : List PrintedFile) → All Has files → AreTexts (AreLinesAt ask table held) (visits_of files) (out_texts files)
   lines_of_all [] each = refl
-  lines_of_all (f ∷ files) each = (out_text f.printed, out_texts files, refl, lines_at f.visit f.printed (All-head Has f files each),
-      lines_of_all files (All-tail Has f files each))
+  lines_of_all (f ∷ files) each = (
+    out_text f.printed,
+    out_texts files,
+    refl,
+    lines_at f.visit f.printed (All-head Has f files each),
+    lines_of_all files (All-tail Has f files each),
+  )
 
   -- what is written of them
   pub each_of : (Are : List Visit → Type 0) (before after : Option (List ℕ)) (err_failed : Bool) (err_before err_after : Option (List ℕ))
@@ -127,15 +132,29 @@ stops_as : (ask : MatchAsk) (IsOf : Visit → Printed → Type 0) (A B : List Vi
     (err_before err_after : Option (List ℕ)) → ((v : List Visit) → A v → B v) → StopsAll ask IsOf A before after err_failed err_before err_after
     → StopsAll ask IsOf B before after err_failed err_before err_after
 stops_as ask IsOf A B before after err_failed err_before err_after are one =
-    record { files = one.files; others = one.others; are_first = are (visits_of one.files ++ one.others) one.are_first; each = one.each; adds =
-    one.adds; reports = one.reports }
+    record {
+      files = one.files;
+      others = one.others;
+      are_first = are (visits_of one.files ++ one.others) one.are_first;
+      each = one.each;
+      adds =
+          one.adds;
+      reports = one.reports;
+    }
 
 cuts_as : (ask : MatchAsk) (IsOf : Visit → Printed → Type 0) (A B : List Visit → Type 0) (before after : Option (List ℕ)) (err_failed : Bool)
     (err_before err_after : Option (List ℕ)) → ((v : List Visit) → A v → B v) → CutsAll ask IsOf A before after err_failed err_before err_after
     → CutsAll ask IsOf B before after err_failed err_before err_after
 cuts_as ask IsOf A B before after err_failed err_before err_after are one =
-    record { files = one.files; others = one.others; are_first = are (visits_of one.files ++ one.others) one.are_first; each = one.each; adds =
-    one.adds; reports = one.reports }
+    record {
+      files = one.files;
+      others = one.others;
+      are_first = are (visits_of one.files ++ one.others) one.are_first;
+      each = one.each;
+      adds =
+          one.adds;
+      reports = one.reports;
+    }
 
 many_as : (ask : MatchAsk) (IsOf : Visit → Printed → Type 0) (A B : List Visit → Type 0) (Listed Others : Type 0) (fault : Fault)
     (before after : Option (List ℕ)) (err_failed : Bool) (err_before err_after : Option (List ℕ)) → ((v : List Visit) → A v → B v) → (Listed → Others)
@@ -425,17 +444,31 @@ module _ {R : Type 0} (failed : R → Bool) (held : Holding) (options : MatchOpt
 
   pub many_answered : (before after : Option (List ℕ)) (err_failed : Bool) (err_before err_after : Option (List ℕ)) (is_yes : Bool) → is_yes ≡ true
       → AddsAll ask (of_core core) turn before after err_failed err_before err_after true → Answers held (MatchMany options paths names) is_yes before after
-  many_answered before after err_failed err_before err_after is_yes whole added =
-      (whole, (table, is, ask, asked, each_of failed ask table held turn before after err_failed err_before err_after
-          (subst (λ t. AddsAll ask (of_core t) turn before after err_failed err_before err_after true) same added)))
+  many_answered before after err_failed err_before err_after is_yes whole added = (
+    whole,
+    (
+      table,
+      is,
+      ask,
+      asked,
+      each_of failed ask table held turn before after err_failed err_before err_after
+          (subst (λ t. AddsAll ask (of_core t) turn before after err_failed err_before err_after true) same added),
+    ),
+  )
 
   pub many_shown : {E : Type 0} (before after : Option (List ℕ)) (is_failed : Bool) (err last : E) (err_before err_after : Option (List ℕ)) (is_yes : Bool)
       → (ask.progress ≡ false → ask.summary ≡ false → last ≡ err) → AddsAll ask (of_core core) turn before after is_failed err_before err_after true
       → ShowsAsked held (MatchMany options paths names) is_yes before after is_failed err last err_before err_after
   many_shown before after is_failed err last err_before err_after is_yes quiet added = (
     λ none. let parts = neither options.progress options.summary none in quiet (asked.progress ∙ parts.0) (asked.summary ∙ parts.1),
-    (table, is, ask, asked, λ sound. tells_each failed ask table held turn before after is_failed err_before err_after
-        (subst (λ t. AddsAll ask (of_core t) turn before after is_failed err_before err_after true) same added) sound),
+    (
+      table,
+      is,
+      ask,
+      asked,
+      λ sound. tells_each failed ask table held turn before after is_failed err_before err_after
+          (subst (λ t. AddsAll ask (of_core t) turn before after is_failed err_before err_after true) same added) sound,
+    ),
   )
     where
       neither : (a b : Bool) → (a || b) ≡ false → (a ≡ false) × (b ≡ false)
@@ -478,17 +511,32 @@ module _ {R : Type 0} (failed : R → Bool) (held : Holding) (options : MatchOpt
   many_ended fault written before after is_failed err_written err last (inl quiet) = inl quiet.2
   many_ended fault written before after is_failed err_written err last (inr tells) =
       let told = subst (λ t. TellsMany ask (of_core t) turn (IsList names) fault (written before) (written after) (is_failed last) (err_written err)
-          (err_written last)) same tells in
-      inr (inl refl, (table, is, ask, asked, told_of ask (of_core table) turn (IsList names) fault (written before) (written after) (is_failed last)
-          (err_written err) (err_written last) told))
+      (err_written last)) same tells in
+      inr (
+        inl refl,
+        (
+          table,
+          is,
+          ask,
+          asked,
+          told_of ask (of_core table) turn (IsList names) fault (written before) (written after) (is_failed last)
+              (err_written err) (err_written last) told,
+        ),
+      )
 
   pub many_joined : {W E : Type 0} (fault : Fault) (written : W → Option (List ℕ)) (before after : W) (is_failed : E → Bool) (err_written : E → Option (List ℕ))
       (err last : E) → TellsRun ask (of_core core) turn (IsList names) fault written before after is_failed err_written err last
       → Joins failed held (MatchMany options paths names) fault (written before) (written after) (is_failed last) (err_written err) (err_written last)
   many_joined fault written before after is_failed err_written err last (inl quiet) = inl (quiet.0, ap err_written quiet.2)
   many_joined fault written before after is_failed err_written err last (inr tells) =
-      inr (table, is, ask, asked, subst (λ t. TellsMany ask (of_core t) turn (IsList names) fault (written before) (written after) (is_failed last)
-          (err_written err) (err_written last)) same tells)
+      inr (
+        table,
+        is,
+        ask,
+        asked,
+        subst (λ t. TellsMany ask (of_core t) turn (IsList names) fault (written before) (written after) (is_failed last)
+            (err_written err) (err_written last)) same tells,
+      )
 
   pub many_untouched : {W E : Type 0} (fault : Fault) (written : W → Option (List ℕ)) (before after : W) (is_failed : E → Bool)
       (err_written : E → Option (List ℕ)) (err last : E) → TellsRun ask (of_core core) turn (IsList names) fault written before after is_failed err_written err
@@ -496,7 +544,7 @@ module _ {R : Type 0} (failed : R → Bool) (held : Holding) (options : MatchOpt
   many_untouched fault written before after is_failed err_written err last (inl quiet) run files = quiet.1
   many_untouched fault written before after is_failed err_written err last (inr tells) run files =
       ends_run ask (of_core core) turn (IsList names) fault (written before) (written after) (is_failed last) (err_written err) (err_written last)
-          (after ≡ before) run files tells
+      (after ≡ before) run files tells
 
   pub many_whole : {W E : Type 0} (fault : Fault) (written : W → Option (List ℕ)) (before after : W) (is_failed : E → Bool) (err_written : E → Option (List ℕ))
       (err last : E) → (TellsWrite fault → ⊥) → TellsRun ask (of_core core) turn (IsList names) fault written before after is_failed err_written err last
@@ -504,9 +552,15 @@ module _ {R : Type 0} (failed : R → Bool) (held : Holding) (options : MatchOpt
   many_whole fault written before after is_failed err_written err last whole (inl quiet) = inl quiet.1
   many_whole fault written before after is_failed err_written err last whole (inr tells) =
       let told = subst (λ t. TellsMany ask (of_core t) turn (IsList names) fault (written before) (written after) (is_failed last) (err_written err)
-          (err_written last)) same tells in
-      inr (table, is, ask, asked, cut_of ask (of_core table) names turn fault (written before) (written after) (is_failed last) (err_written err)
-          (err_written last) whole told)
+      (err_written last)) same tells in
+      inr (
+        table,
+        is,
+        ask,
+        asked,
+        cut_of ask (of_core table) names turn fault (written before) (written after) (is_failed last) (err_written err)
+            (err_written last) whole told,
+      )
 
   pub many_fault : (fault : Fault) → IsRunFault fault (IsListFault failed held names fault) → IsFaultOf failed held (MatchMany options paths names) fault
   many_fault fault (inl files) = inr (inr (inl ((table, is), inl files)))

@@ -16,8 +16,8 @@ use Rattle.sig_engines.specs.Lines.{AddsLinesOfSome}
 use Rattle.sig_command.specs.Faults.{TellsWrite}
 use Rattle.sig_command.specs.Requests.{Answers, IsFileFault}
 use Rattle.sig_command.specs.Requests.{file_fault as fault_of_file}
-use Rattle.sig_engines.specs.Stores.{Files, Has, HasPriorities, Holding, Holds, HoldsPriorities, IsTableFault, IsTableOf, Lacks, Opens, OpensPriorities,
-    ReadsAs, SomeFailed, no_priorities}
+use Rattle.sig_engines.specs.Stores.{Files, Has, HasPriorities, Holding, Holds, HoldsPriorities, IsTableFault, IsTableOf, Lacks, Opens, OpensPriorities}
+use Rattle.sig_engines.specs.Stores.{ReadsAs, SomeFailed, no_priorities}
 use Rattle.sig_engines.specs.PriorityInputs.{has_failed}
 use Rattle.sig_engines.specs.declared.priority_input.PriorityInput.{PriorityInput}
 use Rattle.sig_engines.specs.declared.priority_input.PriorityInput.TheVariants.{File, Header}
@@ -175,19 +175,38 @@ pub match_is_answered : (held : Holding) (request : Request) (all : Bool) (paths
     (to_come before after : Option (List ℕ)) → request ≡ Match all paths name → IsTableOf held paths table → Opens held name.now (Some to_come)
     → AddsLinesOfSome all table to_come before after → Answers held request true before after
 match_is_answered held request all paths name table to_come before after same is opens adds =
-    subst (λ r. Answers held r true before after) (sym same) (refl, table, is, adds.file, adds.bytes,
-        holds_read held name.now to_come adds.file opens adds.is_to_come, adds.adds_lines)
+    subst (λ r. Answers held r true before after) (sym same) (
+      refl,
+      table,
+      is,
+      adds.file,
+      adds.bytes,
+      holds_read held name.now to_come adds.file opens adds.is_to_come,
+      adds.adds_lines,
+    )
 
 pub check_is_answered : (held : Holding) (request : Request) (paths : TablePaths) (name : Bor (List ℕ)) (table : TableView)
     (to_come before after : Option (List ℕ)) (is_yes : Bool) → request ≡ Check paths name → IsTableOf held paths table → Opens held name.now (Some to_come)
     → AddsVerdictOfSome is_yes table to_come before after → Answers held request is_yes before after
 check_is_answered held request paths name table to_come before after is_yes same is opens adds =
-    subst (λ r. Answers held r is_yes before after) (sym same) (table, is, adds.certificate, adds.bytes,
-        holds_read held name.now to_come adds.certificate opens adds.is_to_come, adds.adds_verdict)
+    subst (λ r. Answers held r is_yes before after) (sym same) (
+      table,
+      is,
+      adds.certificate,
+      adds.bytes,
+      holds_read held name.now to_come adds.certificate opens adds.is_to_come,
+      adds.adds_verdict,
+    )
 
 pub witness_is_answered : (held : Holding) (request : Request) (paths : TablePaths) (name : Bor (List ℕ)) (table : TableView)
     (to_come before after : Option (List ℕ)) (is_yes : Bool) → request ≡ Witness paths name → IsTableOf held paths table → Opens held name.now (Some to_come)
     → AddsWitnessOfSome is_yes table to_come before after → Answers held request is_yes before after
 witness_is_answered held request paths name table to_come before after is_yes same is opens adds =
-    subst (λ r. Answers held r is_yes before after) (sym same) (table, is, adds.file, adds.bytes,
-        holds_read held name.now to_come adds.file opens adds.is_to_come, adds.adds_witness)
+    subst (λ r. Answers held r is_yes before after) (sym same) (
+      table,
+      is,
+      adds.file,
+      adds.bytes,
+      holds_read held name.now to_come adds.file opens adds.is_to_come,
+      adds.adds_witness,
+    )

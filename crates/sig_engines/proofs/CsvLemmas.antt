@@ -28,9 +28,9 @@ of_hits names name table [] text rows later = later
 of_hits names name table (hit ∷ hits) text rows later =
     let others = flat_map (λ (h : Hit). row_text default_writer (hit_record names name table h)) hits in
     subst (λ t. Reached default_config st.StartRecord t (map (hit_record names name table) (hit ∷ hits) ++ rows) st.StartRecord [])
-        (sym (append_assoc (row_text default_writer (hit_record names name table hit)) others text))
+    (sym (append_assoc (row_text default_writer (hit_record names name table hit)) others text))
     (first name (format_text table hit.format.0) (signature_text table hit.signature.0 ∷ name_text names table hit.format.0 ∷ []) (others ++ text)
-        (map (hit_record names name table) hits ++ rows) (of_hits names name table hits text rows later))
+    (map (hit_record names name table) hits ++ rows) (of_hits names name table hits text rows later))
 
 -- those of a file
 of_file : (names : Option (Bor NameList)) (name : List ℕ) (table : TableView) (hits : List Hit) (text : List ℕ) (rows : List (List (List ℕ)))
@@ -61,6 +61,10 @@ pub read_back : (names : Option (Bor NameList)) (table : TableView) (files : Lis
     (head_record ∷ flat_map (λ f. records_of_file names f.0 table f.1) files)
 read_back names table files =
     let text = flat_map (λ (f : List ℕ × List Hit). file_text true names f.0 table f.1) files in
-    let rows = flat_map (λ (f : List ℕ × List Hit). records_of_file names f.0 table f.1) files in
-    (st.StartRecord, [], subst (λ t. Reached default_config st.StartRecord t (head_record ∷ rows) st.StartRecord []) (sym (no_mark text))
-        (first (codes "file") (codes "puid") (codes "signature" ∷ codes "name" ∷ []) text rows (of_files names table files)), none_left)
+    let rows = flat_map (λ (f : List ℕ × List Hit). records_of_file names f.0 table f.1) files in (
+      st.StartRecord,
+      [],
+      subst (λ t. Reached default_config st.StartRecord t (head_record ∷ rows) st.StartRecord []) (sym (no_mark text))
+          (first (codes "file") (codes "puid") (codes "signature" ∷ codes "name" ∷ []) text rows (of_files names table files)),
+      none_left,
+    )

@@ -1,6 +1,6 @@
 -- The formats are decided one after another, and their lines are written.
-use Rattle.std.proofs.Common.{◌≡◌, ℕ, true, suc, ◌+◌, ◌-◌, ◌<◌, ◌&&◌, List, [], ◌∷◌, ◌++◌, Bool, Option, Result, Ok, Err, append_assoc, arith, ap, inl, inr,
-    length, map, refl, subst, sym, ◌∙◌}
+use Rattle.std.proofs.Common.{◌≡◌, ℕ, true, suc, ◌+◌, ◌-◌, ◌<◌, ◌&&◌, List, [], ◌∷◌, ◌++◌, Bool, Option, Result, Ok, Err, append_assoc, arith, ap, inl, inr}
+use Rattle.std.proofs.Common.{length, map, refl, subst, sym, ◌∙◌}
 use Rattle.std.specs.Prelude.{IfErr, OnOk}
 use Rattle.std.specs.List.{list_all, range_with_len}
 use Rattle.std.proofs.lemmas.Grind.{flat_map-append}
@@ -11,8 +11,8 @@ use Rattle.sig_find.specs.Lives.{fate_of, format_fate, is_alive}
 use Rattle.sig_find.specs.declared.life.Fate.{Fate}
 use Rattle.sig_find.specs.declared.life.SignatureLife.{SignatureLife}
 use Rattle.sig_table.specs.Views.{TableView}
-use Rattle.sig_engines.specs.Fates.{AddsFates, AddsFrontOfFates, AreFatesCut, AreFatesTold, AreFirstFormats, IsFateCut, IsFateTold, IsKnownFormat, KnownFormat,
-    fate_lines, fates_line, format_fates, known_lines, signature_fates}
+use Rattle.sig_engines.specs.Fates.{AddsFates, AddsFrontOfFates, AreFatesCut, AreFatesTold, AreFirstFormats, IsFateCut, IsFateTold, IsKnownFormat, KnownFormat}
+use Rattle.sig_engines.specs.Fates.{fate_lines, fates_line, format_fates, known_lines, signature_fates}
 use Rattle.sig_engines.specs.declared.error.CutShort.{CutShort}
 use Rattle.sig_engines.specs.declared.error.CutShort.TheVariants.{OutOfMemory, Write}
 use Rattle.sig_engines.proofs.WriteLemmas.{adds_then}
@@ -48,7 +48,7 @@ lines_more : (hex : Bool) (table : TableView) (known : List KnownFormat) (k : Kn
     → known_lines hex table (known ++ k ∷ []) ≡ known_lines hex table known ++ fate_lines hex table k.format (format_fate k.lives) k.lives
 lines_more hex table known k =
     flat_map-append (λ (k : KnownFormat). fate_lines hex table k.format (format_fate k.lives) k.lives) known (k ∷ []) ∙ ap
-        (λ l. known_lines hex table known ++ l) (append-nil (fate_lines hex table k.format (format_fate k.lives) k.lives))
+    (λ l. known_lines hex table known ++ l) (append-nil (fate_lines hex table k.format (format_fate k.lives) k.lives))
 
 format_fates_more : (known : List KnownFormat) (k : KnownFormat) → format_fates (known ++ k ∷ []) ≡ format_fates known ++ format_fate k.lives ∷ []
 format_fates_more known k = map-append (λ (k : KnownFormat). format_fate k.lives) known (k ∷ [])
@@ -57,13 +57,13 @@ signature_fates_more : (known : List KnownFormat) (k : KnownFormat)
     → signature_fates (known ++ k ∷ []) ≡ signature_fates known ++ map (λ (l : SignatureLife). fate_of l.life) k.lives
 signature_fates_more known k =
     flat_map-append (λ (k : KnownFormat). map (λ (l : SignatureLife). fate_of l.life) k.lives) known (k ∷ []) ∙ ap (λ l. signature_fates known ++ l)
-        (append-nil (map (λ (l : SignatureLife). fate_of l.life) k.lives))
+    (append-nil (map (λ (l : SignatureLife). fate_of l.life) k.lives))
 
 -- one format more
 pub goes_on : (hex : Bool) (table : TableView) (budget format : ℕ) (others later : List ℕ) (old_formats new_formats old_signatures new_signatures : List Fate)
     (before mid after : Option (List ℕ)) → others ≡ format ∷ later
     → AreFatesTold hex table budget others old_formats old_signatures before mid
-        → IsFateTold hex table budget format old_formats new_formats old_signatures new_signatures mid after
+    → IsFateTold hex table budget format old_formats new_formats old_signatures new_signatures mid after
     → AreFatesTold hex table budget later new_formats new_signatures before after
 goes_on hex table budget format others later old_formats new_formats old_signatures new_signatures before mid after is are one =
     let k : KnownFormat = record { format = format; lives = one.lives } in
@@ -81,7 +81,7 @@ goes_on hex table budget format others later old_formats new_formats old_signatu
 pub ends_cut : (e : CutShort) (hex : Bool) (table : TableView) (budget format : ℕ) (others later : List ℕ) (formats signatures : List Fate) (is_failed : Bool)
     (before mid after : Option (List ℕ)) → others ≡ format ∷ later
     → AreFatesTold hex table budget others formats signatures before mid → IsFateCut e hex table budget format is_failed mid after
-        → AreFatesCut e hex table budget is_failed before after
+    → AreFatesCut e hex table budget is_failed before after
 ends_cut Write hex table budget format others later formats signatures is_failed before mid after is are cut =
     let one = cut.1 in
     let k : KnownFormat = record { format = format; lives = one.lives } in (
@@ -154,16 +154,16 @@ pub format_is_told : {E : Type 0} (result : Result Unit E) (hex : Bool) (table :
     (old_formats new_formats old_signatures new_signatures : List Fate) (lines : List ℕ) (before after : Option (List ℕ))
     → IsKnownFormat table budget (record { format = format; lives = lives })
     → new_formats ≡ old_formats ++ format_fate lives ∷ [] → new_signatures ≡ old_signatures ++ map (λ (l : SignatureLife). fate_of l.life) lives
-        → lines ≡ fate_lines hex table format (format_fate lives) lives → OnOk result (Adds before lines after)
+    → lines ≡ fate_lines hex table format (format_fate lives) lives → OnOk result (Adds before lines after)
     → OnOk result (IsFateTold hex table budget format old_formats new_formats old_signatures new_signatures before after)
 format_is_told (Ok t) hex table budget format lives old_formats new_formats old_signatures new_signatures lines before after known formats signatures is adds =
     record {
-  lives = lives;
-  known = known;
-  formats = formats;
-  signatures = signatures;
-  adds = subst (λ l. Adds before l after) is adds;
-}
+      lives = lives;
+      known = known;
+      formats = formats;
+      signatures = signatures;
+      adds = subst (λ l. Adds before l after) is adds;
+    }
 format_is_told (Err e) hex table budget format lives old_formats new_formats old_signatures new_signatures lines before after known formats signatures is adds =
     tt
 
@@ -171,7 +171,7 @@ pub format_is_cut : (result : Result Unit CutShort) (hex : Bool) (table : TableV
     (is_failed : Bool) (before after : Option (List ℕ)) → IsKnownFormat table budget (record { format = format; lives = lives })
     → lines ≡ fate_lines hex table format (format_fate lives) lives
     → IfErr result (λ e. (e ≡ Write) × (is_failed ≡ true) × AddsFront before lines after)
-        → IfErr result (λ e. IsFateCut e hex table budget format is_failed before after)
+    → IfErr result (λ e. IsFateCut e hex table budget format is_failed before after)
 format_is_cut (Ok t) hex table budget format lives lines is_failed before after known is cut = tt
 format_is_cut (Err e) hex table budget format lives lines is_failed before after known is cut =
     subst (λ e. IsFateCut e hex table budget format is_failed before after) (sym cut.0) (

@@ -1,6 +1,6 @@
 -- What waits for its turn while a folder is gone through.
-use Rattle.std.proofs.Common.{◌≡◌, ◌<◌, ◌+◌, ◌-◌, ◌*◌, ◌^◌, ℕ, zero, suc, List, [], ◌∷◌, ◌++◌, ap, append_assoc, arith, inl, inr, length, map, refl, subst, sym,
-    ◌∙◌}
+use Rattle.std.proofs.Common.{◌≡◌, ◌<◌, ◌+◌, ◌-◌, ◌*◌, ◌^◌, ℕ, zero, suc, List, [], ◌∷◌, ◌++◌, ap, append_assoc, arith, inl, inr, length, map, refl, subst, sym}
+use Rattle.std.proofs.Common.{◌∙◌}
 use Rattle.std.specs.Prelude.{reverse}
 use Rattle.std.proofs.lemmas.Grind.{reverse_onto}
 use Rattle.std.proofs.lemmas.List.{append-nil, reverse-append, reverse-reverse}
@@ -76,7 +76,7 @@ pub covers_then : (held : Holding) (Are : List Visit → Type 0) (next : Waiting
     → waiting ≡ mid ++ next ∷ [] → Covers held Are v waiting → Leads held (AreMetOf held next) w mid after → Covers held Are (v ++ w) after
 covers_then held Are next mid waiting after v w popped covers leads = λ rest each.
     let parts = each_split (AreMetOf held) leads.added (reverse mid) rest
-        (subst (λ l. AreEach (AreMetOf held) l rest) (ap reverse leads.are ∙ reverse_both leads.added mid) each) in
+    (subst (λ l. AreEach (AreMetOf held) l rest) (ap reverse leads.are ∙ reverse_both leads.added mid) each) in
     let first = parts.0 in
     let later = parts.1 in
     let all : AreEach (AreMetOf held) (next ∷ reverse mid) ((w ++ first) ++ later) = (w ++ first, later, refl, leads.leads first parts.3, parts.4) in

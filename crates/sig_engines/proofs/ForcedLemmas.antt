@@ -1,7 +1,7 @@
 -- The forced pairs are tried one after another, and no format loses its last file by those that are added.
 use Rattle.std.specs.Borrow.{Bor}
-use Rattle.std.proofs.Common.{◌≡◌, ◌∙◌, ℕ, ◌+◌, ◌<◌, Bool, List, [], ◌∷◌, ◌++◌, None, Option, Some, ap, append_assoc, false, get_or, length, refl, subst, sym,
-    take}
+use Rattle.std.proofs.Common.{◌≡◌, ◌∙◌, ℕ, ◌+◌, ◌<◌, Bool, List, [], ◌∷◌, ◌++◌, None, Option, Some, ap, append_assoc, false, get_or, length, refl, subst, sym}
+use Rattle.std.proofs.Common.{take}
 use Rattle.std.proofs.lemmas.Grind.{flat_map-append}
 use Rattle.std.proofs.lemmas.List.{append-nil, map-append, take_more}
 use Rattle.sig_find.specs.Additions.{IsAddition}
@@ -107,10 +107,10 @@ module _ (table : TableView) (budget : ℕ) (notes : List Note) (note : Note) (r
         count = made.count ∙ are.count;
         pairs = made.pairs ∙ ap (λ l. l ++ pair_if pair made.does) are.pairs ∙ append_assoc table.priorities (added are.trials) (pair_if pair made.does)
             ∙ ap (λ l. table.priorities ++ l) (ap (λ l. added are.trials ++ l) (sym (append-nil (pair_if pair made.does))) ∙ sym
-                (flat_map-append (λ (t : Trial). pair_if t.pair t.does) are.trials (t ∷ [])));
+            (flat_map-append (λ (t : Trial). pair_if t.pair t.does) are.trials (t ∷ [])));
         lines = made.lines ∙ ap (λ l. l ++ trial_line table t) are.lines
             ∙ ap (λ l. refused_lines table are.trials ++ l) (sym (append-nil (trial_line table t))) ∙ sym
-                (flat_map-append (trial_line table) are.trials (t ∷ []));
+            (flat_map-append (trial_line table) are.trials (t ∷ []));
       }
 
   -- it forces none
@@ -153,7 +153,7 @@ forced_are_written Made table budget notes ranking name refused is are made = re
 pub forces_written : {F : Type 0} (name_of written : F → Option (List ℕ)) (failed : F → Bool) (held : Holding) (table : TableView) (budget : ℕ)
     (priorities : Option (Bor (List ℕ))) (asked : Option F) (f g : F) (notes : List Note) (ranking : RankingView) (refused : List ℕ)
     → asked ≡ Some f → IsFileAsked name_of written failed held priorities asked → IsTable table → AreRanked table budget notes ranking refused
-        → Adds (written f) (priority_csv (ranked table ranking.pairs)) (written g) → failed g ≡ false
+    → Adds (written f) (priority_csv (ranked table ranking.pairs)) (written g) → failed g ≡ false
     → Forces (IsMade name_of written failed held) table budget priorities notes refused
 forces_written name_of written failed held table budget priorities asked f g notes ranking refused same is_asked is are adds sound =
     go priorities (subst (IsFileAsked name_of written failed held priorities) same is_asked)

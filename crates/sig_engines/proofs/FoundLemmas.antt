@@ -18,8 +18,8 @@ use Rattle.sig_engines.specs.declared.progress.Things.{Things}
 format_is_known : (table : TableView) → IsTable table → (format index : ℕ) → IsOfFormat table format index → format < length table.formats
 format_is_known table is format index (signature, at, of) =
     let signature_is : IsSignature (length table.formats) signature =
-        subst (IsSignature (length table.formats)) (get_or_from_slice_get table.signatures index signature signature at)
-        (is.each index signature (slice_get_within table.signatures index signature at)) in
+    subst (IsSignature (length table.formats)) (get_or_from_slice_get table.signatures index signature signature at)
+    (is.each index signature (slice_get_within table.signatures index signature at)) in
     subst (λ f. f < length table.formats) of signature_is.known
 
 pub found_is_known : (table : TableView) → IsTable table → (budget : ℕ) (found : Found) → IsFound table budget found → IsKnown table found

@@ -1,6 +1,6 @@
 -- What is printed of files, one after another.
-use Rattle.std.proofs.Common.{◌≡◌, ℕ, List, [], ◌∷◌, ◌++◌, ◌+◌, ◌<◌, Bool, None, Option, Ok, Err, Result, IfErr, IfOk, Some, drop, false, inl, inr, true, ap,
-    append_assoc, arith, eqb-true, get_or, length, map, refl, subst, sym, take, ◌∙◌}
+use Rattle.std.proofs.Common.{◌≡◌, ℕ, List, [], ◌∷◌, ◌++◌, ◌+◌, ◌<◌, Bool, None, Option, Ok, Err, Result, IfErr, IfOk, Some, drop, false, inl, inr, true, ap}
+use Rattle.std.proofs.Common.{append_assoc, arith, eqb-true, get_or, length, map, refl, subst, sym, take, ◌∙◌}
 use Rattle.std.specs.Prelude.{◌≢◌, ◌==◌, if◌then◌else◌, is_ok, is_some, ◌&&◌}
 use Rattle.std.proofs.lemmas.Grind.{flat_map-append}
 use Rattle.std.proofs.lemmas.List.{append-nil, map-append, map_more, take-append-drop}
@@ -8,8 +8,8 @@ use Rattle.std.proofs.lemmas.List.Elements.{All-append, All-nil, All-push}
 use Rattle.sig_bits.specs.Device.{Adds, AddsFront}
 use Rattle.sig_engines.specs.FileProgress.{done_text, end_text}
 use Rattle.sig_engines.specs.FileTexts.{head_text}
-use Rattle.sig_engines.specs.ManyFiles.{AddsAll, AddsFiles, Answer, CutsAll, CutsFiles, StopsAll, StopsFiles, Printed, PrintedFile, counted, err_text,
-    err_texts, is_whole, out_text, out_texts, run_text, summary_text, tally_of, visits_of}
+use Rattle.sig_engines.specs.ManyFiles.{AddsAll, AddsFiles, Answer, CutsAll, CutsFiles, StopsAll, StopsFiles, Printed, PrintedFile, counted, err_text}
+use Rattle.sig_engines.specs.ManyFiles.{err_texts, is_whole, out_text, out_texts, run_text, summary_text, tally_of, visits_of}
 use Rattle.sig_engines.specs.Stores.{Holding, IsUnlisted}
 use Rattle.sig_engines.specs.Tallies.{done_of, none_yet, plus, with_file, with_none, with_one, with_several}
 use Rattle.sig_engines.specs.Visits.{AreEach, AreOf, AreVisits, IsOne, Visit, to_match, to_tell}
@@ -155,7 +155,7 @@ err_texts-append progress tally (f ∷ xs) ys =
     let next = counted tally f.printed in
     let first = err_text progress (done_of next) f.visit.name f.printed in
     ap (λ l. first ++ l) (err_texts-append progress next xs ys) ∙ sym
-        (append_assoc first (err_texts progress next xs) (err_texts progress (tally_of next xs) ys))
+    (append_assoc first (err_texts progress next xs) (err_texts progress (tally_of next xs) ys))
 
 visits_of-append : (xs ys : List PrintedFile) → visits_of (xs ++ ys) ≡ visits_of xs ++ visits_of ys
 visits_of-append xs ys = map-append (λ (f : PrintedFile). f.visit) xs ys
@@ -196,7 +196,7 @@ files_cut head P A B C progress a b before mid after first_failed failed err_bef
     let rest = two.others ++ joined.0 in
     let same : (v ++ (w ++ two.others)) ++ joined.0 ≡ visits_of (one.files ++ two.files) ++ rest =
     ap (λ l. l ++ joined.0) (sym (append_assoc v w two.others)) ∙ append_assoc (v ++ w) two.others joined.0 ∙ ap (λ l. l ++ rest)
-        (sym (visits_of-append one.files two.files)) in
+    (sym (visits_of-append one.files two.files)) in
     record {
       files = one.files ++ two.files;
       others = rest;
@@ -296,7 +296,7 @@ if_all ask P A before after begun_failed told_failed failed first begun told end
           let mid = goes_on sound in
           let last = subst (λ t. Adds told (end_text ask.progress ++ summary_text ask.summary t) ended) one.is (ends.3 sound) in
           told_all ask.progress one.files (summary_text ask.summary (tally_of none_yet one.files)) first begun told ended (begins (stays mid)) (one.reports mid)
-              last;
+          last;
     }
 if_all ask P A before after begun_failed told_failed failed first begun told ended matched (Err e) begins added stays goes_on ends = tt
 
@@ -350,7 +350,7 @@ pub quiet_all : {E : Type 0} (first begun told ended : E) (progress summary : Bo
     → ended ≡ first
 quiet_all first begun told ended progress summary matched (Ok true) Ended begins quiet ends is same no_progress no_summary =
     let mid : told ≡ begun = subst (λ m. IfOk m (λ tally. progress ≡ false → tally.failed ≡ 0 → told ≡ begun)) is.1 quiet no_progress
-        (eqb-true is.0.failed 0 (sym is.2)) in
+    (eqb-true is.0.failed 0 (sym is.2)) in
     ends no_progress no_summary ∙ mid ∙ begins no_progress
 quiet_all first begun told ended progress summary matched (Ok false) Ended begins quiet ends is same no_progress no_summary = cc
 quiet_all first begun told ended progress summary matched (Err e) Ended begins quiet ends is same no_progress no_summary = cc
@@ -426,9 +426,9 @@ pub files_on : {X : Type 0} (head : List ℕ) (P : Visit → Printed → Type 0)
     → AddsFiles head P (AreVisits recursive held (map f (take (i + 1) names))) progress a before after failed err_before err_after c
 files_on head P recursive held f names i d progress a b c before mid after first_failed failed err_before err_mid err_after within one two stays =
     files_then head P (AreVisits recursive held (map f (take i names))) (AreOf recursive held (f (get_or names i d)))
-        (AreVisits recursive held (map f (take (i + 1) names))) progress a b c before mid after first_failed failed err_before err_mid err_after
+    (AreVisits recursive held (map f (take (i + 1) names))) progress a b c before mid after first_failed failed err_before err_mid err_after
     (λ v w first second. subst (λ l. AreVisits recursive held l (v ++ w)) (sym (map_more f names i d within))
-        (visits_next recursive held (map f (take i names)) (f (get_or names i d)) v w first second))
+    (visits_next recursive held (map f (take i names)) (f (get_or names i d)) v w first second))
     one two stays
 
 -- what is printed of the first names, and not all of the next
@@ -441,9 +441,9 @@ files_off head P recursive held f names i d progress a b before mid after first_
     let later = map f (drop (i + 1) names) in
     let all : map f (take i names) ++ f (get_or names i d) ∷ [] ++ later ≡ map f names =
     ap (λ l. l ++ later) (sym (map_more f names i d within)) ∙ sym (map-append f (take (i + 1) names) (drop (i + 1) names)) ∙ ap (map f)
-        (take-append-drop (i + 1) names) in
+    (take-append-drop (i + 1) names) in
     files_cut head P (AreVisits recursive held (map f (take i names))) (AreOf recursive held (f (get_or names i d))) (AreVisits recursive held (map f names))
-        progress a b before mid after first_failed failed err_before err_mid err_after
+    progress a b before mid after first_failed failed err_before err_mid err_after
     (λ v w first second.
     let more = visits_next_more recursive held (map f (take i names)) (f (get_or names i d)) later v w first second in
     (more.0, subst (λ l. AreVisits recursive held l (v ++ w ++ more.0)) all more.1))

@@ -48,7 +48,7 @@ metered failed written meter mid last things before after of begins told same so
     let reports = told.adds (sound whole_last) things of (written meter.err.now) (no_reports things (written meter.err.now)) in
     let progress = reports_end things (written meter.err.now) (written mid.err.now) (written last.err.now) reports (ends whole_last) in
     subst (λ e. AddsProgress things (written e) (written after)) begins
-        (subst (λ e. AddsProgress things (written meter.err.now) (written e)) (sym is_last) progress)
+    (subst (λ e. AddsProgress things (written meter.err.now) (written e)) (sym is_last) progress)
 
 -- with the flag
 pub shown_if : {E : Type 0} (progress : Bool) (things : Things) (is_failed : Bool) (before after : E) (written written_after : Option (List ℕ))

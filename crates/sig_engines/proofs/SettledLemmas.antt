@@ -1,6 +1,6 @@
 -- What all pairs tell together: the last line, and where it counts no pair that is not decided, the table.
-use Rattle.std.proofs.Common.{◌≡◌, ℕ, zero, suc, ◌+◌, ◌<◌, List, [], ◌∷◌, ◌++◌, All, Bool, Contains, Option, None, Some, ap, arith, false, true, inl, inr,
-    length, refl, subst, sym, ◌∙◌}
+use Rattle.std.proofs.Common.{◌≡◌, ℕ, zero, suc, ◌+◌, ◌<◌, List, [], ◌∷◌, ◌++◌, All, Bool, Contains, Option, None, Some, ap, arith, false, true, inl, inr}
+use Rattle.std.proofs.Common.{length, refl, subst, sym, ◌∙◌}
 use Rattle.std.specs.Prelude.{cond, filter}
 use Rattle.std.proofs.lemmas.Bool.{false≢true}
 use Rattle.std.proofs.lemmas.List.{append-nil}
@@ -17,8 +17,9 @@ use Rattle.sig_table.specs.declared.ids.FormatId.{FormatId}
 use Rattle.sig_find.proofs.Exports.{decided_pairs_decide}
 use Rattle.sig_table.specs.Tables.{IsTable}
 use Rattle.sig_table.specs.Views.{TableView}
-use Rattle.sig_engines.specs.Conflicts.{AddsConflicts, AreCounts, IsSettled, KnownPair, StopsPairs, class_count, count_of, counted_class, counts_line,
-    four_counts, is_ambiguous, is_decided, is_unknown, is_unrelated, last_line, last_lines, notes_of, pair_lines, pairs_in, pairs_of}
+use Rattle.sig_engines.specs.Conflicts.{AddsConflicts, AreCounts, IsSettled, KnownPair, StopsPairs, class_count, count_of, counted_class, counts_line}
+use Rattle.sig_engines.specs.Conflicts.{four_counts, is_ambiguous, is_decided, is_unknown, is_unrelated, last_line, last_lines, notes_of, pair_lines, pairs_in}
+use Rattle.sig_engines.specs.Conflicts.{pairs_of}
 use Rattle.sig_engines.specs.Asks.{asked_pairs, is_asked, shows_class}
 use Rattle.sig_engines.specs.ClassTexts.{classes_if_asked}
 use Rattle.sig_engines.specs.Forced.{Forces}
@@ -49,11 +50,11 @@ line_of_all ask known counts are =
     let sum = sum_of_counts known in
     let pairs : pairs_in counts ≡ count_of is_unrelated known = omega (arith, sum, are.decided, are.ambiguous, are.unknown) in
     let four : four_counts (pairs_in counts) counts.decided counts.ambiguous counts.unknown ≡ four_counts (count_of is_unrelated known)
-        (count_of is_decided known) (count_of is_ambiguous known) (count_of is_unknown known) =
+    (count_of is_decided known) (count_of is_ambiguous known) (count_of is_unknown known) =
     rw (pairs, are.decided, are.ambiguous, are.unknown) refl in
     ap (λ l. l ++ classes_if_asked (shows_class ask) (counted_class counts) ++ 10 ∷ []) four
     ∙ ap (λ l. four_counts (count_of is_unrelated known) (count_of is_decided known) (count_of is_ambiguous known) (count_of is_unknown known) ++ l ++ 10 ∷ [])
-        (same_classes (shows_class ask) known counts are)
+    (same_classes (shows_class ask) known counts are)
 
 module _ (Made : List ℕ → List ℕ → Type 0) (ask : ConflictsAsk) (table : TableView) (counts : Counts) (notes : List Note) (before mid after : Option (List ℕ))
     (are : AreTold Made ask table [] counts notes before mid) (lines : List ℕ)
@@ -134,9 +135,9 @@ pub conflicts_decide : (Made : List ℕ → List ℕ → Type 0) (is_yes : Bool)
 conflicts_decide Made is_yes refused ask table before after is adds all_known each =
     let none = adds.yes all_known in
     let asked : asked_pairs None (length table.formats) ≡ pairs_of adds.known =
-        subst (λ (only : Option FormatId). asked_pairs only (length table.formats) ≡ pairs_of adds.known) each
-        (adds.are_all.at ∙ append-nil (pairs_of adds.known)) in
+    subst (λ (only : Option FormatId). asked_pairs only (length table.formats) ≡ pairs_of adds.known) each
+    (adds.are_all.at ∙ append-nil (pairs_of adds.known)) in
     let all : format_pairs (length table.formats) ≡ pairs_of adds.known = sym (all_are_asked (format_pairs (length table.formats))) ∙ asked in
     decided_pairs_decide table is (λ a b order known unrelated.
     none_left ask table adds.known adds.are_all.settled none.0 none.1 (a, b)
-        (subst (λ l. Contains l (a, b)) all (is_format_pair (length table.formats) a b order known)))
+    (subst (λ l. Contains l (a, b)) all (is_format_pair (length table.formats) a b order known)))

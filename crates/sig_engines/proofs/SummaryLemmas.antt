@@ -23,12 +23,12 @@ fewer_written table notes formats fewer before after all within whole is =
     let here : length notes + 1 - fewer ≡ suc m = omega (arith, within) in
     let next : length notes + 1 - (fewer + 1) ≡ m = omega (arith, within) in
     let split : flat_map line (formats_below formats notes (length notes + 1 - fewer)) ≡ flat_map line (formats_in formats notes m) ++ flat_map line
-        (formats_below formats notes m) =
+    (formats_below formats notes m) =
     ap (flat_map line) (below_is formats notes (length notes + 1 - fewer) m here) ∙ flat_map-append line (formats_in formats notes m)
-        (formats_below formats notes m) in
+    (formats_below formats notes m) in
     ap (λ n. after ++ flat_map line (formats_below formats notes n)) next ∙ ap (λ l. l ++ flat_map line (formats_below formats notes m)) is
     ∙ append_assoc before (flat_map line (formats_in formats notes m)) (flat_map line (formats_below formats notes m)) ∙ ap (λ l. before ++ l) (sym split)
-        ∙ whole
+    ∙ whole
 
 -- ---- the formats that are in so many lines
 
@@ -45,7 +45,7 @@ pub format_written : (line : ℕ → List ℕ) (p : ℕ → Bool) (n : ℕ) (beg
 format_written line p n begun before after is whole more =
     let all : flat_map line (filter p (range_with_len 0 (n + 1))) ≡ flat_map line (filter p (range_with_len 0 n)) ++ line n =
     ap (flat_map line) (range_more p n ∙ ap (λ b. filter p (range_with_len 0 n) ++ cond b (n ∷ []) []) is) ∙ flat_map-append line
-        (filter p (range_with_len 0 n)) (n ∷ [])
+    (filter p (range_with_len 0 n)) (n ∷ [])
     ∙ ap (λ l. flat_map line (filter p (range_with_len 0 n)) ++ l) (append-nil (line n)) in
     more ∙ ap (λ l. l ++ line n) whole ∙ append_assoc begun (flat_map line (filter p (range_with_len 0 n))) (line n) ∙ ap (λ l. begun ++ l) (sym all)
 
@@ -55,4 +55,4 @@ pub format_passed : (line : ℕ → List ℕ) (p : ℕ → Bool) (n : ℕ) (begu
     → before ≡ begun ++ flat_map line (filter p (range_with_len 0 (n + 1)))
 format_passed line p n begun before is_not whole =
     whole ∙ ap (λ l. begun ++ flat_map line l) (sym (range_more p n ∙ ap (λ b. filter p (range_with_len 0 n) ++ cond b (n ∷ []) []) is_not ∙ append-nil
-        (filter p (range_with_len 0 n))))
+    (filter p (range_with_len 0 n))))

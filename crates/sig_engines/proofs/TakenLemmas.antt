@@ -16,9 +16,9 @@ taken end (Some all) (Some come) name piece rest moved lacks given moves =
     let front : List ℕ = moves.0 in
     let whole : all ≡ (name ++ front) ++ end ∷ (rest ++ come) =
     given ∙ ap (λ p. name ++ (p ++ come)) moves.3 ∙ ap (λ l. name ++ l) (append_assoc front (end ∷ rest) come) ∙ sym
-        (append_assoc name front (end ∷ (rest ++ come))) in
+    (append_assoc name front (end ∷ (rest ++ come))) in
     ap (listed end) whole ∙ takes_first end (name ++ front) (rest ++ come) (lacks_both end name front lacks moves.2) ∙ ap (λ m. m ∷ listed end (rest ++ come))
-        (sym moves.1)
+    (sym moves.1)
 
 -- what stands behind the last end
 last : (end : ℕ) (all come after : Option (List ℕ)) (name piece read rest moved : List ℕ) → LacksByte end name

@@ -1,7 +1,7 @@
 -- The pairs of formats are settled one after another, and their lines are written.
 use Rattle.std.specs.Borrow.{Bor}
-use Rattle.std.proofs.Common.{◌≡◌, ℕ, ◌+◌, ◌<◌, ◌≤◌, List, [], ◌∷◌, ◌++◌, Bool, Option, None, Some, false, not, true, ◌*◌, ◌-◌, ◌/◌, append_assoc, arith, ap,
-    inl, inr, length, length-append, refl, subst, sym, take, ◌∙◌}
+use Rattle.std.proofs.Common.{◌≡◌, ℕ, ◌+◌, ◌<◌, ◌≤◌, List, [], ◌∷◌, ◌++◌, Bool, Option, None, Some, false, not, true, ◌*◌, ◌-◌, ◌/◌, append_assoc, arith, ap}
+use Rattle.std.proofs.Common.{inl, inr, length, length-append, refl, subst, sym, take, ◌∙◌}
 use Rattle.std.specs.Prelude.{All, ◌&&◌, cond, filter}
 use Rattle.std.proofs.Math.Nat.{mul-le-mul}
 use Rattle.std.proofs.Math.Seq.{take-append-add}
@@ -21,8 +21,9 @@ use Rattle.sig_table.specs.declared.ids.FormatId.{FormatId}
 use Rattle.sig_table.specs.Views.{TableView}
 use Rattle.sig_engines.specs.Asks.{asked_pairs, is_asked, needs_class}
 use Rattle.sig_engines.specs.ClassTexts.{is_class}
-use Rattle.sig_engines.specs.Conflicts.{AddsFirstPairs, AreCounts, AreFirst, IsBeforeSearch, IsClassOf, IsCounted, IsSettled, KnownPair, StopsPairs, asked_line,
-    class_count, classes_in, count_of, is_ambiguous, is_decided, is_unknown, is_unrelated, notes_of, pair_line, pair_lines, pairs_in, pairs_of}
+use Rattle.sig_engines.specs.Conflicts.{AddsFirstPairs, AreCounts, AreFirst, IsBeforeSearch, IsClassOf, IsCounted, IsSettled, KnownPair, StopsPairs, asked_line}
+use Rattle.sig_engines.specs.Conflicts.{class_count, classes_in, count_of, is_ambiguous, is_decided, is_unknown, is_unrelated, notes_of, pair_line, pair_lines}
+use Rattle.sig_engines.specs.Conflicts.{pairs_in, pairs_of}
 use Rattle.sig_engines.specs.Notes.{note_of, noted}
 use Rattle.sig_engines.specs.Pairs.{AreTold, IsFileFault, IsPairCut, IsRankFault, IsTargetFault, IsTold}
 use Rattle.sig_engines.specs.Ranking.{IsOfFormats}
@@ -47,9 +48,11 @@ adds_front before after text adds = (length text, omega arith, subst (λ t. Adds
 
 -- a text is written, and then a front of the next
 pub front_then : (before mid after : Option (List ℕ)) (a b : List ℕ) → Adds before a mid → AddsFront mid b after → AddsFront before (a ++ b) after
-front_then before mid after a b adds (n, within, front) =
-    (length a + n, (let long = length-append a b in omega (arith, long, within)),
-        subst (λ t. Adds before t after) (sym (take-append-add a b n)) (adds_then before mid after a (take n b) adds front))
+front_then before mid after a b adds (n, within, front) = (
+  length a + n,
+  (let long = length-append a b in omega (arith, long, within)),
+  subst (λ t. Adds before t after) (sym (take-append-add a b n)) (adds_then before mid after a (take n b) adds front),
+)
 
 -- ---- what is counted
 
@@ -181,12 +184,12 @@ lines_more : (ask : ConflictsAsk) (table : TableView) (known : List KnownPair) (
     → pair_lines ask table (known ++ k ∷ []) ≡ pair_lines ask table known ++ pair_line ask table k.formats k.decision k.class
 lines_more ask table known k =
     flat_map-append (λ (k : KnownPair). pair_line ask table k.formats k.decision k.class) known (k ∷ []) ∙ ap (λ l. pair_lines ask table known ++ l)
-        (append-nil (pair_line ask table k.formats k.decision k.class))
+    (append-nil (pair_line ask table k.formats k.decision k.class))
 
 notes_more : (known : List KnownPair) (k : KnownPair) → notes_of (known ++ k ∷ []) ≡ notes_of known ++ noted k.formats k.decision k.class
 notes_more known k =
     flat_map-append (λ (k : KnownPair). noted k.formats k.decision k.class) known (k ∷ []) ∙ ap (λ l. notes_of known ++ l)
-        (append-nil (noted k.formats k.decision k.class))
+    (append-nil (noted k.formats k.decision k.class))
 
 -- the formats of a note are those of its pair
 one_within : (table : TableView) (formats : ℕ × ℕ) (class : Option PairClass) → (formats.0 < length table.formats) × (formats.1 < length table.formats)
@@ -222,7 +225,7 @@ module _ (Made : List ℕ → List ℕ → Type 0) (ask : ConflictsAsk) (table :
   pub goes_told : (formats : ℕ × ℕ) (others later : List (ℕ × ℕ)) (old new : Counts) (old_notes new_notes : List Note) (before mid after : Option (List ℕ))
       → others ≡ formats ∷ later → (formats.0 < length table.formats) × (formats.1 < length table.formats)
       → AreTold Made ask table others old old_notes before mid → IsTold Made ask table formats old new old_notes new_notes mid after
-          → AreTold Made ask table later new new_notes before after
+      → AreTold Made ask table later new new_notes before after
   goes_told formats others later old new old_notes new_notes before mid after is within are one =
       let k : KnownPair = record { formats = formats; decision = one.decision; class = one.class } in
       record {
@@ -260,7 +263,7 @@ module _ (Made : List ℕ → List ℕ → Type 0) (ask : ConflictsAsk) (table :
   pub ends_cut : {F : Type 0} (failed : F → Bool) (fault : PairsFault) (formats : ℕ × ℕ) (others later : List (ℕ × ℕ)) (counts : Counts) (notes : List Note)
       (is_failed : Bool) (before mid after : Option (List ℕ)) → others ≡ formats ∷ later
       → AreTold Made ask table others counts notes before mid → IsPairCut failed fault ask table formats is_failed mid after
-          → StopsPairs failed fault ask table is_failed before after
+      → StopsPairs failed fault ask table is_failed before after
   ends_cut failed (CannotOpen name) formats others later counts notes is_failed before mid after is are cut = absurd cut
   ends_cut failed (NoFile folder name) formats others later counts notes is_failed before mid after is are cut = (
     cut.0.0,
@@ -384,7 +387,7 @@ pub room_classed : (Made : List ℕ → List ℕ → Type 0) (ask : ConflictsAsk
 room_classed Made ask table others counts notes before after n few count are =
     room_for_one n (classes_in counts) (length others) (length (format_pairs n)) few (length-format_pairs n)
     (subst (λ k. classes_in counts + length others ≤ length (format_pairs k)) (sym count)
-        (few_classes_told Made ask table others counts notes before after are))
+    (few_classes_told Made ask table others counts notes before after are))
 
 -- ---- one pair
 
@@ -399,8 +402,8 @@ pub pair_is_told : (Made : List ℕ → List ℕ → Type 0) (ask : ConflictsAsk
     (class : Option PairClass) (old new : Counts) (old_notes new_notes : List Note) (line : List ℕ) (before after : Option (List ℕ))
     → IsSettled ask table (record { formats = formats; decision = Some decision; class = class })
     → IsCounted old new (Some decision) class → new_notes ≡ old_notes ++ noted formats (Some decision) class
-        → KeepsWitness Made table ask.files formats (Some decision) → line ≡ asked_line ask table formats decision class → Adds before line after
-        → IsTold Made ask table formats old new old_notes new_notes before after
+    → KeepsWitness Made table ask.files formats (Some decision) → line ≡ asked_line ask table formats decision class → Adds before line after
+    → IsTold Made ask table formats old new old_notes new_notes before after
 pair_is_told Made ask table formats decision class old new old_notes new_notes line before after settled counts notes file is adds = record {
   decision = Some decision;
   class = class;
@@ -416,7 +419,7 @@ pub line_is_cut : {F : Type 0} (failed : F → Bool) (e : CutShort) (ask : Confl
     (class : Option PairClass) (line : List ℕ) (is_failed : Bool) (before after : Option (List ℕ))
     → IsSettled ask table (record { formats = formats; decision = Some decision; class = class })
     → line ≡ asked_line ask table formats decision class → (e ≡ Write) × (is_failed ≡ true) × AddsFront before line after
-        → IsPairCut failed (Cut e) ask table formats is_failed before after
+    → IsPairCut failed (Cut e) ask table formats is_failed before after
 line_is_cut failed e ask table formats decision class line is_failed before after settled is cut =
     subst (λ e. IsPairCut failed (Cut e) ask table formats is_failed before after) (sym cut.0) (inl (
       cut.1,

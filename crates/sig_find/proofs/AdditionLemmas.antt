@@ -1,10 +1,10 @@
 -- A pair more leaves every format but its lower one the files that it had.
-use Rattle.std.proofs.Common.{◌≡◌, ◌⊎◌, ℕ, ◌+◌, ◌<◌, List, [], ◌∷◌, ◌++◌, ◌↔◌, All, Contains, Option, None, Some, get_or, length, map, option_map, slice_get,
-    take, ap, inl, inr, refl, subst, sym, ◌∙◌, arith}
+use Rattle.std.proofs.Common.{◌≡◌, ◌⊎◌, ℕ, ◌+◌, ◌<◌, List, [], ◌∷◌, ◌++◌, ◌↔◌, All, Contains, Option, None, Some, get_or, length, map, option_map, slice_get}
+use Rattle.std.proofs.Common.{take, ap, inl, inr, refl, subst, sym, ◌∙◌, arith}
 use Rattle.std.proofs.lemmas.Bool.{cases_eq}
 use Rattle.std.proofs.lemmas.List.{map-append, take_more}
-use Rattle.std.proofs.lemmas.List.Elements.{All-cons, All-contains, All-head, All-nil, All-push, All-tail, All-weaker, Contains-append_cases,
-    Contains-append_left, Contains-push}
+use Rattle.std.proofs.lemmas.List.Elements.{All-cons, All-contains, All-head, All-nil, All-push, All-tail, All-weaker, Contains-append_cases}
+use Rattle.std.proofs.lemmas.List.Elements.{Contains-append_left, Contains-push}
 use Rattle.std.proofs.lemmas.Option.{slice_get_within}
 use Rattle.sig_bits.specs.Bytes.{IsBytes}
 use Rattle.sig_cert.specs.Pairs.{signatures_of}
@@ -44,7 +44,7 @@ all_places : (P : ℕ → Type 0) (signatures : List SigId) → All (λ s. P s.0
 all_places P [] all = All-nil P
 all_places P (s ∷ signatures) all =
     All-cons P s.0 (map (λ (s : SigId). s.0) signatures) (All-head (λ (s : SigId). P s.0) s signatures all)
-        (all_places P signatures (All-tail (λ (s : SigId). P s.0) s signatures all))
+    (all_places P signatures (All-tail (λ (s : SigId). P s.0) s signatures all))
 
 pub own_are_of : (table : TableView) (format : ℕ) → All (IsOfFormat table format) (signatures_of table format)
 own_are_of table format = all_places (IsOfFormat table format) (places_of format 0 table.signatures) (signatures_are_of table format)
@@ -55,7 +55,7 @@ module _ (table : TableView) (pairs : List (ℕ × ℕ)) (format : ℕ) (over : 
   none_over file none higher place at outranks =
       All-contains (λ index. ¬ HitsOf table index file) over place none
       (are.none_missing place (slice_get_within table.signatures place at.signature at.at)
-          (record { higher = higher; of = (at.signature, at.at, at.of_format); over = outranks }))
+      (record { higher = higher; of = (at.signature, at.at, at.of_format); over = outranks }))
       (hits_of_at (ranked table pairs) file higher place at)
 
   -- a file that one of its signatures hits and none of those over it does leaves the format
@@ -63,7 +63,7 @@ module _ (table : TableView) (pairs : List (ℕ × ℕ)) (format : ℕ) (over : 
   escape_leaves is escapes =
       let t = ranked table pairs in
       let of : IsOfFormat t format escapes.signature = All-contains (IsOfFormat table format) (signatures_of table format) escapes.signature
-          (own_are_of table format) escapes.is_own in
+      (own_are_of table format) escapes.is_own in
       let left = left_there t escapes.file is escapes.is_file in
       record {
         file = escapes.file;
@@ -82,7 +82,7 @@ module _ (table : TableView) (pairs : List (ℕ × ℕ)) (format : ℕ) (over : 
       All-weaker (IsOver table pairs format) (λ index. ¬ HitsOf table index file)
       (λ index over hits.
       left_stays (ranked table pairs) file format leaves.left leaves.is_left leaves.is_in over.higher index
-          (hits_at (ranked table pairs) file over.higher index over.of hits) over.over) over are.each
+      (hits_at (ranked table pairs) file over.higher index over.of hits) over.over) over are.each
 
   -- where each file that one of its signatures hits is hit by one of those over it, no file leaves the format
   pub included_leave_none : All (λ s. IsIncluded table s over) (signatures_of table format) → IsNeverLeft (ranked table pairs) format
@@ -91,12 +91,12 @@ module _ (table : TableView) (pairs : List (ℕ × ℕ)) (format : ℕ) (over : 
       let by = left_by t file format leaves.left leaves.is_left leaves.is_in in
       let own = is_signature_of table format by.index by.hits.signature by.hits.at by.hits.of_format in
       All-contains (λ s. IsIncluded table s over) (signatures_of table format) by.index included own file bytes (hits_of_at t file format by.index by.hits)
-          (none_hits file leaves)
+      (none_hits file leaves)
 
 pub escape_tells : (table : TableView) (pairs : List (ℕ × ℕ)) (pair : ℕ × ℕ) (over : List ℕ) (budget : ℕ) (found : Fate) → IsTable table
     → ArePriorities (length table.formats) (pairs ++ pair ∷ [])
     → AreOverBelow table (pairs ++ pair ∷ []) pair.1 (length table.signatures) over → IsEscape table (signatures_of table pair.1) over budget found
-        → IsAddition table pairs pair budget (addition_by found)
+    → IsAddition table pairs pair budget (addition_by found)
 escape_tells table pairs pair over budget fate.Alive is more are escapes =
     (more, escape_leaves table (pairs ++ pair ∷ []) pair.1 over are (ranked_is_table table (pairs ++ pair ∷ []) is more) escapes)
 escape_tells table pairs pair over budget fate.Dead is more are included = included_leave_none table (pairs ++ pair ∷ []) pair.1 over are included
@@ -136,11 +136,15 @@ leaves_still table pairs pair file format is bytes other leaves =
 
 pub additions_keep_formats_alive : (table : TableView) (pairs : List (ℕ × ℕ)) (pair : ℕ × ℕ) (format : ℕ) → IsTable (ranked table (pairs ++ pair ∷ []))
     → IsSometimesLeft (ranked table (pairs ++ pair ∷ [])) pair.1 → IsSometimesLeft (ranked table pairs) format
-        → IsSometimesLeft (ranked table (pairs ++ pair ∷ [])) format
+    → IsSometimesLeft (ranked table (pairs ++ pair ∷ [])) format
 additions_keep_formats_alive table pairs pair format is lower alive = elim (cases_eq format pair.1) [
   | inl same ↦ subst (IsSometimesLeft (ranked table (pairs ++ pair ∷ []))) (sym same) lower
-  | inr other ↦ record { file = alive.file; is_file = alive.is_file; leaves =
-      leaves_still table pairs pair alive.file format is alive.is_file other alive.leaves }
+  | inr other ↦ record {
+    file = alive.file;
+    is_file = alive.is_file;
+    leaves =
+        leaves_still table pairs pair alive.file format is alive.is_file other alive.leaves;
+  }
 ]
 
 -- ---- the signatures over a format, one by one
@@ -212,10 +216,10 @@ one_more_included table others own i d within before here =
 pub own_within : (table : TableView) (format : ℕ) → All (λ index. index < length table.signatures) (signatures_of table format)
 own_within table format =
     All-weaker (IsOfFormat table format) (λ index. index < length table.signatures) (λ index of. slice_get_within table.signatures index of.0 of.1)
-        (signatures_of table format) (own_are_of table format)
+    (signatures_of table format) (own_are_of table format)
 
 pub over_within : (table : TableView) (pairs : List (ℕ × ℕ)) (format : ℕ) (over : List ℕ) → All (IsOver table pairs format) over
     → All (λ index. index < length table.signatures) over
 over_within table pairs format over each =
     All-weaker (IsOver table pairs format) (λ index. index < length table.signatures) (λ index own. slice_get_within table.signatures index own.of.0 own.of.1)
-        over each
+    over each

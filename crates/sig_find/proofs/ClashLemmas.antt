@@ -1,6 +1,6 @@
 -- Bytes at the front of a sequence stand in each file in which it stands.
-use Rattle.std.proofs.Common.{◌≡◌, ℕ, ◌+◌, ◌-◌, ◌<◌, ◌≤◌, List, [], ◌∷◌, ◌++◌, All, Some, get_or, length, slice_get, suc, subst, sym, take, zero, ap, ◌∙◌,
-    arith, refl}
+use Rattle.std.proofs.Common.{◌≡◌, ℕ, ◌+◌, ◌-◌, ◌<◌, ◌≤◌, List, [], ◌∷◌, ◌++◌, All, Some, get_or, length, slice_get, suc, subst, sym, take, zero, ap, ◌∙◌}
+use Rattle.std.proofs.Common.{arith, refl}
 use Rattle.std.proofs.lemmas.List.{get_or-append-add, get_or_append_left, length-append}
 use Rattle.std.proofs.lemmas.List.Elements.{All-head, All-tail}
 use Rattle.sig_expr.specs.declared.item.Item.{Item}
@@ -50,7 +50,7 @@ stands_byte items file at k n b below front is (c, begins) =
     let long = length-append c.front c.word in
     let in_word : get_or (c.front ++ c.word) (length c.front + k) 0 ≡ b = get_or-append-add c.front c.word k 0 ∙ found.1 in
     let in_file : get_or ((c.front ++ c.word) ++ c.back) (length c.front + k) 0 ≡ b =
-        get_or_append_left (c.front ++ c.word) c.back 0 (length c.front + k) (omega arith) ∙ in_word in
+    get_or_append_left (c.front ++ c.word) c.back 0 (length c.front + k) (omega arith) ∙ in_word in
     subst (λ m. get_or file (m + k) 0 ≡ b) begins (subst (λ (l : List ℕ). get_or l (length c.front + k) 0 ≡ b) (sym c.cut) in_file)
 
 pub different_never_stand : (x y : List Item) (a b m n k l : ℕ) (i j : Item) (file : List ℕ) → k ≤ m → l ≤ n → a + k ≡ b + l → All IsOneByte (take m x)

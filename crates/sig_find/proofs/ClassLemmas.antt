@@ -1,6 +1,6 @@
 -- How inclusions of signatures tell how two formats lie to each other.
-use Rattle.std.proofs.Common.{◌≡◌, ◌⊎◌, ℕ, ◌+◌, ◌<◌, List, [], ◌∷◌, ◌++◌, All, Contains, MatchOption, None, Option, Some, false, get_or, inl, inr, is_some,
-    length, map, sym, ap, ◌∙◌, subst, arith, length-append}
+use Rattle.std.proofs.Common.{◌≡◌, ◌⊎◌, ℕ, ◌+◌, ◌<◌, List, [], ◌∷◌, ◌++◌, All, Contains, MatchOption, None, Option, Some, false, get_or, inl, inr, is_some}
+use Rattle.std.proofs.Common.{length, map, sym, ap, ◌∙◌, subst, arith, length-append}
 use Rattle.std.proofs.lemmas.Bool.{cases_eq, true≢false}
 use Rattle.std.proofs.lemmas.List.{get_or-map, length-map}
 use Rattle.std.proofs.lemmas.List.Elements.{All-append, All-contains, All-map, All-weaker, Contains-append_left, Contains-append_right}
@@ -59,7 +59,7 @@ none_of_format : (table : TableView) (b : ℕ) (file : List ℕ) → ¬ HitsForm
 none_of_format table b file none =
     All-map (λ index. ¬ HitsOf table index file) (λ (s : SigId). s.0) (places_of b 0 table.signatures)
     (All-weaker (λ (s : SigId). IsOfFormat table b s.0) (λ (s : SigId). ¬ HitsOf table s.0 file) (λ s of hits. none (s.0, hits_at table file b s.0 of hits))
-        (places_of b 0 table.signatures) (signatures_are_of table b))
+    (places_of b 0 table.signatures) (signatures_are_of table b))
 
 -- nor does one that outranks the format of a file that leaves it
 none_outranks : (table : TableView) (a s : ℕ) (blockers file : List ℕ) → IsOfFormat table a s → All (IsBlocker table s s) blockers → HitsOf table s file
@@ -78,7 +78,7 @@ included_is_held table a b s others takers of are_others are included file bytes
           let none_of_b : NoneHits table others file = subst (λ l. NoneHits table l file) (sym are_others) (none_of_format table b file none) in
           absurd (included file bytes hits (subst (λ l. NoneHits table l file) (sym are.joined)
           (All-append (λ index. ¬ HitsOf table index file) others are.blockers none_of_b
-              (none_outranks table a s are.blockers file of are.are_all.each hits leaves))))
+          (none_outranks table a s are.blockers file of are.are_all.each hits leaves))))
     ]
 
 pub dead_is_held : (table : TableView) (a b s : ℕ) → IsDead table a s → IsHeld table a b s
@@ -89,14 +89,14 @@ none_hits_format : (table : TableView) (b : ℕ) (file : List ℕ) → NoneHits 
 none_hits_format table b file none hits =
     let at : HitsAt table file b hits.0 = hits.1 in
     All-contains (λ index. ¬ HitsOf table index file) (signatures_of table b) hits.0 none (is_signature_of table b hits.0 at.signature at.at at.of_format)
-        (hits_of_at table file b hits.0 at)
+    (hits_of_at table file b hits.0 at)
 
 pub counterexample_stands_alone : (table : TableView) (a b s budget : ℕ) (others takers file : List ℕ) (left : List Hit) → Left table file left
     → IsOfFormat table a s → others ≡ signatures_of table b → AreTakers table s others takers → IsCounterexample table s takers budget file
     → StandsAlone table a b
 counterexample_stands_alone table a b s budget others takers file left is of are_others are counter =
     let none : (index : ℕ) → Contains takers index → ¬ HitsOf table index file =
-        λ index there. All-contains (λ i. ¬ HitsOf table i file) takers index counter.none_hits there in
+    λ index there. All-contains (λ i. ¬ HitsOf table i file) takers index counter.none_hits there in
     let pair : LeavesPair table s s file = record {
       first = counter.hits;
       second = counter.hits;
@@ -133,9 +133,9 @@ all_held table a b budget lives are held file bytes leaves =
     let by = left_by table file a leaves.left leaves.is_left leaves.is_in in
     let there : Contains (signatures_of table a) by.index = is_signature_of table a by.index by.hits.signature by.hits.at by.hits.of_format in
     let of_lives : All (λ (s : SigId). IsHeld table a b s.0) (map (λ (l : SignatureLife). l.signature) lives) =
-        All-map (λ (s : SigId). IsHeld table a b s.0) (λ (l : SignatureLife). l.signature) lives held in
+    All-map (λ (s : SigId). IsHeld table a b s.0) (λ (l : SignatureLife). l.signature) lives held in
     let each : All (IsHeld table a b) (signatures_of table a) = All-map (IsHeld table a b) (λ (s : SigId). s.0) (places_of a 0 table.signatures)
-        (subst (All (λ (s : SigId). IsHeld table a b s.0)) are.all of_lives) in
+    (subst (All (λ (s : SigId). IsHeld table a b s.0)) are.all of_lives) in
     All-contains (IsHeld table a b) (signatures_of table a) by.index each there file bytes by.hits leaves
 
 -- each of the signatures is of the format
@@ -151,9 +151,9 @@ life_at table a budget lives k own are within is =
     let of_format : SigId → Type 0 = λ s. IsOfFormat table a s.0 in
     let long = length-map lives (λ (l : SignatureLife). l.signature) in
     let named : of_format (get_or (map (λ (l : SignatureLife). l.signature) lives) k own.signature) =
-        lives_are_of table a budget lives are k own.signature (omega (arith, long)) in
+    lives_are_of table a budget lives are k own.signature (omega (arith, long)) in
     let same : get_or (map (λ (l : SignatureLife). l.signature) lives) k own.signature ≡ own.signature =
-        get_or-map (λ (l : SignatureLife). l.signature) lives k own own.signature within ∙ ap (λ (l : SignatureLife). l.signature) (sym is) in
+    get_or-map (λ (l : SignatureLife). l.signature) lives k own own.signature within ∙ ap (λ (l : SignatureLife). l.signature) (sym is) in
     (subst of_format same named, subst of_life (sym is) (are.each k own within))
 
 -- the signatures of a format are signatures of the table
@@ -163,7 +163,7 @@ places_within table b others are =
     All-map (λ index. index < length table.signatures) (λ (s : SigId). s.0) others
     (subst (All (λ (s : SigId). s.0 < length table.signatures)) (sym are)
     (All-weaker (λ (s : SigId). IsOfFormat table b s.0) (λ (s : SigId). s.0 < length table.signatures) (λ s of. slice_get_within table.signatures s.0 of.0 of.1)
-        (places_of b 0 table.signatures) (signatures_are_of table b)))
+    (places_of b 0 table.signatures) (signatures_are_of table b)))
 
 pub places_are_signatures : (table : TableView) (b : ℕ) (others : List SigId) → others ≡ places_of b 0 table.signatures
     → map (λ s. s.0) others ≡ signatures_of table b

@@ -105,7 +105,7 @@ fate_decides table budget format lives false true are is_alive is_unknown = tt
 fate_decides table budget format lives false false are is_alive is_unknown =
     dead_signatures_leave_none table format
     (subst (λ signatures. All (IsDead table format) (map (λ (s : SigId). s.0) signatures)) are.all
-        (none_alive table budget format lives are.each is_alive is_unknown))
+    (none_alive table budget format lives are.each is_alive is_unknown))
 
 pub format_fate_decides : (table : TableView) (budget format : ℕ) (lives : List SignatureLife) → AreLives table budget format lives
     → DecidesFormat table format (format_fate lives)

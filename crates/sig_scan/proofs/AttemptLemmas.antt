@@ -1,6 +1,6 @@
 -- From the bytes in sight to the bytes at hand, and from the end of an entry to the first of all.
-use Rattle.sig_scan.proofs.Common.{◌≡◌, ℕ, ◌+◌, ◌≤◌, ◌<◌, ◌⊎◌, inl, inr, List, length, min, take, drop, arith, Option, Some, None, cases_lt, length-take-le,
-    take-append-drop, unwrap_or, Item, EndsAt, IsLeastEnd, AreBounded, span, Lies, IsFirstOf}
+use Rattle.sig_scan.proofs.Common.{◌≡◌, ℕ, ◌+◌, ◌≤◌, ◌<◌, ◌⊎◌, inl, inr, List, length, min, take, drop, arith, Option, Some, None, cases_lt, length-take-le}
+use Rattle.sig_scan.proofs.Common.{take-append-drop, unwrap_or, Item, EndsAt, IsLeastEnd, AreBounded, span, Lies, IsFirstOf}
 use Rattle.sig_scan.proofs.LengthLemmas.{Lies-span}
 use Rattle.sig_scan.proofs.LiesLemmas.{Lies-seen_both}
 

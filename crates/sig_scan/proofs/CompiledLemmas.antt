@@ -1,8 +1,9 @@
 -- A table that is compiled sequence by sequence: the courses of the signatures that are to be hit.
-use Rattle.sig_scan.proofs.Common.{◌≡◌, ◌∙◌, ℕ, ◌+◌, ◌≤◌, ◌<◌, inl, inr, All, Bool, List, [], ◌∷◌, ◌++◌, Some, ap, arith, false, true, get_or, length, subst,
-    sym, All-nil, get_or_from_slice_get, slice_get-get_or, slice_get_within, slice_get, IsBoundedCourse, course_if, IsProgramOf, IsWholeProgramOf, ProgramView,
-    AreBounded, CourseView, StageView, course_of, SequenceView, SignatureView, TableView, ◌⊎◌, length-append, refl, get_or-append_seam, cases_lt,
-    get_or_append_left, All-push, Hits, Stands, AreCoursesOf, AreNeeded, HasSequence}
+use Rattle.sig_scan.proofs.Common.{◌≡◌, ◌∙◌, ℕ, ◌+◌, ◌≤◌, ◌<◌, inl, inr, All, Bool, List, [], ◌∷◌, ◌++◌, Some, ap, arith, false, true, get_or, length, subst}
+use Rattle.sig_scan.proofs.Common.{sym, All-nil, get_or_from_slice_get, slice_get-get_or, slice_get_within, slice_get, IsBoundedCourse, course_if, IsProgramOf}
+use Rattle.sig_scan.proofs.Common.{IsWholeProgramOf, ProgramView, AreBounded, CourseView, StageView, course_of, SequenceView, SignatureView, TableView, ◌⊎◌}
+use Rattle.sig_scan.proofs.Common.{length-append, refl, get_or-append_seam, cases_lt, get_or_append_left, All-push, Hits, Stands, AreCoursesOf, AreNeeded}
+use Rattle.sig_scan.proofs.Common.{HasSequence}
 use Rattle.sig_scan.proofs.CutLemmas.{stages-bounded, tail-bounded}
 use Rattle.sig_scan.proofs.FilterLemmas.{push_cases}
 use Rattle.sig_scan.proofs.ScanLemmas.{one_value}
@@ -73,7 +74,7 @@ AreAdded-push table may_hit index to owners courses g x same_len signature at ad
               | inl was ↦ (let low = was.0 in let end = new.0 in absurd (omega arith))
               | inr now ↦ (
                   let same : g ≡ h = one_value (slice_get table.signatures n) g h (subst (λ m. slice_get table.signatures m ≡ Some g) now.1 signature)
-                      signature_n in
+                  signature_n in
                   let value = get_or_from_slice_get g.sequences to x x at in
                   subst (λ (v : SequenceView). Stands v file) (value ∙ new.1)
                   (subst (λ (v : SignatureView). Hits v file) (sym same) hits to x (slice_get_within g.sequences to x at)))
@@ -91,9 +92,9 @@ AreAdded-push table may_hit index to owners courses g x same_len signature at ad
                   | inr late ↦ (
                       let j_is : j ≡ to = omega arith in
                       let same : h ≡ g = one_value (slice_get table.signatures index) h g (subst (λ m. slice_get table.signatures m ≡ Some h) n_is signature_n)
-                          signature in
+                      signature in
                       let there = subst (λ m. slice_get g.sequences m ≡ Some s) j_is
-                          (subst (λ (v : SignatureView). slice_get v.sequences j ≡ Some s) same sequence) in
+                      (subst (λ (v : SignatureView). slice_get v.sequences j ≡ Some s) same sequence) in
                       let s_is : x ≡ s = one_value (slice_get g.sequences to) x s at there in
                       record {
                         place = length owners;
@@ -139,7 +140,7 @@ AreAdded-next table may_hit index to owners courses g signature all added = reco
         | inr behind ↦ (
             let n_is : n ≡ index = omega arith in
             let same : h ≡ g = one_value (slice_get table.signatures index) h g (subst (λ m. slice_get table.signatures m ≡ Some h) n_is signature_n) signature
-                in
+            in
             let inside = slice_get_within h.sequences j s sequence in
             let len = ap (λ (v : SignatureView). length v.sequences) same in
             added.has n j h s (inr (n_is, omega arith)) signature_n sequence)
@@ -173,7 +174,7 @@ IsWholeProgramOf-all table all program count each is = record {
     courses = λ i g s c owner may sequence course.
         let low = get_or_from_slice_get program.owners i g 0 owner in
         let below : g < length table.signatures = subst (λ n. n < length table.signatures) low (is.are.within i 0 (slice_get_within program.owners i g owner))
-            in
+        in
         let within : g < length all = omega arith in
         is.courses i g s c owner (slice_get-get_or all g true within ∙ ap (λ (b : Bool). Some b) (each g true within)) sequence course;
   };

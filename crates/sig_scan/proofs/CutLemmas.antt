@@ -1,8 +1,9 @@
 -- A sequence stands where its stages stand in turn.
-use Rattle.sig_scan.proofs.Common.{◌≡◌, ℕ, ◌+◌, ◌≤◌, List, [], ◌∷◌, ◌++◌, length, take, drop, Option, None, Some, refl, sym, ap, arith, append_assoc,
-    length-append, ◌↔◌, All, IfSome, slice_range, ⊤, append-nil, length-drop, length-take-le, take-append-drop, take_at, drop_at, All-cons, All-head, All-nil,
-    All-push, All-tail, drop_split, IsBytes, Item, IsAtMost, Position, Cut, AreBounded, IsBoundedItem, Lies, InTurn, CourseStands, StageEnds, StageView,
-    TailView, all_but_last, course_of, last_items, stages_of, max, min}
+use Rattle.sig_scan.proofs.Common.{◌≡◌, ℕ, ◌+◌, ◌≤◌, List, [], ◌∷◌, ◌++◌, length, take, drop, Option, None, Some, refl, sym, ap, arith, append_assoc}
+use Rattle.sig_scan.proofs.Common.{length-append, ◌↔◌, All, IfSome, slice_range, ⊤, append-nil, length-drop, length-take-le, take-append-drop, take_at, drop_at}
+use Rattle.sig_scan.proofs.Common.{All-cons, All-head, All-nil, All-push, All-tail, drop_split, IsBytes, Item, IsAtMost, Position, Cut, AreBounded}
+use Rattle.sig_scan.proofs.Common.{IsBoundedItem, Lies, InTurn, CourseStands, StageEnds, StageView, TailView, all_but_last, course_of, last_items, stages_of}
+use Rattle.sig_scan.proofs.Common.{max, min}
 use Rattle.sig_table.specs.Standing.{StandsAt}
 use Rattle.sig_expr.specs.declared.item.Item.TheVariants as item
 use Rattle.sig_table.specs.declared.position.Position.TheVariants as position

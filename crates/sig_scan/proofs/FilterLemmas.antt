@@ -1,9 +1,10 @@
 -- The prefilter: where the four bytes of an entry stand, its marks and its list are found.
-use Rattle.sig_scan.proofs.Common.{◌≡◌, ◌≢◌, ◌⊎◌, inl, inr, ℕ, ◌+◌, ◌*◌, ◌-◌, ◌%◌, ◌≤◌, ◌<◌, List, [], ◌∷◌, ◌++◌, length, get_or, ap, ◌∙◌, sym, subst, refl,
-    take, arith, Some, get_or-set_same, length-append, set, get_or-append-add, get_or_append_left, get_or-take, get_or_past, length-take-le,
-    get_or_from_slice_get, slice_get-get_or, slice_get_within, cases_eq, cases_lt, slice_get, AddsEntry, AreKept, AreLiteralsOf, AreLowered, AreMissed,
-    AreOwned, HasWindow, IsEntered, IsFilter, IsListed, IsPassedAt, IsUnlisted, behind_of, four_at, list_of, mark_of, text_of, Fits, IsLiteralOf, LiteralView,
-    StandsAt, byte_of, CourseView, StageView, Entry, State, get_or-set_other, min}
+use Rattle.sig_scan.proofs.Common.{◌≡◌, ◌≢◌, ◌⊎◌, inl, inr, ℕ, ◌+◌, ◌*◌, ◌-◌, ◌%◌, ◌≤◌, ◌<◌, List, [], ◌∷◌, ◌++◌, length, get_or, ap, ◌∙◌, sym, subst, refl}
+use Rattle.sig_scan.proofs.Common.{take, arith, Some, get_or-set_same, length-append, set, get_or-append-add, get_or_append_left, get_or-take, get_or_past}
+use Rattle.sig_scan.proofs.Common.{length-take-le, get_or_from_slice_get, slice_get-get_or, slice_get_within, cases_eq, cases_lt, slice_get, AddsEntry, AreKept}
+use Rattle.sig_scan.proofs.Common.{AreLiteralsOf, AreLowered, AreMissed, AreOwned, HasWindow, IsEntered, IsFilter, IsListed, IsPassedAt, IsUnlisted, behind_of}
+use Rattle.sig_scan.proofs.Common.{four_at, list_of, mark_of, text_of, Fits, IsLiteralOf, LiteralView, StandsAt, byte_of, CourseView, StageView, Entry, State}
+use Rattle.sig_scan.proofs.Common.{get_or-set_other, min}
 use Rattle.std.proofs.lemmas.Option.{same_Some}
 
 -- the fourth byte does not count for a mark

@@ -1,8 +1,8 @@
 -- The state in which a sequence waits at the beginning of a file.
-use Rattle.sig_scan.proofs.Common.{◌≡◌, ◌∙◌, ℕ, ◌+◌, ◌<◌, inl, inr, List, [], ◌∷◌, ◌++◌, ap, arith, drop, false, get_or, length, length-append, map, Option,
-    None, refl, Some, subst, sym, get_or-append_seam, cases_lt, false≢true, get_or_append_left, nil_from_length, get_or_from_slice_get, slice_get-get_or,
-    slice_get-map, slice_get_within, slice_get, option_map, ◌↔◌, is_some, Item, course_in, AreFirst, CourseView, InTurn, IsFirstEnd, StageView, TailView,
-    Course, State}
+use Rattle.sig_scan.proofs.Common.{◌≡◌, ◌∙◌, ℕ, ◌+◌, ◌<◌, inl, inr, List, [], ◌∷◌, ◌++◌, ap, arith, drop, false, get_or, length, length-append, map, Option}
+use Rattle.sig_scan.proofs.Common.{None, refl, Some, subst, sym, get_or-append_seam, cases_lt, false≢true, get_or_append_left, nil_from_length}
+use Rattle.sig_scan.proofs.Common.{get_or_from_slice_get, slice_get-get_or, slice_get-map, slice_get_within, slice_get, option_map, ◌↔◌, is_some, Item}
+use Rattle.sig_scan.proofs.Common.{course_in, AreFirst, CourseView, InTurn, IsFirstEnd, StageView, TailView, Course, State}
 use Rattle.sig_scan.specs.Scans.{IsFirst}
 use Rattle.sig_scan.proofs.StateLemmas.{stages-next}
 use Rattle.sig_scan.proofs.TurnLemmas.{InTurn-first}

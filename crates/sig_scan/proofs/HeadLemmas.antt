@@ -1,7 +1,8 @@
 -- Heads: which files have them, and which signatures they close.
-use Rattle.sig_scan.proofs.Common.{◌≡◌, ◌≢◌, ◌∙◌, ℕ, ◌<◌, inl, inr, All, Bool, List, [], ◌∷◌, ◌++◌, add-zero, ap, append_assoc, arith, false, true, get_or,
-    length, length-append, subst, sym, set, false≢true, get_or-append-add, get_or_append_left, get_or_from_slice_get, slice_get_within, Item, HasHead, IsHeadOf,
-    IsEitherOf, AreExcluded, Head, TableView, max, min, Some, slice_get, Hits, Stands, SequenceView, SignatureView}
+use Rattle.sig_scan.proofs.Common.{◌≡◌, ◌≢◌, ◌∙◌, ℕ, ◌<◌, inl, inr, All, Bool, List, [], ◌∷◌, ◌++◌, add-zero, ap, append_assoc, arith, false, true, get_or}
+use Rattle.sig_scan.proofs.Common.{length, length-append, subst, sym, set, false≢true, get_or-append-add, get_or_append_left, get_or_from_slice_get}
+use Rattle.sig_scan.proofs.Common.{slice_get_within, Item, HasHead, IsHeadOf, IsEitherOf, AreExcluded, Head, TableView, max, min, Some, slice_get, Hits, Stands}
+use Rattle.sig_scan.proofs.Common.{SequenceView, SignatureView}
 use Rattle.sig_table.specs.Standing.{StandsAt}
 use Rattle.sig_scan.proofs.ScanLemmas.{AreExcluded-set, one_value}
 use Rattle.sig_table.specs.declared.position.Position.TheVariants as position
@@ -63,7 +64,7 @@ pub AreExcluded-head : (table : TableView) (may_hit : List Bool) (bytes : List �
     → AreExcluded table (set may_hit h.signature false) bytes
 AreExcluded-head table may_hit bytes h within is at text other =
     AreExcluded-set table may_hit bytes h.signature false within
-        (λ _ v signature more _ hits. HasHead-never h bytes more at text other (is v signature (bytes ++ more) hits))
+    (λ _ v signature more _ hits. HasHead-never h bytes more at text other (is v signature (bytes ++ more) hits))
 
 -- where all may be hit none is excluded
 pub AreExcluded-none : (table : TableView) (may_hit : List Bool) (file : List ℕ) → All (λ b. b ≡ true) may_hit → AreExcluded table may_hit file

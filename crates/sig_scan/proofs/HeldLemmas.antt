@@ -1,7 +1,8 @@
 -- How many bytes hold the words of a compiled table.
-use Rattle.sig_scan.proofs.Common.{◌≡◌, ℕ, ◌+◌, ◌-◌, ◌≤◌, ◌<◌, Bool, false, true, List, [], ◌∷◌, ◌++◌, length, get_or, map, take, drop, Option, None, subst,
-    sym, arith, All, IfSome, ForSome, All-append, All-drop, All-map, All-more, All-nil, All-push, All-take, All-weaker, Position, IsSequence, SequenceView,
-    Course, AddsCourse, AreHeld, IsHeld, course_if, course_in, span, StageView, TailView, last_items, stages_of, max, min}
+use Rattle.sig_scan.proofs.Common.{◌≡◌, ℕ, ◌+◌, ◌-◌, ◌≤◌, ◌<◌, Bool, false, true, List, [], ◌∷◌, ◌++◌, length, get_or, map, take, drop, Option, None, subst}
+use Rattle.sig_scan.proofs.Common.{sym, arith, All, IfSome, ForSome, All-append, All-drop, All-map, All-more, All-nil, All-push, All-take, All-weaker, Position}
+use Rattle.sig_scan.proofs.Common.{IsSequence, SequenceView, Course, AddsCourse, AreHeld, IsHeld, course_if, course_in, span, StageView, TailView, last_items}
+use Rattle.sig_scan.proofs.Common.{stages_of, max, min}
 use Rattle.sig_table.specs.declared.position.Position.TheVariants as position
 use Rattle.sig_scan.proofs.ProgramLemmas.{last_is}
 use Rattle.sig_scan.proofs.ShortLemmas.{stages-short, tail-short}

@@ -1,6 +1,7 @@
 -- From items and alternatives to their parts.
-use Rattle.sig_scan.proofs.Common.{◌≡◌, ◌↔◌, ℕ, ◌+◌, ◌≤◌, ◌<◌, List, [], ◌∷◌, ◌++◌, length, get_or, drop, replicate, subst, sym, ap, ◌∙◌, inl, inr, slice_range,
-    drop_more, Contains-append_left, Contains-push, Contains-push_cases, HasBit, Atom, AlternativeWord, Word, GainsBits, HasBits, Reaches}
+use Rattle.sig_scan.proofs.Common.{◌≡◌, ◌↔◌, ℕ, ◌+◌, ◌≤◌, ◌<◌, List, [], ◌∷◌, ◌++◌, length, get_or, drop, replicate, subst, sym, ap, ◌∙◌, inl, inr, slice_range}
+use Rattle.sig_scan.proofs.Common.{drop_more, Contains-append_left, Contains-push, Contains-push_cases, HasBit, Atom, AlternativeWord, Word, GainsBits, HasBits}
+use Rattle.sig_scan.proofs.Common.{Reaches}
 use Rattle.sig_expr.specs.declared.item.Item.TheVariants as item
 use Rattle.sig_scan.proofs.ReachLemmas.{Carries, Reaches-join, Reaches-split, Reaches-starts}
 use Rattle.sig_scan.proofs.SetLemmas.{GainsBits-more, HasBits-from_gains}

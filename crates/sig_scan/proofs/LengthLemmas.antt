@@ -1,7 +1,8 @@
 -- How long words are.
-use Rattle.sig_scan.proofs.Common.{◌≡◌, ℕ, ◌+◌, ◌≤◌, ◌<◌, List, [], ◌∷◌, ◌++◌, length, get_or, take, drop, All, map, sym, None, Some, zero, suc, ap, ◌∙◌, arith,
-    length-append, slice_range, drop_more, get_or-map, length-map, take_more, All-contains, All-head, All-tail, sum_by-cons, Atom, Item, AlternativeWord, Lang,
-    Word, AreBounded, HasLength, IsBoundedItem, item_span, longest_of, part_length, parts_length, span, Lies, max, min}
+use Rattle.sig_scan.proofs.Common.{◌≡◌, ℕ, ◌+◌, ◌≤◌, ◌<◌, List, [], ◌∷◌, ◌++◌, length, get_or, take, drop, All, map, sym, None, Some, zero, suc, ap, ◌∙◌, arith}
+use Rattle.sig_scan.proofs.Common.{length-append, slice_range, drop_more, get_or-map, length-map, take_more, All-contains, All-head, All-tail, sum_by-cons}
+use Rattle.sig_scan.proofs.Common.{Atom, Item, AlternativeWord, Lang, Word, AreBounded, HasLength, IsBoundedItem, item_span, longest_of, part_length}
+use Rattle.sig_scan.proofs.Common.{parts_length, span, Lies, max, min}
 use Rattle.sig_expr.specs.declared.item.Item.TheVariants as item
 use Rattle.sig_scan.proofs.LiesLemmas.{Lies-seen_both, length-slice_range}
 use Rattle.sig_scan.proofs.PartLemmas.{PartWord-length}

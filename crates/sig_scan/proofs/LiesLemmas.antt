@@ -1,7 +1,8 @@
 -- Where words lie: of two lists of items joined, behind a gap, and in a file of which only the
 -- first bytes are seen.
-use Rattle.sig_scan.proofs.Common.{◌≡◌, ℕ, ◌+◌, ◌-◌, ◌≤◌, List, [], ◌∷◌, ◌++◌, length, drop, None, refl, subst, sym, ap, ◌∙◌, arith, append_assoc,
-    length-append, ◌↔◌, slice_range, length-drop, drop-append-le, take-append-le, drop-append-add, All-drop, All-take, IsBytes, Item, Lang, Word, Lies, min}
+use Rattle.sig_scan.proofs.Common.{◌≡◌, ℕ, ◌+◌, ◌-◌, ◌≤◌, List, [], ◌∷◌, ◌++◌, length, drop, None, refl, subst, sym, ap, ◌∙◌, arith, append_assoc}
+use Rattle.sig_scan.proofs.Common.{length-append, ◌↔◌, slice_range, length-drop, drop-append-le, take-append-le, drop-append-add, All-drop, All-take, IsBytes}
+use Rattle.sig_scan.proofs.Common.{Item, Lang, Word, Lies, min}
 use Rattle.sig_expr.specs.declared.item.Item.TheVariants as item
 use Rattle.sig_scan.proofs.ReachLemmas.{slice_range-split, slice_range-words}
 pub use Rattle.sig_scan.proofs.ReachLemmas.{length-slice_range}

@@ -1,8 +1,9 @@
 -- Where required literals stand: behind the beginning of each word, and so far from each other offset.
-use Rattle.sig_scan.proofs.Common.{◌≡◌, ◌⊎◌, ℕ, zero, suc, ◌+◌, ◌-◌, ◌≤◌, ◌<◌, true, eqb, eq-eqb, List, [], ◌∷◌, ◌++◌, length, get_or, take, drop, min, ap, ap₂,
-    ◌∙◌, sym, subst, refl, arith, length-append, inl, inr, Option, Some, None, slice_range, set, cases_lt, or_left, or_right, append-nil, get_or-drop,
-    get_or-take, take-append-drop, take-take, take_at, take_more, FindsNeedle, IsFirst, Nowhere, OccursAt, Passes, is_byte2, Item, Lang, Word, HasLength,
-    AreFixed, BeginsWith, Fits, IsEitherOf, IsLiteralOf, LiteralView, StandsAt, byte_of, Lies, IsFirstOf, not}
+use Rattle.sig_scan.proofs.Common.{◌≡◌, ◌⊎◌, ℕ, zero, suc, ◌+◌, ◌-◌, ◌≤◌, ◌<◌, true, eqb, eq-eqb, List, [], ◌∷◌, ◌++◌, length, get_or, take, drop, min, ap, ap₂}
+use Rattle.sig_scan.proofs.Common.{◌∙◌, sym, subst, refl, arith, length-append, inl, inr, Option, Some, None, slice_range, set, cases_lt, or_left, or_right}
+use Rattle.sig_scan.proofs.Common.{append-nil, get_or-drop, get_or-take, take-append-drop, take-take, take_at, take_more, FindsNeedle, IsFirst, Nowhere}
+use Rattle.sig_scan.proofs.Common.{OccursAt, Passes, is_byte2, Item, Lang, Word, HasLength, AreFixed, BeginsWith, Fits, IsEitherOf, IsLiteralOf, LiteralView}
+use Rattle.sig_scan.proofs.Common.{StandsAt, byte_of, Lies, IsFirstOf, not}
 use Rattle.memchr.proofs.lemmas.MatchLemmas.{OccursAt-from_part}
 use Rattle.sig_scan.proofs.LiesLemmas.{Lies-split, length-slice_range}
 

@@ -1,7 +1,7 @@
 -- Bits of words and vectors, as numbers of a set.
-use Rattle.sig_scan.proofs.Common.{◌≡◌, ◌⊎◌, ◌↔◌, ℕ, ◌+◌, ◌/◌, ◌%◌, ◌^◌, ◌<◌, Bool, false, cond, List, length, map, get_or, get_or-set_same, get_or-set_other,
-    replicate, bit_or, bit_and, w8, w64, ap, ◌∙◌, arith, bit_at, bit_not, mask_l, top, zip2, get_or-map, bit_at_and, bit_at_cat_high, bit_at_cat_low, bit_at-lt,
-    bit_at_not, bit_at_ones, bit_at_or, bit_mask_l, bitmask_splat, HasBit}
+use Rattle.sig_scan.proofs.Common.{◌≡◌, ◌⊎◌, ◌↔◌, ℕ, ◌+◌, ◌/◌, ◌%◌, ◌^◌, ◌<◌, Bool, false, cond, List, length, map, get_or, get_or-set_same, get_or-set_other}
+use Rattle.sig_scan.proofs.Common.{replicate, bit_or, bit_and, w8, w64, ap, ◌∙◌, arith, bit_at, bit_not, mask_l, top, zip2, get_or-map, bit_at_and}
+use Rattle.sig_scan.proofs.Common.{bit_at_cat_high, bit_at_cat_low, bit_at-lt, bit_at_not, bit_at_ones, bit_at_or, bit_mask_l, bitmask_splat, HasBit}
 use Rattle.std.proofs.Common.{set}
 
 -- the bits of a byte below 256 are those of the number that it is the end of

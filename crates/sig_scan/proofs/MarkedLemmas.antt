@@ -1,8 +1,9 @@
 -- The beginning and the end of a scan: what it is of an empty file, and which signatures it marks.
-use Rattle.sig_scan.proofs.Common.{◌≡◌, ◌∙◌, ℕ, ◌+◌, ◌≤◌, ◌<◌, inl, inr, All, Bool, List, [], ◌++◌, ap, arith, drop, false, true, get_or, length, max, Option,
-    refl, Some, subst, sym, set, cases_eq, append-nil, All-nil, slice_get-get_or, slice_get_within, slice_get, ◌↔◌, IsTrue, slice_index, IsBytes, AreExcluded,
-    AreFirst, AreMarked, HasLastBytes, IsBase, IsScanOf, IsShort, IsShortCourse, ScanView, TailIsShort, CourseView, StageView, TailView, Waits, State, Hits,
-    Stands, SequenceView, SignatureView, TableView, cases_Bool, false≢true, AreNeeded, IsProgramOf, ProgramView, AreSequencesOf, EndsPast, Knows, WaitsOn}
+use Rattle.sig_scan.proofs.Common.{◌≡◌, ◌∙◌, ℕ, ◌+◌, ◌≤◌, ◌<◌, inl, inr, All, Bool, List, [], ◌++◌, ap, arith, drop, false, true, get_or, length, max, Option}
+use Rattle.sig_scan.proofs.Common.{refl, Some, subst, sym, set, cases_eq, append-nil, All-nil, slice_get-get_or, slice_get_within, slice_get, ◌↔◌, IsTrue}
+use Rattle.sig_scan.proofs.Common.{slice_index, IsBytes, AreExcluded, AreFirst, AreMarked, HasLastBytes, IsBase, IsScanOf, IsShort, IsShortCourse, ScanView}
+use Rattle.sig_scan.proofs.Common.{TailIsShort, CourseView, StageView, TailView, Waits, State, Hits, Stands, SequenceView, SignatureView, TableView, cases_Bool}
+use Rattle.sig_scan.proofs.Common.{false≢true, AreNeeded, IsProgramOf, ProgramView, AreSequencesOf, EndsPast, Knows, WaitsOn}
 use Rattle.sig_scan.proofs.PassLemmas.{InTurn-raised}
 use Rattle.sig_scan.proofs.ScanLemmas.{All-at, one_value, slice_get-set_cases, still-set}
 use Rattle.sig_scan.proofs.WaitLemmas.{Waits-fed, Waits-fresh, Waits-judged, Waits-last}

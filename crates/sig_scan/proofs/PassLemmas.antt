@@ -1,8 +1,9 @@
 -- Sequences go on to what the prefilter found.
-use Rattle.sig_scan.proofs.Common.{◌≡◌, ◌∙◌, ℕ, ◌+◌, ◌-◌, ◌≤◌, ◌<◌, inl, inr, All, List, [], ◌∷◌, ◌++◌, ap, arith, drop, get_or, length, length-append, map,
-    max, min, Option, Some, subst, sym, take, slice_get, option_map, ◌↔◌, slice_index, slice_range, cases_lt, get_or-drop, get_or-take, length-drop,
-    length-take-le, take_all, get_or_from_slice_get, slice_get-get_or, slice_get-map, slice_get_within, SequenceView, Entry, Course, State, course_in,
-    AreLiteralsOf, AreMissed, IsLiteralOf, LiteralView, StandsAt, ArePast, Lies, InTurnAt, IsShort, WaitsAt, CourseView, StageView, TailView, false}
+use Rattle.sig_scan.proofs.Common.{◌≡◌, ◌∙◌, ℕ, ◌+◌, ◌-◌, ◌≤◌, ◌<◌, inl, inr, All, List, [], ◌∷◌, ◌++◌, ap, arith, drop, get_or, length, length-append, map}
+use Rattle.sig_scan.proofs.Common.{max, min, Option, Some, subst, sym, take, slice_get, option_map, ◌↔◌, slice_index, slice_range, cases_lt, get_or-drop}
+use Rattle.sig_scan.proofs.Common.{get_or-take, length-drop, length-take-le, take_all, get_or_from_slice_get, slice_get-get_or, slice_get-map, slice_get_within}
+use Rattle.sig_scan.proofs.Common.{SequenceView, Entry, Course, State, course_in, AreLiteralsOf, AreMissed, IsLiteralOf, LiteralView, StandsAt, ArePast, Lies}
+use Rattle.sig_scan.proofs.Common.{InTurnAt, IsShort, WaitsAt, CourseView, StageView, TailView, false}
 use Rattle.sig_scan.proofs.AttemptLemmas.{Lies-take}
 use Rattle.sig_scan.proofs.LengthLemmas.{Lies-span}
 use Rattle.sig_scan.proofs.LiesLemmas.{Lies-seen_both}

@@ -1,8 +1,9 @@
 -- The stages of a sequence, as a loop over its items finds them, and the courses of many.
-use Rattle.sig_scan.proofs.Common.{◌≡◌, ℕ, ◌+◌, ◌-◌, ◌≤◌, ◌<◌, List, [], ◌∷◌, ◌++◌, length, get_or, drop, Option, None, Some, map, refl, subst, sym, ap, ap₂,
-    ◌∙◌, arith, append_assoc, length-append, All, slice_range, drop-append-le, drop_at, drop_more, length-drop, map_push, same_from_push, take-append-le,
-    take_all, between_more, between_none, All-head, All-push, All-tail, All-weaker, Item, IsBoundedItem, Position, SequenceView, Course, AddsCourse, AreCourses,
-    StandsIn, course_in, CourseView, StageView, all_but_last, course_of, last_items, stages_of, max, min}
+use Rattle.sig_scan.proofs.Common.{◌≡◌, ℕ, ◌+◌, ◌-◌, ◌≤◌, ◌<◌, List, [], ◌∷◌, ◌++◌, length, get_or, drop, Option, None, Some, map, refl, subst, sym, ap, ap₂}
+use Rattle.sig_scan.proofs.Common.{◌∙◌, arith, append_assoc, length-append, All, slice_range, drop-append-le, drop_at, drop_more, length-drop, map_push}
+use Rattle.sig_scan.proofs.Common.{same_from_push, take-append-le, take_all, between_more, between_none, All-head, All-push, All-tail, All-weaker, Item}
+use Rattle.sig_scan.proofs.Common.{IsBoundedItem, Position, SequenceView, Course, AddsCourse, AreCourses, StandsIn, course_in, CourseView, StageView}
+use Rattle.sig_scan.proofs.Common.{all_but_last, course_of, last_items, stages_of, max, min}
 use Rattle.sig_expr.specs.declared.item.Item.TheVariants as item
 use Rattle.sig_table.specs.declared.position.Position.TheVariants as position
 use Rattle.sig_scan.proofs.CutLemmas.{stages_of-some}

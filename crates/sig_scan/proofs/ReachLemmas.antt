@@ -1,6 +1,6 @@
 -- Where words end that begin at given offsets.
-use Rattle.sig_scan.proofs.Common.{◌≡◌, ℕ, ◌+◌, ◌-◌, ◌≤◌, List, [], ◌++◌, length, drop, refl, subst, ap, ◌∙◌, sym, arith, take-add, length-append, slice_range,
-    drop-drop, length-take-le, length-drop, take_at, drop_at, HasBit, HasBits, Reaches, set}
+use Rattle.sig_scan.proofs.Common.{◌≡◌, ℕ, ◌+◌, ◌-◌, ◌≤◌, List, [], ◌++◌, length, drop, refl, subst, ap, ◌∙◌, sym, arith, take-add, length-append, slice_range}
+use Rattle.sig_scan.proofs.Common.{drop-drop, length-take-le, length-drop, take_at, drop_at, HasBit, HasBits, Reaches, set}
 
 -- the same words from starts in other words
 pub Reaches-starts : (W : List ℕ → Type 0) (file : List ℕ) (S T : ℕ → Type 0) (e : ℕ) → ((a : ℕ) → a ≤ length file → S a → T a) → Reaches W file S e →
@@ -28,7 +28,7 @@ slice_range-words V W file a e order within (u, v, joined, first, second) =
     let m : ℕ = a + length u in
     let len = length-slice_range file a m (omega arith) (omega arith) in
     let same = same_pieces (slice_range file a m) (slice_range file m e) u v (sym (slice_range-split file a m e (omega arith) (omega arith)) ∙ joined)
-        (omega arith) in
+    (omega arith) in
     (m, omega arith, omega arith, subst V (sym same.0) first, subst W (sym same.1) second)
 
 -- a word that is two words joined ends where the second one does, that begins where the first one ends

@@ -1,9 +1,9 @@
 -- A file that is read: what a scan has of it, and which hits its marks give.
 use borrow.Rule.Slice.PartMut.{post_of, put_mid}
-use Rattle.sig_scan.proofs.Common.{◌≡◌, ◌∙◌, ℕ, ◌+◌, ◌≤◌, ◌<◌, inl, inr, ap, append_assoc, arith, Bool, false, true, length, List, ◌++◌, None, Option, refl,
-    Some, subst, sym, take, take-append-add, false≢true, append-nil, get_or_past, length-take-le, take-append-le, take_all, All-append, slice_get_cases,
-    slice_get, IfSome, IsSomeAnd, IsBytes, Gives, IsAtEnd, MarksHits, HitFormats, HitFormatsOfSome, Hit, AreMarked, HasRead, IsScanOf, ScanView, Hits,
-    SignatureView, TableView}
+use Rattle.sig_scan.proofs.Common.{◌≡◌, ◌∙◌, ℕ, ◌+◌, ◌≤◌, ◌<◌, inl, inr, ap, append_assoc, arith, Bool, false, true, length, List, ◌++◌, None, Option, refl}
+use Rattle.sig_scan.proofs.Common.{Some, subst, sym, take, take-append-add, false≢true, append-nil, get_or_past, length-take-le, take-append-le, take_all}
+use Rattle.sig_scan.proofs.Common.{All-append, slice_get_cases, slice_get, IfSome, IsSomeAnd, IsBytes, Gives, IsAtEnd, MarksHits, HitFormats, HitFormatsOfSome}
+use Rattle.sig_scan.proofs.Common.{Hit, AreMarked, HasRead, IsScanOf, ScanView, Hits, SignatureView, TableView}
 
 some_that : (o : Option SignatureView) (P : SignatureView → Type 0) → IsSomeAnd o P → (s : SignatureView) × (o ≡ Some s) × P s
 some_that None P h = absurd h
@@ -79,7 +79,7 @@ pub filled_more : (filled n k : ℕ) (room buf : List ℕ) → filled ≤ length
 filled_more filled n k room buf low within =
     let at : length (take filled room) ≡ filled = length-take-le filled room low in
     ap (λ m. take (m + n) (put_mid filled k room buf)) (sym at) ∙ take-append-add (take filled room) (buf ++ post_of filled k room) n ∙ ap
-        (λ l. take filled room ++ l) (take-append-le n buf (post_of filled k room) within)
+    (λ l. take filled room ++ l) (take-append-le n buf (post_of filled k room) within)
 
 -- what is not true is false
 pub false_from_not : (b : Bool) → (b ≡ true → ⊥) → b ≡ false

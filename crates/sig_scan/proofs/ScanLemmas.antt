@@ -1,9 +1,11 @@
 -- The states of all sequences: one after the other is settled.
-use Rattle.sig_scan.proofs.Common.{◌≡◌, ◌∙◌, ℕ, ◌+◌, ◌-◌, ◌≤◌, ◌<◌, ◌⊎◌, ◌^◌, inl, inr, All, Bool, List, ◌++◌, ap, append_assoc, arith, drop, get_or,
-    get_or-set_other, get_or-set_same, length, length-append, min, None, Option, Some, subst, sym, take, true, length-set, set, cases_eq, cases_lt, length-drop,
-    length-take-le, take-append-drop, All-append, All-get_or, get_or_from_slice_get, slice_get-get_or, slice_get_past, slice_get_within, slice_get, IfSome,
-    IsBytes, IsBoundedCourse, IsHeld, AreBounded, span, AllWait, AreExcluded, AreDone, IsShortCourse, TailIsShort, WaitsAt, CourseView, StageView, TailView,
-    Waits, State, slice_get-within, Hits, SequenceView, TableView, false, false≢true, SignatureView, ProgramView, Knows, not, refl, [], drop_all}
+use Rattle.sig_scan.proofs.Common.{◌≡◌, ◌∙◌, ℕ, ◌+◌, ◌-◌, ◌≤◌, ◌<◌, ◌⊎◌, ◌^◌, inl, inr, All, Bool, List, ◌++◌, ap, append_assoc, arith, drop, get_or}
+use Rattle.sig_scan.proofs.Common.{get_or-set_other, get_or-set_same, length, length-append, min, None, Option, Some, subst, sym, take, true, length-set, set}
+use Rattle.sig_scan.proofs.Common.{cases_eq, cases_lt, length-drop, length-take-le, take-append-drop, All-append, All-get_or, get_or_from_slice_get}
+use Rattle.sig_scan.proofs.Common.{slice_get-get_or, slice_get_past, slice_get_within, slice_get, IfSome, IsBytes, IsBoundedCourse, IsHeld, AreBounded, span}
+use Rattle.sig_scan.proofs.Common.{AllWait, AreExcluded, AreDone, IsShortCourse, TailIsShort, WaitsAt, CourseView, StageView, TailView, Waits, State}
+use Rattle.sig_scan.proofs.Common.{slice_get-within, Hits, SequenceView, TableView, false, false≢true, SignatureView, ProgramView, Knows, not, refl, []}
+use Rattle.sig_scan.proofs.Common.{drop_all}
 use Rattle.sig_scan.proofs.StateLemmas.{Waits-tail}
 use Rattle.sig_scan.proofs.WaitLemmas.{Waits-fed}
 
@@ -66,7 +68,7 @@ Waits-rest s stages tail before bytes done from limit to reach short sight to_is
       | inr behind ↦ Waits-moved s before bytes from limit (drop done stages) tail behind (omega arith) waits
       | inl early ↦ (
           let all : length stages ≤ done = elim (cases_lt done (length stages)) [ inl some ↦ (let on = settled some in absurd (omega arith)) | inr none ↦ none ]
-              in
+          in
           let same : limit - limit ≡ from - limit = omega arith in
           let end = drop_all done stages all in
           rw end (subst (λ n. WaitsAt s (before ++ take limit bytes) (drop limit bytes) n [] tail) same
@@ -215,5 +217,5 @@ Knows-added table file piece program keep base bytes states may_hit are known =
           (known.wait i g s c t owner may sequence course state));
       excluded = λ g h out signature more later hits.
           known.excluded g h out signature (piece ++ more) (All-append (λ b. b < 256) piece more are later)
-              (subst (Hits h) (append_assoc file piece more) hits);
+          (subst (Hits h) (append_assoc file piece more) hits);
     }

@@ -1,9 +1,10 @@
 -- The words of a sequence within its limits are short: an item has as many slots as its longest
 -- word has bytes, at least.
-use Rattle.sig_scan.proofs.Common.{◌≡◌, ℕ, ◌+◌, ◌≤◌, ◌<◌, Bool, cond, nat_lt, List, [], ◌∷◌, ◌++◌, length, Option, None, Some, arith, All, IfSome, count_by,
-    sum_by, All-cons, All-head, All-nil, All-tail, sum_by-cons, sum_by_push, IsBytes, Atom, Item, AlternativesSound, AtomSound, AtomsSound, ItemSound,
-    ItemsSound, IsBefore, IsBefore-cases, Position, above_rows, atom_slots, below_rows, between_rows, bracket_slots, item_slots, slot_count, IsSequence,
-    IsBoundedItem, item_span, longest_of, part_length, parts_length, span, StageView, TailView, course_of, stages_of, max, min}
+use Rattle.sig_scan.proofs.Common.{◌≡◌, ℕ, ◌+◌, ◌≤◌, ◌<◌, Bool, cond, nat_lt, List, [], ◌∷◌, ◌++◌, length, Option, None, Some, arith, All, IfSome, count_by}
+use Rattle.sig_scan.proofs.Common.{sum_by, All-cons, All-head, All-nil, All-tail, sum_by-cons, sum_by_push, IsBytes, Atom, Item, AlternativesSound, AtomSound}
+use Rattle.sig_scan.proofs.Common.{AtomsSound, ItemSound, ItemsSound, IsBefore, IsBefore-cases, Position, above_rows, atom_slots, below_rows, between_rows}
+use Rattle.sig_scan.proofs.Common.{bracket_slots, item_slots, slot_count, IsSequence, IsBoundedItem, item_span, longest_of, part_length, parts_length, span}
+use Rattle.sig_scan.proofs.Common.{StageView, TailView, course_of, stages_of, max, min}
 use Rattle.sig_expr.specs.declared.item.Atom.TheVariants as atom
 use Rattle.sig_expr.specs.declared.item.Item.TheVariants as item
 use Rattle.sig_table.specs.declared.position.Position.TheVariants as position

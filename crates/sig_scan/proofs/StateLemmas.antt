@@ -1,8 +1,9 @@
 -- From the bytes at hand to the file: what a sequence waits for behind an attempt.
-use Rattle.sig_scan.proofs.Common.{◌≡◌, ℕ, ◌+◌, ◌-◌, ◌≤◌, ◌<◌, inl, inr, List, [], ◌∷◌, ◌++◌, length, max, take, drop, drop-cons, get_or, add-one, suc, ap, ◌∙◌,
-    subst, sym, arith, length-append, Option, Some, None, rules, ◌↔◌, Bool, IsTrue, is_some, leb, cases_lt, le-leb, leb-true, length-take-le, Item, IsAtMost,
-    IsLeastEnd, AreBounded, span, IsLiteralOf, LiteralView, StandsAt, Lies, HasLastBytes, InTurnAt, IsFirstOf, IsShort, TailIsShort, WaitsAt, IsFirstEnd,
-    StageView, TailStands, TailView, Waits, SequenceView, false, true, get_or_default, WaitsOn, HasSight, Stands}
+use Rattle.sig_scan.proofs.Common.{◌≡◌, ℕ, ◌+◌, ◌-◌, ◌≤◌, ◌<◌, inl, inr, List, [], ◌∷◌, ◌++◌, length, max, take, drop, drop-cons, get_or, add-one, suc, ap, ◌∙◌}
+use Rattle.sig_scan.proofs.Common.{subst, sym, arith, length-append, Option, Some, None, rules, ◌↔◌, Bool, IsTrue, is_some, leb, cases_lt, le-leb, leb-true}
+use Rattle.sig_scan.proofs.Common.{length-take-le, Item, IsAtMost, IsLeastEnd, AreBounded, span, IsLiteralOf, LiteralView, StandsAt, Lies, HasLastBytes}
+use Rattle.sig_scan.proofs.Common.{InTurnAt, IsFirstOf, IsShort, TailIsShort, WaitsAt, IsFirstEnd, StageView, TailStands, TailView, Waits, SequenceView, false}
+use Rattle.sig_scan.proofs.Common.{true, get_or_default, WaitsOn, HasSight, Stands}
 use Rattle.sig_scan.proofs.LiesLemmas.{Lies-behind}
 use Rattle.sig_scan.proofs.AttemptLemmas.{Lies-take, Lies-taken}
 use Rattle.sig_scan.proofs.TurnLemmas.{TailStands-last, TailStands-near}

@@ -1,6 +1,6 @@
 -- Stages in turn: from an earlier offset on, and behind the first end of the first one.
-use Rattle.sig_scan.proofs.Common.{◌≡◌, ℕ, ◌+◌, ◌-◌, ◌≤◌, ◌<◌, List, [], ◌∷◌, ◌++◌, length, length-append, Option, None, Some, subst, inl, inr, arith, ◌↔◌,
-    cases_lt, IsAtMost, AreBounded, span, Lies, InTurn, IsFirstEnd, TailStandsIfAny, StageEnds, StageView, TailStands, TailView}
+use Rattle.sig_scan.proofs.Common.{◌≡◌, ℕ, ◌+◌, ◌-◌, ◌≤◌, ◌<◌, List, [], ◌∷◌, ◌++◌, length, length-append, Option, None, Some, subst, inl, inr, arith, ◌↔◌}
+use Rattle.sig_scan.proofs.Common.{cases_lt, IsAtMost, AreBounded, span, Lies, InTurn, IsFirstEnd, TailStandsIfAny, StageEnds, StageView, TailStands, TailView}
 use Rattle.sig_scan.proofs.LengthLemmas.{Lies-span}
 use Rattle.sig_scan.proofs.LiesLemmas.{Lies-behind, Lies-seen_both}
 
@@ -98,7 +98,7 @@ TailStands-last before file tail from bounded near =
           let end : t.end ≡ b + (t.end - b) = omega arith in
           let moved : Lies tail.items (before ++ file) (b + (t.start - b)) (b + (t.end - b)) =
           subst (λ (n : ℕ). Lies tail.items (before ++ file) n (b + (t.end - b))) start
-              (subst (λ (n : ℕ). Lies tail.items (before ++ file) t.start n) end t.lies) in
+          (subst (λ (n : ℕ). Lies tail.items (before ++ file) t.start n) end t.lies) in
           record {
             start = t.start - b;
             end = t.end - b;

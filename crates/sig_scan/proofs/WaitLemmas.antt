@@ -1,8 +1,8 @@
 -- What a sequence waits for: at the beginning, behind more bytes, behind a first end, and past what
 -- was tried.
-use Rattle.sig_scan.proofs.Common.{ℕ, ◌+◌, ◌≤◌, ◌<◌, List, [], ◌∷◌, ◌++◌, length, Option, append_assoc, arith, subst, sym, ◌↔◌, append-nil, All-append, All-nil,
-    IsBytes, IsAtMost, Stands, SequenceView, AreBounded, span, Lies, InTurn, IsFirstEnd, StageView, TailView, Waits, course_of, ◌∙◌, Bool, ap, false, refl,
-    true, Item, HasSight, Follows}
+use Rattle.sig_scan.proofs.Common.{ℕ, ◌+◌, ◌≤◌, ◌<◌, List, [], ◌∷◌, ◌++◌, length, Option, append_assoc, arith, subst, sym, ◌↔◌, append-nil, All-append, All-nil}
+use Rattle.sig_scan.proofs.Common.{IsBytes, IsAtMost, Stands, SequenceView, AreBounded, span, Lies, InTurn, IsFirstEnd, StageView, TailView, Waits, course_of}
+use Rattle.sig_scan.proofs.Common.{◌∙◌, Bool, ap, false, refl, true, Item, HasSight, Follows}
 use Rattle.sig_scan.proofs.CutLemmas.{Stands-in_turn}
 use Rattle.sig_scan.proofs.LengthLemmas.{Lies-in_sight}
 use Rattle.sig_scan.proofs.TurnLemmas.{InTurn-first, InTurn-past, IsFirstEnd-seen}

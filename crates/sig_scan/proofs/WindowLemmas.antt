@@ -1,6 +1,6 @@
 -- From a window of a file to the file.
-use Rattle.sig_scan.proofs.Common.{◌≡◌, ℕ, ◌+◌, ◌-◌, ◌≤◌, ◌<◌, List, length, min, drop, refl, ap, ◌∙◌, arith, Option, Some, None, slice_range, drop-drop,
-    length-drop, HasBit, Item, Lang, EndsAt, HasBits, IsLeastEnd, IsLeast, Reaches}
+use Rattle.sig_scan.proofs.Common.{◌≡◌, ℕ, ◌+◌, ◌-◌, ◌≤◌, ◌<◌, List, length, min, drop, refl, ap, ◌∙◌, arith, Option, Some, None, slice_range, drop-drop}
+use Rattle.sig_scan.proofs.Common.{length-drop, HasBit, Item, Lang, EndsAt, HasBits, IsLeastEnd, IsLeast, Reaches}
 use Rattle.sig_scan.proofs.ReachLemmas.{Reaches-starts}
 
 -- a part of a window is a part of the file

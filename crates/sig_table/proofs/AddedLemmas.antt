@@ -1,6 +1,6 @@
 -- When a pair can be added to priorities.
-use Rattle.std.proofs.Common.{◌≡◌, ◌∙◌, ◌↔◌, ℕ, zero, suc, ◌<◌, false, List, [], ◌∷◌, ◌++◌, Contains, ap, drop, get_or, length, sym, subst, take, refl, inl,
-    inr, arith, None}
+use Rattle.std.proofs.Common.{◌≡◌, ◌∙◌, ◌↔◌, ℕ, zero, suc, ◌<◌, false, List, [], ◌∷◌, ◌++◌, Contains, ap, drop, get_or, length, sym, subst, take, refl, inl}
+use Rattle.std.proofs.Common.{inr, arith, None}
 use Rattle.std.proofs.Math.Seq.{drop-cons}
 use Rattle.std.proofs.lemmas.List.{get_or_default, take-append-drop}
 use Rattle.std.proofs.lemmas.Bool.{cases_Bool}
@@ -32,8 +32,14 @@ no_fault_behind formats all are n done later pair whole =
       | inl t ↦
           let way = (is_above-Decides done pair.1 pair.0).0 t in
           let listed : Contains all pair = subst (λ l. Contains l pair) whole (Contains-append_right done (pair ∷ later) pair (0, omega arith, refl)) in
-          absurd (are.no_cycle pair.0 (pair.1 ∷ way.0, (listed, wider done all
-              (λ p c. subst (λ l. Contains l p) whole (Contains-append_left done (pair ∷ later) p c)) pair.1 way.0 pair.0 way.1)))
+          absurd (are.no_cycle pair.0 (
+            pair.1 ∷ way.0,
+            (
+              listed,
+              wider done all
+                  (λ p c. subst (λ l. Contains l p) whole (Contains-append_left done (pair ∷ later) p c)) pair.1 way.0 pair.0 way.1,
+            ),
+          ))
       | inr f ↦ f
     ] in
     rw (new, none) refl
@@ -66,5 +72,8 @@ pub next_is_of_two : (formats : ℕ) (all items : List (ℕ × ℕ)) → items �
     → (get_or items i d).0 ≡ (get_or items i d).1 → ⊥
 next_is_of_two formats all items same are i d within equal =
     let pair : ℕ × ℕ = get_or items i d in
-    are.no_cycle pair.0 ([], subst (λ x. Contains all (pair.0, x)) (sym equal)
-        (subst (λ l. Contains l pair) same (i, within, get_or_default items i pair d within)))
+    are.no_cycle pair.0 (
+      [],
+      subst (λ x. Contains all (pair.0, x)) (sym equal)
+          (subst (λ l. Contains l pair) same (i, within, get_or_default items i pair d within)),
+    )

@@ -1,6 +1,6 @@
 -- The formats below each format, once a pair is added.
-use Rattle.std.proofs.Common.{◌≡◌, ◌⊎◌, ◌↔◌, ℕ, ◌+◌, ◌<◌, ◌&&◌, Bool, true, false, nat_eq, IsTrue, List, [], ◌∷◌, ◌++◌, length, get_or, slice_set, replicate,
-    Contains, Decides, subst, sym, ap, ◌∙◌, refl, inl, inr, arith, Result, Ok, Err, IfOk, None, if◌then◌else◌}
+use Rattle.std.proofs.Common.{◌≡◌, ◌⊎◌, ◌↔◌, ℕ, ◌+◌, ◌<◌, ◌&&◌, Bool, true, false, nat_eq, IsTrue, List, [], ◌∷◌, ◌++◌, length, get_or, slice_set, replicate}
+use Rattle.std.proofs.Common.{Contains, Decides, subst, sym, ap, ◌∙◌, refl, inl, inr, arith, Result, Ok, Err, IfOk, None, if◌then◌else◌}
 use Rattle.std.proofs.lemmas.Bool.{cases_Bool, cases_eq, false≢true}
 use Rattle.std.proofs.lemmas.Bool.Decides.{Decides-and, Decides-eqb}
 use Rattle.std.proofs.lemmas.List.{get_or-replicate, get_or-set_other, get_or-set_same, length-replicate}

@@ -1,6 +1,6 @@
 -- What a draft's sets say of its lists.
-use Rattle.std.proofs.Common.{◌≡◌, ℕ, suc, ◌+◌, ◌<◌, ◌≤◌, Bool, true, false, not, cond, nat_eq, nat_lt, tests, ◌||◌, List, [], ◌∷◌, ◌++◌, length, map, get_or,
-    sym, ap, subst, one-add, eq-eqb, Result, Ok, Err, ◌∙◌, refl, arith, rules, length-append, inl, inr, Some, None, position}
+use Rattle.std.proofs.Common.{◌≡◌, ℕ, suc, ◌+◌, ◌<◌, ◌≤◌, Bool, true, false, not, cond, nat_eq, nat_lt, tests, ◌||◌, List, [], ◌∷◌, ◌++◌, length, map, get_or}
+use Rattle.std.proofs.Common.{sym, ap, subst, one-add, eq-eqb, Result, Ok, Err, ◌∙◌, refl, arith, rules, length-append, inl, inr, Some, None, position}
 use Rattle.std.specs.Prelude.{slice_set, find, All, OnOk}
 use Rattle.std.specs.List.{list_any, position_or_len}
 use Rattle.std.proofs.lemmas.Bool.{cases_Bool}
@@ -185,7 +185,7 @@ pub numbers-with_row : (n f : ℕ) (sequence : SequenceView) (ks js : List ℕ) 
     → js ≡ insert_key nat_eq ks n → vs ≡ grown n sequence (with_number ss n f) → js ≡ map (λ s. s.number) vs
 numbers-with_row n f sequence ks js ss vs numbers added grew =
     added ∙ ap (λ l. insert_key nat_eq l n) numbers ∙ sym (ap (λ l. map (λ s. s.number) l) grew ∙ numbers-grown n sequence (with_number ss n f)
-        ∙ numbers-with_number n f ss)
+    ∙ numbers-with_number n f ss)
 
 -- where the number is among the signatures
 pub place-of : (n f place : ℕ) (ks : List ℕ) (ss vs : List SignatureView) → ks ≡ map (λ s. s.number) ss → place ≡ position_or_len (nat_eq n) ks
@@ -233,7 +233,7 @@ unfolding fault_in
 fault_in-new t n row ks numbers h =
     let past = not_found (nat_eq row.number) (map (λ s. s.number) t.signatures) (rw numbers at h) in
     let beyond : length t.signatures ≤ position_or_len (λ s. nat_eq row.number s.number) t.signatures =
-        rw (length-numbers, position-numbers row.number t.signatures) at past in
+    rw (length-numbers, position-numbers row.number t.signatures) at past in
     ap (λ o. fault_at o t n row) (find-none (λ s. nat_eq row.number s.number) t.signatures beyond)
 
 pub fault_in-found : (t : TableView) (n : ℕ) (row : Row) (ks : List ℕ) (i : ℕ) (s : SignatureView) → ks ≡ map (λ s. s.number) t.signatures
@@ -243,5 +243,5 @@ fault_in-found t n row ks i s numbers h is =
     let at = found-at (nat_eq row.number) (map (λ s. s.number) t.signatures) i (rw numbers at h) in
     let place : position_or_len (λ s. nat_eq row.number s.number) t.signatures ≡ i = sym (position-numbers row.number t.signatures) ∙ at.0 in
     let within : position_or_len (λ s. nat_eq row.number s.number) t.signatures < length t.signatures =
-        rw (length-numbers, position-numbers row.number t.signatures) at at.1 in
+    rw (length-numbers, position-numbers row.number t.signatures) at at.1 in
     ap (λ o. fault_at o t n row) (find-place (λ s. nat_eq row.number s.number) t.signatures s within (rw place is))

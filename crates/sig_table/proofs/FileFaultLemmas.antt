@@ -1,6 +1,6 @@
 -- What refuses a file is told of that file.
-use Rattle.std.proofs.Common.{◌≡◌, ℕ, ◌+◌, ◌&&◌, ◌==◌, ◌||◌, Bool, true, false, not, nat_eq, nat_lt, nat_le, List, [], ◌∷◌, ◌++◌, length, refl, inl, inr,
-    Option, Some, None, IfSome, Result, Ok, Err}
+use Rattle.std.proofs.Common.{◌≡◌, ℕ, ◌+◌, ◌&&◌, ◌==◌, ◌||◌, Bool, true, false, not, nat_eq, nat_lt, nat_le, List, [], ◌∷◌, ◌++◌, length, refl, inl, inr}
+use Rattle.std.proofs.Common.{Option, Some, None, IfSome, Result, Ok, Err}
 use Rattle.std.specs.Prelude.{codes, ⊤}
 use Rattle.std.specs.Bool.{OnFalse}
 use Rattle.std.specs.List.{position_or_len}
@@ -16,8 +16,9 @@ use Rattle.sig_table.specs.declared.position.Position.TheVariants as position
 use Rattle.sig_table.specs.declared.puid.Puid.{Puid}
 use Rattle.sig_table.specs.declared.row.Row.{Row}
 use Rattle.sig_table.specs.Views.{SignatureView, TableView}
-use Rattle.sig_table.specs.Loading.{empty_table, fault_at, fault_in, index_in, is_full, is_listed, is_of_signatures, is_priority_header, is_signature_header,
-    pair_fault, pair_of, pair_of_two, pair_with, pairs_from, pairs_of, signature_in, signatures_of, table_from, with_pair, with_record, with_row}
+use Rattle.sig_table.specs.Loading.{empty_table, fault_at, fault_in, index_in, is_full, is_listed, is_of_signatures, is_priority_header, is_signature_header}
+use Rattle.sig_table.specs.Loading.{pair_fault, pair_of, pair_of_two, pair_with, pairs_from, pairs_of, signature_in, signatures_of, table_from, with_pair}
+use Rattle.sig_table.specs.Loading.{with_record, with_row}
 use Rattle.sig_table.specs.Ranking.{is_above}
 use Rattle.sig_table.specs.Numbers.{positive_of}
 use Rattle.sig_table.specs.Puids.{puid_eq, puid_of}
@@ -49,7 +50,6 @@ module _ (side : Bool) where
   unless-side (Some e) rest fault later = fault
 
 -- ---- the signature file
-
 
 items_in-of : (n : ℕ) (r : Result (List Item) ExprError) → IsOfSignatures (items_in n r)
 items_in-of n (Ok items) = tt
@@ -179,7 +179,7 @@ pairs_from-of formats n pairs [] = tt
 pairs_from-of formats n pairs (fields ∷ later) =
     bind-side false (with_pair formats n pairs fields) (λ more. pairs_from formats (n + 1) more later)
     (bind-side false (pair_of formats n fields) _ (pair_of-of formats n fields) (λ pair. unless-side false (pair_fault pairs n pair) (Ok (pairs ++ pair ∷ []))
-        (pair_fault-of pairs n pair) tt))
+    (pair_fault-of pairs n pair) tt))
     (λ more. pairs_from-of formats (n + 1) more later)
 
 pairs_of-of : (formats : List Puid) (file : List (List (List ℕ))) → IsOf false (pairs_of formats file)

@@ -1,12 +1,12 @@
 -- The formats in the order of their first signatures.
-use Rattle.std.proofs.Common.{◌≡◌, ℕ, zero, suc, ◌<◌, ◌≤◌, ◌⊎◌, true, false, not, nat_eq, nat_le, ◌&&◌, List, [], ◌∷◌, ◌++◌, length, take, sym, ap, subst,
-    one-add, ◌∙◌, refl, arith, rules, tests, length-append, inl, inr, Some}
+use Rattle.std.proofs.Common.{◌≡◌, ℕ, zero, suc, ◌<◌, ◌≤◌, ◌⊎◌, true, false, not, nat_eq, nat_le, ◌&&◌, List, [], ◌∷◌, ◌++◌, length, take, sym, ap, subst}
+use Rattle.std.proofs.Common.{one-add, ◌∙◌, refl, arith, rules, tests, length-append, inl, inr, Some}
 use Rattle.std.specs.Prelude.{slice_get, All, Contains}
 use Rattle.std.specs.List.{list_any, position_or_len}
 use Rattle.std.proofs.lemmas.Bool.{cases_Bool, cases_lt, eqb-true}
 use Rattle.std.proofs.lemmas.List.{get_or_append_left, length-take-le}
-use Rattle.std.proofs.lemmas.List.Elements.{All-contains, Contains-append_cases, Contains-append_left, Contains-append_right, Contains-push,
-    Contains-push_cases}
+use Rattle.std.proofs.lemmas.List.Elements.{All-contains, Contains-append_cases, Contains-append_left, Contains-append_right, Contains-push}
+use Rattle.std.proofs.lemmas.List.Elements.{Contains-push_cases}
 use Rattle.indexmap.specs.IndexSet.{insert_key}
 use Rattle.sig_table.proofs.DraftLemmas.{any-within, position-any}
 use Rattle.sig_table.specs.declared.puid.Puid.{Puid}
@@ -206,9 +206,11 @@ turn formats k f p met later d few h lt m = elim (cases_lt f k) [
       let same : f ≡ k = is_next (length formats) k f met later m lt least in
       let m' : Met (length formats) k met (k ∷ later) = subst (λ (x : ℕ). Met (length formats) k met (x ∷ later)) same m in
       let lt' : k < length formats = omega arith in
-      let at : slice_get formats k ≡ Some p = ap (slice_get formats) (sym same) ∙ h in
-      (suc k, subst (λ (x : ℕ). Turn formats k (suc k) x p) (sym same) (new_turn formats k p d at lt' few),
-          subst (λ (x : ℕ). Met (length formats) (suc k) (met ++ x ∷ []) later) (sym same) (next_again (length formats) k met later m' lt'))
+      let at : slice_get formats k ≡ Some p = ap (slice_get formats) (sym same) ∙ h in (
+        suc k,
+        subst (λ (x : ℕ). Turn formats k (suc k) x p) (sym same) (new_turn formats k p d at lt' few),
+        subst (λ (x : ℕ). Met (length formats) (suc k) (met ++ x ∷ []) later) (sym same) (next_again (length formats) k met later m' lt'),
+      )
 ]
 
 -- in the end all were met

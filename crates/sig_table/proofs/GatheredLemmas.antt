@@ -1,6 +1,6 @@
 -- A table that grows row by row is the table of all its rows.
-use Rattle.std.proofs.Common.{◌≡◌, ℕ, ◌+◌, Bool, true, false, not, cond, nat_eq, ◌||◌, List, [], ◌∷◌, ◌++◌, length, map, filter, sym, ap, subst, eq-eqb, ◌∙◌,
-    refl, arith, inl, inr, append-nil}
+use Rattle.std.proofs.Common.{◌≡◌, ℕ, ◌+◌, Bool, true, false, not, cond, nat_eq, ◌||◌, List, [], ◌∷◌, ◌++◌, length, map, filter, sym, ap, subst, eq-eqb, ◌∙◌}
+use Rattle.std.proofs.Common.{refl, arith, inl, inr, append-nil}
 use Rattle.std.specs.Prelude.{⊤, Contains, get_or}
 use Rattle.std.specs.List.{list_any, position_or_len}
 use Rattle.std.proofs.lemmas.Bool.{cases_Bool, eqb-true}
@@ -205,20 +205,28 @@ signature-stays n rows row other =
 -- that of the row's number has its sequence more
 signature-grows : (rows : List Row) (row : Row) → list_any (nat_eq row.number) (map (λ r. r.number) rows) ≡ true
     → signature_of (rows ++ row ∷ []) row.number ≡ record (signature_of rows row.number)
-        { sequences = map (λ r. r.sequence) (rows_of row.number rows) ++ row.sequence ∷ [] }
+    { sequences = map (λ r. r.sequence) (rows_of row.number rows) ++ row.sequence ∷ [] }
 signature-grows rows row there =
     let more : rows_of row.number (rows ++ row ∷ []) ≡ rows_of row.number rows ++ row ∷ [] =
-        rows_of-append row.number rows row ∙ rw (number_self row.number) refl in
-    rw (more, first_format-append (formats_of (rows ++ row ∷ [])) row.number rows (row ∷ []) there, format-stays row.number rows row,
-        map-append (λ r. r.sequence) (rows_of row.number rows) (row ∷ [])) refl
+    rows_of-append row.number rows row ∙ rw (number_self row.number) refl in
+    rw (
+      more,
+      first_format-append (formats_of (rows ++ row ∷ [])) row.number rows (row ∷ []) there,
+      format-stays row.number rows row,
+      map-append (λ r. r.sequence) (rows_of row.number rows) (row ∷ []),
+    ) refl
 
 -- and one that is new has it alone
 signature-begins : (rows : List Row) (row : Row) → list_any (nat_eq row.number) (map (λ r. r.number) rows) ≡ false
-    → signature_of (rows ++ row ∷ []) row.number ≡ record { format = position_or_len (puid_eq row.puid) (formats_of rows); number = row.number; sequences =
-        row.sequence ∷ [] }
+    → signature_of (rows ++ row ∷ []) row.number ≡ record {
+      format = position_or_len (puid_eq row.puid) (formats_of rows);
+      number = row.number;
+      sequences =
+          row.sequence ∷ [];
+    }
 signature-begins rows row none =
     let one : rows_of row.number (rows ++ row ∷ []) ≡ row ∷ [] =
-        rows_of-append row.number rows row ∙ rw (number_self row.number, rows_of-none row.number rows none) refl in
+    rows_of-append row.number rows row ∙ rw (number_self row.number, rows_of-none row.number rows none) refl in
     rw (one, formats_of-append rows row, position-added row.puid (formats_of rows)) refl
 
 -- signatures of other numbers stay
@@ -245,8 +253,8 @@ signatures-grow rows row (m ∷ ms) once there h = elim (cases_Bool (nat_eq row.
       let is : row.number ≡ m = number_same row.number m t in
       let rest = signatures-stay rows row ms (subst (λ k. list_any (nat_eq k) ms ≡ false) (sym is) once.0) in
       rw (t, rest) (ap (λ s. s ∷ map (signature_of rows) ms) (subst
-          (λ k. signature_of (rows ++ row ∷ []) k ≡ record (signature_of rows k) { sequences = map (λ r. r.sequence) (rows_of k rows) ++ row.sequence ∷ [] }) is
-          (signature-grows rows row there)))
+      (λ k. signature_of (rows ++ row ∷ []) k ≡ record (signature_of rows k) { sequences = map (λ r. r.sequence) (rows_of k rows) ++ row.sequence ∷ [] }) is
+      (signature-grows rows row there)))
   | inr f ↦
       let other : nat_eq m row.number ≡ false = elim (cases_Bool (nat_eq m row.number)) [
         | inl t ↦ absurd (cc (sym (subst (λ k. nat_eq row.number k ≡ true) (sym (number_same m row.number t)) (number_self row.number)) ∙ f))
@@ -282,7 +290,7 @@ signatures-append : (rows : List Row) (row : Row) → map (signature_of (rows ++
     ≡ grown row.number row.sequence (with_number (map (signature_of rows) (numbers_of rows)) row.number (position_or_len (puid_eq row.puid) (formats_of rows)))
 signatures-append rows row =
     let among : list_any (nat_eq row.number) (numbers_of rows) ≡ list_any (nat_eq row.number) (map (λ r. r.number) rows) =
-        any-firsts nat_eq number_same number_self row.number (map (λ r. r.number) rows) in
+    any-firsts nat_eq number_same number_self row.number (map (λ r. r.number) rows) in
     elim (cases_Bool (list_any (nat_eq row.number) (map (λ r. r.number) rows))) [
       | inl t ↦ rw (numbers_of-append rows row, among, any-signature rows row.number, t)
           (signatures-grow rows row (numbers_of rows) (Once-firsts nat_eq number_same number_self (map (λ r. r.number) rows)) t (among ∙ t))

@@ -1,6 +1,6 @@
 -- Records judged in turn: the laws of the fold, said once.
-use Rattle.std.proofs.Common.{◌≡◌, ◌⊎◌, ℕ, suc, ◌+◌, List, [], ◌∷◌, ◌++◌, length, append-nil, append_assoc, add-zero, sym, ap, subst, refl, ◌∙◌, arith, inl,
-    inr, Result, Ok, Err, Option, Some, None}
+use Rattle.std.proofs.Common.{◌≡◌, ◌⊎◌, ℕ, suc, ◌+◌, List, [], ◌∷◌, ◌++◌, length, append-nil, append_assoc, add-zero, sym, ap, subst, refl, ◌∙◌, arith, inl}
+use Rattle.std.proofs.Common.{inr, Result, Ok, Err, Option, Some, None}
 use Rattle.sig_table.specs.declared.error.TableError.{TableError}
 use Rattle.sig_table.specs.Judging.{FirstOf, WriteAll, judged, unless}
 
@@ -88,7 +88,7 @@ module _ {R S : Type 0} (judge : ℕ → S → List (List ℕ) → Result S Tabl
       let whole = append_assoc done (row ∷ []) rows in
       let all = subst Are (sym whole) are in
       rw (turns.taken done n fields row write.0 (front-all rows (done ++ row ∷ []) all))
-          (continued later (done ++ row ∷ []) rows (n + 1) write.1 all ∙ ap (λ l. Ok (of l)) whole)
+      (continued later (done ++ row ∷ []) rows (n + 1) write.1 all ∙ ap (λ l. Ok (of l)) whole)
 
   -- behind these rows, some record has the fault, and those before it write rows
   pub record Stops (done : List R) (n : ℕ) (records : List (List (List ℕ))) (fault : TableError) : Type 0 where
@@ -155,6 +155,6 @@ module _ {R S : Type 0} (judge : ℕ → S → List (List ℕ) → Result S Tabl
       let all = subst Are (sym whole) are in
       let at : n + suc (length earlier) ≡ (n + 1) + length earlier = omega arith in
       let here = subst (λ l. HasFault l ((n + 1) + length earlier) fields fault) (sym whole) (subst (λ k. HasFault (done ++ row ∷ rows) k fields fault) at has)
-          in
+      in
       rw (turns.taken done n first row write.0 (front-all rows (done ++ row ∷ []) all))
-          (stopped earlier (done ++ row ∷ []) rows (n + 1) fields later fault write.1 all here)
+      (stopped earlier (done ++ row ∷ []) rows (n + 1) fields later fault write.1 all here)

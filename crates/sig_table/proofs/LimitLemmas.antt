@@ -1,6 +1,6 @@
 -- A row without fault keeps the limits of a table.
-use Rattle.std.proofs.Common.{◌≡◌, ◌⊎◌, ℕ, ◌+◌, ◌<◌, ◌≤◌, true, false, not, nat_eq, nat_lt, nat_le, ◌&&◌, List, [], ◌∷◌, ◌++◌, length, map, ◌∙◌, refl, eq-eqb,
-    arith, rules, tests, length-append, inl, inr, Option, Some, None}
+use Rattle.std.proofs.Common.{◌≡◌, ◌⊎◌, ℕ, ◌+◌, ◌<◌, ◌≤◌, true, false, not, nat_eq, nat_lt, nat_le, ◌&&◌, List, [], ◌∷◌, ◌++◌, length, map, ◌∙◌, refl, eq-eqb}
+use Rattle.std.proofs.Common.{arith, rules, tests, length-append, inl, inr, Option, Some, None}
 use Rattle.std.specs.Prelude.{find, All, Contains}
 use Rattle.std.specs.List.{list_any, position_or_len}
 use Rattle.std.proofs.lemmas.Bool.{cases_Bool, cases_lt, eqb-true}
@@ -16,11 +16,11 @@ use Rattle.sig_table.specs.Puids.{puid_eq}
 use Rattle.sig_table.specs.Rows.{IsRow}
 use Rattle.sig_table.specs.Slots.{slot_count}
 use Rattle.sig_table.specs.Tables.{HasAllSignatures, IsNumber, IsSequence, IsSignature, IsTable}
-use Rattle.sig_table.proofs.DraftLemmas.{All-find, any-none, any-numbers, any-some, any-within, length-grown, length-insert_key-ge, numbers-grown, position-any,
-    position-insert_key, position-not_any}
+use Rattle.sig_table.proofs.DraftLemmas.{All-find, any-none, any-numbers, any-some, any-within, length-grown, length-insert_key-ge, numbers-grown, position-any}
+use Rattle.sig_table.proofs.DraftLemmas.{position-insert_key, position-not_any}
 use Rattle.sig_table.proofs.PriorityLemmas.{no_priorities}
-use Rattle.sig_table.proofs.TableLemmas.{All-grown, AllDifferent-insert_key, AllDifferent-push, FormatsRise-push, IsSignature-first, IsSignature-more,
-    IsSignature-wider, formats-grown, grown-new, not_contained}
+use Rattle.sig_table.proofs.TableLemmas.{All-grown, AllDifferent-insert_key, AllDifferent-push, FormatsRise-push, IsSignature-first, IsSignature-more}
+use Rattle.sig_table.proofs.TableLemmas.{IsSignature-wider, formats-grown, grown-new, not_contained}
 
 -- a row without fault, whose signature is there
 pub record FitsIn (t : TableView) (row : Row) (s : SignatureView) : Type 0 where
@@ -128,8 +128,8 @@ next_format t row whole = elim (cases_Bool (list_any (puid_eq row.puid) t.format
   | inr new ↦
       let last = position-not_any (puid_eq row.puid) t.formats new in
       inr (All-map (λ g. g < position_or_len (puid_eq row.puid) t.formats) (λ s. s.format) t.signatures
-          (All-weaker (IsSignature (length t.formats)) (λ s. s.format < position_or_len (puid_eq row.puid) t.formats)
-          (λ s h. let known = h.known in omega arith) t.signatures whole.limits.each))
+      (All-weaker (IsSignature (length t.formats)) (λ s. s.format < position_or_len (puid_eq row.puid) t.formats)
+      (λ s h. let known = h.known in omega arith) t.signatures whole.limits.each))
 ]
 
 -- a format of the lists is one of those before, or that of the row
@@ -161,11 +161,11 @@ whole_beside t row whole read found fits =
     let first : SignatureView = record { format = f; number = row.number; sequences = row.sequence ∷ [] } in
     let none : list_any (λ s. nat_eq row.number s.number) ss ≡ false = any-none (λ s. nat_eq row.number s.number) ss found in
     let grew : signatures_with t row ≡ ss ++ first ∷ [] = rw none
-        (grown-new row.number row.sequence ss (record { format = f; number = row.number; sequences = [] }) none (eq-eqb row.number row.number refl)) in
+    (grown-new row.number row.sequence ss (record { format = f; number = row.number; sequences = [] }) none (eq-eqb row.number row.number refl)) in
     let numbers : map (λ s. s.number) (ss ++ first ∷ []) ≡ map (λ s. s.number) ss ++ row.number ∷ [] = map_push (λ s. s.number) ss first in
     let formats : map (λ s. s.format) (ss ++ first ∷ []) ≡ map (λ s. s.format) ss ++ f ∷ [] = map_push (λ s. s.format) ss first in
     let wider : All (IsSignature k) ss = All-weaker (IsSignature (length t.formats)) (IsSignature k)
-        (λ s h. IsSignature-wider (length t.formats) k s (length-insert_key-ge t.formats row.puid) h) ss table.each in
+    (λ s h. IsSignature-wider (length t.formats) k s (length-insert_key-ge t.formats row.puid) h) ss table.each in
     let is_first = IsSignature-first k f row.number row.sequence (position-insert_key t.formats row.puid) read.number (judged row read fits.slots) in
     let room = fits.signatures in
     rw grew (record {

@@ -1,6 +1,6 @@
 -- The values of digits, and the texts of numbers.
-use Rattle.std.proofs.Common.{◌≡◌, ℕ, ◌+◌, ◌-◌, ◌*◌, ◌<◌, ◌≤◌, true, List, take, length, get_or, ap, ◌∙◌, refl, arith, rules, length-take, tests, Some, None,
-    inl, inr}
+use Rattle.std.proofs.Common.{◌≡◌, ℕ, ◌+◌, ◌-◌, ◌*◌, ◌<◌, ◌≤◌, true, List, take, length, get_or, ap, ◌∙◌, refl, arith, rules, length-take, tests, Some, None}
+use Rattle.std.proofs.Common.{inl, inr}
 use Rattle.std.proofs.lemmas.Bool.{cases_Bool}
 use Rattle.sig_table.specs.Numbers.{digits_number}
 use Rattle.std.specs.Int.{IsInRange}
@@ -35,7 +35,7 @@ pub digits_value-short : (ds : List ℕ) (i : ℕ) → i ≤ 8 → i ≤ length 
     → digits_value 10 (take i ds) < 100000000
 digits_value-short ds i le within h =
     digits_value_short by_index (take i ds) 8 (λ k lt. let few : k < i = omega (arith, length-take {A = ℕ}) in rw (get_or-take) (h k few))
-        (omega (arith, length-take {A = ℕ}))
+    (omega (arith, length-take {A = ℕ}))
 
 -- one digit more
 pub digits_value-step : (ds : List ℕ) (i : ℕ) → i < length ds → IsInRange 48 57 (get_or ds i 0)

@@ -25,7 +25,7 @@ use Rattle.sig_table.specs.RowTexts.{IsKnown, IsPriorityTextFault, IsPuid}
 both_on : {A B C : Type 0} (o : Option A) (u : Option B) (fault : TableError) (f : A → B → Result C TableError) (IsOne IsOther : Type 0)
     (IsLater : TableError → Type 0) (e : TableError)
     → (o ≡ None → ¬ IsOne) → ((x : A) → o ≡ Some x → IsOne) → (u ≡ None → ¬ IsOther) → ((y : B) → u ≡ Some y → IsOther)
-        → ((x : A) (y : B) → o ≡ Some x → u ≡ Some y → (f x y ≡ Err e) ↔ IsLater e)
+    → ((x : A) (y : B) → o ≡ Some x → u ≡ Some y → (f x y ≡ Err e) ↔ IsLater e)
     → (ok_or o fault >>= (λ x. ok_or u fault >>= (λ y. f x y)) ≡ Err e) ↔ FirstOf (¬ IsOne ⊎ ¬ IsOther) fault IsLater e
 both_on None u fault f IsOne IsOther IsLater e none one lacks other later =
     (λ h. inl (inl (none refl), cc h), λ first. elim first [ inl there ↦ ap (λ x. Err x) (sym there.1) | inr more ↦ absurd (more.0 (inl (none refl))) ])
@@ -48,8 +48,12 @@ not_found formats p none c = let within = position-any (puid_eq p) formats (any_
 
 -- a text of a PUID, which is one of the formats or is not
 is_known : (formats : List Puid) (text : List ℕ) (p : Puid) (i : ℕ) → puid_of text ≡ Some p → index_in formats p ≡ Some i → IsKnown formats text
-is_known formats text p i h at = (p, IsNumber-puid_of text p h, sym (puid_text-puid_of text (Some p) (sym h)),
-    Contains-slice_get formats i p (found-there formats p i at))
+is_known formats text p i h at = (
+  p,
+  IsNumber-puid_of text p h,
+  sym (puid_text-puid_of text (Some p) (sym h)),
+  Contains-slice_get formats i p (found-there formats p i at),
+)
 
 not_known : (formats : List Puid) (text : List ℕ) (p : Puid) → puid_of text ≡ Some p → index_in formats p ≡ None → ¬ IsKnown formats text
 not_known formats text p h none known =
@@ -87,17 +91,17 @@ module _ (formats : List Puid) (n : ℕ) (fields : List (List ℕ)) (e : TableEr
       ↔ FirstOf (¬ IsPuid higher ⊎ ¬ IsPuid lower) (error.Puid Priorities n) (IsOfFormats higher lower) e
   refused_with higher lower =
       both_on (puid_of higher) (puid_of lower) (error.Puid Priorities n) _ (IsPuid higher) (IsPuid lower) (IsOfFormats higher lower) e (no_puid higher)
-          (is_puid higher) (no_puid lower) (is_puid lower) (λ h l h_is l_is.
+      (is_puid higher) (no_puid lower) (is_puid lower) (λ h l h_is l_is.
       both_on (index_in formats h) (index_in formats l) (error.PriorityUnknown n) _ (IsKnown formats higher) (IsKnown formats lower) (IsSame higher lower) e
       (not_known formats higher h h_is) (λ i. is_known formats higher h i h_is) (not_known formats lower l l_is) (λ i. is_known formats lower l i l_is)
-          (λ above below a_is b_is.
+      (λ above below a_is b_is.
       same_on formats n higher lower h l above below e h_is l_is a_is b_is))
 
   pub pair_is_refused : (pair_of formats n fields ≡ Err e) ↔ IsPriorityTextFault formats n fields e
   unfolding pair_of
   pair_is_refused =
       let texts : TableError → Type 0 = FirstOf (¬ IsPuid (text_at fields 0) ⊎ ¬ IsPuid (text_at fields 1)) (error.Puid Priorities n)
-          (IsOfFormats (text_at fields 0) (text_at fields 1)) in
+      (IsOfFormats (text_at fields 0) (text_at fields 1)) in
       tested (length fields == 2) (error.Fields Priorities n) _ (length fields ≢ 2) texts e
       (λ f is. false≢true (sym f ∙ eq-eqb _ _ is))
       (λ t other. other (eqb-true _ _ t))

@@ -1,6 +1,6 @@
 -- The pairs of the records of a table's pairs are those pairs.
-use Rattle.std.proofs.Common.{◌≡◌, ℕ, ◌+◌, ◌<◌, false, nat_eq, List, [], ◌∷◌, ◌++◌, length, map, Contains, sym, ap, subst, append_assoc, append-nil, ◌∙◌, refl,
-    arith, inl, inr, Some, Ok}
+use Rattle.std.proofs.Common.{◌≡◌, ℕ, ◌+◌, ◌<◌, false, nat_eq, List, [], ◌∷◌, ◌++◌, length, map, Contains, sym, ap, subst, append_assoc, append-nil, ◌∙◌, refl}
+use Rattle.std.proofs.Common.{arith, inl, inr, Some, Ok}
 use Rattle.std.specs.Prelude.{slice_get, All}
 use Rattle.std.specs.List.{position_or_len}
 use Rattle.std.proofs.lemmas.Bool.{cases_Bool, eqb-true, lt-ltb}
@@ -22,7 +22,7 @@ pub index-found : (formats : List Puid) (f : ℕ) (p : Puid) → AllDifferent fo
     → index_in formats p ≡ Some f
 index-found formats f p different within at =
     let place : position_or_len (puid_eq p) formats ≡ f = rw (take_all (length formats) formats (omega arith)) at
-        (position-first formats (length formats) f p different at (omega arith)) in
+    (position-first formats (length formats) f p different at (omega arith)) in
     rw (place, lt-ltb f (length formats) within) refl
 
 module _ (formats : List Puid) (puids : All (λ p. IsNumber p.number) formats) (different : AllDifferent formats) where
@@ -60,7 +60,7 @@ module _ (formats : List Puid) (puids : All (λ p. IsNumber p.number) formats) (
         let listed : Contains all pair = subst (λ l. Contains l pair) whole (Contains-append_right done (pair ∷ later) pair (0, omega arith, refl)) in
         let within = All-contains (λ p. (p.0 < length formats) × (p.1 < length formats)) all pair are.known listed in
         rw (pair_again n pair within.0 within.1 (two pair listed), no_fault_behind (length formats) all are n done later pair whole)
-            (later_pairs later (done ++ pair ∷ []) (n + 1) (append_assoc done (pair ∷ []) later ∙ whole))
+        (later_pairs later (done ++ pair ∷ []) (n + 1) (append_assoc done (pair ∷ []) later ∙ whole))
 
     pub pairs_again : pairs_of formats (priority_header ∷ map (pair_record formats) all) ≡ Ok all
     unfolding pairs_of field_at

@@ -1,6 +1,6 @@
 -- No field of the canonical text has a byte that calls for quotes, so `csv` writes each record as it stands.
-use Rattle.std.proofs.Common.{◌≡◌, ℕ, zero, suc, ◌/◌, ◌%◌, ◌<◌, Bool, true, false, cond, nat_eq, nat_lt, List, [], ◌∷◌, ◌++◌, map, Option, Some, None, refl,
-    sym, ap, append-nil, inl, inr, arith}
+use Rattle.std.proofs.Common.{◌≡◌, ℕ, zero, suc, ◌/◌, ◌%◌, ◌<◌, Bool, true, false, cond, nat_eq, nat_lt, List, [], ◌∷◌, ◌++◌, map, Option, Some, None, refl}
+use Rattle.std.proofs.Common.{sym, ap, append-nil, inl, inr, arith}
 use Rattle.std.specs.Prelude.{codes, slice_get, slice_index, ⊤}
 use Rattle.std.specs.Fmt.{decimal, digit_glyph, digits, digits_onto}
 use Rattle.std.specs.List.{flat_map}
@@ -8,14 +8,14 @@ use Rattle.std.proofs.lemmas.Bool.{cases_Bool, ne_eqb}
 use Rattle.std.proofs.lemmas.List.Folds.{list_any-append}
 use Rattle.csv.specs.Writing.{default_writer, fields_text, is_blank, needs_byte, needs_quotes, row_body, row_text}
 use Rattle.sig_expr.proofs.Exports.{encode_upper, encode_with, upper_digits}
-use Rattle.sig_expr.specs.Canon.{alternative_text, alternatives_text, atom_text, between_text, canon, count_text, from_text, gap_text, item_text, not_text,
-    range_text}
+use Rattle.sig_expr.specs.Canon.{alternative_text, alternatives_text, atom_text, between_text, canon, count_text, from_text, gap_text, item_text, not_text}
+use Rattle.sig_expr.specs.Canon.{range_text}
 use Rattle.sig_expr.specs.declared.item.Atom.{Atom}
 use Rattle.sig_expr.specs.declared.item.Atom.TheVariants as atom
 use Rattle.sig_expr.specs.declared.item.Item.{Item}
 use Rattle.sig_expr.specs.declared.item.Item.TheVariants as item
-use Rattle.sig_table.specs.Canonical.{joined, line_text, name_of, named, pair_record, pair_records, pairs_csv, records_of_signature, sequence_record,
-    signature_csv, signature_records}
+use Rattle.sig_table.specs.Canonical.{joined, line_text, name_of, named, pair_record, pair_records, pairs_csv, records_of_signature, sequence_record}
+use Rattle.sig_table.specs.Canonical.{signature_csv, signature_records}
 use Rattle.sig_table.specs.Views.{SequenceView, SignatureView, TableView}
 use Rattle.sig_table.specs.Puids.{puid_text, registry_text}
 use Rattle.sig_table.specs.declared.position.Position.{Position}

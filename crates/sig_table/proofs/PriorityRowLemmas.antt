@@ -16,8 +16,8 @@ use Rattle.sig_table.specs.declared.error.TableFile.TheVariants.{Priorities}
 use Rattle.sig_table.specs.declared.puid.Puid.{Puid}
 use Rattle.sig_table.specs.Judging.{WriteAll}
 use Rattle.sig_table.specs.Loading.{is_listed, is_priority_header, pair_fault, pair_of, pair_of_two, pairs_of, index_in, with_pair}
-use Rattle.sig_table.specs.PriorityRows.{ArePairsOf, BeginsWithPairHeader, HasCycle, HasFirstPairFault, IsFaultOfPair, IsPairFault, IsPriorityFaultOf,
-    WritesPair}
+use Rattle.sig_table.specs.PriorityRows.{ArePairsOf, BeginsWithPairHeader, HasCycle, HasFirstPairFault, IsFaultOfPair, IsPairFault, IsPriorityFaultOf}
+use Rattle.sig_table.specs.PriorityRows.{WritesPair}
 use Rattle.sig_table.specs.Puids.{puid_eq, puid_of}
 use Rattle.sig_table.specs.Ranking.{is_above}
 use Rattle.sig_table.specs.Rows.{text_at}
@@ -61,9 +61,17 @@ pair_of-fits formats n fields pair is = elim (cases_Bool (nat_eq (length fields)
 -- a pair that leads back makes a cycle
 closes : (pairs : List (ℕ × ℕ)) (pair : ℕ × ℕ) → is_above pairs pair.1 pair.0 ≡ true → HasCycle (pairs ++ pair ∷ [])
 closes pairs pair back =
-    let way = (is_above-Decides pairs pair.1 pair.0).0 back in
-    (pair.0, (pair.1 ∷ way.0, (Contains-push pairs pair, wider pairs (pairs ++ pair ∷ []) (λ p c. Contains-append_left pairs (pair ∷ []) p c) pair.1 way.0
-        pair.0 way.1)))
+    let way = (is_above-Decides pairs pair.1 pair.0).0 back in (
+      pair.0,
+      (
+        pair.1 ∷ way.0,
+        (
+          Contains-push pairs pair,
+          wider pairs (pairs ++ pair ∷ []) (λ p c. Contains-append_left pairs (pair ∷ []) p c) pair.1 way.0
+              pair.0 way.1,
+        ),
+      ),
+    )
 
 -- the fault of a pair, in plain words
 fault_of_pair : (pairs : List (ℕ × ℕ)) (n : ℕ) (pair : ℕ × ℕ) (e : TableError) → pair_fault pairs n pair ≡ Some e → IsFaultOfPair pairs n pair e
@@ -178,9 +186,16 @@ are_pairs_of formats [] pairs h = absurd (cc h)
 are_pairs_of formats (header ∷ records) pairs h = elim (cases_Bool (is_priority_header header)) [
   | inl t ↦
       let c = continues (with_pair formats) itself (ArePriorities (length formats)) (WritesPair formats) (IsPairFault formats) (turns formats) records [] 1
-          pairs (no_priorities (length formats)) (rw t at h) in
-      record { header = header; records = records; cut = refl; is_header = t; write = subst (WriteAll (WritesPair formats) 1 records) (sym c.is) c.write; are =
-          subst (ArePriorities (length formats)) (sym c.is) c.are }
+      pairs (no_priorities (length formats)) (rw t at h) in
+      record {
+        header = header;
+        records = records;
+        cut = refl;
+        is_header = t;
+        write = subst (WriteAll (WritesPair formats) 1 records) (sym c.is) c.write;
+        are =
+            subst (ArePriorities (length formats)) (sym c.is) c.are;
+      }
   | inr f ↦ absurd (cc (rw f at h))
 ]
 
@@ -191,9 +206,20 @@ is_priority_fault_of formats [] fault h = inl (nothing_begins, cc h)
 is_priority_fault_of formats (header ∷ records) fault h = elim (cases_Bool (is_priority_header header)) [
   | inl t ↦
       let s = stops (with_pair formats) itself (ArePriorities (length formats)) (WritesPair formats) (IsPairFault formats) (turns formats) records [] 1 fault
-          (no_priorities (length formats)) (rw t at h) in
-      inr (record { header = header; earlier = s.earlier; fields = s.fields; later = s.later; cut = ap (λ l. header ∷ l) s.cut; is_header = t; pairs =
-          s.rows; write = s.write; are = s.are; has = s.has })
+      (no_priorities (length formats)) (rw t at h) in
+      inr (record {
+        header = header;
+        earlier = s.earlier;
+        fields = s.fields;
+        later = s.later;
+        cut = ap (λ l. header ∷ l) s.cut;
+        is_header = t;
+        pairs =
+            s.rows;
+        write = s.write;
+        are = s.are;
+        has = s.has;
+      })
   | inr f ↦ inl (other_begins header records f, cc (rw f at h))
 ]
 
@@ -203,7 +229,7 @@ pub pairs_are_given : (formats : List Puid) (file : List (List (List ℕ))) (pai
 unfolding pairs_of
 pairs_are_given formats file pairs are =
     rw (are.cut, are.is_header) (continued (with_pair formats) itself (ArePriorities (length formats)) (WritesPair formats) (IsPairFault formats)
-        (turns formats) are.records [] pairs 1 are.write are.are)
+    (turns formats) are.records [] pairs 1 are.write are.are)
 
 no_header_is_told : (formats : List Puid) (file : List (List (List ℕ))) → (BeginsWithPairHeader file → ⊥)
     → pairs_of formats file ≡ Err (error.Header Priorities)
@@ -219,7 +245,7 @@ first_fault_given : (formats : List Puid) (file : List (List (List ℕ))) (fault
 unfolding pairs_of
 first_fault_given formats file fault is =
     rw (is.cut, is.is_header) (stopped (with_pair formats) itself (ArePriorities (length formats)) (WritesPair formats) (IsPairFault formats) (turns formats)
-        is.earlier [] is.pairs 1 is.fields is.later fault is.write is.are is.has)
+    is.earlier [] is.pairs 1 is.fields is.later fault is.write is.are is.has)
 
 pub priority_fault_is_given : (formats : List Puid) (file : List (List (List ℕ))) (fault : TableError) → IsPriorityFaultOf formats file fault
     → pairs_of formats file ≡ Err fault

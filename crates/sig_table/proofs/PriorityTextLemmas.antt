@@ -75,9 +75,9 @@ pub pair_is_read : (formats : List Puid) → All (λ p. IsNumber p.number) forma
 unfolding pair_of field_at
 pair_is_read formats puids different n fields pair text =
     let h_is : IsNumber text.higher.number = All-contains (λ p. IsNumber p.number) formats text.higher puids
-        (Contains-slice_get formats pair.0 text.higher text.is_higher) in
+    (Contains-slice_get formats pair.0 text.higher text.is_higher) in
     let l_is : IsNumber text.lower.number = All-contains (λ p. IsNumber p.number) formats text.lower puids
-        (Contains-slice_get formats pair.1 text.lower text.is_lower) in
+    (Contains-slice_get formats pair.1 text.lower text.is_lower) in
     rw (
       text.cut,
       puid_of-puid_text text.higher.registry text.higher.number h_is.0 h_is.1,

@@ -1,6 +1,6 @@
 -- A PUID is read from its own text, and from no other.
-use Rattle.std.proofs.Common.{◌≡◌, ℕ, ◌<◌, ◌≤◌, ◌^◌, true, false, nat_eq, nat_lt, ◌&&◌, List, [], ◌∷◌, ◌++◌, drop, length, get_or, sym, ap, ◌∙◌, refl, inl, inr,
-    arith, rules, tests, Option, Some, None, eq-eqb, option_map}
+use Rattle.std.proofs.Common.{◌≡◌, ℕ, ◌<◌, ◌≤◌, ◌^◌, true, false, nat_eq, nat_lt, ◌&&◌, List, [], ◌∷◌, ◌++◌, drop, length, get_or, sym, ap, ◌∙◌, refl, inl, inr}
+use Rattle.std.proofs.Common.{arith, rules, tests, Option, Some, None, eq-eqb, option_map}
 use Rattle.std.specs.Prelude.{codes, IfSome}
 use Rattle.std.specs.Fmt.{decimal}
 use Rattle.std.specs.List.{starts_with}
@@ -60,7 +60,7 @@ pub decimal-number_of : (text : List ℕ) (n : ℕ) → number_of 9 text ≡ Som
 decimal-number_of text n h =
     let is = IsNumeral-number_of text n h in
     rw (← is.value) (decimal-digits_value by_test text is.digits is.some (alone (get_or text 0 0) (length text) is.front is.some)
-        (let value = is.value in let small = is.small in omega arith))
+    (let value = is.value in let small = is.small in omega arith))
 
 pub number_of-positive : (text : List ℕ) (n : ℕ) → positive_of text ≡ Some n → number_of 9 text ≡ Some n
 unfolding positive_of

@@ -1,13 +1,13 @@
 -- A reader gives the records of a text one after the other.
-use Rattle.std.proofs.Common.{◌≡◌, ◌⊎◌, ℕ, zero, suc, ◌+◌, ◌≤◌, Bool, true, false, List, [], ◌∷◌, length, Option, Some, None, sym, ap, ◌∙◌, refl, add-one,
-    arith, inl, inr, Result, Ok, Err}
+use Rattle.std.proofs.Common.{◌≡◌, ◌⊎◌, ℕ, zero, suc, ◌+◌, ◌≤◌, Bool, true, false, List, [], ◌∷◌, length, Option, Some, None, sym, ap, ◌∙◌, refl, add-one}
+use Rattle.std.proofs.Common.{arith, inl, inr, Result, Ok, Err}
 use Rattle.std.proofs.lemmas.Bool.{cases_Bool, false≢true}
 use Rattle.std.specs.Bool.{MatchBool}
 use Rattle.std.specs.Borrow.{Bor}
 use Rattle.csv.proofs.ReadFacts.{rows-end, rows-more}
 use Rattle.csv.specs.Machine.{Read, next_record, step, is_end, fields_after, field_after, ends_at_end}
-use Rattle.csv.specs.Reading.{AreRecords, ExplainsRead, Reached, ReadRecord, ReadsNext, default_config, has_failed, is_bom, is_flexible, pending_of, Ready,
-    reader_state, reader_trim, records_from, stops_reader, strip_bom, took_first}
+use Rattle.csv.specs.Reading.{AreRecords, ExplainsRead, Reached, ReadRecord, ReadsNext, default_config, has_failed, is_bom, is_flexible, pending_of, Ready}
+use Rattle.csv.specs.Reading.{reader_state, reader_trim, records_from, stops_reader, strip_bom, took_first}
 use Rattle.csv.specs.declared.error.Error.{Error}
 use Rattle.csv.specs.declared.error.ErrorKind.{ErrorKind}
 use Rattle.csv.specs.declared.error.ErrorKind.TheVariants as kind

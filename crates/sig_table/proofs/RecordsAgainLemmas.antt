@@ -8,8 +8,8 @@ use Rattle.csv.specs.Writing.{default_writer, fields_text, is_blank, read_back, 
 use Rattle.csv.specs.declared.parser.State.TheVariants as st
 use Rattle.sig_table.proofs.PlainLemmas.{pairs_csv-rows, signature_csv-rows}
 use Rattle.sig_table.proofs.RecordLemmas.{none_left, records_of-from}
-use Rattle.sig_table.specs.Canonical.{pair_record, priority_csv, priority_header, priority_records, records_of_signature, sequence_record, signature_csv,
-    signature_header, signature_records}
+use Rattle.sig_table.specs.Canonical.{pair_record, priority_csv, priority_header, priority_records, records_of_signature, sequence_record, signature_csv}
+use Rattle.sig_table.specs.Canonical.{signature_header, signature_records}
 use Rattle.sig_table.specs.Views.{SequenceView, SignatureView, TableView}
 use Rattle.sig_table.specs.Loading.{records_of}
 use Rattle.sig_table.specs.declared.puid.Puid.{Puid}
@@ -27,14 +27,17 @@ written rows = flat_map (row_text default_writer) rows
 reached : (rows : List (List (List ℕ))) → AreSome rows → Reached default_config st.StartRecord (written rows) rows st.StartRecord []
 unfolding Reached
 reached [] all = (refl, refl)
-reached (row ∷ rows) all =
-    ((row, st.StartRecord, written rows), read-write row (written rows) ∙ ap (λ (r : List (List ℕ)). Some (r, st.StartRecord, written rows)) all.0, refl,
-        reached rows all.1)
+reached (row ∷ rows) all = (
+  (row, st.StartRecord, written rows),
+  read-write row (written rows) ∙ ap (λ (r : List (List ℕ)). Some (r, st.StartRecord, written rows)) all.0,
+  refl,
+  reached rows all.1,
+)
 
 records_of-written : (rows : List (List (List ℕ))) → AreSome rows → strip_bom (written rows) ≡ written rows → records_of (written rows) ≡ rows
 records_of-written rows all plain =
     sym (records_of-from (written rows) rows (subst (λ (t : List ℕ). AreRecords default_config st.StartRecord t rows) (sym plain)
-        (st.StartRecord, [], reached rows all, none_left default_config)))
+    (st.StartRecord, [], reached rows all, none_left default_config)))
 
 AreSome-append : (xs ys : List (List (List ℕ))) → AreSome xs → AreSome ys → AreSome (xs ++ ys)
 AreSome-append [] ys all more = more
@@ -66,9 +69,9 @@ plain-priorities rows = refl
 pub records_of-signature_csv : (t : TableView) → records_of (signature_csv t) ≡ signature_records t
 records_of-signature_csv t =
     ap records_of (signature_csv-rows t) ∙ records_of-written (signature_records t) (refl, some_of_signatures t.formats t.signatures)
-        (plain-signatures (flat_map (records_of_signature t.formats) t.signatures))
+    (plain-signatures (flat_map (records_of_signature t.formats) t.signatures))
 
 pub records_of-priority_csv : (t : TableView) → records_of (priority_csv t) ≡ priority_records t
 records_of-priority_csv t =
     ap records_of (pairs_csv-rows t.formats t.priorities) ∙ records_of-written (priority_records t) (refl, some_of_pairs t.formats t.priorities)
-        (plain-priorities (map (pair_record t.formats) t.priorities))
+    (plain-priorities (map (pair_record t.formats) t.priorities))

@@ -1,6 +1,6 @@
 -- What holds of a table holds of it without the signatures of a format.
-use Rattle.std.proofs.Common.{◌≡◌, ◌⊎◌, ℕ, zero, suc, ◌<◌, ◌≤◌, Bool, true, false, List, [], ◌∷◌, ◌++◌, length, map, not, nat_eq, refl, sym, ap, ◌∙◌, arith,
-    inl, inr, Some, None, nat_lt, position, tests, rules, get_or}
+use Rattle.std.proofs.Common.{◌≡◌, ◌⊎◌, ℕ, zero, suc, ◌<◌, ◌≤◌, Bool, true, false, List, [], ◌∷◌, ◌++◌, length, map, not, nat_eq, refl, sym, ap, ◌∙◌, arith}
+use Rattle.std.proofs.Common.{inl, inr, Some, None, nat_lt, position, tests, rules, get_or}
 use Rattle.std.specs.Prelude.{Contains, filter}
 use Rattle.std.specs.List.{position_or_len}
 use Rattle.std.proofs.lemmas.Bool.{cases_Bool, false≢true}
@@ -124,14 +124,14 @@ puid_eq-same : (a b : Puid) → puid_eq a b ≡ true → a ≡ b
 puid_eq-same a b = elim a.registry as (λ r. puid_eq (record a { registry = r }) b ≡ true → record a { registry = r } ≡ b) [
   | Fmt ↦ elim b.registry as (λ r. puid_eq (record a { registry = Fmt }) (record b { registry = r }) ≡ true
       → record a { registry = Fmt } ≡ record b { registry = r }) [
-    | Fmt ↦ λ t. ap (λ (n : ℕ). record { registry = Fmt; number = n }) ((Decides-eqb a.number b.number).0 t)
-    | XFmt ↦ λ t. absurd (false≢true t)
-  ]
+        | Fmt ↦ λ t. ap (λ (n : ℕ). record { registry = Fmt; number = n }) ((Decides-eqb a.number b.number).0 t)
+        | XFmt ↦ λ t. absurd (false≢true t)
+      ]
   | XFmt ↦ elim b.registry as (λ r. puid_eq (record a { registry = XFmt }) (record b { registry = r }) ≡ true
       → record a { registry = XFmt } ≡ record b { registry = r }) [
-    | Fmt ↦ λ t. absurd (false≢true t)
-    | XFmt ↦ λ t. ap (λ (n : ℕ). record { registry = XFmt; number = n }) ((Decides-eqb a.number b.number).0 t)
-  ]
+        | Fmt ↦ λ t. absurd (false≢true t)
+        | XFmt ↦ λ t. ap (λ (n : ℕ). record { registry = XFmt; number = n }) ((Decides-eqb a.number b.number).0 t)
+      ]
 ]
 
 -- a name that has a place is there

@@ -1,6 +1,6 @@
 -- A row that was written is the row that is read.
-use Rattle.std.proofs.Common.{◌≡◌, ℕ, ◌<◌, ◌≤◌, ◌^◌, true, false, nat_eq, nat_lt, List, [], ◌∷◌, ◌++◌, length, get_or, refl, inl, inr, arith, rules, tests,
-    Some, Ok}
+use Rattle.std.proofs.Common.{◌≡◌, ℕ, ◌<◌, ◌≤◌, ◌^◌, true, false, nat_eq, nat_lt, List, [], ◌∷◌, ◌++◌, length, get_or, refl, inl, inr, arith, rules, tests}
+use Rattle.std.proofs.Common.{Some, Ok}
 use Rattle.std.specs.Fmt.{decimal}
 use Rattle.std.specs.Str.{all_ascii_digits}
 use Rattle.std.specs.Str.Parse.{digits_value}
@@ -62,7 +62,7 @@ offsets_of-decimal row min max order h =
     let some = decimal_nonempty max (omega arith) in
     let empty : nat_eq (length (decimal max)) 0 ≡ false = ne_eqb (length (decimal max)) 0 (λ e. omega arith) in
     rw (number_of-decimal min (omega arith), not_below 65535 min (omega arith), empty, number_of-decimal max h, not_below 65535 max h, not_below max min order)
-        refl
+    refl
 
 -- the canonical text is read as its items
 pub expr_of-canon : (items : List Item) → IsExpression items → expr_of (canon items) ≡ Ok items
@@ -76,11 +76,19 @@ again : (row : ℕ) (puid : Puid) (number : ℕ) (p : Position) (items : List It
     → row_of row (puid_text puid ∷ decimal number ∷ (position_fields p ++ canon items ∷ [])) ≡ Ok (row_for puid number (record { position = p; items = items }))
 unfolding row_of field_at position_of
 again row puid number (position.Bof min max) items is_puid is_number order h =
-    rw (puid_of-puid_text puid.registry puid.number is_puid.0 is_puid.1, positive_of-decimal number is_number.0 is_number.1,
-        offsets_of-decimal row min max order.0 order.1, expr_of-canon items h) refl
+    rw (
+      puid_of-puid_text puid.registry puid.number is_puid.0 is_puid.1,
+      positive_of-decimal number is_number.0 is_number.1,
+      offsets_of-decimal row min max order.0 order.1,
+      expr_of-canon items h,
+    ) refl
 again row puid number (position.Eof min max) items is_puid is_number order h =
-    rw (puid_of-puid_text puid.registry puid.number is_puid.0 is_puid.1, positive_of-decimal number is_number.0 is_number.1,
-        offsets_of-decimal row min max order.0 order.1, expr_of-canon items h) refl
+    rw (
+      puid_of-puid_text puid.registry puid.number is_puid.0 is_puid.1,
+      positive_of-decimal number is_number.0 is_number.1,
+      offsets_of-decimal row min max order.0 order.1,
+      expr_of-canon items h,
+    ) refl
 again row puid number position.Variable items is_puid is_number order h =
     rw (puid_of-puid_text puid.registry puid.number is_puid.0 is_puid.1, positive_of-decimal number is_number.0 is_number.1, expr_of-canon items h) refl
 

@@ -26,7 +26,7 @@ use Rattle.sig_table.specs.RowTexts.{AreOffsets, IsFaultOfExpression, IsPuid, Is
 -- what is asked by a test
 pub tested : {A : Type 0} (b : Bool) (fault : TableError) (rest : Result A TableError) (IsThere : Type 0) (IsLater : TableError → Type 0) (e : TableError)
     → (b ≡ false → IsThere) → (b ≡ true → IsThere → ⊥) → (b ≡ true → (rest ≡ Err e) ↔ IsLater e) → ((if b then rest else Err fault) ≡ Err e)
-        ↔ FirstOf IsThere fault IsLater e
+    ↔ FirstOf IsThere fault IsLater e
 tested true fault rest IsThere IsLater e fails passes later =
     (λ h. inr (passes refl, (later refl).0 h), λ first. elim first [ inl there ↦ absurd (passes refl there.0) | inr more ↦ (later refl).1 more.1 ])
 tested false fault rest IsThere IsLater e fails passes later =
@@ -35,12 +35,16 @@ tested false fault rest IsThere IsLater e fails passes later =
 -- what is read of a text, where it is one
 pub read_on : {A B : Type 0} (o : Option A) (fault : TableError) (f : A → Result B TableError) (Is : Type 0) (IsLater : TableError → Type 0) (e : TableError)
     → (o ≡ None → ¬ Is) → ((x : A) → o ≡ Some x → Is) → ((x : A) → o ≡ Some x → (f x ≡ Err e) ↔ IsLater e) → (ok_or o fault >>= f ≡ Err e)
-        ↔ FirstOf (¬ Is) fault IsLater e
-read_on None fault f Is IsLater e none some later = (λ h. inl (none refl, cc h),
-    λ first. elim first [ inl there ↦ ap (λ x. Err x) (sym there.1) | inr more ↦ absurd (more.0 (none refl)) ])
-read_on (Some x) fault f Is IsLater e none some later =
-    (λ h. inr (λ no. no (some x refl), (later x refl).0 h), λ first. elim first
-        [ inl there ↦ absurd (there.0 (some x refl)) | inr more ↦ (later x refl).1 more.1 ])
+    ↔ FirstOf (¬ Is) fault IsLater e
+read_on None fault f Is IsLater e none some later = (
+  λ h. inl (none refl, cc h),
+  λ first. elim first [ inl there ↦ ap (λ x. Err x) (sym there.1) | inr more ↦ absurd (more.0 (none refl)) ],
+)
+read_on (Some x) fault f Is IsLater e none some later = (
+  λ h. inr (λ no. no (some x refl), (later x refl).0 h),
+  λ first. elim first
+      [ inl there ↦ absurd (there.0 (some x refl)) | inr more ↦ (later x refl).1 more.1 ],
+)
 
 -- a PUID is read of its text, and of no other
 pub is_puid : (text : List ℕ) (puid : Puid) → puid_of text ≡ Some puid → IsPuid text
@@ -60,7 +64,7 @@ abbrev Placed : ℕ → List ℕ → List ℕ → List ℕ → Type 0
 Placed n word offset greatest =
     ((place : Position) × (position_of n word offset greatest ≡ Ok place))
     ⊎ ((IsWordOfPosition word × (position_of n word offset greatest ≡ Err (error.Offset n)))
-        ⊎ (¬ IsWordOfPosition word × (position_of n word offset greatest ≡ Err (error.Position n))))
+    ⊎ (¬ IsWordOfPosition word × (position_of n word offset greatest ≡ Err (error.Position n))))
 
 offsets_or_fault : (n : ℕ) (o : Option (ℕ × ℕ)) → ((p : ℕ × ℕ) × (ok_or o (error.Offset n) ≡ Ok p)) ⊎ (ok_or o (error.Offset n) ≡ Err (error.Offset n))
 offsets_or_fault n None = inr refl
@@ -100,7 +104,7 @@ word_of position.Variable word offset greatest texts = inr (inr texts.0)
 place_on : {B : Type 0} (n : ℕ) (word offset greatest : List ℕ) (f : Position → Result B TableError) (IsLater : TableError → Type 0) (e : TableError)
     → ((place : Position) → (f place ≡ Err e) ↔ IsLater e)
     → (position_of n word offset greatest >>= f ≡ Err e) ↔ FirstOf (¬ IsWordOfPosition word) (error.Position n)
-        (FirstOf (¬ AreOffsets word offset greatest) (error.Offset n) IsLater) e
+    (FirstOf (¬ AreOffsets word offset greatest) (error.Offset n) IsLater) e
 place_on n word offset greatest f IsLater e later = elim (placed n word offset greatest) [
   | inl p ↦
       let texts = read-position n word offset greatest p.0 p.1 in
@@ -153,11 +157,11 @@ refused_with : (n : ℕ) (puid number word offset greatest expression : List ℕ
 refused_with n puid number word offset greatest expression e =
     let last : TableError → Type 0 = IsFaultOfExpression n expression in
     let third : TableError → Type 0 = FirstOf (¬ IsWordOfPosition word) (error.Position n) (FirstOf (¬ AreOffsets word offset greatest) (error.Offset n) last)
-        in
+    in
     let second : TableError → Type 0 = FirstOf (¬ IsSignatureNumber number) (error.SignatureNumber n) third in
     read_on (puid_of puid) (error.Puid Signatures n) _ (IsPuid puid) second e (no_puid puid) (is_puid puid) (λ p p_is.
     read_on (positive_of number) (error.SignatureNumber n) _ (IsSignatureNumber number) third e (no_signature_number number) (is_signature_number number)
-        (λ k k_is.
+    (λ k k_is.
     place_on n word offset greatest _ last e (λ place.
     items_on n expression _ e (λ items h. cc h) (expr_of expression) refl)))
 
@@ -165,9 +169,9 @@ pub row_is_refused : (n : ℕ) (fields : List (List ℕ)) (e : TableError) → (
 unfolding row_of
 row_is_refused n fields e =
     let offsets : TableError → Type 0 = FirstOf (¬ AreOffsets (text_at fields 2) (text_at fields 3) (text_at fields 4)) (error.Offset n)
-        (IsFaultOfExpression n (text_at fields 5)) in
+    (IsFaultOfExpression n (text_at fields 5)) in
     let numbers : TableError → Type 0 = FirstOf (¬ IsSignatureNumber (text_at fields 1)) (error.SignatureNumber n)
-        (FirstOf (¬ IsWordOfPosition (text_at fields 2)) (error.Position n) offsets) in
+    (FirstOf (¬ IsWordOfPosition (text_at fields 2)) (error.Position n) offsets) in
     tested (length fields == 6) (error.Fields Signatures n) _ (length fields ≢ 6) (FirstOf (¬ IsPuid (text_at fields 0)) (error.Puid Signatures n) numbers) e
     (λ f is. false≢true (sym f ∙ eq-eqb _ _ is))
     (λ t other. other (eqb-true _ _ t))

@@ -1,6 +1,6 @@
 -- What holds of each row that is read.
-use Rattle.std.proofs.Common.{◌≡◌, ℕ, ◌≤◌, ◌&&◌, ◌==◌, nat_eq, nat_lt, List, drop, length, refl, inl, inr, arith, rules, tests, Option, Some, None, Result, Ok,
-    Err}
+use Rattle.std.proofs.Common.{◌≡◌, ℕ, ◌≤◌, ◌&&◌, ◌==◌, nat_eq, nat_lt, List, drop, length, refl, inl, inr, arith, rules, tests, Option, Some, None, Result, Ok}
+use Rattle.std.proofs.Common.{Err}
 use Rattle.std.specs.Prelude.{codes}
 use Rattle.std.specs.List.{starts_with}
 use Rattle.std.specs.Option.{ok_or}

@@ -1,6 +1,6 @@
 -- A row is read of the texts of its parts, and of no others.
-use Rattle.std.proofs.Common.{◌≡◌, ℕ, ◌≤◌, ◌&&◌, ◌==◌, true, nat_lt, List, [], ◌∷◌, length, sym, ap, ◌∙◌, refl, inl, inr, arith, rules, tests, Option, Some,
-    None, Ok}
+use Rattle.std.proofs.Common.{◌≡◌, ℕ, ◌≤◌, ◌&&◌, ◌==◌, true, nat_lt, List, [], ◌∷◌, length, sym, ap, ◌∙◌, refl, inl, inr, arith, rules, tests, Option, Some}
+use Rattle.std.proofs.Common.{None, Ok}
 use Rattle.std.specs.Prelude.{codes}
 use Rattle.std.specs.Cmp.Lexicographic.{same_text}
 use Rattle.std.specs.Fmt.{decimal}

@@ -1,15 +1,15 @@
 -- The rows of a signature file give its table, or a first faulty one.
-use Rattle.std.proofs.Common.{◌≡◌, ℕ, ◌<◌, ◌≤◌, ◌&&◌, Bool, true, false, not, nat_eq, nat_lt, nat_le, List, [], ◌∷◌, ◌++◌, length, map, sym, ap, subst, eq-eqb,
-    append-nil, length-append, ◌∙◌, refl, arith, rules, tests, inl, inr, Some, None, Ok, Err}
+use Rattle.std.proofs.Common.{◌≡◌, ℕ, ◌<◌, ◌≤◌, ◌&&◌, Bool, true, false, not, nat_eq, nat_lt, nat_le, List, [], ◌∷◌, ◌++◌, length, map, sym, ap, subst, eq-eqb}
+use Rattle.std.proofs.Common.{append-nil, length-append, ◌∙◌, refl, arith, rules, tests, inl, inr, Some, None, Ok, Err}
 use Rattle.std.specs.Prelude.{find, Contains}
 use Rattle.std.specs.List.{list_any, position_or_len}
 use Rattle.std.proofs.lemmas.Bool.{cases_Bool, eqb-true, false≢true}
 use Rattle.std.proofs.lemmas.List.{length-map}
-use Rattle.std.proofs.lemmas.List.Elements.{All-contains, All-nil, All-pop, All-push, Contains-append_left, Contains-append_right, Contains-push,
-    Contains-push_cases}
+use Rattle.std.proofs.lemmas.List.Elements.{All-contains, All-nil, All-pop, All-push, Contains-append_left, Contains-append_right, Contains-push}
+use Rattle.std.proofs.lemmas.List.Elements.{Contains-push_cases}
 use Rattle.sig_table.proofs.DraftLemmas.{any-none, any-some}
-use Rattle.sig_table.proofs.GatheredLemmas.{any-number, any-numbers_of, any-puid_of, any-signature, formats_of-append, gathered-append, number_same,
-    numbers_of-append, puid_same, rows_of-append, rows_of-none}
+use Rattle.sig_table.proofs.GatheredLemmas.{any-number, any-numbers_of, any-puid_of, any-signature, formats_of-append, gathered-append, number_same}
+use Rattle.sig_table.proofs.GatheredLemmas.{numbers_of-append, puid_same, rows_of-append, rows_of-none}
 use Rattle.sig_table.proofs.JudgingLemmas.{FirstOf-one, Turns, answered, continued, continues, stopped, stops, there_or_not}
 use Rattle.sig_table.proofs.LoadLemmas.{with_record-faulty, with_record-more, with_record-unread}
 use Rattle.sig_table.proofs.LimitLemmas.{FitsBeside, FitsIn, fits_beside, fits_in, room_for}
@@ -18,8 +18,8 @@ use Rattle.sig_table.specs.declared.error.TableError.TheVariants as error
 use Rattle.sig_table.specs.declared.error.TableFile.TheVariants.{Signatures}
 use Rattle.sig_table.specs.declared.puid.Puid.{Puid}
 use Rattle.sig_table.specs.declared.row.Row.{Row}
-use Rattle.sig_table.specs.Gathered.{AreRows, BeginsWithHeader, HasEight, HasFirstFault, HasTooManySlots, IsBeyond, IsFaultAfter, IsFaultOf, IsFaultOfRow,
-    IsOfTwo, IsTableOf, Writes, first_format, formats_of, gathered, numbers_of, rows_of, signature_of}
+use Rattle.sig_table.specs.Gathered.{AreRows, BeginsWithHeader, HasEight, HasFirstFault, HasTooManySlots, IsBeyond, IsFaultAfter, IsFaultOf, IsFaultOfRow}
+use Rattle.sig_table.specs.Gathered.{IsOfTwo, IsTableOf, Writes, first_format, formats_of, gathered, numbers_of, rows_of, signature_of}
 use Rattle.sig_table.specs.Views.{SignatureView, TableView}
 use Rattle.indexmap.specs.IndexSet.{insert_key}
 use Rattle.sig_table.specs.Judging.{FirstOf}
@@ -79,7 +79,7 @@ record IsMore (done : List Row) (row : Row) (s : SignatureView) : Type 0 where
 is_more : (done : List Row) (row : Row) (s : SignatureView) → signature_in (gathered done).signatures row.number ≡ Some s → IsMore done row s
 is_more done row s found =
     let there : list_any (nat_eq row.number) (map (λ r. r.number) done) ≡ true =
-        sym (any-signature done row.number) ∙ any-some (λ z. nat_eq row.number z.number) (map (signature_of done) (numbers_of done)) s found in
+    sym (any-signature done row.number) ∙ any-some (λ z. nat_eq row.number z.number) (map (signature_of done) (numbers_of done)) s found in
     let first = first_of row.number done there in
     let is = signature_of-found done row.number (numbers_of done) s found in
     record {
@@ -196,7 +196,7 @@ fault-more done n row s e are more h =
       | inr other ↦
           let is : error.SignatureOfTwo n ≡ e = cc (rw other at h) in
           let two : first.row.puid ≡ row.puid → ⊥ = λ same. false≢true
-              (sym other ∙ eq-eqb _ _ (ap (λ p. position_or_len (puid_eq p) (formats_of done)) (sym same) ∙ sym more.format)) in
+          (sym other ∙ eq-eqb _ _ (ap (λ p. position_or_len (puid_eq p) (formats_of done)) (sym same) ∙ sym more.format)) in
           inl ((first.row, first.among, sym first.number, two), sym is)
     ]
 
@@ -299,7 +299,7 @@ one_fault done n row a b x y =
     let second : TableError → Type 0 = FirstOf (HasEight done row) (error.TooManySequences n) third in
     FirstOf-one (IsOfTwo done row) (error.SignatureOfTwo n) second a b
     (FirstOf-one (HasEight done row) (error.TooManySequences n) third a b
-        (FirstOf-one (HasTooManySlots row) (error.TooManySlots n) last a b (λ x y. x.1 ∙ sym y.1))) x y
+    (FirstOf-one (HasTooManySlots row) (error.TooManySlots n) last a b (λ x y. x.1 ∙ sym y.1))) x y
 
 more : (done : List Row) (n : ℕ) (fields : List (List ℕ)) (s : TableView) → AreRows done → with_record n (gathered done) fields ≡ Ok s → (row : Row)
     × Writes n fields row × AreRows (done ++ row ∷ []) × (s ≡ gathered (done ++ row ∷ []))
@@ -374,8 +374,19 @@ is_fault_of [] fault h = inl (nothing_begins, cc h)
 is_fault_of (header ∷ records) fault h = elim (cases_Bool (is_signature_header header)) [
   | inl t ↦
       let s = stops with_record gathered AreRows Writes IsFaultAfter turns records [] 1 fault no_rows (rw t at h) in
-      inr (record { header = header; earlier = s.earlier; fields = s.fields; later = s.later; cut = ap (λ l. header ∷ l) s.cut; is_header = t; rows =
-          s.rows; write = s.write; are = s.are; has = s.has })
+      inr (record {
+        header = header;
+        earlier = s.earlier;
+        fields = s.fields;
+        later = s.later;
+        cut = ap (λ l. header ∷ l) s.cut;
+        is_header = t;
+        rows =
+            s.rows;
+        write = s.write;
+        are = s.are;
+        has = s.has;
+      })
   | inr f ↦ inl (other_begins header records f, cc (rw f at h))
 ]
 

@@ -1,6 +1,6 @@
 -- The ends of the counts of slots.
-use Rattle.std.proofs.Common.{◌≡◌, ℕ, ◌+◌, ◌-◌, ◌<◌, ◌≤◌, ◌⊎◌, true, false, nat_lt, List, [], ◌∷◌, drop, length, min, sym, ◌∙◌, refl, inl, inr, arith, rules,
-    tests, Some, None}
+use Rattle.std.proofs.Common.{◌≡◌, ℕ, ◌+◌, ◌-◌, ◌<◌, ◌≤◌, ◌⊎◌, true, false, nat_lt, List, [], ◌∷◌, drop, length, min, sym, ◌∙◌, refl, inl, inr, arith, rules}
+use Rattle.std.proofs.Common.{tests, Some, None}
 use Rattle.std.proofs.lemmas.Bool.{cases_Bool}
 use Rattle.std.proofs.lemmas.List.{drop_all}
 use Rattle.sig_table.specs.Budgets.{minus}

@@ -1,6 +1,6 @@
 -- The places of a format's signatures are those within its span.
-use Rattle.std.proofs.Common.{◌≡◌, ◌⊎◌, ℕ, zero, suc, ◌+◌, ◌-◌, ◌<◌, ◌≤◌, List, [], ◌∷◌, ◌++◌, All, length, take, drop, get_or, replicate, slice_set, refl, sym,
-    ap, ◌∙◌, subst, arith, inl, inr, Some}
+use Rattle.std.proofs.Common.{◌≡◌, ◌⊎◌, ℕ, zero, suc, ◌+◌, ◌-◌, ◌<◌, ◌≤◌, List, [], ◌∷◌, ◌++◌, All, length, take, drop, get_or, replicate, slice_set, refl, sym}
+use Rattle.std.proofs.Common.{ap, ◌∙◌, subst, arith, inl, inr, Some}
 use Rattle.std.specs.Prelude.{slice_get}
 use Rattle.std.proofs.lemmas.Bool.{cases_eq, cases_lt, eq-eqb, ne_eqb}
 use Rattle.std.proofs.lemmas.List.Elements.{All-weaker}
@@ -69,7 +69,7 @@ places_within signatures format span is =
     ) in
     let start : span.first ≡ 0 + span.first = omega arith in
     places_before format span.first (span.end - span.first) (drop span.first signatures) back ∙ ap (λ n. places_of format n (drop span.first signatures)) start
-        ∙ places_behind format 0 span.first signatures front (omega arith)
+    ∙ places_behind format 0 span.first signatures front (omega arith)
 
 -- and so are those that are told of a part of the table
 pub places_told : (signatures all part : List SignatureView) (format own place : ℕ) (span : Span) → signatures ≡ all
@@ -77,7 +77,7 @@ pub places_told : (signatures all part : List SignatureView) (format own place :
     → places_of own place part ≡ places_of format 0 signatures
 places_told signatures all part format own place span same cut at named is =
     ap (λ f. places_of f place part) named ∙ ap (λ n. places_of format n part) at ∙ ap (places_of format span.first)
-        (cut ∙ ap (λ l. take (span.end - span.first) (drop span.first l)) (sym same)) ∙ places_within signatures format span is
+    (cut ∙ ap (λ l. take (span.end - span.first) (drop span.first l)) (sym same)) ∙ places_within signatures format span is
 
 -- ---- spans are marked signature by signature
 
@@ -128,7 +128,7 @@ same_span n signatures s format span here other was =
         | inr last ↦ (
             let same : place ≡ n = omega arith in
             absurd (other (sym own ∙ ap (λ (v : SignatureView). v.format)
-                (some_same signatures n x s (subst (λ j. slice_get signatures j ≡ Some x) same at) here)))
+            (some_same signatures n x s (subst (λ j. slice_get signatures j ≡ Some x) same at) here)))
             )
       ];
     }
@@ -167,7 +167,7 @@ pub spans_next : (n : ℕ) (signatures : List SignatureView) (spans : List Span)
 spans_next n signatures spans s none wider format same inside is known widened each =
     subst (λ f. AreSpansOfFirst (n + 1) signatures (slice_set spans f wider)) (sym same)
     (spans_more n signatures spans s none wider inside is (subst (λ (v : SignatureView). v.format < length spans) (sym is) known)
-        (subst (λ f. IsWidened (get_or spans f none) n wider) same widened) each)
+    (subst (λ f. IsWidened (get_or spans f none) n wider) same widened) each)
 
 -- all signatures
 pub spans_end : (n : ℕ) (signatures : List SignatureView) (spans : List Span) → n ≡ length signatures → AreSpansOfFirst n signatures spans

@@ -1,6 +1,6 @@
 -- The table of the records of a table is that table.
-use Rattle.std.proofs.Common.{◌≡◌, ℕ, ◌+◌, ◌<◌, ◌≤◌, Bool, true, false, nat_eq, nat_le, nat_lt, List, [], ◌∷◌, ◌++◌, length, map, take, sym, ap, subst,
-    append_assoc, eq-eqb, ◌∙◌, refl, arith, rules, tests, length-append, inl, inr, Some, None, Ok, Result, Err}
+use Rattle.std.proofs.Common.{◌≡◌, ℕ, ◌+◌, ◌<◌, ◌≤◌, Bool, true, false, nat_eq, nat_le, nat_lt, List, [], ◌∷◌, ◌++◌, length, map, take, sym, ap, subst}
+use Rattle.std.proofs.Common.{append_assoc, eq-eqb, ◌∙◌, refl, arith, rules, tests, length-append, inl, inr, Some, None, Ok, Result, Err}
 use Rattle.std.specs.Prelude.{find, All, Contains}
 use Rattle.std.specs.List.{flat_map, list_any}
 use Rattle.std.proofs.lemmas.Bool.{cases_Bool, eqb-true}
@@ -111,12 +111,17 @@ module _ (formats : List Puid) (k k' format number : ℕ) (puid : Puid) (done : 
       → fault_in (table_with (take k' formats) (done ++ signature format number sequences ∷ [])) n (row_for puid number sequence) ≡ None
   unfolding fault_in
   later_fine n sequences sequence few slots =
-      rw (found_last format number sequences done new, turn'.stays, eq-eqb format format refl, above 8 (length sequences) few,
-          not_below 65535 (slot_count sequence) slots) refl
+      rw (
+        found_last format number sequences done new,
+        turn'.stays,
+        eq-eqb format format refl,
+        above 8 (length sequences) few,
+        not_below 65535 (slot_count sequence) slots,
+      ) refl
 
   later_row : (sequences : List SequenceView) (sequence : SequenceView)
       → with_row (table_with (take k' formats) (done ++ signature format number sequences ∷ [])) (row_for puid number sequence) ≡ table_with (take k' formats)
-          (done ++ signature format number (sequences ++ sequence ∷ []) ∷ [])
+      (done ++ signature format number (sequences ++ sequence ∷ []) ∷ [])
   unfolding with_row
   later_row sequences sequence = rw (turn'.kept, any_last format number sequences done, grown_last format number sequences sequence done new) refl
 
@@ -125,14 +130,14 @@ module _ (formats : List Puid) (k k' format number : ℕ) (puid : Puid) (done : 
       → IsNumber puid.number → IsNumber number → All IsSequence later → length sequences + length later ≤ 8
       → ((m : ℕ) → table_from m (table_with (take k' formats) (done ++ signature format number (sequences ++ later) ∷ [])) rest ≡ Ok told)
       → table_from n (table_with (take k' formats) (done ++ signature format number sequences ∷ []))
-          (map (sequence_record (puid_text puid) number) later ++ rest) ≡ Ok told
+      (map (sequence_record (puid_text puid) number) later ++ rest) ≡ Ok told
   later_rows [] sequences n rest told is_puid is_number all few more = rw (append-nil sequences) at (more n)
   later_rows (s ∷ later) sequences n rest told is_puid is_number all few more =
       let is : IsSequence s = All-head IsSequence s later all in
       step n _ _ told (sequence_record (puid_text puid) number s) (map (sequence_record (puid_text puid) number) later ++ rest) (row_for puid number s)
       (row_of-sequence_record n puid number s is_puid is_number is) (later_fine n sequences s (omega arith) is.slots) (later_row sequences s)
       (later_rows later (sequences ++ s ∷ []) (n + 1) rest told is_puid is_number (All-tail IsSequence s later all)
-          (omega (arith, length-append {A = SequenceView}))
+      (omega (arith, length-append {A = SequenceView}))
       (λ m. rw (append_assoc sequences (s ∷ []) later) (more m)))
 
   -- all rows of a signature
@@ -162,16 +167,16 @@ module _ (formats : List Puid) (all : List SignatureView) (few_formats : length 
       let is : IsSignature (length formats) s = All-head (IsSignature (length formats)) s later each in
       let found = slice_get-within formats s.format is.known in
       let is_puid : IsNumber found.0.number = All-contains (λ p. IsNumber p.number) formats found.0 puids (Contains-slice_get formats s.format found.0 found.1)
-          in
+      in
       let next = turn formats k s.format found.0 met (map (λ x. x.format) later) different few_formats found.1 is.known m in
       let new : list_any (is_of s.number) done ≡ false = is_new done later s (subst (λ l. AllDifferent (map (λ x. x.number) l)) (sym whole) numbers) in
       let size : length (done ++ s ∷ later) ≤ 4000 = rw whole few in
       let name : name_of formats s.format ≡ puid_text found.0 = ap named found.1 in
       rw name (rows formats k next.0 s.format s.number found.0 done next.1 new s.sequences n (flat_map (records_of_signature formats) later)
-          (table_with formats all)
+      (table_with formats all)
       is_puid is.number is.sequences is.some is.few (omega (arith, length-append {A = SignatureView}))
       (λ o. signatures later (done ++ s ∷ []) next.0 (met ++ s.format ∷ []) o (append_assoc done (s ∷ []) later ∙ whole)
-          (All-tail (IsSignature (length formats)) s later each) next.2))
+      (All-tail (IsSignature (length formats)) s later each) next.2))
 
 is_header : is_signature_header signature_header ≡ true
 unfolding field_at
@@ -194,8 +199,11 @@ signatures_again t is has_all =
 -- and both files as the table
 pub table_again : (t : TableView) → IsTable t → HasAllSignatures t → table_of (records_of (signature_csv t)) (records_of (priority_csv t)) ≡ Ok t
 unfolding table_of
-table_again t is has_all = rw (signatures_again t is has_all, records_of-priority_csv t,
-    pairs_again t.formats is.puids is.different_puids t.priorities is.priorities) refl
+table_again t is has_all = rw (
+  signatures_again t is has_all,
+  records_of-priority_csv t,
+  pairs_again t.formats is.puids is.different_puids t.priorities is.priorities,
+) refl
 
 -- what is read of both files has the formats and the signatures of the first
 same_pairs : (s t : TableView) (read : Result (List (ℕ × ℕ)) TableError) → (read >>= (λ pairs. Ok (record s { priorities = pairs }))) ≡ Ok t

@@ -1,6 +1,6 @@
 -- What holds of a table holds of it with a row more.
-use Rattle.std.proofs.Common.{◌≡◌, ◌⊎◌, ℕ, ◌<◌, ◌≤◌, Bool, true, false, nat_eq, List, [], ◌∷◌, ◌++◌, append_assoc, length, map, sym, ap, ◌∙◌, refl, arith,
-    length-append, inl, inr, Some}
+use Rattle.std.proofs.Common.{◌≡◌, ◌⊎◌, ℕ, ◌<◌, ◌≤◌, Bool, true, false, nat_eq, List, [], ◌∷◌, ◌++◌, append_assoc, length, map, sym, ap, ◌∙◌, refl, arith}
+use Rattle.std.proofs.Common.{length-append, inl, inr, Some}
 use Rattle.std.specs.Prelude.{find, All, Contains}
 use Rattle.std.specs.List.{list_any}
 use Rattle.std.proofs.lemmas.Bool.{cases_Bool, false≢true}

@@ -26,10 +26,10 @@ pub push_gap-requires-2-clause-few : goal.push_gap-requires-2-clause-few
 push_gap-requires-2-clause-few c =
     (last_room c.args.sequence.now c.items-items.result.now c.loop-j.j (Gap c.back_gap-back_min.result.0 c.back_gap-back_min.result.1)
     c.loop-j.cells.items c.loop-j.slots c.expr.ensures.sequence c.loop-j.invariant (omega arith)
-        (ap back_tree (sym c.position-2.ensures) ∙ c.back_gap-back_min.ensures)).0
+    (ap back_tree (sym c.position-2.ensures) ∙ c.back_gap-back_min.ensures)).0
 
 pub push_gap-requires-2-clause-short : goal.push_gap-requires-2-clause-short
 push_gap-requires-2-clause-short c =
     (last_room c.args.sequence.now c.items-items.result.now c.loop-j.j (Gap c.back_gap-back_min.result.0 c.back_gap-back_min.result.1)
     c.loop-j.cells.items c.loop-j.slots c.expr.ensures.sequence c.loop-j.invariant (omega arith)
-        (ap back_tree (sym c.position-2.ensures) ∙ c.back_gap-back_min.ensures)).1
+    (ap back_tree (sym c.position-2.ensures) ∙ c.back_gap-back_min.ensures)).1

@@ -1,5 +1,5 @@
-use Rattle.sig_auto.proofs.Common.{◌≡◌, ◌∙◌, ◌+◌, ap, arith, get_or, inl, inr, subst, cases_lt, get_or_default, get_or_from_slice_get, slice_get_within,
-    SameSide}
+use Rattle.sig_auto.proofs.Common.{◌≡◌, ◌∙◌, ◌+◌, ap, arith, get_or, inl, inr, subst, cases_lt, get_or_default, get_or_from_slice_get, slice_get_within}
+use Rattle.sig_auto.proofs.Common.{SameSide}
 use Rattle.sig_auto.proofs.bytes.add_all_cuts.Goals as goal
 
 pub loop-cell-preserved : goal.loop-cell-preserved

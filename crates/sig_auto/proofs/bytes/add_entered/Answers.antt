@@ -11,18 +11,18 @@ pub loop-at-preserved : goal.loop-at-preserved
 loop-at-preserved c = record {
   live = λ all more. c.loop-at.invariant.live all
       (entered_live c.args.cells.now c.args.joints.now c.loop-at.at _ _ c.loop-at.live c.add_class.new.live all c.requires.joints (omega arith) c.index.ensures
-          c.add_class.ensures.live more);
+      c.add_class.ensures.live more);
   cuts = λ all more. c.loop-at.invariant.cuts all
       (entered_cuts c.args.cells.now c.args.joints.now c.loop-at.at _ _ c.loop-at.cuts c.add_class.new.cuts all c.requires.joints (omega arith) c.index.ensures
-          c.add_class.ensures.cuts more);
+      c.add_class.ensures.cuts more);
 }
 
 pub returns-clause-live : goal.returns-clause-live
 returns-clause-live c =
     c.loop-at.invariant.live c.loop-at.live (live_none c.loop-at.live (EnteredOn c.args.cells.now c.loop-at.at)
-        (λ b q on. none_on c.args.cells.now c.loop-at.at b q (omega arith) on))
+    (λ b q on. none_on c.args.cells.now c.loop-at.at b q (omega arith) on))
 
 pub returns-clause-cuts : goal.returns-clause-cuts
 returns-clause-cuts c =
     c.loop-at.invariant.cuts c.loop-at.cuts (cuts_none c.loop-at.cuts (EnteredOn c.args.cells.now c.loop-at.at)
-        (λ b q on. none_on c.args.cells.now c.loop-at.at b q (omega arith) on))
+    (λ b q on. none_on c.args.cells.now c.loop-at.at b q (omega arith) on))

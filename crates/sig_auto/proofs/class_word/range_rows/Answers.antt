@@ -32,7 +32,7 @@ returns-then-a-j c =
     c.in_ok-push_inner.ensures
     c.in_ok-push_below.ensures
     (pushed_row (λ v. v.items) c.push_below.new.rows.items c.push-then-a-j.new.self.items c.in_ok-only_these-2.field-0 _ c.in_ok-push-2.ensures.items
-        c.in_ok-only_these-2.ensures)
+    c.in_ok-only_these-2.ensures)
     ∙ sym (c.loop-j.invariant.rest ∙ between_differs c.args.a.now c.args.b.now c.loop-j.j in_a in_b c.loop-j.invariant.agreed differ)
 
 pub returns : goal.returns

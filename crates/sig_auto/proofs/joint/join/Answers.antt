@@ -17,7 +17,7 @@ loop-k-init c = grind (arith, common_steps)
 pub loop-k-preserved : goal.loop-k-preserved
 loop-k-preserved c =
     joining_at c.args.cells.now c.loop-k.k (c.loop-k.k - 1) c.loop-k.first.items _ c.loop-k.lands.items _ c.loop-k.each.items _ c.pass.result _
-        c.requires.bounded c.loop-k.invariant (omega arith)
+    c.requires.bounded c.loop-k.invariant (omega arith)
     c.pass.ensures.enters c.pass.ensures.beside c.pass.ensures.ends refl c.pass.ensures.lands c.pass.ensures.first
 
 pub returns : goal.returns

@@ -5,7 +5,7 @@ use Rattle.sig_auto.proofs.step.step.Goals as goal
 pub loop-k-init : goal.loop-k-init
 loop-k-init c =
     start_told c.args.cells.now c.args.joints.now c.args.from.now c.clear.new.bits c.enter_if.new.to c.args.byte c.get_bit.result c.requires.ready.lined
-        c.get_bit.ensures
+    c.get_bit.ensures
     (λ s had. zeros_have_no_bit (length c.args.to.now) s (subst (λ l. HasBit l s) c.clear.ensures had)) c.enter_if.ensures
 
 pub returns : goal.returns

@@ -60,8 +60,8 @@ returns-in_err-judge_pair-clause-judged c =
     let is = pairs_with-cons n c.loop-i.i c.loop-j.j left c.loop-j-test.true in
     let p = err_from_is_err_and c.from_residual.result c.from_residual.ensures.1 in
     rw (p.1, p.2, sym c.format_count-formats.ensures.count) (pairs_stop c.args.version c.args.table.now c.loop-j.pair (c.loop-i.i, c.loop-j.j) all rest
-        c.loop-j.view c.args.view.now c.in_err-judge_pair.field-0.0 (PairsJudged c.args.version c.args.table.now 0 (format_pairs n)) is
-        c.in_err-judge_pair.ensures.judged c.loop-j.invariant.judged)
+    c.loop-j.view c.args.view.now c.in_err-judge_pair.field-0.0 (PairsJudged c.args.version c.args.table.now 0 (format_pairs n)) is
+    c.in_err-judge_pair.ensures.judged c.loop-j.invariant.judged)
 
 pub returns-in_err-judge_pair-clause-memory : goal.returns-in_err-judge_pair-clause-memory
 returns-in_err-judge_pair-clause-memory c short =

@@ -8,15 +8,15 @@ use Rattle.sig_table.specs.declared.ids.SigId.{SigId}
 use Rattle.sig_cert.specs.Chains.{Chained, signatures_left, signatures_with}
 use Rattle.sig_cert.specs.Pairs.{signature_pairs}
 use Rattle.sig_cert.specs.Verdicts.{TablesJudged}
-use Rattle.sig_cert.proofs.ChainLemmas.{few_pairs, signatures_known, signatures_left-cons, signatures_with-cons, signatures_with-none, some_ahead, some_numbers,
-    tables_go_on, tables_stop}
+use Rattle.sig_cert.proofs.ChainLemmas.{few_pairs, signatures_known, signatures_left-cons, signatures_with-cons, signatures_with-none, some_ahead, some_numbers}
+use Rattle.sig_cert.proofs.ChainLemmas.{tables_go_on, tables_stop}
 use Rattle.sig_cert.proofs.checker.judge_tables.Goals as goal
 
 pub loop-s-init : goal.loop-s-init
 loop-s-init c =
     let table = c.args.table.now in
     let all : remaining_of c.into_iter-s-iterator.result ≡ places_of c.args.formats.0.0 0 table.signatures =
-        ap remaining_of c.into_iter-s-iterator.ensures.into_iter_gives ∙ c.signatures_of-s-items.ensures in
+    ap remaining_of c.into_iter-s-iterator.ensures.into_iter_gives ∙ c.signatures_of-s-items.ensures in
     rw all (record {
       judged = λ outcome judged. judged;
       pair = refl;
@@ -29,9 +29,9 @@ pub loop-t-init : goal.loop-t-init
 loop-t-init c =
     let table = c.args.table.now in
     let all : remaining_of c.into_iter-t-iterator.result ≡ places_of c.args.formats.1.0 0 table.signatures =
-        ap remaining_of c.into_iter-t-iterator.ensures.into_iter_gives ∙ c.signatures_of-t-items.ensures in
+    ap remaining_of c.into_iter-t-iterator.ensures.into_iter_gives ∙ c.signatures_of-t-items.ensures in
     let is = signatures_left-cons table c.args.formats.1.0 (remaining_of c.loop-s.s-iterator) (remaining_of c.next.new.self)
-        (remaining_of c.into_iter-t-iterator.result) c.in-Some.s c.in-Some.ensures.steps all in
+    (remaining_of c.into_iter-t-iterator.result) c.in-Some.s c.in-Some.ensures.steps all in
     record {
       judged = subst (λ pairs. Chained (TablesJudged c.args.version table c.args.pair c.loop-s.at.table pairs) c.loop-s.view
           (TablesJudged c.args.version table c.args.pair 0 (signature_pairs table (c.args.formats.0.0, c.args.formats.1.0))) c.args.view.now) is
@@ -62,25 +62,25 @@ loop-s-preserved c =
 pub judge_table-requires-clause-first : goal.judge_table-requires-clause-first
 judge_table-requires-clause-first c =
     All-head (λ s. s.0 < length c.args.table.now.signatures) c.in-Some.s (remaining_of c.next.new.self)
-        (subst (All (λ s. s.0 < length c.args.table.now.signatures)) c.in-Some.ensures.steps c.loop-s.invariant.known)
+    (subst (All (λ s. s.0 < length c.args.table.now.signatures)) c.in-Some.ensures.steps c.loop-s.invariant.known)
 
 pub judge_table-requires-clause-second : goal.judge_table-requires-clause-second
 judge_table-requires-clause-second c =
     All-head (λ s. s.0 < length c.args.table.now.signatures) c.in-Some-t.t (remaining_of c.next-in-loop-t.new.self)
-        (subst (All (λ s. s.0 < length c.args.table.now.signatures)) c.in-Some-t.ensures.steps c.loop-t.invariant.known)
+    (subst (All (λ s. s.0 < length c.args.table.now.signatures)) c.in-Some-t.ensures.steps c.loop-t.invariant.known)
 
 pub returns-in_err-judge_table-clause-judged : goal.returns-in_err-judge_table-clause-judged
 returns-in_err-judge_table-clause-judged c =
     let table = c.args.table.now in
     let left = signatures_left table c.args.formats.1.0 (remaining_of c.next.new.self) in
     let is = signatures_with-cons c.in-Some.s.0 (remaining_of c.loop-t.t-iterator) (remaining_of c.next-in-loop-t.new.self) left c.in-Some-t.t
-        c.in-Some-t.ensures.steps in
+    c.in-Some-t.ensures.steps in
     let p = err_from_is_err_and c.from_residual.result c.from_residual.ensures.1 in
     rw (p.1, p.2) (tables_stop c.args.version table c.args.pair c.loop-t.at.table c.loop-t.at (c.in-Some.s.0, c.in-Some-t.t.0)
-        (signatures_with c.in-Some.s.0 (remaining_of c.loop-t.t-iterator) ++ left)
-        (signatures_with c.in-Some.s.0 (remaining_of c.next-in-loop-t.new.self) ++ left) c.loop-t.view c.args.view.now c.in_err-judge_table.field-0.0
-        (TablesJudged c.args.version table c.args.pair 0 (signature_pairs table (c.args.formats.0.0, c.args.formats.1.0))) is c.loop-t.invariant.pair refl
-        c.in_err-judge_table.ensures c.loop-t.invariant.judged)
+    (signatures_with c.in-Some.s.0 (remaining_of c.loop-t.t-iterator) ++ left)
+    (signatures_with c.in-Some.s.0 (remaining_of c.next-in-loop-t.new.self) ++ left) c.loop-t.view c.args.view.now c.in_err-judge_table.field-0.0
+    (TablesJudged c.args.version table c.args.pair 0 (signature_pairs table (c.args.formats.0.0, c.args.formats.1.0))) is c.loop-t.invariant.pair refl
+    c.in_err-judge_table.ensures c.loop-t.invariant.judged)
 
 pub loop-t-preserved : goal.loop-t-preserved
 loop-t-preserved c =
@@ -88,7 +88,7 @@ loop-t-preserved c =
     let left = signatures_left table c.args.formats.1.0 (remaining_of c.next.new.self) in
     let rest = signatures_with c.in-Some.s.0 (remaining_of c.next-in-loop-t.new.self) ++ left in
     let is = signatures_with-cons c.in-Some.s.0 (remaining_of c.loop-t.t-iterator) (remaining_of c.next-in-loop-t.new.self) left c.in-Some-t.t
-        c.in-Some-t.ensures.steps in
+    c.in-Some-t.ensures.steps in
     record {
       judged = tables_go_on c.args.version table c.args.pair c.loop-t.at.table c.loop-t.at (c.in-Some.s.0, c.in-Some-t.t.0)
           (signatures_with c.in-Some.s.0 (remaining_of c.loop-t.t-iterator) ++ left) rest c.loop-t.view c.judge_table.new.view c.args.view.now

@@ -12,6 +12,8 @@ returns-in-len2-up-clause-known c =
 
 pub returns-clause-ambiguous : goal.returns-clause-ambiguous
 returns-clause-ambiguous c =
-    let left : Left c.args.table.now c.args.file.now c.hits.result.now = rw c.hits.ensures c.in_ok-left.ensures.left in
-    (λ is. cc, λ ambiguous. absurd (let two : 2 ≤ length c.hits.result.now = two_are_left _ _ c.hits.result.now left ambiguous in
-        let fewer : length c.hits.result.now < 2 = c.in_default.len_below in omega arith))
+    let left : Left c.args.table.now c.args.file.now c.hits.result.now = rw c.hits.ensures c.in_ok-left.ensures.left in (
+      λ is. cc,
+      λ ambiguous. absurd (let two : 2 ≤ length c.hits.result.now = two_are_left _ _ c.hits.result.now left ambiguous in
+          let fewer : length c.hits.result.now < 2 = c.in_default.len_below in omega arith),
+    )

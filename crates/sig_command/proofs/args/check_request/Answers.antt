@@ -6,8 +6,12 @@ use Rattle.sig_command.proofs.RowLemmas.{first_of-rows}
 use Rattle.sig_command.proofs.args.check_request.Goals as goal
 
 pub returns-clause-asked : goal.returns-clause-asked
-returns-clause-asked c = (rows_of (found_of c.args.matches.now), refl, c.in_ok-table_paths.ensures.named,
-    first_of-rows (found_of c.args.matches.now) (codes "CERT") ∙ sym c.in_ok-get_str.ensures)
+returns-clause-asked c = (
+  rows_of (found_of c.args.matches.now),
+  refl,
+  c.in_ok-table_paths.ensures.named,
+  first_of-rows (found_of c.args.matches.now) (codes "CERT") ∙ sym c.in_ok-get_str.ensures,
+)
 
 pub returns-in_err-table_paths-clause-none : goal.returns-in_err-table_paths-clause-none
 returns-in_err-table_paths-clause-none c = λ is.

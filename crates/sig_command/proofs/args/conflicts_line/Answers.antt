@@ -9,10 +9,10 @@ use Rattle.sig_command.proofs.args.conflicts_line.Goals as goal
 pub returns-clause-line : goal.returns-clause-line
 returns-clause-line c =
     let table : app_of c.after_help.result ≡ of_table c.args.has_priorities (new_app (codes "conflicts")) =
-        ap app_of_fields c.after_help.ensures ∙ ap app_of_fields c.about.ensures ∙ c.in_ok-with_table_args.ensures.app ∙ ap (of_table c.args.has_priorities)
-        c.new.ensures.app in
+    ap app_of_fields c.after_help.ensures ∙ ap app_of_fields c.about.ensures ∙ c.in_ok-with_table_args.ensures.app ∙ ap (of_table c.args.has_priorities)
+    c.new.ensures.app in
     let table_local : (fields_of c.after_help.result).has_globals ≡ false =
-        rw (c.after_help.ensures, c.about.ensures) (c.in_ok-with_table_args.ensures.local ∙ c.new.ensures.local) in
+    rw (c.after_help.ensures, c.about.ensures) (c.in_ok-with_table_args.ensures.local ∙ c.new.ensures.local) in
     let budget : rule_of c.help.result ≡ budget_rule = rw c.help.ensures c.budget.ensures.rule in
     let budget_local : c.help.result.global ≡ false = rw c.help.ensures c.budget.ensures.local in
     let only : rule_of c.help-2.result ≡ named (codes "only") (codes "PUID") = rw c.help-2.ensures c.option.ensures.rule in
@@ -49,6 +49,6 @@ returns-clause-line c =
       has_no_globals = c.in_ok-line.ensures.globals ∙ or_false _ _ shown_local ∙ c.in_ok-arg-7.ensures.globals ∙ or_false _ _ priorities_local
           ∙ c.in_ok-arg-6.ensures.globals ∙ or_false _ _ files_local
           ∙ c.in_ok-arg-5.ensures.globals ∙ or_false _ _ hex_local ∙ c.in_ok-arg-4.ensures.globals ∙ or_false _ _ summary_local ∙ c.in_ok-arg-3.ensures.globals
-              ∙ or_false _ _ class_local
+          ∙ or_false _ _ class_local
           ∙ c.in_ok-arg-2.ensures.globals ∙ or_false _ _ only_local ∙ c.in_ok-arg.ensures.globals ∙ or_false _ _ budget_local ∙ table_local;
     }

@@ -9,10 +9,10 @@ use Rattle.sig_command.proofs.args.files_line.Goals as goal
 pub returns-clause-line : goal.returns-clause-line
 returns-clause-line c =
     let table : app_of c.after_help.result ≡ of_table c.args.has_priorities (new_app (codes "match")) =
-        ap app_of_fields c.after_help.ensures ∙ ap app_of_fields c.about.ensures ∙ c.in_ok-with_table_args.ensures.app ∙ ap (of_table c.args.has_priorities)
-        c.new.ensures.app in
+    ap app_of_fields c.after_help.ensures ∙ ap app_of_fields c.about.ensures ∙ c.in_ok-with_table_args.ensures.app ∙ ap (of_table c.args.has_priorities)
+    c.new.ensures.app in
     let table_local : (fields_of c.after_help.result).has_globals ≡ false =
-        rw (c.after_help.ensures, c.about.ensures) (c.in_ok-with_table_args.ensures.local ∙ c.new.ensures.local) in
+    rw (c.after_help.ensures, c.about.ensures) (c.in_ok-with_table_args.ensures.local ∙ c.new.ensures.local) in
     let file : rule_of c.help.result ≡ several (codes "FILE") = rw c.help.ensures c.several.ensures.rule in
     let file_local : c.help.result.global ≡ false = rw c.help.ensures c.several.ensures.local in
     let all : rule_of c.help-2.result ≡ given (codes "all") = rw c.help-2.ensures c.flag.ensures.rule in

@@ -29,7 +29,7 @@ returns-in-len1-clause-asked c =
       c.match_options-options.ensures.all,
       subst (λ b. HasFlag (codes "with-names") b (rows_of (found_of c.args.matches.now))) c.if-not-with_names.true
           (flag_is_read (found_of c.args.matches.now) (codes "with-names") _ c.get_flag-with_names.ensures.value c.get_flag-with_names.ensures.other
-              c.get_flag-with_names.ensures.none),
+          c.get_flag-with_names.ensures.none),
       subst (λ b. HasFlag (codes "csv") b (rows_of (found_of c.args.matches.now))) (neither_first options.csv _ plain) c.match_options-options.ensures.csv,
       c.match_options-options.ensures.names ∙ none_given options.names (neither_first (is_some options.names) _ formless),
       subst (λ b. HasFlag (codes "recursive") b (rows_of (found_of c.args.matches.now))) (neither_first options.recursive _ flat)
@@ -53,7 +53,7 @@ returns-in_default-clause-asked c =
         refl,
         many_named (found_of c.args.matches.now) c.in_ok-files.files.now options _ some several
             (flag_is_read (found_of c.args.matches.now) (codes "with-names") _ c.get_flag-with_names.ensures.value c.get_flag-with_names.ensures.other
-                c.get_flag-with_names.ensures.none)
+            c.get_flag-with_names.ensures.none)
             c.in_ok-files.ensures c.requires.unlisted,
       ),
       c.match_options-options.ensures,

@@ -9,7 +9,7 @@ use Rattle.sig_command.proofs.args.list_request.Goals as goal
 pub returns-in-Some-clause-none : goal.returns-in-Some-clause-none
 returns-in-Some-clause-none c = λ is none.
     let bad : Some (map (λ (n : Bor Text). n.now) c.in-Some.field-0.now) ≡ None =
-        c.in-Some.ensures ∙ sym (all_of-rows (found_of c.args.matches.now) (codes "FILE")) ∙ none in
+    c.in-Some.ensures ∙ sym (all_of-rows (found_of c.args.matches.now) (codes "FILE")) ∙ none in
     cc
 
 pub returns-in-None-clause-asked : goal.returns-in-None-clause-asked

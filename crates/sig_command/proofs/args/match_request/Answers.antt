@@ -8,7 +8,7 @@ use Rattle.sig_command.proofs.args.match_request.Goals as goal
 pub returns-in_err-table-clause-none : goal.returns-in_err-table-clause-none
 returns-in_err-table-clause-none c = λ is.
     no_match (rows_of (found_of c.args.matches.now)) (λ table text texts named unlisted are. c.in_err-table.ensures.none refl table named)
-        (λ table word named listed alone. c.in_err-table.ensures.none refl table named)
+    (λ table word named listed alone. c.in_err-table.ensures.none refl table named)
 
 pub list_request-requires-clause-listed : goal.list_request-requires-clause-listed
 list_request-requires-clause-listed c = first_of-rows (found_of c.args.matches.now) (codes "NAMES") ∙ sym c.in-Some.ensures

@@ -22,14 +22,14 @@ pub returns-in_err-matches-clause-taken : goal.returns-in_err-matches-clause-tak
 returns-in_err-matches-clause-taken c =
     let r = err_from_is_err_and c.from_residual-in_err-matches.result c.from_residual-in_err-matches.ensures.1 in
     rw (r.1, r.2) (λ taken. c.in_err-matches.ensures.passes (ap (λ (a : App). takes a (map string_bytes c.args.words.now)) c.in_ok-command.ensures.app
-        ∙ taken.0))
+    ∙ taken.0))
 
 pub returns-in_err-matches-clause-help : goal.returns-in_err-matches-clause-help
 returns-in_err-matches-clause-help c =
     let r = err_from_is_err_and c.from_residual-in_err-matches.result c.from_residual-in_err-matches.ensures.1 in
     let app = c.in_ok-command.ensures.app in
     let kinds = subst (λ (a : App). HasKind (fault_of a (map string_bytes c.args.words.now)) c.in_err-matches.field-0.0) app
-        (c.in_err-matches.ensures.kinds (ap is_simple_and_free app ∙ is_program_free (names_priorities (texts_of c.args.words.now)))) in
+    (c.in_err-matches.ensures.kinds (ap is_simple_and_free app ∙ is_program_free (names_priorities (texts_of c.args.words.now)))) in
     rw (r.1, r.2) (help_among (fault_of_words (map string_bytes c.args.words.now)) c.in_err-matches.field-0.0 kinds)
 
 pub returns-in_err-matches-clause-kinds : goal.returns-in_err-matches-clause-kinds
@@ -37,13 +37,13 @@ returns-in_err-matches-clause-kinds c =
     let r = err_from_is_err_and c.from_residual-in_err-matches.result c.from_residual-in_err-matches.ensures.1 in
     let app = c.in_ok-command.ensures.app in
     let kinds = subst (λ (a : App). HasKind (fault_of a (map string_bytes c.args.words.now)) c.in_err-matches.field-0.0) app
-        (c.in_err-matches.ensures.kinds (ap is_simple_and_free app ∙ is_program_free (names_priorities (texts_of c.args.words.now)))) in
+    (c.in_err-matches.ensures.kinds (ap is_simple_and_free app ∙ is_program_free (names_priorities (texts_of c.args.words.now)))) in
     rw (r.1, r.2) (λ some. kinds)
 
 pub returns-then-is_none-clause-taken : goal.returns-then-is_none-clause-taken
 returns-then-is_none-clause-taken c = λ taken.
     let found = (c.in_ok-matches.ensures.ok.2 (ap is_simple c.in_ok-command.ensures.app ∙ is_program_simple (names_priorities (texts_of c.args.words.now)))).1
-        in
+    in
     let same = found ∙ ap (λ (a : App). subcommand_of a (map string_bytes c.args.words.now)) c.in_ok-command.ensures.app in
     let none = none_made c.request_of.result c.is_none.result c.is_none.ensures c.if-is_none.true in
     absurd (c.request_of.ensures.none none taken.1.0 (subst (λ (o : Option (Text × List Row)). Asks o taken.1.0) (sym same) taken.1.1))
@@ -51,16 +51,16 @@ returns-then-is_none-clause-taken c = λ taken.
 pub returns-clause-found : goal.returns-clause-found
 returns-clause-found c =
     let found = (c.in_ok-matches.ensures.ok.2 (ap is_simple c.in_ok-command.ensures.app ∙ is_program_simple (names_priorities (texts_of c.args.words.now)))).1
-        in
+    in
     found ∙ ap (λ (a : App). subcommand_of a (map string_bytes c.args.words.now)) c.in_ok-command.ensures.app
 
 pub returns-clause-asked : goal.returns-clause-asked
 returns-clause-asked c =
     let found = (c.in_ok-matches.ensures.ok.2 (ap is_simple c.in_ok-command.ensures.app ∙ is_program_simple (names_priorities (texts_of c.args.words.now)))).1
-        in
+    in
     let same = found ∙ ap (λ (a : App). subcommand_of a (map string_bytes c.args.words.now)) c.in_ok-command.ensures.app in
     subst (λ (o : Option (Text × List Row)). (request : Request) × Asks o request) same
-        (some_asked _ c.request_of.result c.is_none.result c.request_of.ensures.asked c.is_none.ensures c.if-is_none.false)
+    (some_asked _ c.request_of.result c.is_none.result c.request_of.ensures.asked c.is_none.ensures c.if-is_none.false)
 
 pub returns-in_err-error-clause-help : goal.returns-in_err-error-clause-help
 returns-in_err-error-clause-help c =
@@ -71,13 +71,13 @@ pub returns-clause-sound : goal.returns-clause-sound
 returns-clause-sound c =
     let app = c.in_ok-command.ensures.app in
     sym (ap (λ (a : App). fault_of a (map string_bytes c.args.words.now)) app) ∙ c.in_ok-matches.ensures.kinds
-        (ap is_simple_and_free app ∙ is_program_free (names_priorities (texts_of c.args.words.now)))
+    (ap is_simple_and_free app ∙ is_program_free (names_priorities (texts_of c.args.words.now)))
 
 pub returns-then-is_none-clause-kinds : goal.returns-then-is_none-clause-kinds
 returns-then-is_none-clause-kinds c = λ some.
     let app = c.in_ok-command.ensures.app in
     let none = sym (ap (λ (a : App). fault_of a (map string_bytes c.args.words.now)) app) ∙ c.in_ok-matches.ensures.kinds
-        (ap is_simple_and_free app ∙ is_program_free (names_priorities (texts_of c.args.words.now))) in
+    (ap is_simple_and_free app ∙ is_program_free (names_priorities (texts_of c.args.words.now))) in
     absurd (some none)
 
 pub returns-in_err-error-clause-kinds : goal.returns-in_err-error-clause-kinds

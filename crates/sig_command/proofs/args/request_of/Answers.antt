@@ -9,4 +9,4 @@ pub returns-in-Some-subcommand_matches-3-clause-none : goal.returns-in-Some-subc
 returns-in-Some-subcommand_matches-3-clause-none c = λ is request asks.
     let found = c.in-Some-subcommand_matches-3.ensures in
     c.conflicts_request.ensures.none is request (subst (λ (o : Option (Text × List Row)). Asks o request)
-        (named_rows _ _ _ (codes "conflicts") _ (found.found.0 refl) found.rows) asks)
+    (named_rows _ _ _ (codes "conflicts") _ (found.found.0 refl) found.rows) asks)

@@ -8,5 +8,5 @@ use Rattle.sig_command.proofs.args.several.Goals as goal
 pub returns-clause-rule : goal.returns-clause-rule
 returns-clause-rule c =
     let range : c.num_args.result.num_vals ≡ Some (record { start_inclusive = 1; end_inclusive = usize_max }) =
-        some_of c.num_args.result.num_vals (record { start_inclusive = 1; end_inclusive = usize_max }) c.num_args.ensures.1 in
+    some_of c.num_args.result.num_vals (record { start_inclusive = 1; end_inclusive = usize_max }) c.num_args.ensures.1 in
     ap rule_of c.num_args.ensures.0 ∙ ap₂ (λ (rule : Rule) (r : Option ValueRange). record rule { range = r }) c.optional.ensures.rule range

@@ -12,5 +12,5 @@ returns-clause-named c = record {
 pub returns-in_err-get_str-clause-none : goal.returns-in_err-get_str-clause-none
 returns-in_err-get_str-clause-none c = λ is words named.
     let none : None ≡ Some words.signatures.now = c.in_err-get_str.ensures ∙ sym (first_of-rows (found_of c.args.matches.now) (codes "SIGS")) ∙ named.signatures
-        in
+    in
     cc

@@ -39,6 +39,6 @@ returns-clause-local c =
     let progress_local : c.help-5.result.global ≡ false = rw c.help-5.ensures c.flag-2.ensures.local in
     let summary_local : c.help-6.result.global ≡ false = rw c.help-6.ensures c.flag-3.ensures.local in
     c.in_ok-command.ensures.globals ∙ or_false _ _ summary_local ∙ c.in_ok-arg-5.ensures.globals ∙ or_false _ _ progress_local ∙ c.in_ok-arg-4.ensures.globals
-        ∙ or_false _ _ nul_local
+    ∙ or_false _ _ nul_local
     ∙ c.in_ok-arg-3.ensures.globals ∙ or_false _ _ list_local ∙ c.in_ok-arg-2.ensures.globals ∙ or_false _ _ recursive_local ∙ c.in_ok-arg.ensures.globals
-        ∙ or_false _ _ names_local
+    ∙ or_false _ _ names_local

@@ -17,7 +17,7 @@ returns-then-not-has_priorities-clause-app c =
     let second : rule_of c.help-2.result ≡ given (codes "no-priorities") = rw c.help-2.ensures c.flag.ensures.rule in
     let second_local : c.help-2.result.global ≡ false = rw c.help-2.ensures c.flag.ensures.local in
     rw c.if-not-has_priorities.true (c.in_ok-command.ensures.shape second_local ∙ ap₂ with_rule
-        (c.in_ok-arg.ensures.shape first_local ∙ ap (with_rule (app_of c.args.command)) first) second)
+    (c.in_ok-arg.ensures.shape first_local ∙ ap (with_rule (app_of c.args.command)) first) second)
 
 pub returns-clause-local : goal.returns-clause-local
 returns-clause-local c =
@@ -25,7 +25,7 @@ returns-clause-local c =
     let second : c.help-2.result.global ≡ false = rw c.help-2.ensures c.flag.ensures.local in
     let third : c.help-3.result.global ≡ false = rw c.help-3.ensures c.required-2.ensures.local in
     c.in_ok-arg-2.ensures.globals ∙ or_false _ _ third ∙ c.in_ok-command.ensures.globals ∙ or_false _ _ second ∙ c.in_ok-arg.ensures.globals ∙ or_false _ _
-        first
+    first
 
 pub returns-clause-app : goal.returns-clause-app
 returns-clause-app c =

@@ -11,7 +11,7 @@ returns-in-Find-clause-made g c =
     let before = g.W.Output.written c.args.out.now in
     let after = g.W.Output.written c.find_in_table.new.out in
     subst (λ (r : Request). IfOk c.find_in_table.result (λ is_yes. MakesOut g.S.Store.name_of g.S.Writer.Output.written g.S.Writer.Output.failed store r is_yes
-        before after)) (sym c.in-Find.is) c.find_in_table.ensures.made
+    before after)) (sym c.in-Find.is) c.find_in_table.ensures.made
 
 pub returns-in-Conflicts-clause-made : goal.returns-in-Conflicts-clause-made
 returns-in-Conflicts-clause-made g c =
@@ -19,23 +19,23 @@ returns-in-Conflicts-clause-made g c =
     let before = g.W.Output.written c.args.out.now in
     let after = g.W.Output.written c.settle_pairs.new.out in
     subst (λ (r : Request). IfOk c.settle_pairs.result (λ is_yes. MakesOut g.S.Store.name_of g.S.Writer.Output.written g.S.Writer.Output.failed store r is_yes
-        before after)) (sym c.in-Conflicts.is) c.settle_pairs.ensures.made
+    before after)) (sym c.in-Conflicts.is) c.settle_pairs.ensures.made
 
 pub returns-in-Conflicts-clause-progress : goal.returns-in-Conflicts-clause-progress
 returns-in-Conflicts-clause-progress g c = subst (λ (r : Request). IfOk c.settle_pairs.result
     (λ is_yes. ShowsAsked (g.S.Store.held c.args.store.now) r is_yes (g.W.Output.written c.args.out.now) (g.W.Output.written c.settle_pairs.new.out)
     (g.E.Output.failed c.settle_pairs.new.err) c.args.err.now c.settle_pairs.new.err (g.E.Output.written c.args.err.now)
-        (g.E.Output.written c.settle_pairs.new.err))) (sym c.in-Conflicts.is) c.settle_pairs.ensures.progress
+    (g.E.Output.written c.settle_pairs.new.err))) (sym c.in-Conflicts.is) c.settle_pairs.ensures.progress
 
 pub returns-in-MatchMany-clause-progress : goal.returns-in-MatchMany-clause-progress
 returns-in-MatchMany-clause-progress g c = subst (λ (r : Request). IfOk c.match_many.result
     (λ is_yes. ShowsAsked (g.S.Store.held c.args.store.now) r is_yes (g.W.Output.written c.args.out.now) (g.W.Output.written c.match_many.new.out)
     (g.E.Output.failed c.match_many.new.err) c.args.err.now c.match_many.new.err (g.E.Output.written c.args.err.now) (g.E.Output.written c.match_many.new.err)))
-        (sym c.in-MatchMany.is) c.match_many.ensures.progress
+    (sym c.in-MatchMany.is) c.match_many.ensures.progress
 
 pub returns-in-MatchMany-clause-whole : goal.returns-in-MatchMany-clause-whole
 returns-in-MatchMany-clause-whole g c =
     subst (λ (r : Request). IfErr c.match_many.result (λ fault. fault ≢ FaultyTable
-        → KeepsOrCuts g.S.Reader.Input.failed (g.S.Store.held c.args.store.now) r g.W.Output.failed g.W.Output.written c.args.out.now c.match_many.new.out))
-        (sym c.in-MatchMany.is)
+    → KeepsOrCuts g.S.Reader.Input.failed (g.S.Store.held c.args.store.now) r g.W.Output.failed g.W.Output.written c.args.out.now c.match_many.new.out))
+    (sym c.in-MatchMany.is)
     (err_weaker c.match_many.result _ _ c.match_many.ensures.whole)

@@ -9,5 +9,5 @@ returns-in-Ok-clause-answers g c =
     let after = g.W.Output.written c.run_match.new.out in
     let to_come = g.S.Reader.Input.to_come c.in_ok-file.file in
     match_is_answered (g.S.Store.held c.args.store.now) _ c.args.all c.args.table c.args.name c.in_ok-load.field-0 to_come before after refl
-        c.in_ok-load.ensures.read c.in_ok-file.ensures.opens
+    c.in_ok-load.ensures.read c.in_ok-file.ensures.opens
     (subst (λ t. AddsLinesOfSome c.args.all t to_come before after) c.new-core.ensures c.in-Ok.ensures.answers)

@@ -21,14 +21,14 @@ loop-j-init g c = (
 pub write_pair-requires-clause-few : goal.write_pair-requires-clause-few
 write_pair-requires-clause-few g c =
     room_told (IsMade g.S.Store.name_of g.S.Writer.Output.written g.S.Writer.Output.failed (g.S.Store.held c.args.store.now)) c.args.ask c.args.table.now _
-        c.loop-j.told.counts c.loop-j.told.notes.items (g.W.Output.written c.args.out.now) (g.W.Output.written c.loop-j.out) c.format_count-formats.result
-        c.format_count-formats.ensures.limit c.format_count-formats.ensures.count c.loop-j.invariant.1
+    c.loop-j.told.counts c.loop-j.told.notes.items (g.W.Output.written c.args.out.now) (g.W.Output.written c.loop-j.out) c.format_count-formats.result
+    c.format_count-formats.ensures.limit c.format_count-formats.ensures.count c.loop-j.invariant.1
 
 pub write_pair-requires-clause-few_classes : goal.write_pair-requires-clause-few_classes
 write_pair-requires-clause-few_classes g c =
     room_classed (IsMade g.S.Store.name_of g.S.Writer.Output.written g.S.Writer.Output.failed (g.S.Store.held c.args.store.now)) c.args.ask c.args.table.now _
-        c.loop-j.told.counts c.loop-j.told.notes.items (g.W.Output.written c.args.out.now) (g.W.Output.written c.loop-j.out) c.format_count-formats.result
-        c.format_count-formats.ensures.limit c.format_count-formats.ensures.count c.loop-j.invariant.1
+    c.loop-j.told.counts c.loop-j.told.notes.items (g.W.Output.written c.args.out.now) (g.W.Output.written c.loop-j.out) c.format_count-formats.result
+    c.format_count-formats.ensures.limit c.format_count-formats.ensures.count c.loop-j.invariant.1
 
 pub returns-in_err-write_pair-clause-stops : goal.returns-in_err-write_pair-clause-stops
 returns-in_err-write_pair-clause-stops g c =
@@ -40,8 +40,8 @@ returns-in_err-write_pair-clause-stops g c =
     let is = next_asked c.args.ask.only (c.loop-i.i, c.loop-j.j) all rest (pairs_with-cons n c.loop-i.i c.loop-j.j left c.loop-j-test.true) asked in
     let p = err_from_is_err_and c.from_residual.result c.from_residual.ensures.1 in
     rw (p.1, p.2) (ends_cut (IsMade g.S.Store.name_of g.S.Writer.Output.written g.S.Writer.Output.failed (g.S.Store.held c.args.store.now)) c.args.ask
-        c.args.table.now g.S.Writer.Output.failed c.in_err-write_pair.field-0.0 (c.loop-i.i, c.loop-j.j) (filter (is_asked c.args.ask.only) all)
-        (filter (is_asked c.args.ask.only) rest) c.loop-j.told.counts c.loop-j.told.notes.items _
+    c.args.table.now g.S.Writer.Output.failed c.in_err-write_pair.field-0.0 (c.loop-i.i, c.loop-j.j) (filter (is_asked c.args.ask.only) all)
+    (filter (is_asked c.args.ask.only) rest) c.loop-j.told.counts c.loop-j.told.notes.items _
     (g.W.Output.written c.args.out.now) (g.W.Output.written c.loop-j.out) _ is c.loop-j.invariant.1 c.in_err-write_pair.ensures.cut)
 
 pub returns-in_err-write_pair-clause-searched : goal.returns-in_err-write_pair-clause-searched
@@ -60,14 +60,14 @@ pairs-requires g c =
     let within : (c.loop-i.i < length c.args.table.now.formats) × (c.loop-j.j < length c.args.table.now.formats) =
     (omega (arith, c.loop-i-test.true, c.format_count-formats.ensures.count), omega (arith, c.loop-j-test.true, c.format_count-formats.ensures.count)) in
     let told = goes_told (IsMade g.S.Store.name_of g.S.Writer.Output.written g.S.Writer.Output.failed (g.S.Store.held c.args.store.now)) c.args.ask
-        c.args.table.now (c.loop-i.i, c.loop-j.j) (filter (is_asked c.args.ask.only) all) (filter (is_asked c.args.ask.only) rest) c.loop-j.told.counts
-        c.write_pair.new.told.counts c.loop-j.told.notes.items c.write_pair.new.told.notes.items
+    c.args.table.now (c.loop-i.i, c.loop-j.j) (filter (is_asked c.args.ask.only) all) (filter (is_asked c.args.ask.only) rest) c.loop-j.told.counts
+    c.write_pair.new.told.counts c.loop-j.told.notes.items c.write_pair.new.told.notes.items
     (g.W.Output.written c.args.out.now) (g.W.Output.written c.loop-j.out) (g.W.Output.written c.write_pair.new.out) is within c.loop-j.invariant.1
-        c.in_ok-write_pair.ensures.told in
+    c.in_ok-write_pair.ensures.told in
     let few = room_told (IsMade g.S.Store.name_of g.S.Writer.Output.written g.S.Writer.Output.failed (g.S.Store.held c.args.store.now)) c.args.ask
-        c.args.table.now (filter (is_asked c.args.ask.only) rest) c.write_pair.new.told.counts c.write_pair.new.told.notes.items
-        (g.W.Output.written c.args.out.now) (g.W.Output.written c.write_pair.new.out) n c.format_count-formats.ensures.limit
-        c.format_count-formats.ensures.count told in
+    c.args.table.now (filter (is_asked c.args.ask.only) rest) c.write_pair.new.told.counts c.write_pair.new.told.notes.items
+    (g.W.Output.written c.args.out.now) (g.W.Output.written c.write_pair.new.out) n c.format_count-formats.ensures.limit
+    c.format_count-formats.ensures.count told in
     omega (arith, few)
 
 pub loop-j-preserved-then-not-has_pair : goal.loop-j-preserved-then-not-has_pair
@@ -81,7 +81,7 @@ loop-j-preserved-then-not-has_pair g c =
       subst (λ pairs. AreTold (IsMade g.S.Store.name_of g.S.Writer.Output.written g.S.Writer.Output.failed (g.S.Store.held c.args.store.now)) c.args.ask
           c.args.table.now pairs c.loop-j.told.counts c.loop-j.told.notes.items (g.W.Output.written c.args.out.now) (g.W.Output.written c.loop-j.out))
           (next_not_asked c.args.ask.only (c.loop-i.i, c.loop-j.j) all rest (pairs_with-cons n c.loop-i.i c.loop-j.j left c.loop-j-test.true) not_asked)
-              c.loop-j.invariant.1,
+          c.loop-j.invariant.1,
     )
 
 pub loop-j-preserved : goal.loop-j-preserved
@@ -99,12 +99,12 @@ loop-j-preserved g c =
           (c.loop-i.i, c.loop-j.j) (filter (is_asked c.args.ask.only) all) (filter (is_asked c.args.ask.only) rest) c.loop-j.told.counts
           c.write_pair.new.told.counts c.loop-j.told.notes.items c.write_pair.new.told.notes.items
           (g.W.Output.written c.args.out.now) (g.W.Output.written c.loop-j.out) (g.W.Output.written c.write_pair.new.out) is within c.loop-j.invariant.1
-              c.in_ok-write_pair.ensures.told,
+          c.in_ok-write_pair.ensures.told,
     )
 
 pub returns-clause-few : goal.returns-clause-few
 returns-clause-few g c =
     let few = room_told (IsMade g.S.Store.name_of g.S.Writer.Output.written g.S.Writer.Output.failed (g.S.Store.held c.args.store.now)) c.args.ask
-        c.args.table.now _ c.loop-i.told.counts c.loop-i.told.notes.items (g.W.Output.written c.args.out.now) (g.W.Output.written c.loop-i.out)
-        c.format_count-formats.result c.format_count-formats.ensures.limit c.format_count-formats.ensures.count c.loop-i.invariant.1 in
+    c.args.table.now _ c.loop-i.told.counts c.loop-i.told.notes.items (g.W.Output.written c.args.out.now) (g.W.Output.written c.loop-i.out)
+    c.format_count-formats.result c.format_count-formats.ensures.limit c.format_count-formats.ensures.count c.loop-i.invariant.1 in
     omega (arith, few)

@@ -8,4 +8,4 @@ returns-clause-shown g c =
     shown_if c.args.progress Formats _ c.args.err.now _ _ _ (search rules)
     (metered g.E.Output.failed g.E.Output.written c.new-meter.result c.run_dead-answer.new.observer c.end.new.self Formats c.args.err.now _
     c.new-meter.ensures.things c.new-meter.ensures.unchanged c.run_dead-answer.ensures.observed c.end.ensures.same_reference c.end.ensures.sound
-        c.end.ensures.ends (search rules))
+    c.end.ensures.ends (search rules))

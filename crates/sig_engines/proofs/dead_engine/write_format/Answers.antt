@@ -20,12 +20,12 @@ returns-clause-told g c =
     } in
     let is : c.as_str.result.now ≡ fate_lines c.args.with_hex table c.args.format.0 (format_fate lives) lives =
     c.as_str.ensures.value ∙ c.in_ok-lines.ensures ∙ ap (λ l. fate_lines c.args.with_hex table c.args.format.0 c.in_ok-fate.fate l) c.deref.ensures.value ∙ ap
-        (λ f. fate_lines c.args.with_hex table c.args.format.0 f lives) c.in_ok-fate.ensures.life in
+    (λ f. fate_lines c.args.with_hex table c.args.format.0 f lives) c.in_ok-fate.ensures.life in
     format_is_told _ c.args.with_hex table c.args.budget c.args.format.0 lives c.args.found.now.formats.items _ c.args.found.now.signatures.items _
-        c.as_str.result.now _ _ known
+    c.as_str.result.now _ _ known
     (c.in_ok-push_fate.ensures ∙ ap (λ f. c.args.found.now.formats.items ++ f ∷ []) c.in_ok-fate.ensures.life)
     (c.in_ok-push_fates.ensures ∙ ap (λ (l : List SignatureLife). c.args.found.now.signatures.items ++ map (λ (f : SignatureLife). fate_of f.life) l)
-        c.deref-2.ensures.value)
+    c.deref-2.ensures.value)
     is c.write_line.ensures.adds
 
 pub returns-clause-cut : goal.returns-clause-cut
@@ -38,5 +38,5 @@ returns-clause-cut g c =
     } in
     let is : c.as_str.result.now ≡ fate_lines c.args.with_hex table c.args.format.0 (format_fate lives) lives =
     c.as_str.ensures.value ∙ c.in_ok-lines.ensures ∙ ap (λ l. fate_lines c.args.with_hex table c.args.format.0 c.in_ok-fate.fate l) c.deref.ensures.value ∙ ap
-        (λ f. fate_lines c.args.with_hex table c.args.format.0 f lives) c.in_ok-fate.ensures.life in
+    (λ f. fate_lines c.args.with_hex table c.args.format.0 f lives) c.in_ok-fate.ensures.life in
     format_is_cut _ c.args.with_hex table c.args.budget c.args.format.0 lives c.as_str.result.now _ _ _ known is c.write_line.ensures.cut

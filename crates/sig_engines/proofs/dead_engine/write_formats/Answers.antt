@@ -10,8 +10,8 @@ returns-in_err-write_format-clause-cut g c =
     let i = c.loop-index.index in
     let p = err_from_is_err_and c.from_residual.result c.from_residual.ensures.1 in
     rw (p.1, p.2) (ends_cut c.in_err-write_format.field-0.0 c.args.with_hex c.args.table.now c.args.budget i (range_with_len i (n - i))
-        (range_with_len (i + 1) (n - (i + 1))) c.loop-index.found.formats.items c.loop-index.found.signatures.items _ (g.W.Output.written c.args.out.now)
-        (g.W.Output.written c.loop-index.out) _
+    (range_with_len (i + 1) (n - (i + 1))) c.loop-index.found.formats.items c.loop-index.found.signatures.items _ (g.W.Output.written c.args.out.now)
+    (g.W.Output.written c.loop-index.out) _
     (formats_from n i c.loop-index-test.true) c.loop-index.invariant.told c.in_err-write_format.ensures.cut)
 
 pub loop-index-preserved : goal.loop-index-preserved

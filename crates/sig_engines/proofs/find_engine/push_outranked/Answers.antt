@@ -8,4 +8,4 @@ pub returns : goal.returns
 returns c =
     c.in_ok-push_two.ensures
     ∙ pieces (string_bytes c.args.line.now) (codes "over 64 signatures outrank ") (signature_text c.args.table.now c.args.s.0) (codes " or ")
-        (signature_text c.args.table.now c.args.t.0) (codes ": see conflicts") (10 ∷ [])
+    (signature_text c.args.table.now c.args.t.0) (codes ": see conflicts") (10 ∷ [])

@@ -1,7 +1,7 @@
 use Rattle.std.proofs.Common.{◌≡◌, ◌<◌, ◌+◌, ◌-◌, ◌∷◌, [], Err, OnOk, Ok, Result, ap, false, map, refl, subst, sym, ◌∙◌}
 use Rattle.std.specs.Prelude.{string_bytes}
-use Rattle.sig_engines.proofs.FolderLemmas.{deep_met, file_met, folder_leads, folder_lowers, folder_met, leads_as, nothing_leads, some_room, unlisted_met,
-    worth_less}
+use Rattle.sig_engines.proofs.FolderLemmas.{deep_met, file_met, folder_leads, folder_lowers, folder_met, leads_as, nothing_leads, some_room, unlisted_met}
+use Rattle.sig_engines.proofs.FolderLemmas.{worth_less}
 use Rattle.sig_engines.proofs.ManyLemmas.{files_as, files_none, if_cut_as, if_files_as, one_printed}
 use Rattle.sig_engines.proofs.TellingLemmas.{adds_nothing}
 use Rattle.sig_bits.specs.Device.{Adds}
@@ -50,13 +50,13 @@ returns-in-Ok-clause-answers g c =
     let lists : Lists held name (map item_of pushed.0) = subst (λ n. Lists held n (map item_of pushed.0)) c.as_str-name.ensures.value pushed.1 in
     let leads = folder_leads held (next.room - 1) name pushed.0 c.args.waiting.now.items c.push_folder.new.waiting.items lists pushed.2 in
     files_none _ _ _ _ _ _ _ _ _ (leads_as held _ (AreMetOf held next) [] _ _
-        (λ v are. folder_met held next.room name next.entry.kind v (some_room next.room c.if-next-eq0.false) c.in-Folder-2.is are) leads) (adds_nothing _)
+    (λ v are. folder_met held next.room name next.entry.kind v (some_room next.room c.if-next-eq0.false) c.in-Folder-2.is are) leads) (adds_nothing _)
 
 pub returns-in-Ok-clause-lowers : goal.returns-in-Ok-clause-lowers
 returns-in-Ok-clause-lowers g c =
     let pushed = c.in-Ok.ensures.pushes in
     folder_lowers c.args.next.now.room pushed.0 c.args.waiting.now.items c.push_folder.new.waiting.items (some_room c.args.next.now.room c.if-next-eq0.false)
-        pushed.2
+    pushed.2
 
 -- what is told of something that stands in a folder
 told : (g : Over) (c : goal.After-tell g) → c.match-next.waiting.items ≡ c.args.waiting.now.items
@@ -75,8 +75,8 @@ told g c same met =
     let after = g.E.Output.written c.tell.new.err in
     let progress = c.args.run.now.ask.progress in
     let line = subst (λ n. g.E.Output.failed c.tell.new.err ≡ false
-        → Adds before (told_text progress (done_of (with_fault c.args.tally)) (file_fault_line n c.match-next.fault)) after)
-        (c.as_bytes.ensures.value ∙ c.as_str-name.ensures.value) c.tell.ensures.reports in
+    → Adds before (told_text progress (done_of (with_fault c.args.tally)) (file_fault_line n c.match-next.fault)) after)
+    (c.as_bytes.ensures.value ∙ c.as_str-name.ensures.value) c.tell.ensures.reports in
     rw c.tell.ensures.counts (files_as _ _ (IsOne (to_tell name c.match-next.fault)) _ _ _ _ _ _ _ _ _
     (λ v is. nothing_leads held (AreMetOf held next) v _ _ same (rw is met))
     (one_printed _ (to_tell name c.match-next.fault) (Err c.match-next.fault) progress c.args.tally out out _ before after refl (adds_nothing out) line))
@@ -92,12 +92,12 @@ returns-clause-answers g c =
       | in-Folder w ↦
           told g c (ap (λ x. x.items) w.waiting-is)
           (subst (λ f. AreMetOf held next (to_tell name f ∷ [])) (sym w.fault-is)
-              (deep_met held next.room name next.entry.kind w.if-next-eq0.true w.in-Folder.is))
+          (deep_met held next.room name next.entry.kind w.if-next-eq0.true w.in-Folder.is))
       | in-Folder-2+in-Err w ↦
           told g c (ap (λ x. x.items) w.waiting-is ∙ w.in-Err.ensures.unchanged)
           (subst (λ f. AreMetOf held next (to_tell name f ∷ [])) (sym w.fault-is)
           (unlisted_met held next.room name next.entry.kind w.in-Err.fault (some_room next.room w.if-next-eq0.false) w.in-Folder-2.is
-              (subst (λ n. IsUnlisted held n w.in-Err.fault) c.as_str-name.ensures.value w.in-Err.ensures.fault)))
+          (subst (λ n. IsUnlisted held n w.in-Err.fault) c.as_str-name.ensures.value w.in-Err.ensures.fault)))
     ]
 
 pub returns-clause-lowers : goal.returns-clause-lowers

@@ -21,8 +21,8 @@ returns-in-Err-clause-answers g c =
     let after = g.E.Output.written c.tell.new.err in
     let visit = to_tell name (File c.in-Err.fault) in
     let line = subst (λ n. g.E.Output.failed c.tell.new.err ≡ false
-        → Adds before (told_text c.args.run.now.ask.progress (done_of (with_fault c.args.tally)) (file_fault_line n (File c.in-Err.fault))) after)
-        c.as_bytes.ensures.value c.tell.ensures.reports in
+    → Adds before (told_text c.args.run.now.ask.progress (done_of (with_fault c.args.tally)) (file_fault_line n (File c.in-Err.fault))) after)
+    c.as_bytes.ensures.value c.tell.ensures.reports in
     rw c.tell.ensures.counts (files_as _ _ (IsOne visit) (AreIn (AreMet held greatest_depth) held name) _ _ _ _ _ _ _ _
     (λ v is. inl (c.in-Err.fault, c.in-Err.ensures.fault, is))
     (one_printed _ visit (Err (File c.in-Err.fault)) _ c.args.tally out out _ before after refl (adds_nothing out) line))
@@ -49,7 +49,7 @@ returns-in_err-tally-clause-cut g c =
     let are = AreIn (AreMet held greatest_depth) held name in
     let next = c.in-Some.next in
     rw p.1 (files_cut _ (IsPrinted g.S.Reader.Input.failed c.args.run.now.ask (g.K.DroidCore.lists c.args.run.now.core.now) held)
-        (λ v. Covers held are v c.entries.waiting.items) (AreMetOf held next) are _ _ _ _ _ _ _ _ _ _ _
+    (λ v. Covers held are v c.entries.waiting.items) (AreMetOf held next) are _ _ _ _ _ _ _ _ _ _ _
     (λ v w covers is. covers_more held are next c.pop.new.self.items c.entries.waiting.items v w c.in-Some.ensures.items covers is)
     c.entries.invariant.adds c.in_err-tally.ensures.cut c.match_entry.ensures.stays_failed)
 
@@ -72,7 +72,7 @@ entries-preserved g c =
           (λ v. Covers held are v c.entries.waiting.items) (λ w. Leads held (AreMetOf held next) w c.pop.new.self.items c.match_entry.new.waiting.items)
           (λ v. Covers held are v c.match_entry.new.waiting.items) _ _ _ _ _ _ _ _ _ _ _ _
           (λ v w covers leads. covers_then held are next c.pop.new.self.items c.entries.waiting.items c.match_entry.new.waiting.items v w
-              c.in-Some.ensures.items covers leads)
+          c.in-Some.ensures.items covers leads)
           before.adds told.answers c.match_entry.ensures.stays_failed;
       quiet = λ no_progress none. told.quiet no_progress none ∙ before.quiet no_progress (first_failed _ _ _ _ _ _ _ _ _ _ told.answers none);
       writes = λ sound. told.writes (before.writes sound);
@@ -85,4 +85,4 @@ returns-clause-answers g c =
     let are = AreIn (AreMet held greatest_depth) held c.args.folder.now in
     let none : c.entries.waiting.items ≡ [] = search rules in
     files_as _ _ (λ v. Covers held are v c.entries.waiting.items) are _ _ _ _ _ _ _ _ (λ v covers. covers_all held are c.entries.waiting.items v none covers)
-        c.entries.invariant.adds
+    c.entries.invariant.adds

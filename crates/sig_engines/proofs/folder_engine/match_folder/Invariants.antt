@@ -9,7 +9,7 @@ abbrev pub invariant-entries : goal.invariant-entries
 invariant-entries g l = record {
   adds : AddsFiles [] (IsPrinted g.S.Reader.Input.failed l.fn.run.ask (g.K.DroidCore.lists l.fn.run.core.now) (g.S.Store.held l.fn.run.store.now))
       (λ visits. Covers (g.S.Store.held l.fn.run.store.now) (AreIn (AreMet (g.S.Store.held l.fn.run.store.now) greatest_depth)
-          (g.S.Store.held l.fn.run.store.now) l.fn.folder) visits l.waiting.items) l.fn.run.ask.progress l.fn.tally
+      (g.S.Store.held l.fn.run.store.now) l.fn.folder) visits l.waiting.items) l.fn.run.ask.progress l.fn.tally
       (g.W.Output.written l.fn.out) (g.W.Output.written l.out) (g.E.Output.failed l.err) (g.E.Output.written l.fn.err) (g.E.Output.written l.err) l.tally;
   quiet : l.fn.run.ask.progress ≡ false → l.tally.failed ≡ 0 → l.err ≡ l.fn.err;
   writes : g.W.Output.failed l.fn.out ≡ false → g.W.Output.failed l.out ≡ false;

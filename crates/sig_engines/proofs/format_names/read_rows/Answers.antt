@@ -9,7 +9,7 @@ returns-then-not-branch-clause-names c =
 pub returns-in-Err-clause-fault : goal.returns-in-Err-clause-fault
 returns-in-Err-clause-fault c =
     rows_fault _ c.rows.row c.rows.names c.rows.records _ _ c.in-Err.error c.rows.invariant (rw c.if-not-branch.false at c.in_ok-read_next.ensures.next)
-        c.in-Err.ensures.fault
+    c.in-Err.ensures.fault
 
 pub rows-preserved : goal.rows-preserved
 rows-preserved c =

@@ -39,4 +39,4 @@ pub returns : goal.returns
 returns c files paths table none is =
     let read = is.read in
     none_read (records_of read.0) table (ap (λ p. table_of (records_of read.0) (records_of p)) (sym (none_held files paths.priorities read.1 none read.3))
-        ∙ read.4)
+    ∙ read.4)

@@ -8,5 +8,5 @@ pub returns : goal.returns
 returns c =
     let hex = hex_byte true c.args.byte c.ranges.byte.fits in
     let text : styled_digits_output c.in_radix.result c.laid_out.result ≡ Some (byte_text c.args.byte) =
-        rw (c.laid_out.ensures, c.in_radix.ensures) (ap Some hex) in
+    rw (c.laid_out.ensures, c.in_radix.ensures) (ap Some hex) in
     rw text at c.in_ok-write.ensures.bytes

@@ -1,7 +1,7 @@
 use Rattle.std.proofs.Common.{Ok, ap, refl, subst, [], ◌∷◌, ◌++◌, ◌∙◌}
 use Rattle.std.proofs.lemmas.Result.{err_from_is_err_and}
-use Rattle.sig_engines.proofs.ManyLemmas.{files_as, files_cut, files_first, files_none, files_stopped, files_then, first_failed, head_cut, some_visits,
-    visits_more, visits_next, visits_next_more}
+use Rattle.sig_engines.proofs.ManyLemmas.{files_as, files_cut, files_first, files_none, files_stopped, files_then, first_failed, head_cut, some_visits}
+use Rattle.sig_engines.proofs.ManyLemmas.{visits_more, visits_next, visits_next_more}
 use Rattle.sig_engines.proofs.TakenLemmas.{some_listed, takes_all, takes_first_more, takes_first_of, takes_more, takes_none}
 use Rattle.sig_engines.specs.Listed.{AreListed, TakesNames, unread_of}
 use Rattle.sig_engines.specs.ManyFiles.{AddsFiles, AreListedVisits, CutsFiles, IsPrinted}
@@ -28,8 +28,8 @@ names-preserved g c =
     let next = subst (λ e. TakesNames e (unread_of g.I.Input.to_come c.names.list) (name ∷ []) (unread_of g.I.Input.to_come c.next.new.self)) before.end
     (c.next.ensures.takes (c.in_ok-next.was ∙ ap Ok c.if-branch.true)) in
     let file = subst (λ n. AddsFiles [] printed (AreOf all held n) c.args.run.now.ask.progress c.names.tally (g.W.Output.written c.names.out)
-        (g.W.Output.written c.match_listed.new.out) (g.E.Output.failed c.match_listed.new.err) (g.E.Output.written c.names.err)
-        (g.E.Output.written c.match_listed.new.err) c.in_ok-tally.tally)
+    (g.W.Output.written c.match_listed.new.out) (g.E.Output.failed c.match_listed.new.err) (g.E.Output.written c.names.err)
+    (g.E.Output.written c.match_listed.new.err) c.in_ok-tally.tally)
     c.deref.ensures.value told.answers in
     record {
       end = c.next.ensures.end ∙ before.end;
@@ -49,7 +49,7 @@ pub returns-clause-answers : goal.returns-clause-answers
 returns-clause-answers g c =
     let before = c.names.invariant in
     let done = subst (λ e. AreListed e (unread_of g.I.Input.to_come c.names.list) []) before.end
-        (c.next.ensures.done (c.in_ok-next.was ∙ ap Ok c.if-branch.false)) in
+    (c.next.ensures.done (c.in_ok-next.was ∙ ap Ok c.if-branch.false)) in
     files_as _ _ _ _ _ _ _ _ _ _ _ _ (λ v is. (before.names.0, takes_all _ _ _ before.names.0 before.names.1 done, is)) before.names.2
 
 pub returns-in_err-write_head-clause-cut : goal.returns-in_err-write_head-clause-cut
@@ -66,7 +66,7 @@ returns-in_err-next-clause-cut g c =
     let first = takes_first_of c.args.list.now.end _ _ before.names.0 before.names.1 in
     rw p.1 (files_first _ _ _ _ _ _ _ _ _ _ _ _
     (λ v is. let more = visits_more c.args.run.now.ask.recursive (g.S.Store.held c.args.run.now.store.now) before.names.0 first.0 v is in
-        (more.0, (before.names.0 ++ first.0, first.1, more.1))) before.names.2)
+    (more.0, (before.names.0 ++ first.0, first.1, more.1))) before.names.2)
 
 pub returns-in_err-tally-clause-cut : goal.returns-in_err-tally-clause-cut
 returns-in_err-tally-clause-cut g c =
@@ -80,13 +80,13 @@ returns-in_err-tally-clause-cut g c =
     (c.next.ensures.takes (c.in_ok-next.was ∙ ap Ok c.if-branch.true)) in
     let first = takes_first_more c.args.list.now.end _ _ _ before.names.0 (name ∷ []) before.names.1 next in
     let cut = subst (λ n. CutsFiles [] printed (AreOf all held n) c.args.run.now.ask.progress c.names.tally (g.W.Output.written c.names.out)
-        (g.W.Output.written c.match_listed.new.out) (g.E.Output.failed c.match_listed.new.err) (g.E.Output.written c.names.err)
-        (g.E.Output.written c.match_listed.new.err))
+    (g.W.Output.written c.match_listed.new.out) (g.E.Output.failed c.match_listed.new.err) (g.E.Output.written c.names.err)
+    (g.E.Output.written c.match_listed.new.err))
     c.deref.ensures.value c.in_err-tally.ensures.cut in
     rw p.1 (files_cut _ printed (AreVisits all held before.names.0) (AreOf all held name)
-        (AreListedVisits all held c.args.list.now.end (unread_of g.I.Input.to_come c.args.list.now)) _ _ _ _ _ _ _ _ _ _ _
+    (AreListedVisits all held c.args.list.now.end (unread_of g.I.Input.to_come c.args.list.now)) _ _ _ _ _ _ _ _ _ _ _
     (λ v w one two. let more = visits_next_more all held before.names.0 name first.0 v w one two in
-        (more.0, (before.names.0 ++ (name ∷ []) ++ first.0, first.1, more.1))) before.names.2 cut c.match_listed.ensures.stays_failed)
+    (more.0, (before.names.0 ++ (name ∷ []) ++ first.0, first.1, more.1))) before.names.2 cut c.match_listed.ensures.stays_failed)
 
 pub returns-in_err-next-clause-stopped : goal.returns-in_err-next-clause-stopped
 returns-in_err-next-clause-stopped g c =
@@ -95,4 +95,4 @@ returns-in_err-next-clause-stopped g c =
     let first = takes_first_of c.args.list.now.end _ _ before.names.0 before.names.1 in
     rw p.1 (λ other. files_stopped _ _ _ _ _ _ _ _ _ _ _ _
     (λ v is. let more = visits_more c.args.run.now.ask.recursive (g.S.Store.held c.args.run.now.store.now) before.names.0 first.0 v is in
-        (more.0, (before.names.0 ++ first.0, first.1, more.1))) before.names.2)
+    (more.0, (before.names.0 ++ first.0, first.1, more.1))) before.names.2)

@@ -13,7 +13,7 @@ returns-in-Err-clause-answers g c =
     let after = g.E.Output.written c.tell.new.err in
     let visit = to_match c.args.name.now in
     rw c.tell.ensures.counts (files_as _ _ (IsOne visit) (AreOf c.args.run.now.ask.recursive (g.S.Store.held c.args.run.now.store.now) c.args.name.now) _ _ _ _
-        _ _ _ _
+    _ _ _ _
     (λ v is. inl (is, λ text. absurd (c.in-Err.ensures.cases.0 text)))
     (one_printed _ visit (Err (File CannotOpen)) _ c.args.tally out out (g.E.Output.failed c.tell.new.err) before after
-        (λ text. absurd (c.in-Err.ensures.cases.0 text)) (adds_nothing out) c.tell.ensures.reports))
+    (λ text. absurd (c.in-Err.ensures.cases.0 text)) (adds_nothing out) c.tell.ensures.reports))

@@ -18,8 +18,8 @@ returns-clause-answers g c =
     let after = g.E.Output.written c.tell.new.err in
     let visit = to_tell name IsFolder in
     let line = subst (λ n. g.E.Output.failed c.tell.new.err ≡ false
-        → Adds before (told_text c.args.run.now.ask.progress (done_of (with_fault c.args.tally)) (file_fault_line n IsFolder)) after) c.as_bytes.ensures.value
-        c.tell.ensures.reports in
+    → Adds before (told_text c.args.run.now.ask.progress (done_of (with_fault c.args.tally)) (file_fault_line n IsFolder)) after) c.as_bytes.ensures.value
+    c.tell.ensures.reports in
     rw c.tell.ensures.counts (files_as _ _ (IsOne visit) (AreOf c.args.run.now.ask.recursive held name) _ _ _ _ _ _ _ _
     (λ v is. inr (c.is_folder.ensures.has c.if-not-is_folder.false, rw c.if-run.false is))
     (one_printed _ visit (Err IsFolder) _ c.args.tally out out _ before after refl (adds_nothing out) line))

@@ -10,5 +10,9 @@ returns-in_ok-extend_from_slice-in-Some c =
 
 pub returns-in_ok-extend_from_slice-in-None : goal.returns-in_ok-extend_from_slice-in-None
 returns-in_ok-extend_from_slice-in-None c =
-    rw c.in-None.is (record { front = (c.in_ok-extend_from_slice-in-None.ensures.items,
-        nowhere_lacks c.args.end c.args.bytes.now (λ i low is. c.in-None.ensures i (omega arith) low is)) })
+    rw c.in-None.is (record {
+      front = (
+        c.in_ok-extend_from_slice-in-None.ensures.items,
+        nowhere_lacks c.args.end c.args.bytes.now (λ i low is. c.in-None.ensures i (omega arith) low is),
+      );
+    })

@@ -19,7 +19,7 @@ returns-in-Ok-write_all-clause-answers g c =
     let told = g.E.Output.written c.show_done.new.err in
     let is = c.done.ensures ∙ ap done_of c.with_file-tally.ensures in
     rw c.with_file-tally.ensures (one_printed _ (to_match c.args.name.now) printed progress c.args.tally _ (g.W.Output.written c.write_all.new.self) _ before
-        told c.in-Ok.ensures.text
+    told c.in-Ok.ensures.text
     (subst (λ l. Adds (g.W.Output.written c.args.out.now) l (g.W.Output.written c.write_all.new.self)) c.deref.ensures.value c.in-Ok-write_all.ensures.adds)
     (subst (λ n. g.E.Output.failed c.show_done.new.err ≡ false → Adds before (done_text progress n) told) is c.show_done.ensures.reports))
 
@@ -31,10 +31,10 @@ returns-in-Err-clause-answers g c =
     let told = g.E.Output.written c.tell.new.err in
     let fault = File c.in-Err.fault in
     let line = subst (λ n. g.E.Output.failed c.tell.new.err ≡ false
-        → Adds before (told_text progress (done_of (with_fault c.args.tally)) (file_fault_line n fault)) told) c.as_bytes.ensures.value c.tell.ensures.reports
-        in
+    → Adds before (told_text progress (done_of (with_fault c.args.tally)) (file_fault_line n fault)) told) c.as_bytes.ensures.value c.tell.ensures.reports
+    in
     rw c.tell.ensures.counts (one_printed _ (to_match c.args.name.now) (Err fault) progress c.args.tally out out _ before told c.in-Err.ensures.fault
-        (adds_nothing out) line)
+    (adds_nothing out) line)
 
 pub returns-clause-cut : goal.returns-clause-cut
 returns-clause-cut g c =
@@ -45,5 +45,5 @@ returns-clause-cut g c =
     let is = c.done.ensures ∙ ap done_of c.with_file-tally.ensures in
     one_cut _ (to_match c.args.name.now) answer progress c.args.tally _ (g.W.Output.written c.write_all.new.self) _ before told c.in-Ok.ensures.text
     (subst (λ l. AddsFront (g.W.Output.written c.args.out.now) l (g.W.Output.written c.write_all.new.self)) c.deref.ensures.value
-        c.in-Err-write_all.ensures.front)
+    c.in-Err-write_all.ensures.front)
     (subst (λ n. g.E.Output.failed c.show_done.new.err ≡ false → Adds before (done_text progress n) told) is c.show_done.ensures.reports)

@@ -28,7 +28,7 @@ returns-clause-settles g c =
           })
       | else-not-is_empty w ↦
           let empty : c.as_str-refused.result.now ≡ [] = nil_from_length c.as_str-refused.result.now
-              (eqb-true (length c.as_str-refused.result.now) 0 (sym c.is_empty.ensures ∙ w.if-not-is_empty.false)) in
+          (eqb-true (length c.as_str-refused.result.now) 0 (sym c.is_empty.ensures ∙ w.if-not-is_empty.false)) in
           rw w.err-is (record {
             refused = refused;
             adds = c.in_ok-answer.ensures.answers;

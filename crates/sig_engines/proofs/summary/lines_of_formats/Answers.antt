@@ -6,4 +6,4 @@ use Rattle.sig_engines.proofs.summary.lines_of_formats.Goals as goal
 pub loop-format-preserved : goal.loop-format-preserved
 loop-format-preserved c =
     rw (c.in_ok-push.ensures.items, c.loop-format.invariant, c.lines_in.ensures)
-        (sym (map-range_with_len_more (lines_in c.args.notes.now) 0 c.loop-format.format c.loop-format.format (omega arith)))
+    (sym (map-range_with_len_more (lines_in c.args.notes.now) 0 c.loop-format.format c.loop-format.format (omega arith)))

@@ -19,14 +19,14 @@ loop-format-preserved c =
     let count = c.format_count-format-end.ensures.count in
     let own : get_or c.args.lines.now n 0 ≡ lines_in c.args.notes.now n =
     ap (λ l. get_or l n 0) c.requires ∙ get_or-map-range_with_len (lines_in c.args.notes.now) 0 (length c.args.table.now.formats) n n 0
-        (omega (arith, within, count)) (omega arith) in
+    (omega (arith, within, count)) (omega arith) in
     elim c.if-lines-format.branch [
       | then-lines-format+in_ok-push_line w ↦
           rw w.text-is (format_written (summary_line c.args.table.now c.args.notes.now) (λ format. lines_in c.args.notes.now format == c.args.count) n
-              (string_bytes c.args.text.now) (string_bytes c.loop-format.text) (string_bytes w.push_line.new.text)
+          (string_bytes c.args.text.now) (string_bytes c.loop-format.text) (string_bytes w.push_line.new.text)
           (eq-eqb (lines_in c.args.notes.now n) c.args.count (sym own ∙ w.if-lines-format.true)) c.loop-format.invariant w.in_ok-push_line.ensures)
       | else-lines-format w ↦
           rw w.text-is (format_passed (summary_line c.args.table.now c.args.notes.now) (λ format. lines_in c.args.notes.now format == c.args.count) n
-              (string_bytes c.args.text.now) (string_bytes c.loop-format.text)
+          (string_bytes c.args.text.now) (string_bytes c.loop-format.text)
           (ne_eqb (lines_in c.args.notes.now n) c.args.count (λ same. w.if-lines-format.false (own ∙ same))) c.loop-format.invariant)
     ]

@@ -9,4 +9,4 @@ use Rattle.sig_engines.proofs.summary.push_formats_in.Given as goal
 abbrev pub invariant-loop-format : goal.invariant-loop-format
 invariant-loop-format l =
     string_bytes l.text ≡ string_bytes l.fn.text ++ flat_map (summary_line l.table l.notes)
-        (filter (λ format. lines_in l.notes format == l.count) (range_with_len 0 l.format))
+    (filter (λ format. lines_in l.notes format == l.count) (range_with_len 0 l.format))

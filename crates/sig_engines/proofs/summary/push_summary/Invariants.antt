@@ -7,4 +7,4 @@ use Rattle.sig_engines.proofs.summary.push_summary.Given as goal
 abbrev pub invariant-loop-fewer : goal.invariant-loop-fewer
 invariant-loop-fewer l =
     string_bytes l.text ++ flat_map (summary_line l.fn.table l.fn.notes)
-        (formats_below (length l.fn.table.formats) l.fn.notes (length l.fn.notes + 1 - l.fewer)) ≡ string_bytes l.fn.text ++ summary_text l.fn.table l.fn.notes
+    (formats_below (length l.fn.table.formats) l.fn.notes (length l.fn.notes + 1 - l.fewer)) ≡ string_bytes l.fn.text ++ summary_text l.fn.table l.fn.notes

@@ -20,7 +20,7 @@ pub loop-s-preserved : goal.loop-s-preserved
 loop-s-preserved c = elim c.match-branch-2.branch [
   | in-Included w ↦
       let included = subst (IsInclusion c.args.table.now _ (map (λ (b : SigId). b.0) c.args.others.now) c.args.budget) w.in-Included.is
-          c.in_ok-decide_inclusion.ensures in
+      c.in_ok-decide_inclusion.ensures in
       record {
         included = λ known. one_more_included c.args.table.now (map (λ (b : SigId). b.0) c.args.others.now) c.args.own.now c.loop-s.s-index _ c.loop-s-test.true
             (c.loop-s.invariant.included (sym w.unknown-is ∙ known)) included;
@@ -28,7 +28,7 @@ loop-s-preserved c = elim c.match-branch-2.branch [
       }
   | in-Unknown w ↦
       let beyond = subst (IsInclusion c.args.table.now _ (map (λ (b : SigId). b.0) c.args.others.now) c.args.budget) w.in-Unknown.is
-          c.in_ok-decide_inclusion.ensures in
+      c.in_ok-decide_inclusion.ensures in
       record {
         included = λ known. absurd (false≢true (sym known ∙ w.unknown-is));
         beyond = λ known. record { signature = _; is_own = place_is_there c.args.own.now c.loop-s.s-index c.loop-s-test.true; beyond = beyond };
@@ -43,4 +43,4 @@ returns-else-unknown c =
     let all = c.loop-s.invariant.included c.if-unknown.false in
     let test = c.loop-s-test.false in
     subst (λ (own : List SigId). All (λ s. IsIncluded c.args.table.now s (map (λ (b : SigId). b.0) c.args.others.now)) (map (λ (s : SigId). s.0) own))
-        (take_all c.loop-s.s-index c.args.own.now (omega arith)) all
+    (take_all c.loop-s.s-index c.args.own.now (omega arith)) all

@@ -15,6 +15,6 @@ loop-index-preserved c = elim c.if-is_over.branch [
       rw (ap (λ v. v.items) w.found-is ∙ w.in_ok-push.ensures.items, map-append) found
   | else-is_over w ↦
       let passed = one_passed c.args.table.now _ c.args.lower.0 c.loop-index.index _ c.loop-index.invariant
-          (λ over. false≢true (sym w.if-is_over.false ∙ c.is_over.ensures.1 over)) in
+      (λ over. false≢true (sym w.if-is_over.false ∙ c.is_over.ensures.1 over)) in
       rw w.found-is passed
 ]

@@ -25,6 +25,6 @@ returns-then-differ c = λ t file first second.
     let in_y : l < length y = omega arith in
     let same : c.args.a + k ≡ c.args.b + l = omega arith in
     different_never_stand x y c.args.a c.args.b c.front_length.result c.front_length-2.result k l c.index-x-place.result c.index-y-place.result file below_m
-        below_n same c.front_length.ensures.front c.front_length-2.ensures.front
+    below_n same c.front_length.ensures.front c.front_length-2.ensures.front
     (slice_get_read x (length x) k c.index-x-place.result refl in_x c.index-x-place.is)
-        (slice_get_read y (length y) l c.index-y-place.result refl in_y c.index-y-place.is) (c.differ.ensures c.if-differ.true) first second
+    (slice_get_read y (length y) l c.index-y-place.result refl in_y c.index-y-place.is) (c.differ.ensures c.if-differ.true) first second

@@ -13,7 +13,7 @@ pub returns-in-Dead : goal.returns-in-Dead
 returns-in-Dead c =
     let s : ℕ = c.args.own.now.signature.0 in
     let dead : IsDead c.args.table.now c.args.task.a.0 s = subst (IsLifeOf c.args.table.now c.args.task.budget c.args.task.a.0 s) c.in-Dead.is c.requires.life
-        in
+    in
     dead_is_held c.args.table.now c.args.task.a.0 c.args.task.b.0 s dead
 
 pub takers_of-requires : goal.takers_of-requires
@@ -38,11 +38,11 @@ returns-in-Included c =
     let others : List ℕ = map (λ (b : SigId). b.0) c.args.others.now in
     let takers : List ℕ = map (λ (b : SigId). b.0) c.deref.result.now in
     let are : AreTakers table s others takers = subst (λ (xs : List SigId). AreTakers table s others (map (λ (b : SigId). b.0) xs)) (sym c.deref.ensures.value)
-        c.in_ok-takers.ensures in
+    c.in_ok-takers.ensures in
     let told : IsInclusion table s takers c.args.task.budget inclusion.Included =
-        subst (IsInclusion table s takers c.args.task.budget) c.in-Included.is c.in_ok-decide_inclusion.ensures in
+    subst (IsInclusion table s takers c.args.task.budget) c.in-Included.is c.in_ok-decide_inclusion.ensures in
     included_is_held table c.args.task.a.0 c.args.task.b.0 s others takers c.requires.of
-        (places_are_signatures table c.args.task.b.0 c.args.others.now c.requires.others) are told
+    (places_are_signatures table c.args.task.b.0 c.args.others.now c.requires.others) are told
 
 pub returns-in-Counterexample : goal.returns-in-Counterexample
 returns-in-Counterexample c =
@@ -51,10 +51,10 @@ returns-in-Counterexample c =
     let others : List ℕ = map (λ (b : SigId). b.0) c.args.others.now in
     let takers : List ℕ = map (λ (b : SigId). b.0) c.deref.result.now in
     let are : AreTakers table s others takers = subst (λ (xs : List SigId). AreTakers table s others (map (λ (b : SigId). b.0) xs)) (sym c.deref.ensures.value)
-        c.in_ok-takers.ensures in
+    c.in_ok-takers.ensures in
     let told : IsInclusion table s takers c.args.task.budget (inclusion.Counterexample c.in-Counterexample.field-0) =
-        subst (IsInclusion table s takers c.args.task.budget) c.in-Counterexample.is c.in_ok-decide_inclusion.ensures in
+    subst (IsInclusion table s takers c.args.task.budget) c.in-Counterexample.is c.in_ok-decide_inclusion.ensures in
     let left = left_there table c.in-Counterexample.field-0.items c.signature_count-signatures.ensures.table told.is_file in
     counterexample_stands_alone table c.args.task.a.0 c.args.task.b.0 s c.args.task.budget others takers c.in-Counterexample.field-0.items left.0 left.1
-        c.requires.of
+    c.requires.of
     (places_are_signatures table c.args.task.b.0 c.args.others.now c.requires.others) are told

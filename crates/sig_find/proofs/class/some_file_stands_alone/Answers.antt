@@ -16,8 +16,8 @@ returns-then-is_none c = λ yes.
     let others : List ℕ = map (λ (b : SigId). b.0) c.args.others.now in
     let life = life_at table c.args.task.a.0 c.args.task.budget c.args.lives.now c.loop-own.own-index own c.requires.lives c.loop-own-test.true c.own-item.is in
     let alive : ShowsAlive table c.args.task.a.0 own.signature.0 c.args.task.budget c.in-Alive.file.items =
-        subst (IsLifeOf table c.args.task.budget c.args.task.a.0 own.signature.0) c.in-Alive.is life.1 in
+    subst (IsLifeOf table c.args.task.budget c.args.task.a.0 own.signature.0) c.in-Alive.is life.1 in
     let told : NoneHits table others c.deref.result.now = none_found _ _ c.in_ok-first_that_hits.field-0 c.if-is_none.ensures c.in_ok-first_that_hits.ensures in
     known_file_stands_alone table c.args.task.a.0 c.args.task.b.0 own.signature.0 c.args.task.budget others c.in-Alive.file.items
-        (places_are_signatures table c.args.task.b.0 c.args.others.now c.requires.others) alive
+    (places_are_signatures table c.args.task.b.0 c.args.others.now c.requires.others) alive
     (subst (NoneHits table others) c.deref.ensures.value told)

@@ -13,16 +13,16 @@ loop-parts-preserved c =
     let low = c.min-least.ensures in
     let before : All (λ (p : Vec Atom Global). c.min-least.result ≤ parts_length p.items) (take c.loop-parts.parts-index c.as_slice-parts-items.result.now) =
     All-weaker (λ (p : Vec Atom Global). c.loop-parts.least ≤ parts_length p.items) (λ (p : Vec Atom Global). c.min-least.result ≤ parts_length p.items)
-        (λ p h. omega arith) (take c.loop-parts.parts-index c.as_slice-parts-items.result.now) c.loop-parts.invariant in
+    (λ p h. omega arith) (take c.loop-parts.parts-index c.as_slice-parts-items.result.now) c.loop-parts.invariant in
     let last : c.min-least.result ≤ parts_length own.items = let same = ap parts_length value in omega arith in
     let more = All-push (λ (p : Vec Atom Global). c.min-least.result ≤ parts_length p.items) (take c.loop-parts.parts-index c.as_slice-parts-items.result.now)
-        own before last in
+    own before last in
     rw (take_more c.as_slice-parts-items.result.now c.loop-parts.parts-index own c.loop-parts-test.true, ← c.parts-item.is) more
 
 pub returns : goal.returns
 returns c =
     let test = c.loop-parts-test.false in
     let all = subst (All (λ (p : Vec Atom Global). c.loop-parts.least ≤ parts_length p.items))
-        (take_all c.loop-parts.parts-index c.as_slice-parts-items.result.now (omega arith)) c.loop-parts.invariant in
+    (take_all c.loop-parts.parts-index c.as_slice-parts-items.result.now (omega arith)) c.loop-parts.invariant in
     subst (All (λ (parts : List Atom). c.loop-parts.least ≤ parts_length parts)) c.as_slice-parts-items.ensures
-        (All-map (λ (parts : List Atom). c.loop-parts.least ≤ parts_length parts) (λ (p : Vec Atom Global). p.items) c.as_slice-parts-items.result.now all)
+    (All-map (λ (parts : List Atom). c.loop-parts.least ≤ parts_length parts) (λ (p : Vec Atom Global). p.items) c.as_slice-parts-items.result.now all)

@@ -12,15 +12,15 @@ returns-in-Closed c =
     let table = c.args.table.now in
     let s = c.args.s.0 in
     let decided : IsDecision table s s c.args.budget (decision.Closed c.in-Closed.blockers c.in-Closed.rows) =
-        subst (IsDecision table s s c.args.budget) c.in-Closed.is c.in_ok-decide_product.ensures in
+    subst (IsDecision table s s c.args.budget) c.in-Closed.is c.in_ok-decide_product.ensures in
     closed_is_dead table c.args.format.0 s c.signature_count-signatures.ensures.table c.requires
-        (decided_closed table s s c.args.budget c.in-Closed.blockers c.in-Closed.rows decided)
+    (decided_closed table s s c.args.budget c.in-Closed.blockers c.in-Closed.rows decided)
 
 pub returns-in-Witness : goal.returns-in-Witness
 returns-in-Witness c =
     let table = c.args.table.now in
     let s = c.args.s.0 in
     let witness : IsPairWitness table s s c.args.budget c.in-Witness.file.items =
-        subst (IsDecision table s s c.args.budget) c.in-Witness.is c.in_ok-decide_product.ensures in
+    subst (IsDecision table s s c.args.budget) c.in-Witness.is c.in_ok-decide_product.ensures in
     let left = left_there table c.in-Witness.file.items c.signature_count-signatures.ensures.table witness.is_file in
     witness_shows_alive table c.args.format.0 s c.args.budget c.in-Witness.file.items left.0 left.1 c.requires witness

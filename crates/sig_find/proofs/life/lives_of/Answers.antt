@@ -14,7 +14,7 @@ loop-signature-init c =
     let table = c.args.table.now in
     let lives_of : SignatureLife → Type 0 = λ l. IsLifeOf table c.args.budget c.args.format.0 l.signature.0 l.life in
     let all : remaining_of c.into_iter-signature-iterator.result ≡ places_of c.args.format.0 0 table.signatures =
-        ap remaining_of c.into_iter-signature-iterator.ensures.into_iter_gives ∙ c.signatures_of-signature-items.ensures in
+    ap remaining_of c.into_iter-signature-iterator.ensures.into_iter_gives ∙ c.signatures_of-signature-items.ensures in
     record {
       all = ap (λ (lives : List SignatureLife). map (λ (l : SignatureLife). l.signature) lives ++ remaining_of c.into_iter-signature-iterator.result)
           c.new-lives.ensures.items ∙ all;
@@ -44,7 +44,7 @@ pub decide_signature-requires : goal.decide_signature-requires
 decide_signature-requires c =
     let table = c.args.table.now in
     All-head (λ s. IsOfFormat table c.args.format.0 s.0) c.in-Some.signature (remaining_of c.next.new.self)
-        (subst (All (λ s. IsOfFormat table c.args.format.0 s.0)) c.in-Some.ensures.steps c.loop-signature.invariant.of)
+    (subst (All (λ s. IsOfFormat table c.args.format.0 s.0)) c.in-Some.ensures.steps c.loop-signature.invariant.of)
 
 pub returns : goal.returns
 returns c = record {

@@ -11,6 +11,6 @@ loop-format-preserved c =
     let before = c.loop-format.formats.items in
     let own = c.in_ok-lives.lives in
     let more : map items c.push.new.self.items ≡ map items before ++ own.items ∷ [] =
-        ap (map items) c.in_ok-push.ensures.items ∙ map-append items before (own ∷ []) in
+    ap (map items) c.in_ok-push.ensures.items ∙ map-append items before (own ∷ []) in
     subst (AreLivesBelow c.args.table.now c.args.budget (c.loop-format.format + 1)) (sym more)
     (one_more_format c.args.table.now c.args.budget c.loop-format.format (map items before) own.items c.loop-format.invariant c.in_ok-lives.ensures.lives)

@@ -9,7 +9,7 @@ pub returns-in-Closed : goal.returns-in-Closed
 returns-in-Closed c =
     let table = c.args.table.now in
     let decided : IsDecision table c.args.s.0 c.args.t.0 c.args.task.budget (decision.Closed c.in-Closed.blockers c.in-Closed.rows) =
-        subst (IsDecision table c.args.s.0 c.args.t.0 c.args.task.budget) c.in-Closed.is c.in_ok-decide_product_directly.ensures in
+    subst (IsDecision table c.args.s.0 c.args.t.0 c.args.task.budget) c.in-Closed.is c.in_ok-decide_product_directly.ensures in
     inl (decided_closed table c.args.s.0 c.args.t.0 c.args.task.budget c.in-Closed.blockers c.in-Closed.rows decided)
 
 pub decide_product_directly-requires-clause-first : goal.decide_product_directly-requires-clause-first

@@ -11,9 +11,9 @@ loop-blocker-preserved c =
     let number : SigId → ℕ = λ b. b.0 in
     let i = c.loop-blocker.blocker-index in
     pushed c.args.out.now.items (flat_map four_bytes (map number (take i blockers))) (four_bytes (get_or blockers i (record { 0 = 0 })).0)
-        (flat_map four_bytes (map number (take (i + 1) blockers)))
+    (flat_map four_bytes (map number (take (i + 1) blockers)))
     c.loop-blocker.out.items c.write_four.new.out.items c.loop-blocker.invariant c.in_ok-write_four.ensures
-        (flat_more four_bytes number blockers i (record { 0 = 0 }) c.loop-blocker-test.true)
+    (flat_more four_bytes number blockers i (record { 0 = 0 }) c.loop-blocker-test.true)
 
 pub returns : goal.returns
 returns c =

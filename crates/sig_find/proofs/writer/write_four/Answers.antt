@@ -6,4 +6,4 @@ pub returns : goal.returns
 returns c =
     let fits = c.ranges.number.fits in
     c.in_ok-extend_from_slice.ensures.items ∙ ap (λ (bs : List ℕ). c.args.out.now.items ++ bs)
-        (c.to_be_bytes.ensures ∙ spells_four c.args.number (omega (arith, fits)))
+    (c.to_be_bytes.ensures ∙ spells_four c.args.number (omega (arith, fits)))

@@ -13,7 +13,7 @@ loop-row-preserved c =
     let same : c.deref.result.now ≡ bytes (get_or rows i row) = c.deref.ensures.value ∙ ap bytes c.row-item.is in
     pushed c.args.out.now.items (concat (map bytes (take i rows))) (bytes (get_or rows i row)) (concat (map bytes (take (i + 1) rows)))
     c.loop-row.out.items c.extend_from_slice.new.self.items c.loop-row.invariant
-        (c.in_ok-extend_from_slice.ensures.items ∙ ap (λ (bs : List ℕ). c.loop-row.out.items ++ bs) same) (concat_more bytes rows i row c.loop-row-test.true)
+    (c.in_ok-extend_from_slice.ensures.items ∙ ap (λ (bs : List ℕ). c.loop-row.out.items ++ bs) same) (concat_more bytes rows i row c.loop-row-test.true)
 
 pub returns : goal.returns
 returns c =

@@ -1,5 +1,5 @@
-use Rattle.sig_scan.proofs.Common.{◌≡◌, ◌∙◌, Bool, List, ap, length, refl, true, length-replicate, All-replicate, All-same, IfOk-weaker, IsProgramOf,
-    IsWholeProgramOf}
+use Rattle.sig_scan.proofs.Common.{◌≡◌, ◌∙◌, Bool, List, ap, length, refl, true, length-replicate, All-replicate, All-same, IfOk-weaker, IsProgramOf}
+use Rattle.sig_scan.proofs.Common.{IsWholeProgramOf}
 use Rattle.sig_scan.proofs.CompiledLemmas.{IsWholeProgramOf-all}
 use Rattle.sig_scan.proofs.block_core.compiled.Goals as goal
 

@@ -33,7 +33,7 @@ reads-init g c =
 pub returns-then-not-branch-clause-hits : goal.returns-then-not-branch-clause-hits
 returns-then-not-branch-clause-hits g c before given =
     HitFormatsOfSome-read c.read_on.new.self c.args.table.now _ _ c.in_ok-results_of-2.field-0 (c.in_ok-read_on.ensures.at_end c.if-not-branch.true)
-        c.in_ok-results_of-2.ensures
+    c.in_ok-results_of-2.ensures
     (IsRead-more c.reads.scan c.read_on.new.self c.args.table.now _ _ _ c.in_ok-read_on.ensures.read (c.reads.invariant.read before given))
 
 pub reads-preserved : goal.reads-preserved

@@ -1,5 +1,5 @@
-use Rattle.sig_scan.proofs.Common.{◌≡◌, ◌∙◌, ◌+◌, ◌*◌, ◌%◌, ◌/◌, ◌≤◌, ◌<◌, ℕ, zero, suc, arith, inl, inr, refl, subst, sym, cases_lt, IsListed, behind_of,
-    text_of, LiteralView, byte_of}
+use Rattle.sig_scan.proofs.Common.{◌≡◌, ◌∙◌, ◌+◌, ◌*◌, ◌%◌, ◌/◌, ◌≤◌, ◌<◌, ℕ, zero, suc, arith, inl, inr, refl, subst, sym, cases_lt, IsListed, behind_of}
+use Rattle.sig_scan.proofs.Common.{text_of, LiteralView, byte_of}
 use Rattle.sig_scan.proofs.FilterLemmas.{AreKept-twice, IsListed-kept}
 use Rattle.sig_scan.proofs.filter.enter_all.Goals as goal
 

@@ -1,5 +1,5 @@
-use Rattle.sig_scan.proofs.Common.{◌≡◌, List, arith, map, take, sym, ap, ◌∙◌, subst, ◌+◌, ◌++◌, [], ◌∷◌, map_more, HasBit, Atom, AlternativeWord, GainsBits,
-    HasBits, Reaches}
+use Rattle.sig_scan.proofs.Common.{◌≡◌, List, arith, map, take, sym, ap, ◌∙◌, subst, ◌+◌, ◌++◌, [], ◌∷◌, map_more, HasBit, Atom, AlternativeWord, GainsBits}
+use Rattle.sig_scan.proofs.Common.{HasBits, Reaches}
 use Rattle.sig_scan.proofs.ItemLemmas.{ReachesAny, alternatives_more}
 use Rattle.sig_scan.proofs.frontier.add_alternatives.Goals as goal
 
@@ -16,6 +16,6 @@ loop-atoms-preserved c =
     let part : HasBits (Reaches (AlternativeWord v.items) file (HasBit c.copy_from_slice.new.self)) ends = rw c.as_slice.ensures.value at c.run_parts.ensures in
     let after : HasBits (Reaches (AlternativeWord v.items) file S) ends = rw c.copy_from_slice.ensures.after at part in
     let more : GainsBits (Reaches (AlternativeWord v.items) file S) c.loop-atoms.ends c.or_into.new.dst =
-        grind (arith, after.sound, after.complete, c.or_into.ensures) in
+    grind (arith, after.sound, after.complete, c.or_into.ensures) in
     subst (λ (l : List (List Atom)). GainsBits (ReachesAny l file S) c.args.ends.now c.or_into.new.dst) (sym next)
     (alternatives_more (map (λ v. v.items) (take i xs)) v.items file S c.args.ends.now c.loop-atoms.ends c.or_into.new.dst c.loop-atoms.invariant more)

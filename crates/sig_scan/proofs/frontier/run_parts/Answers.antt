@@ -6,7 +6,7 @@ use Rattle.sig_scan.proofs.frontier.run_parts.Goals as goal
 pub loop-atom-preserved : goal.loop-atom-preserved
 loop-atom-preserved c =
     let next = Carries-next AlternativeWord PartWord (λ x xs w. (λ h. h, λ h. h)) c.args.atoms.now c.loop-atom.atom-index (length c.loop-atom.next)
-        c.atom-item.result
+    c.atom-item.result
     c.args.bytes.now (HasBit c.args.ends.now) c.loop-atom.ends c.clear.new.bits c.add_part.new.ends c.copy_from_slice.new.self (omega arith)
     c.atom-item.is c.clear.ensures c.add_part.ensures c.copy_from_slice.ensures.after c.loop-atom.invariant.carries in
     record { within = next.0; carries = next.1 }

@@ -7,8 +7,15 @@ returns-then-class c k low =
     let upto : ℕ = c.at_most.result in
     let under : ℕ = c.below.result in
     let inside : ℕ = bit_and upto (bit_not w64 under) in
-    grind (arith, inside_bit upto under k, bit_at_not w64 inside k, bit_at-lt inside k, and_le_l upto (bit_not w64 under), c.at_most.ensures k low,
-        c.below.ensures k low)
+    grind (
+      arith,
+      inside_bit upto under k,
+      bit_at_not w64 inside k,
+      bit_at-lt inside k,
+      and_le_l upto (bit_not w64 under),
+      c.at_most.ensures k low,
+      c.below.ensures k low,
+    )
 
 pub returns-else-class : goal.returns-else-class
 returns-else-class c k low = grind (arith, inside_bit c.at_most.result c.below.result k, c.at_most.ensures k low, c.below.ensures k low)

@@ -7,5 +7,5 @@ returns c courses stage literals =
     let is = subst (λ (s : StageView). IsLiteralOf s.items c.stage.inside.literal) c.stage.view_is c.stage.invariant in
     on_ok_weaker c.add.result
     (λ adds. AreLiteralsOf-added courses c.args.filter.now c.add.new.self c.stage.inside.literal c.args.stage.now c.args.sequence c.args.done adds is stage
-        literals)
+    literals)
     c.add.ensures

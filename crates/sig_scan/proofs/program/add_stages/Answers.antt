@@ -1,5 +1,5 @@
-use Rattle.sig_scan.proofs.Common.{◌≡◌, ◌++◌, ◌∷◌, [], ◌∙◌, List, Some, None, ap, subst, sym, length, rules, ◌≤◌, Item, AddsCourse, StageView, TailView,
-    course_of, stages_of, span}
+use Rattle.sig_scan.proofs.Common.{◌≡◌, ◌++◌, ◌∷◌, [], ◌∙◌, List, Some, None, ap, subst, sym, length, rules, ◌≤◌, Item, AddsCourse, StageView, TailView}
+use Rattle.sig_scan.proofs.Common.{course_of, stages_of, span}
 use Rattle.sig_scan.proofs.HeldLemmas.{last-short}
 use Rattle.sig_scan.proofs.ProgramLemmas.{AddsCourse-to_end}
 use Rattle.sig_scan.proofs.program.add_stages.Goals as goal

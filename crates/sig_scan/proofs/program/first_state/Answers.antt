@@ -9,7 +9,7 @@ returns-then-is_empty c =
     let d = c.args.course.now in
     let u : StageView = c.index-stages-course.result in
     let there : slice_get stages d.first ≡ Some u = slice_get-get_or stages d.first u (omega arith) ∙ ap (λ (x : StageView). Some x)
-        (sym c.index-stages-course.is) in
+    (sym c.index-stages-course.is) in
     let same : d.first + 0 ≡ d.first = omega arith in
     let at = slice_get-range stages d.first d.end 0 u (omega arith) (subst (λ n. slice_get stages n ≡ Some u) (sym same) there) in
     IsFirst-behind (course_in stages d) _ (omega arith)

@@ -1,9 +1,9 @@
-use Rattle.sig_scan.proofs.Common.{arith, refl, ◌++◌, ◌+◌, ◌<◌, ◌∙◌, ◌≡◌, ◌≤◌, All, Bool, List, Some, ap, drop, false, get_or, length, not, subst, sym, true, ℕ,
-    set, slice_get-get_or, slice_get_within, slice_get, slice_get-within, SequenceView, TableView, AreDone, AreExcluded, IsBase, IsShort, IsShortCourse, Knows,
-    NeverStands, WaitsAt, CourseView, StageView, State}
+use Rattle.sig_scan.proofs.Common.{arith, refl, ◌++◌, ◌+◌, ◌<◌, ◌∙◌, ◌≡◌, ◌≤◌, All, Bool, List, Some, ap, drop, false, get_or, length, not, subst, sym, true, ℕ}
+use Rattle.sig_scan.proofs.Common.{set, slice_get-get_or, slice_get_within, slice_get, slice_get-within, SequenceView, TableView, AreDone, AreExcluded, IsBase}
+use Rattle.sig_scan.proofs.Common.{IsShort, IsShortCourse, Knows, NeverStands, WaitsAt, CourseView, StageView, State}
 use Rattle.sig_scan.proofs.PassLemmas.{Waits-found}
-use Rattle.sig_scan.proofs.ScanLemmas.{All-at, AllMoved, AllMoved-set, AllMoved-skip, AreDone-set, AreExcluded-set, Knows-settled, Waits-rest,
-    slice_get-set_other, true_from_not}
+use Rattle.sig_scan.proofs.ScanLemmas.{All-at, AllMoved, AllMoved-set, AllMoved-skip, AreDone-set, AreExcluded-set, Knows-settled, Waits-rest}
+use Rattle.sig_scan.proofs.ScanLemmas.{slice_get-set_other, true_from_not}
 use Rattle.sig_scan.proofs.scan.settle_all.Goals as goal
 use Rattle.sig_scan.proofs.scan.settle_all.Goals.{then-may_hit-signature, else-may_hit-signature}
 

@@ -18,7 +18,7 @@ returns-in_default-clause-waits c s before later tail base short waits =
     let none = IsFirstOf-nowhere t.items c.stage.inside.literal bytes from until limit c.stage.invariant
     (λ k low high occurs. c.in_default.ensures k low (omega arith) occurs) in
     let P : StageView → Type 0 = λ v. IsShort c.args.reach v → WaitsOn c.args.is_last s before bytes from (v ∷ later) tail
-        → WaitsOn c.args.is_last s before bytes limit (v ∷ later) tail in
+    → WaitsOn c.args.is_last s before bytes limit (v ∷ later) tail in
     subst P c.stage.view_is
     (λ few w. Waits-tried c.args.is_last s t before bytes from until limit c.args.reach later tail few (omega arith) c.requires.sight
     (λ x inside. c.offsets_up_to-until.ensures.many before x base inside) none w)
@@ -36,7 +36,7 @@ returns-in-None-clause-waits c s before later tail base short waits =
     let high = c.in-Some.ensures.0.high in
     let Found : List Item → Type 0 = λ l. AreBounded l → span l ≤ c.args.reach → IsFirstOf l bytes first until to None in
     let P : StageView → Type 0 = λ v. IsShort c.args.reach v → WaitsOn c.args.is_last s before bytes from (v ∷ later) tail
-        → WaitsOn c.args.is_last s before bytes to (v ∷ later) tail in
+    → WaitsOn c.args.is_last s before bytes to (v ∷ later) tail in
     subst P c.stage.view_is
     (λ few w. Waits-tried c.args.is_last s t before bytes from until to c.args.reach later tail few (omega arith)
     (sight-below c.args.is_last c.args.limit to c.args.reach (length bytes) (omega arith) c.requires.sight)
@@ -57,7 +57,7 @@ returns-in-Some-attempt-clause-waits c s before later tail base short waits =
     let low = c.in-Some.ensures.0.low in
     let Found : List Item → Type 0 = λ l. AreBounded l → span l ≤ c.args.reach → IsFirstOf l bytes first until to (Some e) in
     let P : StageView → Type 0 = λ v. IsShort c.args.reach v → WaitsOn c.args.is_last s before bytes from (v ∷ later) tail
-        → WaitsOn c.args.is_last s before bytes (e + t.delay) later tail in
+    → WaitsOn c.args.is_last s before bytes (e + t.delay) later tail in
     subst P c.stage.view_is
     (λ few w. Waits-ended c.args.is_last s t before bytes from until to e later tail
     (λ x inside. c.offsets_up_to-until.ensures.many before x base inside)

@@ -1,5 +1,5 @@
-use Rattle.sig_scan.proofs.Common.{ℕ, ◌+◌, ◌-◌, List, arith, false, length, subst, take, ◌↔◌, IsTrue, false≢true, Item, IsLeastEnd, AreBounded, TailStands,
-    TailView}
+use Rattle.sig_scan.proofs.Common.{ℕ, ◌+◌, ◌-◌, List, arith, false, length, subst, take, ◌↔◌, IsTrue, false≢true, Item, IsLeastEnd, AreBounded, TailStands}
+use Rattle.sig_scan.proofs.Common.{TailView}
 use Rattle.sig_scan.proofs.StateLemmas.{TailStands-close, TailStands-judged, TailStands-literal, TailStands-nowhere}
 use Rattle.sig_scan.proofs.state.tail_stands.Goals as goal
 

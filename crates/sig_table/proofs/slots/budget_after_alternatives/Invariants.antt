@@ -7,4 +7,4 @@ use Rattle.sig_table.proofs.slots.budget_after_alternatives.Given as goal
 abbrev pub invariant-loop-alternative : goal.invariant-loop-alternative
 invariant-loop-alternative l =
     minus l.fn.budget (sum_by (λ a. sum_by atom_slots a) (map (λ v. v.items) l.alternatives)) ≡ minus l.budget
-        (sum_by (λ a. sum_by atom_slots a) (map (λ v. v.items) (drop l.alternative-index l.alternatives)))
+    (sum_by (λ a. sum_by atom_slots a) (map (λ v. v.items) (drop l.alternative-index l.alternatives)))

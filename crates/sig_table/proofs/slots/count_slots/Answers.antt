@@ -14,7 +14,7 @@ unfolding slot_count
 returns-in-Some-budget_after_items c =
     let some = rw c.position_slots.ensures at (sym c.in-Some.ensures) in
     within-items (position_slots c.args.position) (sum_by item_slots c.args.items.now) c.in-Some.budget c.in-Some-budget_after_items.left some
-        (sym c.in-Some-budget_after_items.ensures)
+    (sym c.in-Some-budget_after_items.ensures)
 
 pub returns-in-None : goal.returns-in-None
 unfolding slot_count

@@ -7,4 +7,4 @@ pub returns : goal.returns
 returns c =
     too_many-counted (slot_count c.args.sequence.now) c.count_slots.result
     (c.count_slots.ensures ∙ ap (λ items. min (slot_count (record { position = c.sequence.inside.position; items = items })) 65536) c.items.ensures.items ∙ ap
-        (λ s. min (slot_count s) 65536) c.sequence.view_is)
+    (λ s. min (slot_count s) 65536) c.sequence.view_is)

@@ -13,7 +13,7 @@ loop-place-preserved c =
     let long = c.loop-place.auto.spans in
     let kept = c.fill.ensures.len in
     spans_next c.loop-place.place c.args.signatures.now c.loop-place.spans s _ c.widened.result c.format-format.result.0 c.format-format.ensures inside
-        c.index-signatures-place.is (omega (arith, known, long, kept)) c.widened.ensures c.loop-place.invariant
+    c.index-signatures-place.is (omega (arith, known, long, kept)) c.widened.ensures c.loop-place.invariant
 
 pub returns : goal.returns
 returns c =

@@ -11,8 +11,8 @@ use Rattle.sig_table.proofs.writer.priority_text.Goals as goal
 -- one pair more
 one_more : (formats : List Puid) (pairs : List (ℕ × ℕ)) (i : ℕ) (d : ℕ × ℕ) (first : List ℕ) → i < length pairs
     → first ++ flat_map (row_text default_writer) (map (pair_record formats) (take (i + 1) pairs))
-        ≡ (first ++ flat_map (row_text default_writer) (map (pair_record formats) (take i pairs))) ++ row_text default_writer
-        (pair_record formats (get_or pairs i d))
+    ≡ (first ++ flat_map (row_text default_writer) (map (pair_record formats) (take i pairs))) ++ row_text default_writer
+    (pair_record formats (get_or pairs i d))
 one_more formats pairs i d first within =
     let rows : List (List ℕ) → List ℕ = row_text default_writer in
     rw (take_more pairs i d within, map-append, flat_map-append) (
@@ -40,5 +40,5 @@ pub returns : goal.returns
 returns c =
     let all : c.loop-pair.lines ≡ pairs_csv c.args.formats.now c.args.pairs.now =
     whole _ _ c.loop-pair.pair-index _ _ _ c.loop-pair.lines (omega arith) c.in_ok-start.ensures c.in_ok-header.ensures.fields c.in_ok-lines.ensures
-        c.loop-pair.invariant in
+    c.loop-pair.invariant in
     rw (← all) c.into_text.ensures

@@ -16,6 +16,6 @@ whole t i header start first lines end empty is begins goes =
 pub returns : goal.returns
 returns c =
     let all : c.loop-signature.lines ≡ signature_csv c.args.table.now =
-        whole c.args.table.now c.loop-signature.signature-index _ _ _ c.loop-signature.lines (omega (arith, ap length c.signatures-signature-items.ensures))
-        c.in_ok-start.ensures c.in_ok-signature_header.ensures c.in_ok-lines.ensures c.loop-signature.invariant in
+    whole c.args.table.now c.loop-signature.signature-index _ _ _ c.loop-signature.lines (omega (arith, ap length c.signatures-signature-items.ensures))
+    c.in_ok-start.ensures c.in_ok-signature_header.ensures c.in_ok-lines.ensures c.loop-signature.invariant in
     rw (← all) c.into_text.ensures

@@ -9,5 +9,5 @@ find-k-requires-clause-within c = within c.self.inside.cells.items _ _ c.args.se
 pub returns : goal.returns
 returns c b small =
     let is = class_told c.self.inside.cells.items _ _ c.args.self.now c.args.q c.find-k.result _ c.self.invariant.spells c.self.view_is c.as_slice.ensures.value
-        c.index.ensures c.find-k.ensures in
+    c.index.ensures c.find-k.ensures in
     subst (λ class. Holds c.bytes.result b ↔ InClass class b) is (c.bytes.ensures b small)

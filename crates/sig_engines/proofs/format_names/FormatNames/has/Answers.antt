@@ -12,5 +12,5 @@ returns c =
     let test = puid_eq c.args.puid.now in
     let es = c.self.inside.names.entries in
     c.is_some.ensures ∙ sym (some_map _ c.get.result) ∙ ap is_some (rw puid_eq-is at c.get.ensures.value) ∙ sym
-        (some_map (λ (v : Vec ℕ Global). v.items) (lookup test es))
+    (some_map (λ (v : Vec ℕ Global). v.items) (lookup test es))
     ∙ ap is_some (lookup-values (λ (v : Vec ℕ Global). v.items) test es) ∙ ap (λ (l : List (Puid × List ℕ)). is_some (lookup test l)) c.self.view_is

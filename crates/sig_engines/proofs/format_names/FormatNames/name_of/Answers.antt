@@ -14,7 +14,7 @@ returns-in-Some c =
     let value : Some c.in-Some.name.now ≡ lookup test c.self.inside.names.entries = rw puid_eq-is at c.in-Some.ensures.value in
     c.deref.ensures.value ∙ ap (λ (o : Option (Vec ℕ Global)). name_or_none (option_map (λ (v : Vec ℕ Global). v.items) o)) value
     ∙ ap name_or_none (lookup-values (λ (v : Vec ℕ Global). v.items) test c.self.inside.names.entries) ∙ ap
-        (λ (l : List (Puid × List ℕ)). name_or_none (lookup test l)) c.self.view_is
+    (λ (l : List (Puid × List ℕ)). name_or_none (lookup test l)) c.self.view_is
 
 pub returns-in-None : goal.returns-in-None
 returns-in-None c =
@@ -22,4 +22,4 @@ returns-in-None c =
     let value : None ≡ lookup test c.self.inside.names.entries = rw puid_eq-is at c.in-None.ensures.value in
     ap (λ (o : Option (Vec ℕ Global)). name_or_none (option_map (λ (v : Vec ℕ Global). v.items) o)) value
     ∙ ap name_or_none (lookup-values (λ (v : Vec ℕ Global). v.items) test c.self.inside.names.entries) ∙ ap
-        (λ (l : List (Puid × List ℕ)). name_or_none (lookup test l)) c.self.view_is
+    (λ (l : List (Puid × List ℕ)). name_or_none (lookup test l)) c.self.view_is

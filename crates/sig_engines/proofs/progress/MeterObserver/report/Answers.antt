@@ -16,7 +16,7 @@ returns-clause-told g c =
           reports_then things start before after told
           (subst (λ t. AddsReports t before after) same
           (one_report c.args.self.now.things c.args.done c.args.all before after
-              (printed c.write_report.result _ before after _ c.write_report.ensures.prints is)));
+          (printed c.write_report.result _ before after _ c.write_report.ensures.prints is)));
     }
 
 pub returns-clause-shows : goal.returns-clause-shows

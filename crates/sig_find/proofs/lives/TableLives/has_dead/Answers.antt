@@ -12,6 +12,6 @@ returns-in-Some c = λ dead table budget are.
     let read : slice_get c.deref.result.now i ≡ Some own = slice_get_read c.deref.result.now (length c.deref.result.now) i own refl looked.3.0 looked.1 in
     let there : slice_get c.self.inside.formats.items i ≡ Some own = subst (λ l. slice_get l i ≡ Some own) c.deref.ensures.value read in
     let viewed : slice_get c.args.self.now i ≡ Some own.items = subst (λ l. slice_get l i ≡ Some own.items) c.self.view_is
-        (slice_get-map items c.self.inside.formats.items i ∙ ap (option_map items) there) in
+    (slice_get-map items c.self.inside.formats.items i ∙ ap (option_map items) there) in
     c.is_dead.ensures dead table budget i (are.each i c.deref-in-Some.result.now
-        (subst (λ l. slice_get c.args.self.now i ≡ Some l) (sym c.deref-in-Some.ensures.value) viewed))
+    (subst (λ l. slice_get c.args.self.now i ≡ Some l) (sym c.deref-in-Some.ensures.value) viewed))

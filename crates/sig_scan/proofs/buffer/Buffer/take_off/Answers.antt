@@ -1,5 +1,5 @@
-use Rattle.sig_scan.proofs.Common.{◌≡◌, ◌∙◌, ◌-◌, ◌≤◌, ℕ, List, ap, ap₂, drop, length, take, arith, drop-take, length-drop, length-take-le, length-paste,
-    take-paste, copy_within, BufferView}
+use Rattle.sig_scan.proofs.Common.{◌≡◌, ◌∙◌, ◌-◌, ◌≤◌, ℕ, List, ap, ap₂, drop, length, take, arith, drop-take, length-drop, length-take-le, length-paste}
+use Rattle.sig_scan.proofs.Common.{take-paste, copy_within, BufferView}
 use Rattle.sig_scan.proofs.buffer.Buffer.take_off.Goals as goal
 
 -- what is left of the bytes, moved to the front, and the room stays

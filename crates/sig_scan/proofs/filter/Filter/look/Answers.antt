@@ -38,7 +38,7 @@ places-preserved c =
             owned = AreOwned-lowered entries states (length c.args.bytes.now) c.begin-end.result c.args.found.now old new lower c.places.invariant.owned;
             passed = ArePassedBelow-next entries bytes states place next.result old new lower
                 (λ i e at has. IsPassedAt-lowered e bytes states place c.visit.new.found new w.visit-then-place-gt0.ensures.lowered
-                    (c.visit.ensures.passed i e at has))
+                (c.visit.ensures.passed i e at has))
                 (λ i e some at has. w.visit-then-place-gt0.ensures.passed i e at has) inside next.ensures.passed c.places.invariant.passed;
           }))
       | else-place-gt0 w ↦ rw w.found-is (record {

@@ -1,9 +1,9 @@
-use Rattle.sig_scan.proofs.Common.{List, Some, ◌-◌, ◌≡◌, ◌∙◌, ap, arith, get_or, inl, inr, sym, cases_eq, get_or_default, get_or_from_slice_get,
-    slice_get_within, slice_get, list_of, Entry}
+use Rattle.sig_scan.proofs.Common.{List, Some, ◌-◌, ◌≡◌, ◌∙◌, ap, arith, get_or, inl, inr, sym, cases_eq, get_or_default, get_or_from_slice_get}
+use Rattle.sig_scan.proofs.Common.{slice_get_within, slice_get, list_of, Entry}
 use Rattle.sig_scan.proofs.FilterLemmas.{IsEntered-slot, IsPassedAt-lowered}
 use Rattle.sig_scan.proofs.filter.Filter.visit.Goals as goal
-use Rattle.sig_scan.proofs.filter.Filter.visit.Goals.{then-id-gt0+then-id-len, else-id-gt0, else-id-gt0-via-then-id-gt0+else-id-len,
-    else-id-gt0-via-else-id-gt0}
+use Rattle.sig_scan.proofs.filter.Filter.visit.Goals.{then-id-gt0+then-id-len, else-id-gt0, else-id-gt0-via-then-id-gt0+else-id-len}
+use Rattle.sig_scan.proofs.filter.Filter.visit.Goals.{else-id-gt0-via-else-id-gt0}
 
 pub loop-slot-preserved : goal.loop-slot-preserved
 loop-slot-preserved c =

@@ -1,5 +1,5 @@
-use Rattle.sig_scan.proofs.Common.{take, ◌-◌, ◌≡◌, List, arith, drop, length, rules, ℕ, length-drop, take_all, Item, ◌+◌, subst, AreFixed, BeginsWith, sym,
-    IsLiteralOf, LiteralView}
+use Rattle.sig_scan.proofs.Common.{take, ◌-◌, ◌≡◌, List, arith, drop, length, rules, ℕ, length-drop, take_all, Item, ◌+◌, subst, AreFixed, BeginsWith, sym}
+use Rattle.sig_scan.proofs.Common.{IsLiteralOf, LiteralView}
 use Rattle.sig_scan.proofs.LiteralLemmas.{AreFixed-next, AreFixed-none, IsLiteralOf-behind}
 use Rattle.sig_scan.proofs.literal.Literal.of.Goals as goal
 use Rattle.sig_scan.proofs.literal.Literal.of.Goals.{else-end-i, then-end-i}
@@ -19,7 +19,7 @@ loop-i-preserved c =
     let last : i - 1 + 1 ≡ i = omega arith in
     let fixed = subst (λ n. AreFixed (take n items) c.in-Some.next) last
     (AreFixed-next items (i - 1) c.loop-i.at c.in-Some.next c.index-items-i.result (omega arith) c.index-items-i.is c.in-Some.ensures.order
-        c.in-Some.ensures.long
+    c.in-Some.ensures.long
     c.loop-i.invariant.fixed) in
     let Best : LiteralView → Type 0 = IsLiteralOf items in
     record {

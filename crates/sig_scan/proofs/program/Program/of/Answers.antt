@@ -1,6 +1,6 @@
-use Rattle.sig_scan.proofs.Common.{◌≡◌, ◌∙◌, ◌++◌, ◌∷◌, [], ◌+◌, ◌<◌, All, All-push, Bool, List, ap, arith, false, get_or, length, length-map, map, refl, rules,
-    slice_get, slice_get-within, slice_get_read, subst, sym, AreFirst, AreLiteralsOf, Course, CourseView, IsBoundedCourse, SequenceView, StageView, course_if,
-    course_in, Some, length-append}
+use Rattle.sig_scan.proofs.Common.{◌≡◌, ◌∙◌, ◌++◌, ◌∷◌, [], ◌+◌, ◌<◌, All, All-push, Bool, List, ap, arith, false, get_or, length, length-map, map, refl, rules}
+use Rattle.sig_scan.proofs.Common.{slice_get, slice_get-within, slice_get_read, subst, sym, AreFirst, AreLiteralsOf, Course, CourseView, IsBoundedCourse}
+use Rattle.sig_scan.proofs.Common.{SequenceView, StageView, course_if, course_in, Some, length-append}
 use Rattle.sig_scan.proofs.CompiledLemmas.{AreAdded, AreAdded-next, AreAdded-none, AreAdded-push, IsProgramOf-added, course_if-bounded}
 use Rattle.sig_scan.proofs.HeldLemmas.{AreHeld-push}
 use Rattle.sig_scan.proofs.ProgramLemmas.{AreCourses-push}

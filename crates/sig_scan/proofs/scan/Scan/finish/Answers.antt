@@ -1,5 +1,6 @@
-use Rattle.sig_scan.proofs.Common.{◌≡◌, ap, ◌+◌, ◌<◌, ◌∙◌, All, Bool, List, Some, arith, false, length, subst, sym, true, ℕ, set, length-set, slice_get-get_or,
-    slice_get_within, slice_get, slice_get-within, TableView, AreSequencesOf, ProgramView, EndsPast, IsScanOf, ScanView, AreNeeded}
+use Rattle.sig_scan.proofs.Common.{◌≡◌, ap, ◌+◌, ◌<◌, ◌∙◌, All, Bool, List, Some, arith, false, length, subst, sym, true, ℕ, set, length-set, slice_get-get_or}
+use Rattle.sig_scan.proofs.Common.{slice_get_within, slice_get, slice_get-within, TableView, AreSequencesOf, ProgramView, EndsPast, IsScanOf, ScanView}
+use Rattle.sig_scan.proofs.Common.{AreNeeded}
 use Rattle.sig_scan.proofs.MarkedLemmas.{AreMarked-all, AreMarkedTo, AreMarkedTo-none, AreMarkedTo-set, AreMarkedTo-skip}
 use Rattle.sig_scan.proofs.ScanLemmas.{All-at}
 use Rattle.sig_scan.proofs.scan.Scan.finish.Goals as goal
@@ -60,7 +61,7 @@ loop-k-preserved c =
                 let mark : slice_get marks own ≡ Some true = slice_get-get_or marks own false inside ∙ ap (λ (b : Bool). Some b) w.if-marks-signature.true in
                 let low = slice_get_within program.owners k own owner in
                 let many : length known.sequences ≡ length program.owners = known.are.count ∙ ap (λ (v : ProgramView). length v.owners)
-                    c.loop-k.invariant.program in
+                c.loop-k.invariant.program in
                 let s = slice_get-within known.sequences k (omega arith) in
                 let needed = subst (λ (v : ProgramView). AreNeeded table v.owners known.sequences) c.loop-k.invariant.program known.are.needed in
                 let own_is = subst (λ (v : ProgramView). slice_get v.owners k ≡ Some own) (sym c.loop-k.invariant.program) owner in (

@@ -1,5 +1,5 @@
-use Rattle.sig_scan.proofs.Common.{◌≡◌, ◌∙◌, ◌-◌, Bool, List, ℕ, ap, drop, length, subst, sym, with_items, with_items_is, ArePast, BufferView, IsScanOf, Knows,
-    CourseView, State}
+use Rattle.sig_scan.proofs.Common.{◌≡◌, ◌∙◌, ◌-◌, Bool, List, ℕ, ap, drop, length, subst, sym, with_items, with_items_is, ArePast, BufferView, IsScanOf, Knows}
+use Rattle.sig_scan.proofs.Common.{CourseView, State}
 use Rattle.sig_scan.proofs.ReadLemmas.{written}
 use Rattle.sig_scan.proofs.scan.Scan.settle.Goals as goal
 

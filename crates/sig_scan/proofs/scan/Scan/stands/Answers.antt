@@ -1,5 +1,5 @@
-use Rattle.sig_scan.proofs.Common.{◌≡◌, ◌∙◌, ◌<◌, List, ap, arith, length, max, refl, sym, subst, get_or_default, slice_get_read, slice_get, slice_index,
-    EndsPast, IsScanOf, ScanView, CourseView, StageView, State, slice_get-within, ℕ, ◌↔◌, ◌≤◌, Some, true, IsTrue, Stands}
+use Rattle.sig_scan.proofs.Common.{◌≡◌, ◌∙◌, ◌<◌, List, ap, arith, length, max, refl, sym, subst, get_or_default, slice_get_read, slice_get, slice_index}
+use Rattle.sig_scan.proofs.Common.{EndsPast, IsScanOf, ScanView, CourseView, StageView, State, slice_get-within, ℕ, ◌↔◌, ◌≤◌, Some, true, IsTrue, Stands}
 use Rattle.sig_scan.proofs.MarkedLemmas.{Stands-judged}
 use Rattle.sig_scan.proofs.scan.Scan.stands.Goals as goal
 

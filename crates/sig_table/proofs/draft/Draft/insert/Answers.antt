@@ -17,13 +17,13 @@ pub push_sequence-requires-clause-at : goal.push_sequence-requires-clause-at
 push_sequence-requires-clause-at c =
     let enrolled = OnOk-holds c.push_new_signature.result (sym c.is_err.ensures.value ∙ c.if-is_err.false) c.push_new_signature.ensures in
     place-of c.args.row.number _ c.in-Ok-insert_full.place c.self.inside.numbers.keys c.self.inside.signatures.items c.push_new_signature.new.signatures.items
-        c.self.invariant.numbers c.in-Ok-insert_full.ensures.index enrolled
+    c.self.invariant.numbers c.in-Ok-insert_full.ensures.index enrolled
 
 pub push_sequence-requires-clause-within : goal.push_sequence-requires-clause-within
 push_sequence-requires-clause-within c =
     let enrolled = OnOk-holds c.push_new_signature.result (sym c.is_err.ensures.value ∙ c.if-is_err.false) c.push_new_signature.ensures in
     place-within c.args.row.number _ c.in-Ok-insert_full.place c.self.inside.numbers.keys c.self.inside.signatures.items
-        c.push_new_signature.new.signatures.items c.self.invariant.numbers c.in-Ok-insert_full.ensures.index enrolled
+    c.push_new_signature.new.signatures.items c.self.invariant.numbers c.in-Ok-insert_full.ensures.index enrolled
 
 pub invariant_of-result : goal.invariant_of-result
 invariant_of-result c =
@@ -32,10 +32,10 @@ invariant_of-result c =
     let grew = OnOk-holds c.push_sequence.result (sym c.is_err-2.ensures.value ∙ c.if-is_err-2.false) c.push_sequence.ensures in
     let formats = rw puid_eq-is at c.in-Ok.ensures.keys in
     let format : c.in-Ok.format ≡ position_or_len (puid_eq c.args.row.puid) c.self.inside.puids.keys =
-        c.in-Ok.ensures.index ∙ position-puid c.args.row.puid c.self.inside.puids.keys in
+    c.in-Ok.ensures.index ∙ position-puid c.args.row.puid c.self.inside.puids.keys in
     let signatures = rw (enrolled, format, c.new-sequence.ensures) at grew in
     let whole = IsWhole-with_row t c.args.row c.requires.judged.0 _ _ (record { limits = c.self.invariant.table; has_all = c.self.invariant.has_all })
-        c.requires.read (rw (← c.self.view_is) at c.requires.judged.1) formats signatures in
+    c.requires.read (rw (← c.self.view_is) at c.requires.judged.1) formats signatures in
     record {
       table = whole.limits;
       has_all = whole.has_all;
@@ -50,6 +50,6 @@ returns-clause-row c =
     let grew = OnOk-holds c.push_sequence.result (sym c.is_err-2.ensures.value ∙ c.if-is_err-2.false) c.push_sequence.ensures in
     let formats = rw puid_eq-is at c.in-Ok.ensures.keys in
     let format : c.in-Ok.format ≡ position_or_len (puid_eq c.args.row.puid) c.self.inside.puids.keys =
-        c.in-Ok.ensures.index ∙ position-puid c.args.row.puid c.self.inside.puids.keys in
+    c.in-Ok.ensures.index ∙ position-puid c.args.row.puid c.self.inside.puids.keys in
     let signatures = rw (enrolled, format, c.new-sequence.ensures) at grew in
     rw (← c.self.view_is) (with_row-is t c.args.row _ _ formats signatures)

@@ -8,7 +8,7 @@ pub insert-requires-clause-other : goal.insert-requires-clause-other
 insert-requires-clause-other c =
     subst (λ (pair : ℕ × ℕ). pair.0 ≡ pair.1 → ⊥) (sym c.pair-item.is)
     (next_is_of_two _ _ c.priorities-pair-items.result.now c.priorities-pair-items.ensures c.format_count.ensures.table.priorities c.loop-pair.pair-index
-        c.pair-item.result c.loop-pair-test.true)
+    c.pair-item.result c.loop-pair-test.true)
 
 pub insert-requires-clause-judged : goal.insert-requires-clause-judged
 insert-requires-clause-judged c = (
@@ -17,5 +17,5 @@ insert-requires-clause-judged c = (
       (subst (λ pairs. pair_fault pairs 0 (get_or c.priorities-pair-items.result.now c.loop-pair.pair-index c.pair-item.result) ≡ None)
       (sym (ap (λ (r : RankingView). r.pairs) c.loop-pair.invariant))
       (next_is_fine _ _ c.priorities-pair-items.result.now c.priorities-pair-items.ensures c.format_count.ensures.table.priorities c.loop-pair.pair-index
-          c.pair-item.result c.loop-pair-test.true)),
+      c.pair-item.result c.loop-pair-test.true)),
 )

@@ -23,6 +23,6 @@ returns c =
     let told = none_told c.fault.result c.is_none.result c.is_none.ensures in
     let two : c.args.higher.0 ≡ c.args.lower.0 → ⊥ = λ same. false≢true (sym c.if-eq.false ∙ c.eq.ensures ∙ eq-eqb c.args.higher.0 c.args.lower.0 same) in
     let law = added c.args.self.now.format_count c.args.self.now.pairs 0 (c.args.higher.0, c.args.lower.0) (rw (← c.self.view_is) c.self.invariant.priorities)
-        c.requires.higher c.requires.lower two in
+    c.requires.higher c.requires.lower two in
     let fault = rw c.new.ensures at c.fault.ensures.fault in
     (λ t. law.0 (sym fault ∙ told.0 t), λ more. told.1 (fault ∙ law.1 more))

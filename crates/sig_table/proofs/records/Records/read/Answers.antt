@@ -14,7 +14,7 @@ invariant_of-self c = elim c.match-read_byte_record.branch [
   | in-Ok w ↦
       let e = w.in-Ok.ensures in
       reader-read c.self.inside.reader c.read_byte_record.new.self c.self.invariant w.in-Ok.found (fields_of c.read_byte_record.new.row) e.reads e.ready
-          e.flexible e.goes
+      e.flexible e.goes
   | in-Err w ↦
       let e = w.in-Err.ensures in
       inl (e.fails ∙ reader-stopped c.self.inside.reader c.read_byte_record.new.self c.self.invariant w.in-Err.error.kind w.in-Err.error e.failed e.why)
@@ -25,6 +25,6 @@ returns-clause-next c = elim c.match-read_byte_record.branch [
   | in-Ok w ↦
       let e = w.in-Ok.ensures in
       rw (w.result-is, ← c.self.view_is) (left-read c.self.inside.reader c.read_byte_record.new.self c.self.invariant w.in-Ok.found
-          (fields_of c.read_byte_record.new.row) e.reads e.failed)
+      (fields_of c.read_byte_record.new.row) e.reads e.failed)
   | in-Err w ↦ rw w.result-is tt
 ]
