@@ -10,6 +10,7 @@ mod FormatsAgainLemmas
 mod GatheredLemmas
 mod JudgingLemmas
 mod LimitLemmas
+mod LinkLemmas
 mod LoadLemmas
 mod NumberLemmas
 mod PairFaultLemmas
@@ -32,6 +33,5 @@ mod RowLemmas
 mod RowTextLemmas
 mod SignatureRowLemmas
 mod SlotLemmas
-mod SpanLemmas
 mod TableAgainLemmas
 mod TableLemmas

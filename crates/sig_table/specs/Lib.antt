@@ -25,8 +25,8 @@ pub mod CsvTexts
 pub mod Drafts
 pub mod Files
 pub mod FormatSets
+pub mod Links
 pub mod Records
-pub mod Spans
 -- The definitions of the crates below that clauses cite.
 pub use Rattle.sig_bits.specs.BitSets
 pub use Rattle.sig_bits.specs.Bytes

@@ -2,8 +2,8 @@
 use Rattle.std.specs.Prelude.{List}
 use Rattle.sig_table.specs.declared.ids.SigId.{SigId}
 use Rattle.sig_table.specs.declared.signatures_of.SignaturesOf.{SignaturesOf}
-use Rattle.sig_table.specs.Places.{places_of}
+use Rattle.sig_table.specs.Links.{linked_from}
 
 -- the signatures still to come, in order
 abbrev pub remaining_of : SignaturesOf → List SigId
-remaining_of signatures = places_of signatures.format.0 signatures.place signatures.later.now
+remaining_of signatures = linked_from signatures.nexts.now signatures.place

@@ -10,10 +10,10 @@ ghost use Rattle.sig_table.specs.Judging.{IsFault, is_read};
 ghost use Rattle.sig_table.specs.Rows.{IsRow};
 ghost use Rattle.sig_table.specs.Tables.{ArePriorities, HasAllSignatures, IsTable};
 
+use crate::links::Links;
 use crate::priority::Priority;
 use crate::row::Row;
 use crate::slots::has_too_many_slots;
-use crate::spans::Span;
 use crate::table::Signature;
 use crate::{FormatId, Puid, Sequence, Table, TableError};
 use indexmap::IndexSet;
@@ -207,10 +207,10 @@ impl Draft {
         let Ok(formats) = puids.iter().copied().collect(alloc) else {
             return Err(TableError::OutOfMemory);
         };
-        let Ok(spans) = vec![in alloc; Span::NONE; puids.len()] else {
+        let Ok(links) = Links::new(alloc, puids.len(), signatures.len()) else {
             return Err(TableError::OutOfMemory);
         };
-        Ok(Table::new(formats, signatures, priorities, spans))
+        Ok(Table::new(formats, signatures, priorities, links))
     }
 }
 

@@ -10,6 +10,7 @@ mod error;
 mod format_set;
 mod ids;
 mod laws;
+mod links;
 mod loader;
 mod numbers;
 mod passing;
@@ -23,7 +24,6 @@ mod row;
 mod sequence;
 mod signatures_of;
 mod slots;
-mod spans;
 mod table;
 mod writer;
 

@@ -1,37 +1,30 @@
-//! The signatures of a format in table order, as an iterator that takes no memory.
-//!
-//! It walks the part of the table from the format's first signature to its last (`spans`), and
-//! passes over those of other formats between them, if the table mixes its formats.
+//! The signatures of a format in table order, as an iterator that takes no memory: it follows the
+//! links from each to the next (`links`).
 
-ghost use Rattle.std.specs.Prelude.{◌≡◌, ◌+◌, ◌≤◌, length};
+ghost use Rattle.std.specs.Prelude.{◌≡◌};
+ghost use Rattle.sig_table.specs.Links.{LinksRise, linked_from};
 
-use crate::table::Signature;
-use crate::{FormatId, SigId};
+use crate::SigId;
 
 /// An iterator over the signatures of a format, rising.
 ///
-/// Each step goes on to the format's next signature in the table, up to its last one.
+/// Each step goes on to the format's next signature in the table.
 #[derive(Debug, Drop)]
 pub struct SignaturesOf<'a> {
-    later: &'a [Signature],
+    nexts: &'a [u16],
     place: u16,
-    format: FormatId,
-    ghost few: { place + length later.now ≤ 4000 },
+    ghost rise: { LinksRise nexts.now },
 }
 
 impl<'a> SignaturesOf<'a> {
-    // Those of the format among these signatures, of which the first stands at this place.
-    pub(crate) fn new(signatures: &'a [Signature], place: u16, format: FormatId) -> SignaturesOf<'a>
-        requires { place + length signatures.now ≤ 4000 }
-        ensures later { result.later.now ≡ signatures.now }
-        ensures place { result.place ≡ place }
-        ensures format { result.format ≡ format }
+    ghost use Rattle.sig_table.specs.Remaining.{remaining_of};
+
+    // Those that the links lead through from this place on.
+    pub(crate) fn new(nexts: &'a [u16], place: u16) -> SignaturesOf<'a>
+        requires { LinksRise nexts.now }
+        ensures { remaining_of result ≡ linked_from nexts.now place }
     {
-        SignaturesOf {
-            later: signatures,
-            place,
-            format,
-        }
+        SignaturesOf { nexts, place }
     }
 }
 
@@ -46,14 +39,11 @@ impl Iterator for SignaturesOf<'_> {
     ghost remaining = { item_count remaining_of };
 
     fn next(&mut self) -> Option<SigId> {
-        while let Some((first, later)) = self.later.split_first() {
-            let place = SigId(self.place);
-            self.later = later;
-            self.place += 1;
-            if first.format() == self.format {
-                return Some(place);
-            }
+        let place = self.place;
+        if place as usize >= self.nexts.len() {
+            return None;
         }
-        None
+        self.place = self.nexts[place as usize];
+        Some(SigId(place))
     }
 }

@@ -8,8 +8,8 @@
 ghost use Rattle.std.specs.Prelude.{◌≡◌, ◌<◌, ◌≤◌, ◌↔◌, [], ◌∷◌, ◌++◌, false, IsTrue, IfOk, OnOk, Some, Contains, length, option_map, position, slice_get};
 ghost use Rattle.sig_table.specs.Puids.{puid_eq};
 
+use crate::links::Links;
 use crate::priority::Priority;
-use crate::spans::{Span, mark_spans};
 use crate::{FormatId, Puid, Sequence, SigId, SignaturesOf};
 use indexmap::IndexSet;
 use std::alloc::{AllocError, Global};
@@ -37,13 +37,12 @@ pub struct Table {
     formats: Vec<Puid>,
     signatures: Vec<Signature>,
     priorities: IndexSet<Priority>,
-    // For each format the span of its signatures.
-    spans: Vec<Span>,
+    links: Links,
 }
 
 impl Model for Table {
     ghost use Rattle.std.specs.Prelude.{◌≡◌, length};
-    ghost use Rattle.sig_table.specs.Spans.{AreSpans};
+    ghost use Rattle.sig_table.specs.Links.{AreLinked};
     ghost use Rattle.sig_table.specs.Views.{TableView};
     ghost use Rattle.sig_table.specs.Tables.{IsTable};
 
@@ -52,7 +51,8 @@ impl Model for Table {
     ghost view = { λ t. record { formats = t.formats.items; signatures = t.signatures.items; priorities = t.priorities.keys } };
 
     ghost invariant = { λ t. IsTable (record { formats = t.formats.items; signatures = t.signatures.items; priorities = t.priorities.keys })
-        × (length t.spans.items ≡ length t.formats.items) × AreSpans t.signatures.items t.spans.items };
+        × (length t.links.firsts.items ≡ length t.formats.items)
+        × AreLinked t.signatures.items t.links.firsts.items t.links.nexts.items };
 }
 
 impl Signature {
@@ -95,27 +95,27 @@ impl Table {
     ghost use Rattle.sig_table.specs.Ranking.{Outranks, ranks};
     ghost use Rattle.sig_table.specs.Views.{SignatureView};
     ghost use Rattle.sig_table.specs.Removal.{place_of, without};
-    ghost use Rattle.sig_table.specs.Spans.{IsSpan};
     ghost use Rattle.sig_table.specs.Tables.{IsNumber, IsTable};
 
-    // The table of these lists, with room for a span for each format.
+    // The table of these lists, with room for its links.
     pub(crate) fn new(
         formats: Vec<Puid>,
         signatures: Vec<Signature>,
         priorities: IndexSet<Priority>,
-        mut spans: Vec<Span>,
+        mut links: Links,
     ) -> Table
         requires table { IsTable (record { formats = formats.items; signatures = signatures.items; priorities = priorities.keys }) }
-        requires spans { length spans.items ≡ length formats.items }
+        requires formats { length links.firsts.items ≡ length formats.items }
+        requires signatures { length signatures.items ≤ length links.nexts.items }
         ensures lists { result ≡ record { formats = formats.items; signatures = signatures.items; priorities = priorities.keys } }
         ensures limits { IsTable result }
     {
-        mark_spans(&mut spans, &signatures);
+        links.mark(&signatures);
         Table {
             formats,
             signatures,
             priorities,
-            spans,
+            links,
         }
     }
 
@@ -166,24 +166,11 @@ impl Table {
         signature.number
     }
 
-    /// The format's signatures, rising. It costs a step for each signature from the format's first
-    /// to its last one.
+    /// The format's signatures, rising. It costs a step for each.
     pub fn signatures_of(&self, format: FormatId) -> SignaturesOf<'_>
         ensures { remaining_of result ≡ places_of format.0 0 self.now.signatures }
     {
-        let Span { first, end } = self.span_of(format);
-        let signatures = &self.signatures.as_slice()[first as usize..end as usize];
-        SignaturesOf::new(signatures, first, format)
-    }
-
-    fn span_of(&self, format: FormatId) -> Span
-        ensures span { IsSpan self.now.signatures format.0 result }
-        ensures few { length self.now.signatures ≤ 4000 }
-    {
-        match self.spans.get(format.0 as usize) {
-            Some(span) => *span,
-            None => Span::NONE,
-        }
+        SignaturesOf::new(self.links.nexts(), self.links.first_of(format))
     }
 
     /// Lends the signature's sequences, in row order: one to eight.
@@ -220,7 +207,7 @@ impl Table {
         };
         self.signatures
             .retain(|signature| signature.format().0 as usize != place);
-        mark_spans(&mut self.spans, &self.signatures);
+        self.links.mark(&self.signatures);
         true
     }
 

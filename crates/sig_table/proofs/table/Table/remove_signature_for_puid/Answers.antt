@@ -1,4 +1,4 @@
-use Rattle.std.proofs.Common.{rules, length, ap, ◌≡◌, ◌∙◌, sym, not, nat_eq, position, refl, Some, None}
+use Rattle.std.proofs.Common.{rules, length, ◌≡◌, ◌∙◌, sym, subst, not, nat_eq, position, refl, Some, None}
 use Rattle.std.specs.Prelude.{filter}
 use Rattle.std.proofs.lemmas.Bool.{false≢true}
 use Rattle.std.proofs.lemmas.Fn.{filter_same}
@@ -6,7 +6,8 @@ use Rattle.sig_table.specs.Puids.{puid_eq}
 use Rattle.sig_table.specs.Views.{SignatureView, TableView}
 use Rattle.sig_table.proofs.RemovalLemmas.{IsTable-without, has_no_place, has_place, without-is}
 use Rattle.sig_table.specs.Tables.{IsTable}
-use Rattle.sig_table.proofs.SpanLemmas.{are_written, formats_known}
+use Rattle.sig_table.specs.Links.{AreLinked}
+use Rattle.sig_table.proofs.LinkLemmas.{formats_known}
 use Rattle.sig_table.proofs.table.Table.remove_signature_for_puid.Goals as goal
 
 pub invariant_of-self : goal.invariant_of-self
@@ -19,14 +20,14 @@ invariant_of-self c =
     } in
     let kept : c.retain.new.self.items ≡ filter (λ (s : SignatureView). not (nat_eq s.format c.in-Some.place)) c.self.inside.signatures.items =
     filter_same _ _ _ (λ x b f' k. search rules) _ _ c.retain.ensures.filtered in
-    let table : IsTable (record t { signatures = c.retain.new.self.items }) = rw kept (IsTable-without t c.in-Some.place c.self.invariant.0) in
-    let back = are_written c.self.inside.spans.len (length c.self.inside.formats.items) c.deref_mut.result.now c.mark_spans.new.spans c.self.inside.spans.items
-    c.deref.result.now c.retain.new.self.items c.mark_spans.auto.spans c.deref_mut.ensures.len c.self.invariant.1 c.deref_mut.ensures.value
-    c.deref.ensures.value c.mark_spans.ensures in
-    (table, back.0, back.1)
+    let table : IsTable (record t { signatures = c.retain.new.self.items }) = rw kept (IsTable-without t c.in-Some.place c.self.invariant.0) in (
+      table,
+      c.mark.ensures.formats ∙ c.self.invariant.1,
+      subst (λ signatures. AreLinked signatures c.mark.new.self.firsts.items c.mark.new.self.nexts.items) c.deref.ensures.value c.mark.ensures.links,
+    )
 
-pub mark_spans-requires-clause-known : goal.mark_spans-requires-clause-known
-mark_spans-requires-clause-known c =
+pub mark-requires-clause-known : goal.mark-requires-clause-known
+mark-requires-clause-known c =
     let t : TableView = record {
       formats = c.self.inside.formats.items;
       signatures = c.self.inside.signatures.items;
@@ -36,8 +37,8 @@ mark_spans-requires-clause-known c =
     let kept : c.retain.new.self.items ≡ filter (λ (s : SignatureView). not (nat_eq s.format c.in-Some.place)) c.self.inside.signatures.items =
     filter_same _ _ _ (λ x b f' k. search rules) _ _ c.retain.ensures.filtered in
     let table : IsTable (record t { signatures = c.retain.new.self.items }) = rw kept (IsTable-without t c.in-Some.place c.self.invariant.0) in
-    formats_known (record t { signatures = c.retain.new.self.items }) c.deref.result.now c.deref_mut.result.now table c.deref.ensures.value
-    (ap length c.deref_mut.ensures.value ∙ c.self.invariant.1)
+    formats_known (record t { signatures = c.retain.new.self.items }) c.deref.result.now (length c.self.inside.links.firsts.items) table c.deref.ensures.value
+    c.self.invariant.1
 
 pub returns-clause-removes : goal.returns-clause-removes
 returns-clause-removes c =
