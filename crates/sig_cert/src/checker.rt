@@ -3,12 +3,12 @@
 //! Each function judges what one step of `specs/Verdicts.antt` judges, and moves the view past it.
 //! The first fault ends the pass. Nothing of a table is kept when the next one is judged.
 
-ghost use Rattle.std.specs.Prelude.{◌≡◌, ◌⊎◌, ◌↔◌, ◌<◌, ◌≤◌, if◌then◌else◌, IsErrOf, IsTrue, MatchOption, MatchResult, OnOk, length, []};
+ghost use Rattle.std.specs.Prelude.{◌≡◌, ◌⊎◌, ◌<◌, ◌≤◌, if◌then◌else◌, IsErrOf, MatchOption, MatchResult, OnOk, length, []};
 ghost use Rattle.sig_cert.specs.Closed.{Closed};
 ghost use Rattle.sig_cert.specs.Deciding.{Decided};
 ghost use Rattle.sig_cert.specs.Layouts.{version_byte};
 ghost use Rattle.sig_cert.specs.Growing.{CountPassed, HasOpenPair, IsOpenPair, MayGrow, VersionPassed};
-ghost use Rattle.sig_cert.specs.Pairs.{AreRelated, format_pairs, signature_pairs, signatures_of};
+ghost use Rattle.sig_cert.specs.Pairs.{format_pairs, signature_pairs, signatures_of};
 ghost use Rattle.sig_cert.specs.Verdicts.{CertificateJudged, CountJudged, EntryJudged, Judges, PairJudged, PairsJudged, TablesJudged, Verdict, VersionJudged};
 
 use crate::error::CheckError;
@@ -86,8 +86,8 @@ fn judge_count(
     judge_pairs(alloc, table, version, view)
 }
 
-// How many pairs so many formats have.
-fn pair_count(formats: u32) -> u32
+/// How many pairs so many formats have.
+pub fn pair_count(formats: u32) -> u32
     requires { formats ≤ 1000 }
     ensures { result ≡ length (format_pairs formats) }
 {
@@ -138,7 +138,7 @@ fn judge_pair(
     ensures judged { Judges (PairJudged version table.now pair (formats.0.0, formats.1.0)) view.old view.new result }
     ensures memory { IsErrOf result CheckError.OutOfMemory → IsOpenPair table.now (formats.0.0, formats.1.0) }
 {
-    let related = are_related(table, formats.0, formats.1);
+    let related = table.are_related(formats.0, formats.1);
     let kind = field(view, 1)?;
     if kind[0] != kind_of(related) {
         return Err(CheckError::Kind { pair });
@@ -150,14 +150,8 @@ fn judge_pair(
     }
 }
 
-fn are_related(table: &Table, a: FormatId, b: FormatId) -> bool
-    ensures { IsTrue result ↔ AreRelated table.now (a.0, b.0) }
-{
-    table.outranks(a, b) || table.outranks(b, a)
-}
-
-// The kind of a pair of formats of which one outranks the other, or of which none does.
-fn kind_of(related: bool) -> u8
+/// The first byte of a pair's entry: whether one of the two formats outranks the other.
+pub fn kind_of(related: bool) -> u8
     ensures { result ≡ (if related then 0 else 1) }
 {
     if related { 0 } else { 1 }

@@ -20,7 +20,7 @@ mod version;
 mod view;
 mod witness;
 
-pub use checker::check;
+pub use checker::{check, kind_of, pair_count};
 pub use error::CheckError;
 pub use laws::{
     accepted_is_closed, closed_covers_reached, closed_decides, closed_is_accepted,

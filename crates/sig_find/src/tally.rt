@@ -3,7 +3,6 @@
 //! All are counted before the search begins. The counts saturate, and no answer depends on them, so
 //! no clause speaks of them.
 
-use crate::finder::are_related;
 use crate::observer::Observer;
 use sig_table::{FormatId, Table};
 
@@ -48,7 +47,7 @@ fn product_count(table: &Table) -> u64 {
         let signatures = signature_count(table, FormatId(i));
         for j in i + 1..formats {
             let (a, b) = (FormatId(i), FormatId(j));
-            if !are_related(table, a, b) {
+            if !table.are_related(a, b) {
                 count = count.saturating_add(signatures.saturating_mul(signature_count(table, b)));
             }
         }

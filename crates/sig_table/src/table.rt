@@ -5,7 +5,7 @@
 //! pairs alone: from A over B and B over C does not follow A over C. No PUID occurs twice, so the
 //! place of a removed one is the first that the test of PUIDs finds. A removal takes no memory.
 
-ghost use Rattle.std.specs.Prelude.{◌≡◌, ◌<◌, ◌≤◌, ◌↔◌, [], ◌∷◌, ◌++◌, false, IsTrue, IfOk, OnOk, Some, Contains, length, option_map, position, slice_get};
+ghost use Rattle.std.specs.Prelude.{◌≡◌, ◌⊎◌, ◌<◌, ◌≤◌, ◌↔◌, [], ◌∷◌, ◌++◌, false, IsTrue, IfOk, OnOk, Some, Contains, length, option_map, position, slice_get};
 ghost use Rattle.sig_table.specs.Puids.{puid_eq};
 
 use crate::links::Links;
@@ -191,6 +191,13 @@ impl Table {
         ensures test { result ≡ ranks self.now.priorities higher.0 lower.0 }
     {
         self.priorities.contains(&Priority::new(higher, lower))
+    }
+
+    /// Whether one of the two formats outranks the other, in either direction.
+    pub fn are_related(&self, a: FormatId, b: FormatId) -> bool
+        ensures { IsTrue result ↔ (Outranks self.now.priorities a.0 b.0 ⊎ Outranks self.now.priorities b.0 a.0) }
+    {
+        self.outranks(a, b) || self.outranks(b, a)
     }
 
     /// Takes out all signatures of the format of this name, and moves later ones down. The format
