@@ -1,5 +1,5 @@
 -- A step of a set of states, in the words of the cells.
-use Rattle.std.specs.Prelude.{◌≡◌, ◌⊎◌, ◌↔◌, ℕ, ◌+◌, ◌<◌, ◌≤◌, true, List, Some, drop}
+use Rattle.std.specs.Prelude.{◌≡◌, ◌⊎◌, ◌↔◌, ℕ, ◌+◌, ◌*◌, ◌<◌, ◌≤◌, true, List, Some, drop, length}
 use Rattle.std.specs.List.{slice_get}
 use Rattle.sig_bits.specs.BitSets.{HasBit}
 use Rattle.sig_auto.specs.declared.cell.Cell.{Cell}
@@ -10,6 +10,11 @@ use Rattle.sig_auto.specs.Classes.{InClass}
 use Rattle.sig_auto.specs.Joined.{Lined, entered_first}
 use Rattle.sig_auto.specs.Taken.{class_in}
 use Rattle.sig_auto.specs.Ways.{has_slot, own}
+
+-- either set has a bit for the start and for each slot of the cells
+pub record AreWide (cells : List Cell) (a b : List ℕ) : Type 0 where
+  pub from : slots_in cells < 8 * length a
+  pub to : slots_in cells < 8 * length b
 
 -- slot q goes behind a state of the set, within the cell
 pub record GoesWithin (c : Cell) (from : List ℕ) (q : ℕ) : Type 0 where

@@ -1,5 +1,5 @@
 -- The joints behind cells.
-use Rattle.std.specs.Prelude.{◌≡◌, ◌↔◌, ℕ, ◌+◌, List, ◌∷◌, drop, length, slice_index_or, Some}
+use Rattle.std.specs.Prelude.{◌≡◌, ◌↔◌, ℕ, ◌+◌, Bool, false, List, ◌∷◌, drop, length, slice_index, slice_index_or, slice_set, Some}
 use Rattle.sig_auto.specs.declared.cell.Cell.{Cell}
 use Rattle.sig_auto.specs.declared.joint.Joint.{Joint}
 use Rattle.sig_auto.specs.declared.joint.Joints.{Joints}
@@ -17,6 +17,15 @@ pub record IsJoint (all : ℕ) (c : Cell) (rest : List Cell) (k : ℕ) (j : Join
   pub enters : j.enters ≡ seek c.behind rest (k + 1)
   pub beside : j.beside ≡ seek (joint_past c) rest (k + 1)
   pub ends : j.ends ≡ is_joint (land (Some c.behind) rest) all
+
+-- the joint behind the cell at place k: each list has for each joint what is known of it from the next place on, the new one from k on. The
+-- first two lists have the first cell behind it, the others whether nothing need come behind it
+pub record IsJoined (c : Cell) (k : ℕ) (old_first : List ℕ) (old_lands : List Bool) (j : Joint) (new_first : List ℕ) (new_lands : List Bool) : Type 0 where
+  pub enters : j.enters ≡ slice_index old_first c.behind
+  pub beside : j.beside ≡ slice_index old_first (joint_past c)
+  pub ends : j.ends ≡ slice_index_or old_lands c.behind false
+  pub first : new_first ≡ slice_set old_first c.front k
+  pub lands : new_lands ≡ slice_set old_lands c.front (slice_index_or old_lands (joint_past c) false)
 
 pub record AreJoints (cells : List Cell) (joints : Joints) : Type 0 where
   pub many : length joints.each.items ≡ length cells

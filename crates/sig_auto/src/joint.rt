@@ -5,9 +5,9 @@
 //! skipped, what stands behind it. Of `41{0-2}42` the gap is entered behind `41`, and `42` beside
 //! the gap.
 
-ghost use Rattle.std.specs.Prelude.{◌≡◌, ◌⊎◌, ◌≤◌, ◌<◌, false, length, slice_index, slice_index_or, slice_set, IfOk};
+ghost use Rattle.std.specs.Prelude.{◌≡◌, ◌⊎◌, ◌≤◌, ◌<◌, length, IfOk};
 ghost use Rattle.sig_auto.specs.Joined.{Bounded, joint_past};
-ghost use Rattle.sig_auto.specs.Joints.{AreJoints};
+ghost use Rattle.sig_auto.specs.Joints.{AreJoints, IsJoined};
 
 use crate::cell::Cell;
 use std::alloc::{AllocError, Global};
@@ -84,11 +84,7 @@ fn pass(cell: &Cell, k: usize, first: &mut Vec<u32>, lands: &mut Vec<bool>) -> J
     requires behind { cell.now.behind < length first.old.items }
     requires same { length lands.old.items ≡ length first.old.items }
     requires few { k < 65535 }
-    ensures enters { result.enters ≡ slice_index first.old.items cell.now.behind }
-    ensures beside { result.beside ≡ slice_index first.old.items (joint_past cell.now) }
-    ensures ends { result.ends ≡ slice_index_or lands.old.items cell.now.behind false }
-    ensures first { first.new.items ≡ slice_set first.old.items cell.now.front k }
-    ensures lands { lands.new.items ≡ slice_set lands.old.items cell.now.front (slice_index_or lands.old.items (joint_past cell.now) false) }
+    ensures { IsJoined cell.now k first.old.items lands.old.items result first.new.items lands.new.items }
 {
     let front = cell.front as usize;
     let behind = cell.behind as usize;

@@ -7,7 +7,7 @@
 
 ghost use Rattle.std.specs.Prelude.{◌≡◌, ◌≢◌, ◌⊎◌, ◌↔◌, ◌+◌, ◌*◌, ◌<◌, ◌≤◌, ℕ, IsTrue, length};
 ghost use Rattle.sig_auto.specs.Behind.{AreReady, slots_in};
-ghost use Rattle.sig_auto.specs.CellSteps.{GoesWithin, IsCellStep, IsFirstOf, IsLeft, IsSomePassed};
+ghost use Rattle.sig_auto.specs.CellSteps.{AreWide, GoesWithin, IsCellStep, IsFirstOf, IsLeft, IsSomePassed};
 ghost use Rattle.sig_auto.specs.Joints.{AreJoints};
 ghost use Rattle.sig_bits.specs.BitSets.{HasBit};
 
@@ -19,8 +19,7 @@ use sig_bits::{any_between, clear, get_bit, set_bit, shift_into};
 pub(crate) fn step(cells: &[Cell], joints: &Joints, from: &[u8], byte: u8, to: &mut [u8])
     requires ready { AreReady cells.now }
     requires joints { AreJoints cells.now joints.now }
-    requires from_len { slots_in cells.now < 8 * length from.now }
-    requires to_len { slots_in cells.now < 8 * length to.old }
+    requires wide { AreWide cells.now from.now to.old }
     ensures { (q : ℕ) → HasBit to.new q ↔ IsCellStep cells.now joints.now from.now byte q }
 {
     clear(to);
@@ -35,8 +34,7 @@ fn pass(cells: &[Cell], joints: &Joints, k: usize, from: &[u8], byte: u8, to: &m
     requires ready { AreReady cells.now }
     requires joints { AreJoints cells.now joints.now }
     requires within { k < length cells.now }
-    requires from_len { slots_in cells.now < 8 * length from.now }
-    requires to_len { slots_in cells.now < 8 * length to.old }
+    requires wide { AreWide cells.now from.now to.old }
     requires passed { IsSomePassed cells.now joints.now from.now byte to.old k }
     ensures { IsSomePassed cells.now joints.now from.now byte to.new (k + 1) }
 {
