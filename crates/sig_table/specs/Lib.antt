@@ -12,6 +12,7 @@ pub mod Ranked
 pub mod Ranking
 pub mod RankingViews
 pub mod Removal
+pub mod Reads
 pub mod Remaining
 pub mod Rows
 pub mod RowTexts
@@ -19,6 +20,7 @@ pub mod Slots
 pub mod Standing
 pub mod Tables
 pub mod Views
+pub mod Writes
 -- The vocabulary of proofs: what private types keep.
 pub mod Budgets
 pub mod CsvTexts

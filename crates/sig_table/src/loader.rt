@@ -4,11 +4,12 @@
 //! bytes that came. Its rows are judged in turn (`reading`), by one fold (`judged`) whose laws hold
 //! for rows and pairs. A reader of `csv` drops a UTF-8 byte order mark.
 
-ghost use Rattle.std.specs.Prelude.{◌≡◌, ◌<◌, ◌≤◌, ◌⊎◌, [], List, ℕ, length, true, false, None, Some, Ok, Err, OnOk, IfOk, IfErr, IfSome, IsErr, IsErrOf, IsTrue, MatchResult};
+ghost use Rattle.std.specs.Prelude.{◌≡◌, ◌<◌, ◌≤◌, ◌⊎◌, [], List, ℕ, length, true, false, None, Some, Ok, Err, OnOk, IfOk, IfErr, IfSome, IsErrOf, MatchResult};
 ghost use Rattle.csv.specs.Records.{fields_of};
 ghost use Rattle.sig_bits.specs.Device.{IsAtEnd};
 ghost use Rattle.sig_table.specs.Loading.{is_of_signatures, pair_of, pairs_of, index_in, records_of, signatures_of, table_of};
-ghost use Rattle.sig_table.specs.Judging.{IsFault, Exact, is_judged, is_read};
+ghost use Rattle.sig_table.specs.Judging.{IsFault, Exact, is_read};
+ghost use Rattle.sig_table.specs.Reads.{ReadsToEnd, TellsFailedReads, run_of};
 ghost use Rattle.sig_table.specs.Tables.{ArePriorities, HasAllSignatures, IsTable};
 ghost use Rattle.sig_table.specs.declared.error.TableError.{TableError};
 
@@ -38,8 +39,7 @@ impl Table {
             → Exact result (table_of (records_of s) (records_of p)) }
 
         // A table is within its limits, and each format has a signature.
-        ensures limits { IfOk result (λ table. IsTable table) }
-        ensures whole { IfOk result (λ table. HasAllSignatures table) }
+        ensures limits { IfOk result (λ table. IsTable table × HasAllSignatures table) }
 
         // A fault of the signature file is found in that file alone, and leaves the other as it
         // was.
@@ -47,22 +47,9 @@ impl Table {
             → Exact result (Err fault) × (IsErrOf result (TableError.Read TableFile.Priorities) → ⊥) × (priorities.new ≡ priorities.old) }
         ensures untouched { IfErr result (λ e. is_of_signatures e ≡ true → priorities.new ≡ priorities.old) }
 
-        // A file is judged once it was read to its end.
-        ensures judged { IfErr result (λ e. is_judged e ≡ true → (A.failed signatures.new ≡ false) × IsAtEnd (A.to_come signatures.new)) }
-        ensures judged_both { IfErr result (λ e. is_judged e ≡ true → is_of_signatures e ≡ false
-            → (B.failed priorities.new ≡ false) × IsAtEnd (B.to_come priorities.new)) }
-        ensures at_end { OnOk result (IsAtEnd (A.to_come signatures.new) × IsAtEnd (B.to_come priorities.new)) }
-
-        // A failed read is reported, and only a failed read.
-        ensures sound { OnOk result ((A.failed signatures.new ≡ false) × (B.failed priorities.new ≡ false)) }
-        ensures read_signatures { IsErrOf result (TableError.Read TableFile.Signatures) → A.failed signatures.new ≡ true }
-        ensures read_priorities { IsErrOf result (TableError.Read TableFile.Priorities) → (A.failed signatures.new ≡ false) × (B.failed priorities.new ≡ true) }
-        ensures memory_signatures { IsErrOf result TableError.OutOfMemory → A.failed signatures.new ≡ A.failed signatures.old }
-        ensures memory_priorities { IsErrOf result TableError.OutOfMemory → B.failed priorities.new ≡ B.failed priorities.old }
-
-        // An input that failed before makes no table.
-        ensures stays_failed_signatures { IsTrue (A.failed signatures.old) → IsErr result }
-        ensures stays_failed_priorities { IsTrue (B.failed priorities.old) → IsErr result }
+        // A file is judged once it was read to its end, and a failed read is told.
+        ensures reads { ReadsToEnd result (run_of A.failed A.to_come signatures.old signatures.new) (run_of B.failed B.to_come priorities.old priorities.new) }
+        ensures failed { TellsFailedReads result (run_of A.failed A.to_come signatures.old signatures.new) (run_of B.failed B.to_come priorities.old priorities.new) }
     {
         let text = read_text(alloc, signatures, TableFile::Signatures)?;
         let draft = read_signatures(alloc, &text)?;

@@ -5,15 +5,15 @@
 //! with commas between them and a line feed. That `csv` writes just that is a lemma: no field of a
 //! table has a byte that asks for quotes.
 
-ghost use Rattle.std.specs.Prelude.{◌≡◌, ◌∷◌, ◌+◌, ◌++◌, [], true, false, length, slice_get, string_bytes, IfOk, IsErr, IsErrOf, IsTrue, OnOk};
+ghost use Rattle.std.specs.Prelude.{◌≡◌, ◌∷◌, ◌++◌, [], length, slice_get, string_bytes, IfOk, IsErrOf, OnOk};
 ghost use Rattle.std.specs.Fmt.{decimal};
 ghost use Rattle.std.specs.List.{flat_map};
 ghost use Rattle.csv.specs.Records.{fields_of, partial_of};
 ghost use Rattle.csv.specs.Writing.{default_writer, row_text};
-ghost use Rattle.sig_bits.specs.Device.{Adds, AddsFront};
 ghost use Rattle.sig_expr.specs.Canon.{canon};
 ghost use Rattle.sig_table.specs.Ranked.{ranked};
 ghost use Rattle.sig_table.specs.Tables.{IsTable};
+ghost use Rattle.sig_table.specs.Writes.{WritesWhole, state_of};
 ghost use Rattle.sig_table.specs.Canonical.{name_of, pair_record, pairs_csv, position_fields, priority_csv, records_of_signature, sequence_record, signature_csv, signature_header};
 
 use crate::csv_text::CsvText;
@@ -29,17 +29,10 @@ impl Table {
     /// Writes the canonical signature file: signatures in table order, the sequences of each
     /// together.
     ///
-    /// The whole text is made first, so nothing is written where memory runs out.
+    /// The whole text is made first, so nothing is written where memory runs out. After a failed
+    /// write only a front of it may be.
     pub fn write_signatures<W: Output>(&self, alloc: Global, out: &mut W) -> Result<(), OutError>
-        ensures text { OnOk result (Adds (W.written out.old) (signature_csv self.now) (W.written out.new)) }
-        ensures lowers { OnOk result (W.limit out.old ≡ length (signature_csv self.now) + W.limit out.new) }
-        ensures writes { OnOk result (W.failed out.new ≡ false) }
-        ensures write { IsErrOf result OutError.Write → W.failed out.new ≡ true }
-        ensures stays_failed { IsTrue (W.failed out.old) → IsErr result }
-
-        // After a failed write only a front of the text may be written, and where memory ran out
-        // nothing is.
-        ensures front { IsErrOf result OutError.Write → AddsFront (W.written out.old) (signature_csv self.now) (W.written out.new) }
+        ensures whole { WritesWhole (signature_csv self.now) result (state_of W.written W.limit W.failed out.old) (state_of W.written W.limit W.failed out.new) }
         ensures memory_stays { IsErrOf result OutError.OutOfMemory → out.new ≡ out.old }
     {
         let text = signature_text(alloc, self).map_err(|_| OutError::OutOfMemory)?;
@@ -48,17 +41,10 @@ impl Table {
 
     /// Writes the canonical priority file: the pairs in their order.
     ///
-    /// The whole text is made first, so nothing is written where memory runs out.
+    /// The whole text is made first, so nothing is written where memory runs out. After a failed
+    /// write only a front of it may be.
     pub fn write_priorities<W: Output>(&self, alloc: Global, out: &mut W) -> Result<(), OutError>
-        ensures text { OnOk result (Adds (W.written out.old) (priority_csv self.now) (W.written out.new)) }
-        ensures lowers { OnOk result (W.limit out.old ≡ length (priority_csv self.now) + W.limit out.new) }
-        ensures writes { OnOk result (W.failed out.new ≡ false) }
-        ensures write { IsErrOf result OutError.Write → W.failed out.new ≡ true }
-        ensures stays_failed { IsTrue (W.failed out.old) → IsErr result }
-
-        // After a failed write only a front of the text may be written, and where memory ran out
-        // nothing is.
-        ensures front { IsErrOf result OutError.Write → AddsFront (W.written out.old) (priority_csv self.now) (W.written out.new) }
+        ensures whole { WritesWhole (priority_csv self.now) result (state_of W.written W.limit W.failed out.old) (state_of W.written W.limit W.failed out.new) }
         ensures memory_stays { IsErrOf result OutError.OutOfMemory → out.new ≡ out.old }
     {
         write_pairs(alloc, self.formats(), self.priorities(), out)
@@ -68,7 +54,8 @@ impl Table {
 impl Ranking {
     /// Writes the canonical priority file of the table with these priorities in place of its own.
     ///
-    /// The whole text is made first, so nothing is written where memory runs out.
+    /// The whole text is made first, so nothing is written where memory runs out. After a failed
+    /// write only a front of it may be.
     pub fn write<W: Output>(
         &self,
         alloc: Global,
@@ -76,14 +63,8 @@ impl Ranking {
         out: &mut W,
     ) -> Result<(), OutError>
         requires { self.now.format_count ≡ length table.now.formats }
-        ensures text { OnOk result (Adds (W.written out.old) (priority_csv (ranked table.now self.now.pairs)) (W.written out.new)) }
+        ensures whole { WritesWhole (priority_csv (ranked table.now self.now.pairs)) result (state_of W.written W.limit W.failed out.old) (state_of W.written W.limit W.failed out.new) }
         ensures table { IsTable (ranked table.now self.now.pairs) }
-        ensures writes { OnOk result (W.failed out.new ≡ false) }
-        ensures write { IsErrOf result OutError.Write → W.failed out.new ≡ true }
-
-        // After a failed write only a front of the text may be written, and where memory ran out
-        // nothing is.
-        ensures front { IsErrOf result OutError.Write → AddsFront (W.written out.old) (priority_csv (ranked table.now self.now.pairs)) (W.written out.new) }
         ensures memory_stays { IsErrOf result OutError.OutOfMemory → out.new ≡ out.old }
     {
         // Called for its clause: the table is within its limits.
@@ -99,12 +80,7 @@ fn write_pairs<W: Output>(
     pairs: &[Priority],
     out: &mut W,
 ) -> Result<(), OutError>
-    ensures text { OnOk result (Adds (W.written out.old) (pairs_csv formats.now pairs.now) (W.written out.new)) }
-    ensures lowers { OnOk result (W.limit out.old ≡ length (pairs_csv formats.now pairs.now) + W.limit out.new) }
-    ensures writes { OnOk result (W.failed out.new ≡ false) }
-    ensures write { IsErrOf result OutError.Write → W.failed out.new ≡ true }
-    ensures stays_failed { IsTrue (W.failed out.old) → IsErr result }
-    ensures front { IsErrOf result OutError.Write → AddsFront (W.written out.old) (pairs_csv formats.now pairs.now) (W.written out.new) }
+    ensures whole { WritesWhole (pairs_csv formats.now pairs.now) result (state_of W.written W.limit W.failed out.old) (state_of W.written W.limit W.failed out.new) }
     ensures memory_stays { IsErrOf result OutError.OutOfMemory → out.new ≡ out.old }
 {
     let text = priority_text(alloc, formats, pairs).map_err(|_| OutError::OutOfMemory)?;

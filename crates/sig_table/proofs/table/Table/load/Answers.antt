@@ -28,7 +28,11 @@ returns-clause-exact g c s p to_s to_p =
     let ranked = rw later at c.in_ok-pairs.ensures.pairs in
     Exact-last _ _ _ c.into_table.ensures.table c.into_table.ensures.memory (table_of-whole (records_of s) (records_of p) _ _ read ranked)
 
-pub returns-in_err-draft-clause-judged_both : goal.returns-in_err-draft-clause-judged_both
-returns-in_err-draft-clause-judged_both g c =
+pub returns-in_err-draft-clause-reads : goal.returns-in_err-draft-clause-reads
+returns-in_err-draft-clause-reads g c =
     let r = err_from_is_err_and c.from_residual-in_err-draft.result c.from_residual-in_err-draft.ensures.1 in
-    rw (r.1, r.2) (λ judged later. absurd (cc (sym (is_judged-of _ _ c.in_err-draft.ensures judged) ∙ later)))
+    rw (r.1, r.2) (record {
+      table = tt;
+      fault = λ judged. record { sound = c.in_ok-text.ensures.sound; at_end = c.in_ok-text.ensures.at_end };
+      later_fault = λ judged later. absurd (cc (sym (is_judged-of _ _ c.in_err-draft.ensures judged) ∙ later));
+    })
