@@ -249,8 +249,11 @@ impl Signature {
 }
 
 impl Table {
+    ghost use Rattle.sig_table.specs.Tables.{IsTable};
+
     pub(crate) fn formats(&self) -> &[Puid]
-        ensures { result.now ≡ self.now.formats }
+        ensures formats { result.now ≡ self.now.formats }
+        ensures table { IsTable self.now }
     {
         self.formats.as_slice()
     }

@@ -67,8 +67,6 @@ impl Ranking {
         ensures table { IsTable (ranked table.now self.now.pairs) }
         ensures memory_stays { IsErrOf result OutError.OutOfMemory → out.new ≡ out.old }
     {
-        // Called for its clause: the table is within its limits.
-        let _formats = table.format_count();
         write_pairs(alloc, table.formats(), self.pairs(), out)
     }
 }
