@@ -166,14 +166,13 @@ fn row_names(alloc: Global, records: &mut Records) -> Result<Names, AllocError>
 {
     let mut names = Names::new(alloc);
     let mut record = ByteRecord::new(alloc);
-    'rows: for _ in 1..usize::MAX {
+    'rows: loop {
         let found = read_next(records, &mut record)?;
         if !found {
             return Ok(names);
         }
         names = names.with_text(text_at(&record, 0))?;
     }
-    Err(AllocError)
 }
 
 // Those of a priority file.
@@ -196,7 +195,7 @@ fn pair_names(alloc: Global, records: &mut Records) -> Result<Names, AllocError>
 {
     let mut names = Names::new(alloc);
     let mut record = ByteRecord::new(alloc);
-    'rows: for _ in 1..usize::MAX {
+    'rows: loop {
         let found = read_next(records, &mut record)?;
         if !found {
             return Ok(names);
@@ -204,5 +203,4 @@ fn pair_names(alloc: Global, records: &mut Records) -> Result<Names, AllocError>
         names = names.with_text(text_at(&record, 0))?;
         names = names.with_text(text_at(&record, 1))?;
     }
-    Err(AllocError)
 }

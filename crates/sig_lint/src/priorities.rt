@@ -3,7 +3,7 @@
 //! Behind `fmt/1,fmt/2` the row `fmt/2,fmt/1` closes a cycle: it is told and left out, so the row
 //! `fmt/2,fmt/3` has no fault, and `fmt/3,fmt/1` closes another cycle.
 
-ghost use Rattle.std.specs.Prelude.{◌≡◌, ◌++◌, [], IfOk, Some, length};
+ghost use Rattle.std.specs.Prelude.{◌≡◌, ◌≤◌, ◌^◌, ◌++◌, [], IfOk, Some, length};
 ghost use Rattle.csv.specs.Records.{fields_of};
 ghost use Rattle.sig_table.specs.Judging.{passed};
 ghost use Rattle.sig_table.specs.Loading.{records_of};
@@ -80,6 +80,7 @@ fn with_pair_fault(
 }
 
 // The faults, and behind them those of the rows, each judged behind those before it that have none.
+// Each read takes a record off, so their number stays below that of bytes.
 fn lint_pairs(
     alloc: Global,
     records: &mut Records,
@@ -87,12 +88,14 @@ fn lint_pairs(
     names: &Names,
     faults: Vec<Fault>,
 ) -> Result<Vec<Fault>, AllocError>
+    requires { length records.old ≤ 2 ^ 63 }
     ensures { IfOk result (λ all. all.items ≡ faults.items ++ faults_from (pair_row_fault names.now) (with_named_pair names.now) 1 [] records.old) }
 {
     let mut all = faults;
     let mut ranking = Ranking::new(alloc, names.formats().len())?;
     let mut record = ByteRecord::new(alloc);
-    for row_number in 1..usize::MAX {
+    let mut row_number = 1;
+    'rows: loop {
         let found = read_next(records, &mut record)?;
         if !found {
             return Ok(all);
@@ -100,8 +103,8 @@ fn lint_pairs(
         let (taken, fault) = take_named_pair(names, ranking, &record, row_number)?;
         ranking = taken;
         all = with_pair_fault(all, names, &record, lines.line_of(&record), fault)?;
+        row_number += 1;
     }
-    Err(AllocError)
 }
 
 // Judges the record behind the pairs, and adds its pair if it has no fault and a table has room for

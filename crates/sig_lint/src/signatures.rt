@@ -4,7 +4,7 @@
 //! as row 2 and left out, and row 3 is judged behind row 1 alone. A header with `;` for the comma
 //! is the only fault of its file.
 
-ghost use Rattle.std.specs.Prelude.{◌≡◌, ◌++◌, IfOk, Some};
+ghost use Rattle.std.specs.Prelude.{◌≡◌, ◌≤◌, ◌^◌, ◌++◌, IfOk, Some, length};
 ghost use Rattle.csv.specs.Records.{fields_of};
 ghost use Rattle.sig_table.specs.Loading.{empty_table, records_of, with_record};
 ghost use Rattle.sig_lint.specs.Faults.{faults_from, row_fault, signature_faults, told};
@@ -64,18 +64,21 @@ fn with_row_fault(
     }
 }
 
-// The faults of the rows, each judged behind those before it that have none.
+// The faults of the rows, each judged behind those before it that have none. Each read takes a
+// record off, so their number stays below that of bytes.
 fn lint_rows(
     alloc: Global,
     records: &mut Records,
     lines: &mut Lines,
 ) -> Result<Vec<Fault>, AllocError>
+    requires { length records.old ≤ 2 ^ 63 }
     ensures { IfOk result (λ faults. faults.items ≡ faults_from row_fault with_record 1 empty_table records.old) }
 {
     let mut faults = Vec::new(alloc);
     let mut draft = Draft::new(alloc);
     let mut record = ByteRecord::new(alloc);
-    for row_number in 1..usize::MAX {
+    let mut row_number = 1;
+    'rows: loop {
         let found = read_next(records, &mut record)?;
         if !found {
             return Ok(faults);
@@ -83,6 +86,6 @@ fn lint_rows(
         let (taken, fault) = take_row(alloc, draft, &record, row_number)?;
         draft = taken;
         faults = with_row_fault(faults, &record, lines.line_of(&record), fault)?;
+        row_number += 1;
     }
-    Err(AllocError)
 }
