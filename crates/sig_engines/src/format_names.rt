@@ -3,7 +3,7 @@
 //! A PUID need not be that of a format of the table. The file is read whole before a row is judged,
 //! and a row is judged behind those before it.
 
-ghost use Rattle.std.specs.Prelude.{◌≡◌, ◌⊎◌, ◌++◌, ◌∷◌, [], Err, IfErr, IfOk, IsErrOf, List, None, Ok, Some, false, true, ℕ};
+ghost use Rattle.std.specs.Prelude.{◌≡◌, ◌≤◌, ◌⊎◌, ◌^◌, ◌++◌, ◌∷◌, [], Err, IfErr, IfOk, IsErrOf, List, None, Ok, Some, false, length, true, ℕ};
 ghost use Rattle.std.specs.Bool.{MatchBool};
 ghost use Rattle.csv.specs.Records.{fields_of};
 ghost use Rattle.sig_table.specs.Loading.{records_of};
@@ -139,15 +139,17 @@ fn read_names(alloc: Global, text: &[u8]) -> Result<FormatNames, NamesError>
     read_rows(alloc, &mut records)
 }
 
-// Those in its rows.
+// Those in its rows. Each read takes a record off, so their number stays below that of bytes.
 fn read_rows(alloc: Global, records: &mut Records) -> Result<FormatNames, NamesError>
+    requires { length records.old ≤ 2 ^ 63 }
     ensures names { IfOk result (λ names. names_from 1 [] records.old ≡ Ok names) }
     ensures fault { IfErr result (λ e. (e ≡ NamesError.OutOfMemory) ⊎ (names_from 1 [] records.old ≡ Err e)) }
     ensures never_read { ¬ IsErrOf result NamesError.Read }
 {
     let mut names = FormatNames::new(alloc);
     let mut record = ByteRecord::new(alloc);
-    'rows: for row in 1..usize::MAX {
+    let mut row = 1;
+    'rows: loop {
         if !read_next(records, &mut record)? {
             return Ok(names);
         }
@@ -155,8 +157,8 @@ fn read_rows(alloc: Global, records: &mut Records) -> Result<FormatNames, NamesE
             Ok(more) => names = more,
             Err(error) => return Err(error),
         }
+        row += 1;
     }
-    Err(NamesError::OutOfMemory)
 }
 
 // Reads the next record, and says whether there was one.
