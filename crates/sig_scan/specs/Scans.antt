@@ -2,14 +2,15 @@
 use Rattle.std.specs.Prelude.{◌≡◌, ◌↔◌, Bool, false, true, IsTrue, slice_index_or, ℕ, ◌+◌, ◌-◌, ◌<◌, ◌≤◌, ◌^◌, ◌⊎◌, ⊤, All, Some, drop, min, List, [], ◌∷◌, ◌++◌, length, Option, IfSome, MatchOption}
 use Rattle.std.specs.List.{slice_get}
 use Rattle.sig_bits.specs.Bytes.{IsBytes}
-use Rattle.sig_bits.specs.Device.{Gives}
+use Rattle.sig_bits.specs.Device.{Gives, IsAtEnd}
 use Rattle.sig_expr.specs.declared.item.Item.{Item}
 use Rattle.sig_scan.specs.Frontiers.{EndsAt}
-use Rattle.sig_scan.specs.Courses.{AreSequencesOf, ProgramView}
+use Rattle.sig_scan.specs.Courses.{AreSequencesOf, IsProgramOf, ProgramView}
 use Rattle.sig_scan.specs.Lengths.{AreBounded, span}
 use Rattle.sig_scan.specs.Passes.{ArePast}
 use Rattle.sig_scan.specs.Placed.{Lies}
 use Rattle.sig_scan.specs.Stages.{CourseStands, CourseView, InTurn, StageView, TailView, Waits}
+use Rattle.sig_scan.specs.declared.state.Site.{Site}
 use Rattle.sig_scan.specs.declared.state.State.{State}
 use Rattle.sig_scan.specs.declared.state.Step.{Step}
 use Rattle.sig_scan.specs.declared.state.Step.TheVariants.{Ended, Past}
@@ -121,6 +122,27 @@ pub record IsScan (room : ℕ) (scan : ScanView) : Type 0 where
   pub sets : room ≡ scan.buffer.room
   pub count : length scan.states ≡ length scan.program.courses
   pub done : AreDone scan.program.courses scan.states
+
+-- a pass over bytes with more behind them: each sequence has a signature, a course, a state and an offset that was found, and words that begin before the limit end in sight
+pub record CanSettle (program : ProgramView) (states : List State) (may_hit : List Bool) (found_len : ℕ) (site : Site) (frontier : ℕ) : Type 0 where
+  pub owners : All (λ g. g < length may_hit) program.owners
+  pub count : length states ≡ length program.courses
+  pub found : found_len ≡ length program.courses
+  pub held : All (IsShortCourse site.reach) program.courses
+  pub done : AreDone program.courses states
+  pub more : site.is_last ≡ false
+  pub sight : site.limit + site.reach ≡ length site.bytes.now
+  pub room : length site.bytes.now ≤ frontier
+
+-- a file is begun: its first bytes are in the buffer, in a part of a block, and there are more of them only if this part is full; the program is of the signatures that it may hit
+pub record IsBegun (table : TableView) (may_hit : List Bool) (program : ProgramView) (block : ℕ) (buffer : BufferView) (to_come : Option (List ℕ)) (failed : Bool) : Type 0 where
+  pub is_program : IsProgramOf table may_hit program
+  pub size : length may_hit ≡ length table.signatures
+  pub some : 0 < block
+  pub room : buffer.room ≤ block
+  pub bytes : IsBytes buffer.bytes
+  pub at_end : length buffer.bytes < buffer.room → IsAtEnd to_come
+  pub sound : failed ≡ false
 
 -- what is known behind this file: its last bytes are at hand, each sequence of a signature that may hit the file waits for what its state
 -- says, and an excluded signature hits no file that so begins

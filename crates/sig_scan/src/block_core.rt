@@ -18,7 +18,7 @@ ghost use Rattle.sig_bits.specs.Device.{Gives, IsAtEnd};
 ghost use Rattle.sig_core.specs.Hits.{HitFormats, HitFormatsOfSome};
 ghost use Rattle.sig_scan.specs.Courses.{IsProgramOf, IsWholeProgramOf};
 ghost use Rattle.sig_scan.specs.Heads.{AreHeadsOf, IsPrepared};
-ghost use Rattle.sig_scan.specs.Scans.{AreExcluded, IsScanOf};
+ghost use Rattle.sig_scan.specs.Scans.{AreExcluded, IsBegun, IsScanOf};
 
 use crate::buffer::Buffer;
 use crate::head::{Head, exclude, heads_of};
@@ -200,14 +200,8 @@ fn scan_on<R: Input>(
     buffer: Buffer,
     input: &mut R,
 ) -> Result<Results, CoreError>
-    requires program { IsProgramOf table.now may_hit.items program.now }
-    requires may_hit { length may_hit.items ≡ length table.now.signatures }
+    requires begun { IsBegun table.now may_hit.items program.now block buffer (R.to_come input.old) (R.failed input.old) }
     requires excluded { AreExcluded table.now may_hit.items buffer.bytes }
-    requires block { 0 < block }
-    requires room { buffer.room ≤ block }
-    requires bytes { IsBytes buffer.bytes }
-    requires at_end { length buffer.bytes < buffer.room → IsAtEnd (R.to_come input.old) }
-    requires sound { R.failed input.old ≡ false }
     ensures hits { (before : Option (List ℕ)) → Gives before buffer.bytes (R.to_come input.old) → IfOk result (HitFormatsOfSome table.now before) }
     ensures at_end { OnOk result (IsAtEnd (R.to_come input.new)) }
     ensures sound { OnOk result (R.failed input.new ≡ false) }

@@ -19,7 +19,7 @@ ghost use Rattle.sig_bits.specs.Bytes.{IsBytes};
 ghost use Rattle.sig_bits.specs.Device.{IsAtEnd};
 ghost use Rattle.sig_scan.specs.Courses.{IsProgramOf};
 ghost use Rattle.sig_scan.specs.Passes.{ArePast};
-ghost use Rattle.sig_scan.specs.Scans.{AreDone, AreExcluded, AreMarked, EndsPast, HasRead, IsScanOf, IsShortCourse, Knows};
+ghost use Rattle.sig_scan.specs.Scans.{AreDone, AreExcluded, AreMarked, CanSettle, EndsPast, HasRead, IsScanOf, IsShortCourse, Knows};
 ghost use Rattle.std.specs.List.{slice_get};
 ghost use Rattle.sig_table.specs.Standing.{Stands};
 ghost use Rattle.sig_table.specs.Views.{SequenceView, TableView};
@@ -27,7 +27,7 @@ ghost use Rattle.sig_table.specs.Views.{SequenceView, TableView};
 use crate::buffer::Buffer;
 use crate::frontier::Frontier;
 use crate::program::Program;
-use crate::state::{State, is_past, settle, stands};
+use crate::state::{Site, State, is_past, settle, stands};
 use sig_bits::{DeviceFault, Input};
 use std::alloc::{AllocError, Global};
 use std::marker::Model;
@@ -146,15 +146,19 @@ impl<'p> Scan<'p> {
             &self.may_hit,
             &mut self.found,
         );
+        let site = Site {
+            bytes,
+            base: self.base,
+            limit,
+            reach: self.keep,
+            is_last: false,
+        };
         settle_all(
             self.program,
             &mut self.states,
             &mut self.may_hit,
             &self.found,
-            bytes,
-            self.base,
-            limit,
-            self.keep,
+            site,
             &mut self.frontier,
         );
         self.buffer.take_off(limit);
@@ -229,24 +233,15 @@ fn settle_all(
     states: &mut [State],
     may_hit: &mut [bool],
     found: &[usize],
-    bytes: &[u8],
-    base: u64,
-    limit: usize,
-    reach: usize,
+    site: Site<'_>,
     frontier: &mut Frontier,
 )
-    requires owners { All (λ g. g < length may_hit.old) program.now.owners }
-    requires count { length states.old ≡ length program.now.courses }
-    requires found { length found.now ≡ length program.now.courses }
-    requires held { All (IsShortCourse reach) program.now.courses }
-    requires done { AreDone program.now.courses states.old }
-    requires past { ArePast program.now.courses states.old bytes.now found.now }
-    requires sight { limit + reach ≡ length bytes.now }
-    requires room { length bytes.now ≤ frontier.old }
+    requires ready { CanSettle program.now states.old may_hit.old (length found.now) site frontier.old }
+    requires past { ArePast program.now.courses states.old site.bytes.now found.now }
     ensures room { frontier.new ≡ frontier.old }
     ensures done { AreDone program.now.courses states.new }
-    ensures settled { (table : TableView) (file : List ℕ) → Knows table file program.now reach base bytes.now states.old may_hit.old
-        → Knows table file program.now reach (min (base + limit) (2 ^ 64 - 1)) (drop limit bytes.now) states.new may_hit.new }
+    ensures settled { (table : TableView) (file : List ℕ) → Knows table file program.now site.entry.reach site.entry.base site.entry.bytes.now states.old may_hit.old
+        → Knows table file program.now site.entry.reach (min (site.entry.base + site.entry.limit) (2 ^ 64 - 1)) (drop site.entry.limit site.entry.bytes.now) states.new may_hit.new }
 {
     for k in 0..program.sequence_count() {
         let signature = program.signature_of(k);
@@ -254,13 +249,13 @@ fn settle_all(
             let stages = program.stages_of(k);
             let state = State {
                 done: states[k].done,
-                from: states[k].from.max(found[k].min(limit)),
+                from: states[k].from.max(found[k].min(site.limit)),
             };
-            let settled = settle(state, stages, bytes, base, limit, reach, false, frontier);
-            may_hit[signature] = !is_past(settled, stages, base);
+            let settled = settle(state, stages, site, frontier);
+            may_hit[signature] = !is_past(settled, stages, site.base);
             states[k] = State {
                 done: settled.done,
-                from: settled.from.saturating_sub(limit),
+                from: settled.from.saturating_sub(site.limit),
             };
         }
     }

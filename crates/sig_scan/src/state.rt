@@ -18,6 +18,21 @@ use crate::attempt::attempt;
 use crate::frontier::Frontier;
 use crate::stage::{Stage, Tail};
 
+/// The bytes at hand, and how far a pass goes over them.
+#[derive(Clone, Copy)]
+pub(crate) struct Site<'b> {
+    pub(crate) bytes: &'b [u8],
+    /// How many bytes of the file stand before them, up to the greatest number.
+    pub(crate) base: u64,
+    /// Words are looked for that begin before this offset.
+    pub(crate) limit: usize,
+    /// No word that is looked for has more bytes.
+    pub(crate) reach: usize,
+    /// The file ends with these bytes. If it does not, each word that begins before the limit ends
+    /// in them.
+    pub(crate) is_last: bool,
+}
+
 // So many offsets are tried at once, or as many as the longest word has bytes.
 const AT_ONCE: usize = 1024;
 
@@ -30,24 +45,23 @@ enum Step {
 }
 
 // Attempts a stage at some of the offsets from `from` on, below the limit.
-fn attempt_stage(
-    stage: &Stage,
-    from: usize,
-    bytes: &[u8],
-    base: u64,
-    limit: usize,
-    reach: usize,
-    is_last: bool,
-    frontier: &mut Frontier,
-) -> Step
-    requires room { length bytes.now ≤ frontier.old }
-    requires open { from < limit }
-    requires sight { HasSight is_last limit reach (length bytes.now) }
+fn attempt_stage(stage: &Stage, from: usize, site: Site<'_>, frontier: &mut Frontier) -> Step
+    requires room { length site.bytes.now ≤ frontier.old }
+    requires open { from < site.limit }
+    requires sight { HasSight site.is_last site.limit site.reach (length site.bytes.now) }
     ensures room { frontier.new ≡ frontier.old }
-    ensures on { StepsOn from limit result }
-    ensures waits { (s : SequenceView) (before : List ℕ) (later : List StageView) (tail : Option TailView) → IsBase before base → IsShort reach stage.now
-        → WaitsOn is_last s before bytes.now from (stage.now ∷ later) tail → WaitsBehind is_last s before bytes.now stage.now later tail result }
+    ensures on { StepsOn from site.entry.limit result }
+    ensures waits { (s : SequenceView) (before : List ℕ) (later : List StageView) (tail : Option TailView) → IsBase before site.entry.base → IsShort site.entry.reach stage.now
+        → WaitsOn site.entry.is_last s before site.entry.bytes.now from (stage.now ∷ later) tail
+        → WaitsBehind site.entry.is_last s before site.entry.bytes.now stage.now later tail result }
 {
+    let Site {
+        bytes,
+        base,
+        limit,
+        reach,
+        is_last: _,
+    } = site;
     let until = offsets_up_to(stage.until, base, bytes.len() + 1);
     let Some(first) = stage.literal.next(bytes, from, until.min(limit)) else {
         return Step::Past(limit);
@@ -90,36 +104,23 @@ pub(crate) struct State {
 pub(crate) fn settle(
     state: State,
     stages: &[Stage],
-    bytes: &[u8],
-    base: u64,
-    limit: usize,
-    reach: usize,
-    is_last: bool,
+    site: Site<'_>,
     frontier: &mut Frontier,
 ) -> State
-    requires room { length bytes.now ≤ frontier.old }
-    requires sight { HasSight is_last limit reach (length bytes.now) }
+    requires room { length site.bytes.now ≤ frontier.old }
+    requires sight { HasSight site.is_last site.limit site.reach (length site.bytes.now) }
     requires done { state.done ≤ length stages.now }
     ensures room { frontier.new ≡ frontier.old }
     ensures done { result.done ≤ length stages.now }
-    ensures settled { result.done < length stages.now → limit ≤ result.from }
-    ensures waits { (s : SequenceView) (before : List ℕ) (tail : Option TailView) → IsBase before base → All (IsShort reach) stages.now
-        → WaitsOn is_last s before bytes.now state.from (drop state.done stages.now) tail
-        → WaitsOn is_last s before bytes.now result.from (drop result.done stages.now) tail }
+    ensures settled { result.done < length stages.now → site.entry.limit ≤ result.from }
+    ensures waits { (s : SequenceView) (before : List ℕ) (tail : Option TailView) → IsBase before site.entry.base → All (IsShort site.entry.reach) stages.now
+        → WaitsOn site.entry.is_last s before site.entry.bytes.now state.from (drop state.done stages.now) tail
+        → WaitsOn site.entry.is_last s before site.entry.bytes.now result.from (drop result.done stages.now) tail }
 {
     let mut done = state.done;
     let mut from = state.from;
-    'steps: while from < limit && done < stages.len() {
-        match attempt_stage(
-            &stages[done],
-            from,
-            bytes,
-            base,
-            limit,
-            reach,
-            is_last,
-            frontier,
-        ) {
+    'steps: while from < site.limit && done < stages.len() {
+        match attempt_stage(&stages[done], from, site, frontier) {
             Step::Past(later) => from = later,
             Step::Ended(later) => {
                 done += 1;
@@ -172,8 +173,14 @@ pub(crate) fn stands(
         → HasLastBytes reach before bytes.now → WaitsOn true s before bytes.now state.from (drop state.done stages.now) tail.now
         → IsTrue result ↔ Stands s (before ++ bytes.now) }
 {
-    let end = bytes.len() + 1;
-    let settled = settle(state, stages, bytes, base, end, reach, true, frontier);
+    let site = Site {
+        bytes,
+        base,
+        limit: bytes.len() + 1,
+        reach,
+        is_last: true,
+    };
+    let settled = settle(state, stages, site, frontier);
     if settled.done < stages.len() {
         return false;
     }

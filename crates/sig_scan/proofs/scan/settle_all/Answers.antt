@@ -1,6 +1,6 @@
 use Rattle.sig_scan.proofs.Common.{arith, refl, ◌++◌, ◌+◌, ◌<◌, ◌∙◌, ◌≡◌, ◌≤◌, All, Bool, List, Some, ap, drop, false, get_or, length, not, subst, sym, true, ℕ}
 use Rattle.sig_scan.proofs.Common.{set, slice_get-get_or, slice_get_within, slice_get, slice_get-within, SequenceView, TableView, AreDone, AreExcluded, IsBase}
-use Rattle.sig_scan.proofs.Common.{IsShort, IsShortCourse, Knows, NeverStands, WaitsAt, CourseView, StageView, State}
+use Rattle.sig_scan.proofs.Common.{IsShort, IsShortCourse, Knows, NeverStands, WaitsAt, WaitsOn, CourseView, StageView, State}
 use Rattle.sig_scan.proofs.PassLemmas.{Waits-found}
 use Rattle.sig_scan.proofs.ScanLemmas.{All-at, AllMoved, AllMoved-set, AllMoved-skip, AreDone-set, AreExcluded-set, Knows-settled, Waits-rest}
 use Rattle.sig_scan.proofs.ScanLemmas.{slice_get-set_other, true_from_not}
@@ -10,7 +10,7 @@ use Rattle.sig_scan.proofs.scan.settle_all.Goals.{then-may_hit-signature, else-m
 pub loop-k-init : goal.loop-k-init
 loop-k-init c = record {
   room = refl;
-  done = c.requires.done;
+  done = c.requires.ready.done;
   kept = λ i low. refl;
   settled = λ table file known. (
     λ i g s course t owner may sequence at state. (λ near. absurd (omega arith), λ far. known.wait i g s course t owner may sequence at state),
@@ -24,7 +24,7 @@ settle-settled-requires-clause-done c =
     let states = c.loop-k.states in
     let courses = c.args.program.now.courses in
     let total = c.sequence_count-k-end.ensures.courses in
-    let count = c.requires.count in
+    let count = c.requires.ready.count in
     let kept = c.loop-k.auto.states in
     let within : k < length states = omega arith in
     let course = slice_get-within courses k (omega arith) in
@@ -37,21 +37,21 @@ loop-k-preserved c =
     let k = c.loop-k.k in
     let program = c.args.program.now in
     let courses = program.courses in
-    let bytes = c.args.bytes.now in
-    let base = c.args.base in
-    let limit = c.args.limit in
-    let reach = c.args.reach in
+    let bytes = c.args.site.bytes.now in
+    let base = c.args.site.base in
+    let limit = c.args.site.limit in
+    let reach = c.args.site.reach in
     let states = c.loop-k.states in
     let flags = c.loop-k.may_hit in
     let own = c.signature_of-signature.result in
     let owner : slice_get program.owners k ≡ Some own = c.signature_of-signature.ensures in
     let total = c.sequence_count-k-end.ensures.courses in
-    let count = c.requires.count in
+    let count = c.requires.ready.count in
     let kept = c.loop-k.auto.states in
-    let sight = c.requires.sight in
+    let sight = c.requires.ready.sight in
     let within : k < length states = omega arith in
     let long = c.loop-k.auto.may_hit in
-    let below = All-at (λ g. g < length c.args.may_hit.now) program.owners k own owner c.requires.owners in
+    let below = All-at (λ g. g < length c.args.may_hit.now) program.owners k own owner c.requires.ready.owners in
     let inside : own < length flags = omega arith in
     let Now : List State → List Bool → Type 0 = λ ts l. AreDone courses ts × ((i : ℕ) → k + 1 ≤ i → slice_get ts i ≡ slice_get c.args.states.now i)
     × ((table : TableView) (file : List ℕ) (known : Knows table file program reach base bytes c.args.states.now c.args.may_hit.now)
@@ -70,14 +70,17 @@ loop-k-preserved c =
           → WaitsAt s before bytes old.from (drop old.done course.stages) course.tail
           → WaitsAt s before bytes next.from (drop next.done course.stages) course.tail = (
           λ before counted s course here waits.
-          let few = All-at (IsShortCourse reach) courses k course here c.requires.held in
+          let few = All-at (IsShortCourse reach) courses k course here c.requires.ready.held in
           let from = w.max.result in
           let P : List StageView → Type 0 = λ l. All (IsShort reach) l → WaitsAt s before bytes from (drop old.done l) course.tail
           → WaitsAt s before bytes next.from (drop next.done l) course.tail in
           let went = Waits-found s course.stages course.tail before bytes old.done old.from (get_or c.args.found.now k 0) limit from reach few.stages
           (omega arith) (omega arith) (λ x low high. c.requires.past k x course old here first low high) waits in
-          subst P (w.stages_of-stages.ensures course here) (λ each u. w.settle-settled.ensures.waits s before course.tail counted each u)
-          few.stages went) in (
+          let l = w.stages_of-stages.result.now in
+          let On : Bool → Type 0 = λ more. All (IsShort reach) l → WaitsOn more s before bytes from (drop old.done l) course.tail
+          → WaitsOn more s before bytes next.from (drop next.done l) course.tail in
+          subst P (w.stages_of-stages.ensures course here)
+          (subst On c.requires.ready.more (λ each u. w.settle-settled.ensures.waits s before course.tail counted each u)) few.stages went) in (
             subst (λ l. Now c.if-may_hit-signature.states l) (sym w.may_hit-is) (subst (λ ts. Now ts (set flags own b)) (sym w.states-is) (
               AreDone-set courses states k v within
                   (λ course here. subst (λ (l : List StageView). next.done ≤ length l) (w.stages_of-stages.ensures course here) w.settle-settled.ensures.done)
@@ -91,7 +94,7 @@ loop-k-preserved c =
                     AllMoved-set k limit own known.sequences program flags before bytes states old v b within inside owner may at
                         (λ _ s course here waits.
                         Waits-rest s course.stages course.tail before bytes next.done next.from limit w.saturating_sub.result reach
-                        (All-at (IsShortCourse reach) courses k course here c.requires.held).tail (omega arith) w.saturating_sub.ensures
+                        (All-at (IsShortCourse reach) courses k course here c.requires.ready.held).tail (omega arith) w.saturating_sub.ensures
                         (subst (λ (l : List StageView). next.done < length l → limit ≤ next.from) (w.stages_of-stages.ensures course here)
                         w.settle-settled.ensures.settled)
                         (on before known.counted s course here waits))
@@ -132,8 +135,9 @@ returns-clause-settled c table file known =
     let total = c.sequence_count-k-end.ensures.courses in
     let done = c.loop-k-test.false in
     let all = c.loop-k.invariant.settled table file known in
-    Knows-settled table file program c.args.reach c.args.base c.args.limit c.args.bytes.now c.args.states.now c.loop-k.states c.args.may_hit.now
-    c.loop-k.may_hit known c.requires.sight c.loop-k.auto.may_hit
+    Knows-settled table file program c.args.site.reach c.args.site.base c.args.site.limit c.args.site.bytes.now c.args.states.now c.loop-k.states
+    c.args.may_hit.now
+    c.loop-k.may_hit known c.requires.ready.sight c.loop-k.auto.may_hit
     (λ i g s course t owner may sequence at state.
     let low = slice_get_within program.courses i course at in
     (all.0 i g s course t owner may sequence at state).0 (omega arith))

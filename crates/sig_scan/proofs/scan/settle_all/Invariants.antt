@@ -8,6 +8,6 @@ invariant-loop-k l = record {
   room : l.frontier ≡ l.fn.frontier;
   done : AreDone l.program.courses l.states;
   kept : (i : ℕ) → l.k ≤ i → slice_get l.states i ≡ slice_get l.fn.states i;
-  settled : (table : TableView) (file : List ℕ) (known : Knows table file l.program l.reach l.base l.bytes l.fn.states l.fn.may_hit)
-      → AllMoved l.k l.limit known.sequences l.program l.may_hit known.before l.bytes l.states × AreExcluded table l.may_hit file;
+  settled : (table : TableView) (file : List ℕ) (known : Knows table file l.program l.site.reach l.site.base l.site.bytes.now l.fn.states l.fn.may_hit)
+      → AllMoved l.k l.site.limit known.sequences l.program l.may_hit known.before l.site.bytes.now l.states × AreExcluded table l.may_hit file;
 }

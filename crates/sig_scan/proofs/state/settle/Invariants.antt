@@ -6,10 +6,10 @@ abbrev pub invariant-steps : goal.invariant-steps
 invariant-steps l = record {
   room : l.frontier ≡ l.fn.frontier;
   done : l.done ≤ length l.stages;
-  waits : (s : SequenceView) (before : List ℕ) (tail : Option TailView) → IsBase before l.base → All (IsShort l.reach) l.stages
-      → WaitsOn l.is_last s before l.bytes l.fn.state.from (drop l.fn.state.done l.stages) tail
-      → WaitsOn l.is_last s before l.bytes l.from (drop l.done l.stages) tail;
+  waits : (s : SequenceView) (before : List ℕ) (tail : Option TailView) → IsBase before l.site.base → All (IsShort l.site.reach) l.stages
+      → WaitsOn l.site.is_last s before l.site.bytes.now l.fn.state.from (drop l.fn.state.done l.stages) tail
+      → WaitsOn l.site.is_last s before l.site.bytes.now l.from (drop l.done l.stages) tail;
 }
 
 abbrev pub decreases-steps : goal.decreases-steps
-decreases-steps l = (length l.stages - l.done) * (l.limit + 1) + (l.limit - l.from)
+decreases-steps l = (length l.stages - l.done) * (l.site.limit + 1) + (l.site.limit - l.from)
