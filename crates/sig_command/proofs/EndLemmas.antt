@@ -52,9 +52,9 @@ memory_first failed held request before after err = (inl refl, go request)
     go (Lint table) = tt
     go (Match all table file) = tt
     go (MatchMany options table names) = inl (memory_before, refl)
-    go (Find table budget out hex progress) = tt
+    go (Find table ask) = tt
     go (Conflicts table options progress) = tt
-    go (Dead table budget hex progress) = tt
+    go (Dead table ask) = tt
     go (Check table certificate) = tt
     go (Witness table file) = tt
 
@@ -105,8 +105,8 @@ later_faulty failed held (MatchMany options table names) (inr (inr (inl is))) =
     no_list failed held names FaultyTable (λ error same. cc) (λ name same. cc) (λ name same. cc) is
 later_faulty failed held (MatchMany options table names) (inr (inr (inr is))) =
     no_names failed held options.names FaultyTable (λ name same. cc) (λ error same. cc) is
-later_faulty failed held (Find table budget out hex progress) (inl is) = let bad : FaultyTable ≡ CannotOpen out = is.0 in cc
-later_faulty failed held (Find table budget out hex progress) (inr is) = let bad : FaultyTable ≡ Run run.Write = is in cc
+later_faulty failed held (Find table ask) (inl is) = let bad : FaultyTable ≡ CannotOpen ask.out = is.0 in cc
+later_faulty failed held (Find table ask) (inr is) = let bad : FaultyTable ≡ Run run.Write = is in cc
 later_faulty failed held request is = is
 
 -- they are told where `lint` is asked for, and only there
@@ -229,16 +229,16 @@ files_are_reported failed held (MatchMany options table names) status before aft
       adds = nothing_behind err_before mid err_after (run_text ask.progress added.files ++ summary_text ask.summary (tally_of none_yet added.files))
           (added.reports sound) reports.adds;
     }
-files_are_reported failed held (Find table budget out hex progress) status before after is_failed err_before mid err_after is joins sound reports =
-    absurd (no_files failed held (Find table budget out hex progress) never is)
+files_are_reported failed held (Find table ask) status before after is_failed err_before mid err_after is joins sound reports =
+    absurd (no_files failed held (Find table ask) never is)
   where
-    never : ((SomeFiles ≡ CannotOpen out) × CannotMake held out.now) ⊎ (SomeFiles ≡ Run run.Write) → ⊥
-    never (inl same) = let bad : SomeFiles ≡ CannotOpen out = same.0 in cc
+    never : ((SomeFiles ≡ CannotOpen ask.out) × CannotMake held ask.out.now) ⊎ (SomeFiles ≡ Run run.Write) → ⊥
+    never (inl same) = let bad : SomeFiles ≡ CannotOpen ask.out = same.0 in cc
     never (inr same) = let bad : SomeFiles ≡ Run run.Write = same in cc
 files_are_reported failed held (Conflicts table options progress) status before after is_failed err_before mid err_after is joins sound reports =
     absurd (no_files failed held (Conflicts table options progress) (λ never. never) is)
-files_are_reported failed held (Dead table budget hex progress) status before after is_failed err_before mid err_after is joins sound reports =
-    absurd (no_files failed held (Dead table budget hex progress) (λ never. never) is)
+files_are_reported failed held (Dead table ask) status before after is_failed err_before mid err_after is joins sound reports =
+    absurd (no_files failed held (Dead table ask) (λ never. never) is)
 files_are_reported failed held (Check table certificate) status before after is_failed err_before mid err_after is joins sound reports =
     absurd (no_files failed held (Check table certificate) (λ never. never) is)
 files_are_reported failed held (Witness table file) status before after is_failed err_before mid err_after is joins sound reports =

@@ -34,9 +34,9 @@ name_of (Show table) = codes "show"
 name_of (Lint table) = codes "lint"
 name_of (Match all table file) = codes "match"
 name_of (MatchMany options table names) = codes "match"
-name_of (Find table budget out hex progress) = codes "find"
+name_of (Find table ask) = codes "find"
 name_of (Conflicts table options progress) = codes "conflicts"
-name_of (Dead table budget hex progress) = codes "dead"
+name_of (Dead table ask) = codes "dead"
 name_of (Check table certificate) = codes "check"
 name_of (Witness table file) = codes "witness"
 
@@ -103,10 +103,10 @@ no_witness rows missing asked asks = other_name (codes "witness") (name_of asked
 
 pub no_find : (rows : List Row) → ((table : TablePaths) (budget : ℕ) (text : Text) → NamesTable table rows → NamesBudget budget rows
     → first_of (codes "OUT") rows ≡ Some text → ⊥) → (asked : Request) → Asks (Some (codes "find", rows)) asked → ⊥
-no_find rows missing (Find table budget out hex progress) asks =
+no_find rows missing (Find table ask) asks =
     let same : asks.0 ≡ rows = rows_of_found (codes "find") rows asks.0 asks.1 in
-    missing table budget out.now (subst (NamesTable table) same asks.2) (subst (NamesBudget budget) same asks.3)
-    (subst (λ (r : List Row). first_of (codes "OUT") r ≡ Some out.now) same asks.4)
+    missing table ask.budget ask.out.now (subst (NamesTable table) same asks.2) (subst (NamesBudget ask.budget) same asks.3)
+    (subst (λ (r : List Row). first_of (codes "OUT") r ≡ Some ask.out.now) same asks.4)
 no_find rows missing asked asks = other_name (codes "find") (name_of asked) rows asks.0 (omega arith) asks.1
 
 pub no_conflicts : (rows : List Row) → ((table : TablePaths) (options : ConflictsOptions) → NamesTable table rows → NamesOptions options rows → ⊥)
@@ -119,9 +119,9 @@ no_conflicts rows missing asked asks = other_name (codes "conflicts") (name_of a
 
 pub no_dead : (rows : List Row) → ((table : TablePaths) (budget : ℕ) → NamesTable table rows → NamesBudget budget rows → ⊥) → (asked : Request)
     → Asks (Some (codes "dead", rows)) asked → ⊥
-no_dead rows missing (Dead table budget hex progress) asks =
+no_dead rows missing (Dead table ask) asks =
     let same : asks.0 ≡ rows = rows_of_found (codes "dead") rows asks.0 asks.1 in
-    missing table budget (subst (NamesTable table) same asks.2) (subst (NamesBudget budget) same asks.3)
+    missing table ask.budget (subst (NamesTable table) same asks.2) (subst (NamesBudget ask.budget) same asks.3)
 no_dead rows missing asked asks = other_name (codes "dead") (name_of asked) rows asks.0 (omega arith) asks.1
 
 -- where memory ran out, no help is asked for

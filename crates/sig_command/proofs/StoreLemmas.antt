@@ -14,7 +14,7 @@ use Rattle.sig_table.specs.declared.error.TableFile.TheVariants.{Priorities, Sig
 use Rattle.sig_engines.specs.Judged.{AddsVerdictOfSome}
 use Rattle.sig_engines.specs.Lines.{AddsLinesOfSome}
 use Rattle.sig_command.specs.Faults.{TellsWrite}
-use Rattle.sig_command.specs.Requests.{Answers, IsFileFault}
+use Rattle.sig_command.specs.Requests.{Answers, IsFaultOf, IsFileFault}
 use Rattle.sig_command.specs.Requests.{file_fault as fault_of_file}
 use Rattle.sig_engines.specs.Stores.{Files, Has, HasPriorities, Holding, Holds, HoldsPriorities, IsTableFault, IsTableOf, Lacks, Opens, OpensPriorities}
 use Rattle.sig_engines.specs.Stores.{ReadsAs, SomeFailed, no_priorities}
@@ -210,3 +210,11 @@ witness_is_answered held request paths name table to_come before after is_yes sa
       holds_read held name.now to_come adds.file opens adds.is_to_come,
       adds.adds_witness,
     )
+
+-- why one file has no answer
+pub match_fault : {R : Type 0} (failed : R → Bool) (held : Holding) (paths : TablePaths) (name : Bor (List ℕ)) (all : Bool) (table : TableView)
+    (error : RunError) → IsTableOf held paths table → Has held name.now → (error ≡ Read → SomeFailed failed)
+    → IsFaultOf failed held (Match all paths name) (Run error)
+match_fault failed held paths name all table Read is has read = inr (inr (inl ((table, is), inl (has, read refl))))
+match_fault failed held paths name all table Write is has read = inr (inr (inl ((table, is), inl has)))
+match_fault failed held paths name all table OutOfMemory is has read = inr (inl refl)

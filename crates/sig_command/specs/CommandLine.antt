@@ -219,9 +219,9 @@ Asks found (Show table) = (rows : List Row) × (found ≡ Some (codes "show", ro
 Asks found (Lint table) = (rows : List Row) × (found ≡ Some (codes "lint", rows)) × NamesTable table rows
 Asks found (Match all table file) = (rows : List Row) × (found ≡ Some (codes "match", rows)) × NamesTable table rows × (all_of (codes "FILE") rows ≡ Some (file.now ∷ [])) × (first_of (codes "NAMES") rows ≡ None) × HasFlag (codes "all") all rows × HasFlag (codes "with-names") false rows × HasFlag (codes "csv") false rows × (first_of (codes "FORMATS") rows ≡ None) × HasFlag (codes "recursive") false rows × HasFlag (codes "progress") false rows × HasFlag (codes "summary") false rows
 Asks found (MatchMany options table names) = (rows : List Row) × (found ≡ Some (codes "match", rows)) × NamesTable table rows × NamesFiles names options rows × NamesEach options rows
-Asks found (Find table budget out hex progress) = (rows : List Row) × (found ≡ Some (codes "find", rows)) × NamesTable table rows × NamesBudget budget rows × (first_of (codes "OUT") rows ≡ Some out.now) × HasFlag (codes "hex") hex rows × HasFlag (codes "progress") progress rows
+Asks found (Find table ask) = (rows : List Row) × (found ≡ Some (codes "find", rows)) × NamesTable table rows × NamesBudget ask.budget rows × (first_of (codes "OUT") rows ≡ Some ask.out.now) × HasFlag (codes "hex") ask.hex rows × HasFlag (codes "progress") ask.progress rows
 Asks found (Conflicts table options progress) = (rows : List Row) × (found ≡ Some (codes "conflicts", rows)) × NamesTable table rows × NamesOptions options rows × HasFlag (codes "progress") progress rows
-Asks found (Dead table budget hex progress) = (rows : List Row) × (found ≡ Some (codes "dead", rows)) × NamesTable table rows × NamesBudget budget rows × HasFlag (codes "hex") hex rows × HasFlag (codes "progress") progress rows
+Asks found (Dead table ask) = (rows : List Row) × (found ≡ Some (codes "dead", rows)) × NamesTable table rows × NamesBudget ask.budget rows × HasFlag (codes "hex") ask.hex rows × HasFlag (codes "progress") ask.progress rows
 Asks found (Check table certificate) = (rows : List Row) × (found ≡ Some (codes "check", rows)) × NamesTable table rows × (first_of (codes "CERT") rows ≡ Some certificate.now)
 Asks found (Witness table file) = (rows : List Row) × (found ≡ Some (codes "witness", rows)) × NamesTable table rows × (first_of (codes "FILE") rows ≡ Some file.now)
 

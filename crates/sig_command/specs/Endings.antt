@@ -4,7 +4,7 @@ use Rattle.clap.specs.Words.{IsAmong, Text}
 use Rattle.clap.specs.declared.error.kind.ErrorKind.{ErrorKind}
 use Rattle.sig_command.specs.CommandLine.{AreTaken, IsHelpAsked, fault_of_words}
 use Rattle.sig_command.specs.Faults.{Reports, ReportsLine}
-use Rattle.sig_command.specs.Requests.{AnswersWords, Behind, ReportsFaultOfWords, ShowsAskedWords}
+use Rattle.sig_command.specs.Requests.{AnswersWords, Behind, MakesWords, ReportsFaultOfWords, ShowsAskedWords}
 use Rattle.sig_command.specs.Several.{ReportsFiles}
 use Rattle.sig_command.specs.Statuses.{kind_status}
 use Rattle.sig_engines.specs.Stores.{Holding}
@@ -37,6 +37,11 @@ ReportsBy failed WriteFailed held words status written before after err_failed e
 pub record TellsBy {E : Type 0} (held : Holding) (words : List Text) (status : ℕ) (out_before out_after : Option (List ℕ)) (is_failed : Bool) (before after : E) (written written_after : Option (List ℕ)) : Type 0 where
   pub yes : AreTaken words → status ≡ 0 → ShowsAskedWords held words true out_before out_after is_failed before after written written_after
   pub no : AreTaken words → status ≡ 1 → ShowsAskedWords held words false out_before out_after is_failed before after written written_after
+
+-- with 0 and 1 the files that words ask for are made
+pub record MakesBy {F : Type 0} (name_of made : F → Option (List ℕ)) (failed : F → Bool) (held : Holding) (words : List Text) (status : ℕ) (before after : Option (List ℕ)) : Type 0 where
+  pub yes : AreTaken words → status ≡ 0 → MakesWords name_of made failed held words true before after
+  pub no : AreTaken words → status ≡ 1 → MakesWords name_of made failed held words false before after
 
 -- words in which clap finds a fault end as it says of their kind, unless memory ran out or a write failed
 abbrev pub EndsByFault : List Text → ℕ → Type 0

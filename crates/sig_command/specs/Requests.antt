@@ -211,9 +211,9 @@ paths_of (Show table) = table
 paths_of (Lint table) = table
 paths_of (Match all table file) = table
 paths_of (MatchMany options table names) = table
-paths_of (Find table budget out hex progress) = table
+paths_of (Find table ask) = table
 paths_of (Conflicts table options progress) = table
-paths_of (Dead table budget hex progress) = table
+paths_of (Dead table ask) = table
 paths_of (Check table certificate) = table
 paths_of (Witness table file) = table
 
@@ -227,9 +227,9 @@ IsLaterFault failed held (Show table) fault = fault ≡ Run Write
 IsLaterFault failed held (Lint table) fault = ⊥
 IsLaterFault failed held (Match all table file) fault = IsFileFault failed held file fault ⊎ IsFolderFault held file fault
 IsLaterFault failed held (MatchMany options table names) fault = (fault ≡ SomeFiles) ⊎ ((fault ≡ Run Write) ⊎ (IsListFault failed held names fault ⊎ IsNamesFaultOf failed held options.names fault))
-IsLaterFault failed held (Find table budget out hex progress) fault = ((fault ≡ CannotOpen out) × CannotMake held out.now) ⊎ (fault ≡ Run Write)
+IsLaterFault failed held (Find table ask) fault = ((fault ≡ CannotOpen ask.out) × CannotMake held ask.out.now) ⊎ (fault ≡ Run Write)
 IsLaterFault failed held (Conflicts table options progress) fault = IsConflictsFault held table options fault
-IsLaterFault failed held (Dead table budget hex progress) fault = IsCutFault fault
+IsLaterFault failed held (Dead table ask) fault = IsCutFault fault
 IsLaterFault failed held (Check table certificate) fault = IsFileFault failed held certificate fault
 IsLaterFault failed held (Witness table file) fault = IsFileFault failed held file fault
 
@@ -239,9 +239,9 @@ AsksTwo (Show table) = ⊥
 AsksTwo (Lint table) = ⊥
 AsksTwo (Match all table file) = ⊥
 AsksTwo (MatchMany options table names) = ⊥
-AsksTwo (Find table budget out hex progress) = ⊥
+AsksTwo (Find table ask) = ⊥
 AsksTwo (Conflicts table options progress) = (options.summary ≡ true) × (is_some options.only ≡ true)
-AsksTwo (Dead table budget hex progress) = ⊥
+AsksTwo (Dead table ask) = ⊥
 AsksTwo (Check table certificate) = ⊥
 AsksTwo (Witness table file) = ⊥
 
@@ -280,9 +280,9 @@ IsFirstFault failed held (Show table) fault = IsLoadFault failed held table faul
 IsFirstFault failed held (Lint table) fault = IsLintFault failed held table fault
 IsFirstFault failed held (Match all table file) fault = IsLoadFault failed held table fault
 IsFirstFault failed held (MatchMany options table names) fault = IsLoadFault failed held table fault
-IsFirstFault failed held (Find table budget out hex progress) fault = IsLoadFault failed held table fault
+IsFirstFault failed held (Find table ask) fault = IsLoadFault failed held table fault
 IsFirstFault failed held (Conflicts table options progress) fault = IsLoadFault failed held table fault
-IsFirstFault failed held (Dead table budget hex progress) fault = IsLoadFault failed held table fault
+IsFirstFault failed held (Dead table ask) fault = IsLoadFault failed held table fault
 IsFirstFault failed held (Check table certificate) fault = IsLoadFault failed held table fault
 IsFirstFault failed held (Witness table file) fault = IsLoadFault failed held table fault
 
@@ -297,9 +297,9 @@ Answers held (Show table) is_yes before after = (is_yes ≡ true) × (t : TableV
 Answers held (Lint table) is_yes before after = (is_yes ≡ true) × IsReported true held table before after
 Answers held (Match all table name) is_yes before after = (is_yes ≡ true) × (t : TableView) × IsTableOf held table t × (file : List ℕ) × IsBytes file × Holds held name.now file × AddsLines all t file before after
 Answers held (MatchMany options table names) is_yes before after = (is_yes ≡ true) × OfTable held table options (λ t ask. AddsLinesOfEach ask t held (AreVisitsOf ask held names) before after)
-Answers held (Find table budget out hex progress) is_yes before after = (t : TableView) × IsTableOf held table t × AddsFound is_yes hex t budget before after
+Answers held (Find table ask) is_yes before after = (t : TableView) × IsTableOf held table t × AddsFound is_yes ask.hex t ask.budget before after
 Answers held (Conflicts table options progress) is_yes before after = (t : TableView) × IsTableOf held table t × (ask : ConflictsAsk) × AsksPairs options t ask × (refused : List ℕ) × AddsConflicts IsAny is_yes refused ask t before after
-Answers held (Dead table budget hex progress) is_yes before after = (t : TableView) × IsTableOf held table t × AddsFates is_yes hex t budget before after
+Answers held (Dead table ask) is_yes before after = (t : TableView) × IsTableOf held table t × AddsFates is_yes ask.hex t ask.budget before after
 Answers held (Check table name) is_yes before after = (t : TableView) × IsTableOf held table t × (certificate : List ℕ) × IsBytes certificate × Holds held name.now certificate × AddsVerdict is_yes t certificate before after
 Answers held (Witness table name) is_yes before after = (t : TableView) × IsTableOf held table t × (file : List ℕ) × IsBytes file × Holds held name.now file × AddsWitness is_yes t file before after
 
@@ -313,9 +313,9 @@ MakesOut name_of written failed held (Show table) is_yes before after = ⊤
 MakesOut name_of written failed held (Lint table) is_yes before after = ⊤
 MakesOut name_of written failed held (Match all table path) is_yes before after = ⊤
 MakesOut name_of written failed held (MatchMany options table names) is_yes before after = ⊤
-MakesOut name_of written failed held (Find table budget out hex progress) is_yes before after = (t : TableView) × IsTableOf held table t × KeepsFound (IsMade name_of written failed held out.now) is_yes hex t budget before after
+MakesOut name_of written failed held (Find table ask) is_yes before after = (t : TableView) × IsTableOf held table t × KeepsFound (IsMade name_of written failed held ask.out.now) is_yes ask.hex t ask.budget before after
 MakesOut name_of written failed held (Conflicts table options progress) is_yes before after = (t : TableView) × IsTableOf held table t × (ask : ConflictsAsk) × AsksPairs options t ask × (refused : List ℕ) × AddsConflicts (IsMade name_of written failed held) is_yes refused ask t before after
-MakesOut name_of written failed held (Dead table budget hex progress) is_yes before after = ⊤
+MakesOut name_of written failed held (Dead table ask) is_yes before after = ⊤
 MakesOut name_of written failed held (Check table path) is_yes before after = ⊤
 MakesOut name_of written failed held (Witness table path) is_yes before after = ⊤
 
@@ -333,9 +333,9 @@ IsCutRequest failed held (Show table) before after = ⊥
 IsCutRequest failed held (Lint table) before after = ⊥
 IsCutRequest failed held (Match all table path) before after = ⊥
 IsCutRequest failed held (MatchMany options table names) before after = OfTable held table options (λ t ask. CutsMany ask (IsPrinted failed ask t held) names (AreVisitsOf ask held names) before after)
-IsCutRequest failed held (Find table budget out hex progress) before after = ⊥
+IsCutRequest failed held (Find table ask) before after = ⊥
 IsCutRequest failed held (Conflicts table options progress) before after = (t : TableView) × IsTableOf held table t × (ask : ConflictsAsk) × AsksPairs options t ask × AddsFirstPairs ask t before after
-IsCutRequest failed held (Dead table budget hex progress) before after = (t : TableView) × IsTableOf held table t × AddsFirstFates hex t budget before after
+IsCutRequest failed held (Dead table ask) before after = (t : TableView) × IsTableOf held table t × AddsFirstFates ask.hex t ask.budget before after
 IsCutRequest failed held (Check table path) before after = ⊥
 IsCutRequest failed held (Witness table path) before after = ⊥
 
@@ -365,9 +365,9 @@ ListsIf held (Show table) fault is_failed before after = ⊤
 ListsIf held (Lint table) fault is_failed before after = fault ≡ FaultyTable → (is_failed ≡ false) × IsReported false held table before after
 ListsIf held (Match all table file) fault is_failed before after = ⊤
 ListsIf held (MatchMany options table names) fault is_failed before after = ⊤
-ListsIf held (Find table budget out hex progress) fault is_failed before after = ⊤
+ListsIf held (Find table ask) fault is_failed before after = ⊤
 ListsIf held (Conflicts table options progress) fault is_failed before after = ⊤
-ListsIf held (Dead table budget hex progress) fault is_failed before after = ⊤
+ListsIf held (Dead table ask) fault is_failed before after = ⊤
 ListsIf held (Check table certificate) fault is_failed before after = ⊤
 ListsIf held (Witness table file) fault is_failed before after = ⊤
 
@@ -392,9 +392,9 @@ Shows failed held (Show table) is_answered is_failed before after = ⊥
 Shows failed held (Lint table) is_answered is_failed before after = ⊥
 Shows failed held (Match all table path) is_answered is_failed before after = ⊥
 Shows failed held (MatchMany options table names) is_answered is_failed before after = ((is_answered ≡ false) ⊎ ((options.progress || options.summary) ≡ true)) × OfTable held table options (λ t ask. is_failed ≡ false → AddsTold ask (IsPrinted failed ask t held) (AreVisitsOf ask held names) before after)
-Shows failed held (Find table budget out hex progress) is_answered is_failed before after = ((progress ≡ true) × (is_failed ≡ false → AddsProgress Products before after)) ⊎ ((is_answered ≡ true) × (is_failed ≡ false → ShowsReason held table progress hex budget before after))
+Shows failed held (Find table ask) is_answered is_failed before after = ((ask.progress ≡ true) × (is_failed ≡ false → AddsProgress Products before after)) ⊎ ((is_answered ≡ true) × (is_failed ≡ false → ShowsReason held table ask.progress ask.hex ask.budget before after))
 Shows failed held (Conflicts table options progress) is_answered is_failed before after = ((progress ≡ true) × (is_failed ≡ false → AddsProgress Pairs before after)) ⊎ ((is_answered ≡ true) × (is_some options.priorities ≡ true) × (is_failed ≡ false → ShowsRefused held table options progress before after))
-Shows failed held (Dead table budget hex progress) is_answered is_failed before after = (progress ≡ true) × (is_failed ≡ false → AddsProgress Formats before after)
+Shows failed held (Dead table ask) is_answered is_failed before after = (ask.progress ≡ true) × (is_failed ≡ false → AddsProgress Formats before after)
 Shows failed held (Check table path) is_answered is_failed before after = ⊥
 Shows failed held (Witness table path) is_answered is_failed before after = ⊥
 
@@ -447,9 +447,9 @@ Joins failed held (Lint table) fault before after err_failed err_before err_afte
 Joins failed held (Match all table path) fault before after err_failed err_before err_after = ⊤
 Joins failed held (MatchMany options table names) fault before after err_failed err_before err_after =
     (IsBeforeRun fault × (err_after ≡ err_before)) ⊎ OfTable held table options (λ t ask. TellsMany ask (IsPrinted failed ask t held) (AreVisitsOf ask held names) (IsList names) fault before after err_failed err_before err_after)
-Joins failed held (Find table budget out hex progress) fault before after err_failed err_before err_after = ⊤
+Joins failed held (Find table ask) fault before after err_failed err_before err_after = ⊤
 Joins failed held (Conflicts table options progress) fault before after err_failed err_before err_after = ⊤
-Joins failed held (Dead table budget hex progress) fault before after err_failed err_before err_after = ⊤
+Joins failed held (Dead table ask) fault before after err_failed err_before err_after = ⊤
 Joins failed held (Check table path) fault before after err_failed err_before err_after = ⊤
 Joins failed held (Witness table path) fault before after err_failed err_before err_after = ⊤
 
@@ -492,13 +492,13 @@ ShowsAsked held (Lint table) is_yes out_before out_after is_failed before after 
 ShowsAsked held (Match all table path) is_yes out_before out_after is_failed before after written written_after = after ≡ before
 ShowsAsked held (MatchMany options table names) is_yes out_before out_after is_failed before after written written_after =
     ((options.progress || options.summary) ≡ false → after ≡ before) × OfTable held table options (λ t ask. is_failed ≡ false → TellsOfEach ask t held (AreVisitsOf ask held names) out_before out_after written written_after)
-ShowsAsked held (Find table budget out hex progress) true out_before out_after is_failed before after written written_after = ShowsIf progress Products is_failed before after written written_after
-ShowsAsked held (Find table budget out hex progress) false out_before out_after is_failed before after written written_after =
-    is_failed ≡ false → (t : TableView) × IsTableOf held table t × TellsWhy progress hex t budget out_before out_after written written_after
+ShowsAsked held (Find table ask) true out_before out_after is_failed before after written written_after = ShowsIf ask.progress Products is_failed before after written written_after
+ShowsAsked held (Find table ask) false out_before out_after is_failed before after written written_after =
+    is_failed ≡ false → (t : TableView) × IsTableOf held table t × TellsWhy ask.progress ask.hex t ask.budget out_before out_after written written_after
 ShowsAsked held (Conflicts table options progress) is_yes out_before out_after is_failed before after written written_after =
     (options.priorities ≡ None → ShowsIf progress Pairs is_failed before after written written_after)
     × ((t : TableView) × IsTableOf held table t × (ask : ConflictsAsk) × AsksPairs options t ask × Settles IsAny progress is_yes ask t out_before out_after is_failed written written_after)
-ShowsAsked held (Dead table budget hex progress) is_yes out_before out_after is_failed before after written written_after = ShowsIf progress Formats is_failed before after written written_after
+ShowsAsked held (Dead table ask) is_yes out_before out_after is_failed before after written written_after = ShowsIf ask.progress Formats is_failed before after written written_after
 ShowsAsked held (Check table path) is_yes out_before out_after is_failed before after written written_after = after ≡ before
 ShowsAsked held (Witness table path) is_yes out_before out_after is_failed before after written written_after = after ≡ before
 

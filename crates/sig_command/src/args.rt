@@ -20,7 +20,7 @@ use crate::help::{
 };
 use clap::error::ErrorKind;
 use clap::{Arg, ArgAction, ArgMatches, Command, Error, value_parser};
-use sig_engines::TablePaths;
+use sig_engines::{DeadAsk, FindAsk, TablePaths};
 use std::alloc::Global;
 
 /// What the words ask of `conflicts`. Whether the table has the format of `only` is not looked at
@@ -94,10 +94,7 @@ pub(crate) enum Request<'m, 'a> {
     /// Whether a table is decided: a certificate of it, or a file that leaves two formats.
     Find {
         table: TablePaths<'a>,
-        budget: u32,
-        out: &'a str,
-        hex: bool,
-        progress: bool,
+        ask: FindAsk<'a>,
     },
     /// Which pairs of formats of a table are not decided.
     Conflicts {
@@ -108,9 +105,7 @@ pub(crate) enum Request<'m, 'a> {
     /// Which formats and signatures of a table no file can leave.
     Dead {
         table: TablePaths<'a>,
-        budget: u32,
-        hex: bool,
-        progress: bool,
+        ask: DeadAsk,
     },
     /// Whether a certificate of a table is accepted.
     Check {
@@ -565,10 +560,12 @@ fn find_request<'m, 'a>(matches: &'m ArgMatches<'a>) -> Option<Request<'m, 'a>>
     ensures none { result ≡ None → (request : Request) → ¬ Asks (asking (codes "find") matches.now) request }
 {
     Some(Request::Find {
-        budget: matches.get_one::<u32>("N")?,
-        out: matches.get_str("OUT")?,
-        hex: matches.get_flag("hex"),
-        progress: matches.get_flag("progress"),
+        ask: FindAsk {
+            budget: matches.get_one::<u32>("N")?,
+            out: matches.get_str("OUT")?,
+            hex: matches.get_flag("hex"),
+            progress: matches.get_flag("progress"),
+        },
         table: table_paths(matches)?,
     })
 }
@@ -604,9 +601,11 @@ fn dead_request<'m, 'a>(matches: &'m ArgMatches<'a>) -> Option<Request<'m, 'a>>
     ensures none { result ≡ None → (request : Request) → ¬ Asks (asking (codes "dead") matches.now) request }
 {
     Some(Request::Dead {
-        budget: matches.get_one::<u32>("N")?,
-        hex: matches.get_flag("hex"),
-        progress: matches.get_flag("progress"),
+        ask: DeadAsk {
+            budget: matches.get_one::<u32>("N")?,
+            hex: matches.get_flag("hex"),
+            progress: matches.get_flag("progress"),
+        },
         table: table_paths(matches)?,
     })
 }

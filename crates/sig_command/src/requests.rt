@@ -17,14 +17,14 @@ ghost use Rattle.std.specs.Vec.Iter.{into_iter_items};
 ghost use Rattle.std.specs.IoError.{error_kind};
 ghost use Rattle.clap.specs.Values.{kind_of};
 ghost use Rattle.clap.specs.Words.{Text};
-ghost use Rattle.sig_command.specs.Requests.{Answers, AnswersWords, AreNamesOf, AsksPairs, CutsSomeWords, CutsWords, IsFaultOf, IsFolderFault, IsListFault, IsLoadFault, IsNamesFaultOf, IsOnly, IsReported, IsRunFault, JoinsBoth, KeepsOrCuts, LacksPriorities, ListsIf, ListsSomeWords, ListsWords, MakesOut, MakesWords, NamesNone, ShowsAsked, ShowsSomeWords, ShowsWords, TellsOf, TellsRun, answer_of, file_fault, pairs_fault};
+ghost use Rattle.sig_command.specs.Requests.{Answers, AnswersWords, AreNamesOf, AsksPairs, CutsSomeWords, CutsWords, IsFaultOf, IsFolderFault, IsListFault, IsLoadFault, IsNamesFaultOf, IsOnly, IsReported, IsRunFault, JoinsBoth, KeepsOrCuts, LacksPriorities, ListsIf, ListsSomeWords, ListsWords, MakesOut, NamesNone, ShowsAsked, ShowsSomeWords, ShowsWords, TellsOf, TellsRun, answer_of, file_fault, pairs_fault};
 ghost use Rattle.sig_command.specs.Faults.{TellsWrite};
 ghost use Rattle.sig_command.specs.Several.{AreVisitsOf, IsList};
 ghost use Rattle.sig_engines.specs.ManyFiles.{AddsAll, AreListedVisits, IsPrinted};
 ghost use Rattle.sig_engines.specs.PriorityInputs.{to_come_of};
 ghost use Rattle.sig_engines.specs.Stores.{IsTableOf, LacksFolder, Opens, OpensPriorities, SomeFailed, SomeWriteFailed};
 ghost use Rattle.sig_command.specs.CommandLine.{AreTaken, texts_of};
-ghost use Rattle.sig_command.specs.Endings.{AnswersBy, EndsByFault, KeepsErrors, KeepsOutput, ReportsBy, ReportsMemory, TellsBy};
+ghost use Rattle.sig_command.specs.Endings.{AnswersBy, EndsByFault, KeepsErrors, KeepsOutput, MakesBy, ReportsBy, ReportsMemory, TellsBy};
 ghost use Rattle.sig_table.specs.Tables.{IsTable};
 
 use crate::args::{ConflictsOptions, FileNames, MatchOptions, Request, read_args, request_of};
@@ -35,10 +35,10 @@ use either::Either;
 use sig_bits::{FromRead, FromWrite, Input, Output};
 use sig_core::DroidCore;
 use sig_engines::{
-    ConflictsAsk, CutShort, FileFault, FormatNames, MatchAsk, MatchRun, NameReader, NamesError,
-    PairsFault, PriorityInput, RunError, Store, SystemFiles, TablePaths, WitnessName, find_dead,
-    format_named, run_check, run_find, run_lint, run_match, run_match_listed, run_match_many,
-    run_show, run_witness, settle,
+    ConflictsAsk, ConflictsRun, CutShort, DeadAsk, FileFault, FindAsk, FormatNames, MatchAsk,
+    MatchRun, NameReader, NamesError, PairsFault, PriorityInput, RunError, Store, SystemFiles,
+    TablePaths, WitnessName, find_dead, format_named, run_check, run_find, run_lint, run_match,
+    run_match_listed, run_match_many, run_show, run_witness, settle,
 };
 use sig_scan::BlockCore;
 use sig_table::{FormatId, Puid, Table};
@@ -117,7 +117,7 @@ pub fn command<R: Files + AllocGlobal, I: Read + Copy + Drop, W: Output, E: Outp
     out: &mut W,
     err: &mut E,
 ) -> u8
-    ensures known { result < 4 }
+    ensures status { (result < 4) × EndsByFault (texts_of words.now) result }
     ensures output { KeepsOutput (CutsWords ⟦<FromRead<Either<R::File, I>> as Input>⟧.failed None (texts_of words.now) (W.written out.old) (W.written out.new))
         (ListsWords None (texts_of words.now) (W.written out.old) (W.written out.new)) result (W.failed out.new) out.old out.new }
     ensures errors { KeepsErrors (ShowsWords ⟦<FromRead<Either<R::File, I>> as Input>⟧.failed None (texts_of words.now))
@@ -127,7 +127,6 @@ pub fn command<R: Files + AllocGlobal, I: Read + Copy + Drop, W: Output, E: Outp
         (E.failed err.new) err.old err.new (E.written err.old) (E.written err.new) }
     ensures faults { ReportsBy ⟦<FromRead<Either<R::File, I>> as Input>⟧.failed (SomeWriteFailed ⟦<FromWrite<R::File> as Output>⟧.failed (W.failed out.new))
         None (texts_of words.now) result W.written out.old out.new E.failed E.written err.old err.new }
-    ensures words { EndsByFault (texts_of words.now) result }
 {
     command_over(&SystemFiles::new(rt, input), rt.alloc(), words, out, err)
 }
@@ -146,21 +145,17 @@ pub fn command_over<S: Store, W: Output, E: Output>(
     out: &mut W,
     err: &mut E,
 ) -> u8
-    ensures known { result < 4 }
+    ensures status { (result < 4) × EndsByFault (texts_of words.now) result }
     ensures output { KeepsOutput (CutsWords S.Reader.failed (S.held store.now) (texts_of words.now) (W.written out.old) (W.written out.new))
         (ListsWords (S.held store.now) (texts_of words.now) (W.written out.old) (W.written out.new)) result (W.failed out.new) out.old out.new }
     ensures errors { KeepsErrors (ShowsWords S.Reader.failed (S.held store.now) (texts_of words.now))
         result (E.failed err.new) err.old err.new (E.written err.old) (E.written err.new) }
     ensures answers { AnswersBy (S.held store.now) (texts_of words.now) result (W.written out.old) (W.written out.new) }
-    ensures made { AreTaken (texts_of words.now) → result ≡ 0 → MakesWords S.name_of S.Writer.written S.Writer.failed (S.held store.now) (texts_of words.now)
-        true (W.written out.old) (W.written out.new) }
-    ensures made_by_no { AreTaken (texts_of words.now) → result ≡ 1 → MakesWords S.name_of S.Writer.written S.Writer.failed (S.held store.now) (texts_of words.now)
-        false (W.written out.old) (W.written out.new) }
+    ensures made { MakesBy S.name_of S.Writer.written S.Writer.failed (S.held store.now) (texts_of words.now) result (W.written out.old) (W.written out.new) }
     ensures told { TellsBy (S.held store.now) (texts_of words.now) result (W.written out.old) (W.written out.new)
         (E.failed err.new) err.old err.new (E.written err.old) (E.written err.new) }
     ensures faults { ReportsBy S.Reader.failed (SomeWriteFailed S.Writer.failed (W.failed out.new)) (S.held store.now) (texts_of words.now)
         result W.written out.old out.new E.failed E.written err.old err.new }
-    ensures words { EndsByFault (texts_of words.now) result }
 {
     let matches = match read_args(alloc, words) {
         Ok(matches) => matches,
@@ -209,24 +204,13 @@ fn answer<'m, 'a, S: Store, W: Output, E: Output>(
             table,
             names,
         } => match_many(store, alloc, options, table, names, out, err),
-        Request::Find {
-            table,
-            budget,
-            out: name,
-            hex,
-            progress,
-        } => find_in_table(store, alloc, table, budget, name, hex, progress, out, err),
+        Request::Find { table, ask } => find_in_table(store, alloc, table, ask, out, err),
         Request::Conflicts {
             table,
             options,
             progress,
         } => settle_pairs(store, alloc, table, options, progress, out, err),
-        Request::Dead {
-            table,
-            budget,
-            hex,
-            progress,
-        } => judge_formats(store, alloc, table, budget, hex, progress, out, err),
+        Request::Dead { table, ask } => judge_formats(store, alloc, table, ask, out, err),
         Request::Check { table, certificate } => {
             check_certificate(store, alloc, table, certificate, out)
         }
@@ -451,31 +435,28 @@ fn find_in_table<'a, S: Store, W: Output, E: Output>(
     store: &S,
     alloc: Global,
     table: TablePaths<'a>,
-    budget: u32,
-    name: &'a str,
-    hex: bool,
-    progress: bool,
+    ask: FindAsk<'a>,
     out: &mut W,
     err: &mut E,
 ) -> Result<bool, Fault<'a>>
-    ensures told { TellsOf S.Reader.failed (S.held store.now) (Request.Find table.entry budget name.entry hex progress)
+    ensures told { TellsOf S.Reader.failed (S.held store.now) (Request.Find table.entry ask.entry)
         (is_ok result) E.failed E.written err.old err.new }
-    ensures answers { IfOk result (λ is_yes. Answers (S.held store.now) (Request.Find table.entry budget name.entry hex progress)
+    ensures answers { IfOk result (λ is_yes. Answers (S.held store.now) (Request.Find table.entry ask.entry)
         is_yes (W.written out.old) (W.written out.new)) }
     ensures made { IfOk result (λ is_yes. MakesOut S.name_of S.Writer.written S.Writer.failed (S.held store.now)
-        (Request.Find table.entry budget name.entry hex progress) is_yes (W.written out.old) (W.written out.new)) }
+        (Request.Find table.entry ask.entry) is_yes (W.written out.old) (W.written out.new)) }
     ensures shown { OnOk result (W.failed out.new ≡ false) }
-    ensures progress { IfOk result (λ is_yes. ShowsAsked (S.held store.now) (Request.Find table.entry budget name.entry hex progress) is_yes
+    ensures progress { IfOk result (λ is_yes. ShowsAsked (S.held store.now) (Request.Find table.entry ask.entry) is_yes
         (W.written out.old) (W.written out.new) (E.failed err.new) err.old err.new (E.written err.old) (E.written err.new)) }
-    ensures faults { IfErr result (IsFaultOf S.Reader.failed (S.held store.now) (Request.Find table.entry budget name.entry hex progress)) }
+    ensures faults { IfErr result (IsFaultOf S.Reader.failed (S.held store.now) (Request.Find table.entry ask.entry)) }
     ensures write { IfErr result (λ fault. TellsWrite fault → SomeWriteFailed S.Writer.failed (W.failed out.new)) }
     ensures untouched { IfErr result (λ fault. fault ≢ Fault.Run RunError.Write → out.new ≡ out.old) }
     ensures whole { IfErr result (λ fault. W.failed out.new ≡ false → out.new ≡ out.old) }
 {
     let table = load(store, alloc, table)?;
-    match run_find(alloc, store, &table, budget, hex, progress, name, out, err) {
+    match run_find(alloc, store, &table, ask, out, err) {
         Ok(is_yes) => Ok(is_yes),
-        Err(fault) => Err(file_fault(name, fault)),
+        Err(fault) => Err(file_fault(ask.out, fault)),
     }
 }
 
@@ -508,7 +489,13 @@ fn settle_pairs<'a, S: Store, W: Output, E: Output>(
     }
     let table = load(store, alloc, table)?;
     let ask = ask_of(&table, options)?;
-    match settle(alloc, store, &table, ask, progress, out, err) {
+    let run = ConflictsRun {
+        alloc,
+        store,
+        table: &table,
+        ask,
+    };
+    match settle(&run, progress, out, err) {
         Ok(is_yes) => Ok(is_yes),
         Err(fault) => Err(pairs_fault(fault)),
     }
@@ -562,26 +549,24 @@ fn judge_formats<'a, S: Store, W: Output, E: Output>(
     store: &S,
     alloc: Global,
     table: TablePaths<'a>,
-    budget: u32,
-    hex: bool,
-    progress: bool,
+    ask: DeadAsk,
     out: &mut W,
     err: &mut E,
 ) -> Result<bool, Fault<'a>>
-    ensures told { TellsOf S.Reader.failed (S.held store.now) (Request.Dead table.entry budget hex progress) (is_ok result) E.failed E.written err.old err.new }
-    ensures answers { IfOk result (λ is_yes. Answers (S.held store.now) (Request.Dead table.entry budget hex progress)
+    ensures told { TellsOf S.Reader.failed (S.held store.now) (Request.Dead table.entry ask) (is_ok result) E.failed E.written err.old err.new }
+    ensures answers { IfOk result (λ is_yes. Answers (S.held store.now) (Request.Dead table.entry ask)
         is_yes (W.written out.old) (W.written out.new)) }
     ensures shown { OnOk result (W.failed out.new ≡ false) }
-    ensures progress { IfOk result (λ is_yes. ShowsAsked (S.held store.now) (Request.Dead table.entry budget hex progress) is_yes
+    ensures progress { IfOk result (λ is_yes. ShowsAsked (S.held store.now) (Request.Dead table.entry ask) is_yes
         (W.written out.old) (W.written out.new) (E.failed err.new) err.old err.new (E.written err.old) (E.written err.new)) }
-    ensures faults { IfErr result (IsFaultOf S.Reader.failed (S.held store.now) (Request.Dead table.entry budget hex progress)) }
+    ensures faults { IfErr result (IsFaultOf S.Reader.failed (S.held store.now) (Request.Dead table.entry ask)) }
     ensures write { IfErr result (λ fault. TellsWrite fault → W.failed out.new ≡ true) }
     ensures untouched { IfErr result (λ fault. ((e : CutShort) → fault ≢ Fault.CutShort e) → out.new ≡ out.old) }
     ensures whole { IfErr result (λ fault. KeepsOrCuts S.Reader.failed (S.held store.now)
-        (Request.Dead table.entry budget hex progress) W.failed W.written out.old out.new) }
+        (Request.Dead table.entry ask) W.failed W.written out.old out.new) }
 {
     let table = load(store, alloc, table)?;
-    match find_dead(alloc, &table, budget, hex, progress, out, err) {
+    match find_dead(alloc, &table, ask, out, err) {
         Ok(is_yes) => Ok(is_yes),
         Err(cut) => Err(Fault::CutShort(cut)),
     }

@@ -257,3 +257,9 @@ abbrev pub IsBeforeSearch : PairsFault → Type 0
 IsBeforeSearch (CannotOpen name) = ⊤
 IsBeforeSearch (NoFile folder name) = ⊥
 IsBeforeSearch (Cut cut) = ⊥
+
+-- why `conflicts` gives no answer: what is written then, that what can't be made may not be made, and that nothing is written before the search
+pub record StopsConflicts {F : Type 0} (failed : F → Bool) (held : Holding) (ask : ConflictsAsk) (table : TableView) (is_failed : Bool) (before after : Option (List ℕ)) (Stays : Type 0) (fault : PairsFault) : Type 0 where
+  pub stops : StopsPairs failed fault ask table is_failed before after
+  pub unmade : IsUnmade held fault
+  pub untouched : IsBeforeSearch fault → Stays

@@ -16,6 +16,7 @@ pub mod ManyFiles
 pub mod Notes
 pub mod PriorityInputs
 pub mod Progress
+pub mod Refusals
 pub mod Shown
 pub mod Stores
 pub mod Tallies

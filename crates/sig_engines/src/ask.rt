@@ -1,4 +1,4 @@
-//! What `match` of many files and `conflicts` are asked for.
+//! What `match` of many files, `find`, `conflicts` and `dead` are asked for.
 
 ghost use Rattle.std.specs.Prelude.{◌≡◌};
 ghost use Rattle.sig_engines.specs.Asks.{IsFormatNamed, is_asked, needs_class, shows_class};
@@ -34,6 +34,30 @@ pub struct MatchRun<'r, S, K> {
     pub ask: MatchAsk<'r>,
 }
 
+/// What `find` is asked for.
+#[derive(Clone, Copy, Debug, PartialEq, Eq)]
+pub struct FindAsk<'a> {
+    /// The greatest number of rows of one product.
+    pub budget: u32,
+    /// The name of the file that is made of what is found.
+    pub out: &'a str,
+    /// A second line has the bytes of that file.
+    pub hex: bool,
+    /// Reports on the error output of how many products are done.
+    pub progress: bool,
+}
+
+/// What `dead` is asked for.
+#[derive(Clone, Copy, Debug, PartialEq, Eq)]
+pub struct DeadAsk {
+    /// The greatest number of rows of one search.
+    pub budget: u32,
+    /// The lines have the bytes of their files.
+    pub hex: bool,
+    /// Reports on the error output of how many formats are done.
+    pub progress: bool,
+}
+
 /// What `conflicts` is asked for.
 #[derive(Clone, Copy, Debug, PartialEq, Eq)]
 pub struct ConflictsAsk<'a> {
@@ -52,6 +76,16 @@ pub struct ConflictsAsk<'a> {
     pub priorities: Option<&'a str>,
     /// The name of a folder in which the file of each ambiguous pair is made.
     pub files: Option<&'a str>,
+}
+
+/// What `conflicts` searches, and where it makes files.
+#[derive(Drop)]
+pub struct ConflictsRun<'r, 'a, S> {
+    pub alloc: Global,
+    /// Where files are made.
+    pub store: &'r S,
+    pub table: &'r Table,
+    pub ask: ConflictsAsk<'a>,
 }
 
 impl ConflictsAsk<'_> {

@@ -9,6 +9,7 @@ ghost use Rattle.sig_bits.specs.Device.{IsAtEnd};
 ghost use Rattle.sig_cert.specs.Deciding.{Decided};
 ghost use Rattle.sig_cert.specs.Verdicts.{Verdict};
 ghost use Rattle.sig_engines.specs.Judged.{AddsVerdictOfSome};
+ghost use Rattle.sig_engines.specs.Refusals.{ReadsThenWrites};
 
 use crate::error::RunError;
 use crate::lines::line_of_verdict;
@@ -32,16 +33,9 @@ pub fn run_check<C: Input, W: Output>(
     ensures decided { result ≡ Ok true → Decided table.now }
     ensures at_end { OnOk result (IsAtEnd (C.to_come certificate.new)) }
 
-    // Each refusal, and when.
-    ensures reads { OnOk result (C.failed certificate.new ≡ false) }
-    ensures writes { OnOk result (W.failed out.new ≡ false) }
-    ensures read { IsErrOf result RunError.Read → C.failed certificate.new ≡ true }
-    ensures write { IsErrOf result RunError.Write → W.failed out.new ≡ true }
+    // Each refusal, and when. Before the verdict is known nothing is written.
+    ensures refuses { ReadsThenWrites result (C.failed certificate.new ≡ false) (C.failed certificate.new ≡ true) (W.failed out.new) (out.new ≡ out.old) }
     ensures memory { IsErrOf result RunError.OutOfMemory → C.failed certificate.old ≡ false → C.failed certificate.new ≡ false }
-
-    // Before the verdict is known nothing is written.
-    ensures read_stays { IsErrOf result RunError.Read → out.new ≡ out.old }
-    ensures memory_stays { IsErrOf result RunError.OutOfMemory → out.new ≡ out.old }
 {
     let bytes = read_whole(alloc, certificate)?;
     let verdict = judge(alloc, table, &bytes)?;

@@ -6,7 +6,7 @@
 //! pairs together, a line for each format and the forced pairs, is made of their notes at the end.
 
 ghost use Rattle.std.specs.Prelude.{◌≡◌, ◌↔◌, ◌+◌, ◌-◌, ◌++◌, ◌^◌, ◌<◌, [], None, Some, All, false, true, IfErr, IfOk, IsSome, IsTrue, OnOk, length, string_bytes};
-ghost use Rattle.sig_engines.specs.Conflicts.{AddsConflicts, IsBeforeSearch, IsClassOf, IsCounted, IsUnmade, StopsPairs, asked_line, classes_in, counts_line, pairs_in};
+ghost use Rattle.sig_engines.specs.Conflicts.{AddsConflicts, IsClassOf, IsCounted, IsUnmade, StopsConflicts, asked_line, classes_in, counts_line, pairs_in};
 ghost use Rattle.sig_engines.specs.Forced.{Forces};
 ghost use Rattle.sig_engines.specs.Notes.{noted, summary_if_asked};
 ghost use Rattle.sig_engines.specs.Pairs.{AreTold, IsFileAsked, IsFileFault, IsPairCut, IsRankFault, IsTargetFault, IsTold};
@@ -16,12 +16,11 @@ ghost use Rattle.sig_engines.specs.Asks.{shows_class};
 ghost use Rattle.sig_engines.specs.Witnesses.{KeepsWitness};
 ghost use Rattle.sig_bits.specs.Device.{Adds, AddsFront};
 ghost use Rattle.sig_cert.specs.Deciding.{AreFormats, Decided};
-ghost use Rattle.sig_cert.specs.Pairs.{AreRelated};
 ghost use Rattle.sig_find.specs.FormatPairs.{NamesSignatures};
 ghost use Rattle.sig_find.specs.Lives.{AreLivesOfTable};
 ghost use Rattle.sig_table.specs.Tables.{IsTable};
 
-use crate::ask::ConflictsAsk;
+use crate::ask::{ConflictsAsk, ConflictsRun};
 use crate::counts::Counts;
 use crate::error::{CutShort, PairsFault};
 use crate::forced::rank_forced;
@@ -56,44 +55,39 @@ pub struct PairsAnswer {
 /// told how many of how many pairs are done, at once and after each.
 #[inline(never)]
 pub fn run_conflicts<'a, S: Store, W: Output, O: Observer>(
-    alloc: Global,
-    store: &S,
-    table: &Table,
-    ask: ConflictsAsk<'a>,
+    run: &ConflictsRun<'_, 'a, S>,
     out: &mut W,
     observer: &mut O,
 ) -> Result<PairsAnswer, PairsFault<'a>>
-    ensures answers { IfOk result (λ answer. AddsConflicts (IsMade S.name_of S.Writer.written S.Writer.failed (S.held store.now))
-        answer.all_decided (string_bytes answer.refused) ask.entry table.now (W.written out.old) (W.written out.new)) }
-    ensures decided { IfOk result (λ answer. answer.all_decided ≡ true → ask.entry.only ≡ None → Decided table.now) }
+    ensures answers { IfOk result (λ answer. AddsConflicts (IsMade S.name_of S.Writer.written S.Writer.failed (S.held run.now.store.now))
+        answer.all_decided (string_bytes answer.refused) run.now.ask run.now.table.now (W.written out.old) (W.written out.new)) }
+    ensures decided { IfOk result (λ answer. answer.all_decided ≡ true → run.now.ask.only ≡ None → Decided run.now.table.now) }
     ensures writes { OnOk result (W.failed out.new ≡ false) }
-    ensures stops { IfErr result (λ fault. StopsPairs S.Writer.failed fault ask.entry table.now (W.failed out.new) (W.written out.old) (W.written out.new)) }
-    ensures unmade { IfErr result (IsUnmade (S.held store.now)) }
-    ensures untouched { IfErr result (λ fault. IsBeforeSearch fault → out.new ≡ out.old) }
+    ensures stops { IfErr result (StopsConflicts S.Writer.failed (S.held run.now.store.now) run.now.ask run.now.table.now
+        (W.failed out.new) (W.written out.old) (W.written out.new) (out.new ≡ out.old)) }
     ensures observed { O.becomes observer.old observer.new }
 {
-    let file = make_targets(store, ask)?;
-    answer_pairs(alloc, store, table, ask, file, out, observer)
+    let file = make_targets(run)?;
+    answer_pairs(run, file, out, observer)
 }
 
 /// Makes the folder and the priority file that are asked for.
 pub(crate) fn make_targets<'a, S: Store>(
-    store: &S,
-    ask: ConflictsAsk<'a>,
+    run: &ConflictsRun<'_, 'a, S>,
 ) -> Result<Option<S::Writer>, PairsFault<'a>>
-    ensures made { IfOk result (IsFileAsked S.name_of S.Writer.written S.Writer.failed (S.held store.now) ask.entry.priorities) }
-    ensures faults { IfErr result (λ fault. IsTargetFault fault ask.entry) }
-    ensures unmade { IfErr result (IsUnmade (S.held store.now)) }
+    ensures made { IfOk result (IsFileAsked S.name_of S.Writer.written S.Writer.failed (S.held run.now.store.now) run.now.ask.priorities) }
+    ensures faults { IfErr result (λ fault. IsTargetFault fault run.now.ask) }
+    ensures unmade { IfErr result (IsUnmade (S.held run.now.store.now)) }
 {
-    if let Some(folder) = ask.files {
-        if !store.make_folder(folder) {
+    if let Some(folder) = run.ask.files {
+        if !run.store.make_folder(folder) {
             return Err(PairsFault::CannotOpen(folder));
         }
     }
-    let Some(name) = ask.priorities else {
+    let Some(name) = run.ask.priorities else {
         return Ok(None);
     };
-    match store.create(name) {
+    match run.store.create(name) {
         Some(file) => Ok(Some(file)),
         None => Err(PairsFault::CannotOpen(name)),
     }
@@ -101,28 +95,24 @@ pub(crate) fn make_targets<'a, S: Store>(
 
 /// The same over a priority file that was made, where one is asked for.
 pub(crate) fn answer_pairs<'a, S: Store, W: Output, O: Observer>(
-    alloc: Global,
-    store: &S,
-    table: &Table,
-    ask: ConflictsAsk<'a>,
+    run: &ConflictsRun<'_, 'a, S>,
     file: Option<S::Writer>,
     out: &mut W,
     observer: &mut O,
 ) -> Result<PairsAnswer, PairsFault<'a>>
-    requires { IsFileAsked S.name_of S.Writer.written S.Writer.failed (S.held store.now) ask.priorities file }
-    ensures answers { IfOk result (λ answer. AddsConflicts (IsMade S.name_of S.Writer.written S.Writer.failed (S.held store.now))
-        answer.all_decided (string_bytes answer.refused) ask.entry table.now (W.written out.old) (W.written out.new)) }
-    ensures decided { IfOk result (λ answer. answer.all_decided ≡ true → ask.entry.only ≡ None → Decided table.now) }
+    requires { IsFileAsked S.name_of S.Writer.written S.Writer.failed (S.held run.now.store.now) run.now.ask.priorities file }
+    ensures answers { IfOk result (λ answer. AddsConflicts (IsMade S.name_of S.Writer.written S.Writer.failed (S.held run.now.store.now))
+        answer.all_decided (string_bytes answer.refused) run.now.ask run.now.table.now (W.written out.old) (W.written out.new)) }
+    ensures decided { IfOk result (λ answer. answer.all_decided ≡ true → run.now.ask.only ≡ None → Decided run.now.table.now) }
     ensures writes { OnOk result (W.failed out.new ≡ false) }
-    ensures stops { IfErr result (λ fault. StopsPairs S.Writer.failed fault ask.entry table.now (W.failed out.new) (W.written out.old) (W.written out.new)) }
-    ensures unmade { IfErr result (IsUnmade (S.held store.now)) }
-    ensures searched { IfErr result (λ fault. ¬ IsBeforeSearch fault) }
+    ensures stops { IfErr result (StopsConflicts S.Writer.failed (S.held run.now.store.now) run.now.ask run.now.table.now
+        (W.failed out.new) (W.written out.old) (W.written out.new) ⊥) }
     ensures observed { O.becomes observer.old observer.new }
 {
-    let lives = lives_of_table(alloc, table, ask.budget)?;
-    let told = write_pairs(alloc, store, table, ask, &lives, out, observer)?;
-    let refused = write_forced(alloc, store, table, ask, &told.notes, file)?;
-    let lines = last_lines(alloc, table, ask, told.counts, &told.notes)?;
+    let lives = lives_of_table(run.alloc, run.table, run.ask.budget)?;
+    let told = write_pairs(run, &lives, out, observer)?;
+    let refused = write_forced(run, &told.notes, file)?;
+    let lines = last_lines(run, told.counts, &told.notes)?;
     write_line(lines.as_str(), out)?;
     Ok(PairsAnswer {
         all_decided: told.counts.are_all_decided(),
@@ -167,38 +157,34 @@ impl Told {
 
 // Writes the lines of all pairs that are asked for, in table order.
 fn write_pairs<'a, S: Store, W: Output, O: Observer>(
-    alloc: Global,
-    store: &S,
-    table: &Table,
-    ask: ConflictsAsk<'a>,
+    run: &ConflictsRun<'_, 'a, S>,
     lives: &TableLives,
     out: &mut W,
     observer: &mut O,
 ) -> Result<Told, PairsFault<'a>>
-    requires { AreLivesOfTable table.now ask.budget lives.now }
-    ensures told { IfOk result (λ told. AreTold (IsMade S.name_of S.Writer.written S.Writer.failed (S.held store.now)) ask.entry table.now []
+    requires { AreLivesOfTable run.now.table.now run.now.ask.budget lives.now }
+    ensures told { IfOk result (λ told. AreTold (IsMade S.name_of S.Writer.written S.Writer.failed (S.held run.now.store.now)) run.now.ask run.now.table.now []
         told.counts told.notes.items (W.written out.old) (W.written out.new)) }
-    ensures limits { IsTable table.now }
+    ensures limits { IsTable run.now.table.now }
     ensures few { IfOk result (λ told. pairs_in told.counts < 2 ^ 32) }
-    ensures stops { IfErr result (λ fault. StopsPairs S.Writer.failed fault ask.entry table.now (W.failed out.new) (W.written out.old) (W.written out.new)) }
-    ensures unmade { IfErr result (IsUnmade (S.held store.now)) }
-    ensures searched { IfErr result (λ fault. ¬ IsBeforeSearch fault) }
+    ensures stops { IfErr result (StopsConflicts S.Writer.failed (S.held run.now.store.now) run.now.ask run.now.table.now
+        (W.failed out.new) (W.written out.old) (W.written out.new) ⊥) }
     ensures observed { O.becomes observer.old observer.new }
 {
-    let formats = table.format_count() as u16;
+    let formats = run.table.format_count() as u16;
     let mut told = Told {
         counts: Counts::new(),
-        notes: Vec::new(alloc),
+        notes: Vec::new(run.alloc),
     };
-    let pairs = pair_count(table, ask);
+    let pairs = pair_count(run.table, run.ask);
     observer.report(0, pairs);
     for i in 0..formats {
         for j in i + 1..formats {
             let (a, b) = (FormatId(i), FormatId(j));
-            if !ask.has_pair(a, b) {
+            if !run.ask.has_pair(a, b) {
                 continue;
             }
-            write_pair(alloc, store, table, ask, lives, a, b, &mut told, out)?;
+            write_pair(run, lives, a, b, &mut told, out)?;
             observer.report(u64::from(told.counts.pairs()), pairs);
         }
     }
@@ -212,7 +198,7 @@ fn pair_count(table: &Table, ask: ConflictsAsk<'_>) -> u64 {
     for i in 0..formats {
         for j in i + 1..formats {
             let (a, b) = (FormatId(i), FormatId(j));
-            if ask.has_pair(a, b) && !are_related(table, a, b) {
+            if ask.has_pair(a, b) && !table.are_related(a, b) {
                 count = count.saturating_add(1);
             }
         }
@@ -222,109 +208,99 @@ fn pair_count(table: &Table, ask: ConflictsAsk<'_>) -> u64 {
 
 // Settles one pair, notes it, keeps its file and writes its line, if it has them.
 fn write_pair<'a, S: Store, W: Output>(
-    alloc: Global,
-    store: &S,
-    table: &Table,
-    ask: ConflictsAsk<'a>,
+    run: &ConflictsRun<'_, 'a, S>,
     lives: &TableLives,
     a: FormatId,
     b: FormatId,
     told: &mut Told,
     out: &mut W,
 ) -> Result<(), PairsFault<'a>>
-    requires lives { AreLivesOfTable table.now ask.budget lives.now }
-    requires formats { AreFormats table.now (a, b) }
+    requires lives { AreLivesOfTable run.now.table.now run.now.ask.budget lives.now }
+    requires formats { AreFormats run.now.table.now (a, b) }
     requires few { pairs_in told.old.counts < 2 ^ 32 - 1 }
     requires few_classes { classes_in told.old.counts < 2 ^ 32 - 1 }
-    ensures told { OnOk result (IsTold (IsMade S.name_of S.Writer.written S.Writer.failed (S.held store.now)) ask.entry table.now (a.0, b.0)
+    ensures told { OnOk result (IsTold (IsMade S.name_of S.Writer.written S.Writer.failed (S.held run.now.store.now)) run.now.ask run.now.table.now (a.0, b.0)
         told.old.counts told.new.counts told.old.notes.items told.new.notes.items (W.written out.old) (W.written out.new)) }
-    ensures cut { IfErr result (λ fault. IsPairCut S.Writer.failed fault ask.entry table.now (a.0, b.0) (W.failed out.new) (W.written out.old) (W.written out.new)) }
-    ensures unmade { IfErr result (IsUnmade (S.held store.now)) }
+    ensures cut { IfErr result (λ fault. IsPairCut S.Writer.failed fault run.now.ask run.now.table.now (a.0, b.0) (W.failed out.new) (W.written out.old) (W.written out.new)) }
+    ensures unmade { IfErr result (IsUnmade (S.held run.now.store.now)) }
 {
-    if are_related(table, a, b) {
+    if run.table.are_related(a, b) {
         return Ok(());
     }
-    let decision = decide_pair(alloc, table, lives, a, b, ask.budget)?;
-    let class = class_if_asked(alloc, table, ask, lives, a, b, &decision)?;
-    let line = line_if_asked(alloc, table, ask, a, b, &decision, class)?;
+    let decision = decide_pair(run.alloc, run.table, lives, a, b, run.ask.budget)?;
+    let class = class_if_asked(run, lives, a, b, &decision)?;
+    let line = line_if_asked(run, a, b, &decision, class)?;
     told.add(a, b, &decision, class)?;
-    keep_witness(alloc, store, table, ask, a, b, &decision)?;
+    keep_witness(run, a, b, &decision)?;
     write_line(line.as_str(), out)?;
     Ok(())
 }
 
 // The class of a pair that is ambiguous, where classes are needed.
-fn class_if_asked(
-    alloc: Global,
-    table: &Table,
-    ask: ConflictsAsk<'_>,
+fn class_if_asked<S>(
+    run: &ConflictsRun<'_, '_, S>,
     lives: &TableLives,
     a: FormatId,
     b: FormatId,
     decision: &PairDecision,
 ) -> Result<Option<PairClass>, AllocError>
-    requires lives { AreLivesOfTable table.now ask.budget lives.now }
-    requires formats { AreFormats table.now (a, b) }
-    ensures { IfOk result (λ class. IsClassOf ask.entry table.now (a.0, b.0) (Some decision.now) class) }
+    requires lives { AreLivesOfTable run.now.table.now run.now.ask.budget lives.now }
+    requires formats { AreFormats run.now.table.now (a, b) }
+    ensures { IfOk result (λ class. IsClassOf run.now.ask run.now.table.now (a.0, b.0) (Some decision.now) class) }
 {
-    if !ask.needs_class() {
+    if !run.ask.needs_class() {
         return Ok(None);
     }
     match decision {
         PairDecision::Ambiguous { .. } | PairDecision::Tried { .. } => {
-            Ok(Some(class_of_pair(alloc, table, lives, a, b, ask.budget)?))
+            Ok(Some(class_of_pair(run.alloc, run.table, lives, a, b, run.ask.budget)?))
         }
         PairDecision::Decided | PairDecision::Unknown { .. } => Ok(None),
     }
 }
 
 // The line of a pair; nothing where each format has a line instead.
-fn line_if_asked(
-    alloc: Global,
-    table: &Table,
-    ask: ConflictsAsk<'_>,
+fn line_if_asked<S>(
+    run: &ConflictsRun<'_, '_, S>,
     a: FormatId,
     b: FormatId,
     decision: &PairDecision,
     class: Option<PairClass>,
 ) -> Result<String, AllocError>
-    requires formats { AreFormats table.now (a, b) }
-    requires signatures { NamesSignatures table.now (a.0, b.0) decision.now }
-    ensures { IfOk result (λ line. string_bytes line ≡ asked_line ask.entry table.now (a.0, b.0) decision.now class) }
+    requires formats { AreFormats run.now.table.now (a, b) }
+    requires signatures { NamesSignatures run.now.table.now (a.0, b.0) decision.now }
+    ensures { IfOk result (λ line. string_bytes line ≡ asked_line run.now.ask run.now.table.now (a.0, b.0) decision.now class) }
 {
-    if ask.summary {
-        return Ok(String::new(alloc));
+    if run.ask.summary {
+        return Ok(String::new(run.alloc));
     }
-    let shown = if ask.class { class } else { None };
-    line_of_pair(alloc, table, a, b, decision, shown, ask.hex)
+    let shown = if run.ask.class { class } else { None };
+    line_of_pair(run.alloc, run.table, a, b, decision, shown, run.ask.hex)
 }
 
 // Writes the file of an ambiguous pair, where there is a folder for it.
 fn keep_witness<'a, S: Store>(
-    alloc: Global,
-    store: &S,
-    table: &Table,
-    ask: ConflictsAsk<'a>,
+    run: &ConflictsRun<'_, 'a, S>,
     a: FormatId,
     b: FormatId,
     decision: &PairDecision,
 ) -> Result<(), PairsFault<'a>>
-    requires { AreFormats table.now (a, b) }
-    ensures kept { OnOk result (KeepsWitness (IsMade S.name_of S.Writer.written S.Writer.failed (S.held store.now)) table.now ask.entry.files
+    requires { AreFormats run.now.table.now (a, b) }
+    ensures kept { OnOk result (KeepsWitness (IsMade S.name_of S.Writer.written S.Writer.failed (S.held run.now.store.now)) run.now.table.now run.now.ask.files
         (a.0, b.0) (Some decision.now)) }
-    ensures faults { IfErr result (λ fault. IsFileFault S.Writer.failed fault ask.entry table.now (a.0, b.0)) }
-    ensures unmade { IfErr result (IsUnmade (S.held store.now)) }
+    ensures faults { IfErr result (λ fault. IsFileFault S.Writer.failed fault run.now.ask run.now.table.now (a.0, b.0)) }
+    ensures unmade { IfErr result (IsUnmade (S.held run.now.store.now)) }
 {
-    let Some(folder) = ask.files else {
+    let Some(folder) = run.ask.files else {
         return Ok(());
     };
     let file = match decision {
         PairDecision::Ambiguous { file, .. } | PairDecision::Tried { file, .. } => file,
         PairDecision::Decided | PairDecision::Unknown { .. } => return Ok(()),
     };
-    let name = WitnessName::of(table, a, b);
-    let path = name.path(alloc, folder)?;
-    let Some(mut made) = store.create(path.as_str()) else {
+    let name = WitnessName::of(run.table, a, b);
+    let path = name.path(run.alloc, folder)?;
+    let Some(mut made) = run.store.create(path.as_str()) else {
         return Err(PairsFault::NoFile(folder, name));
     };
     match made.write_all(file) {
@@ -336,26 +312,23 @@ fn keep_witness<'a, S: Store>(
 // Writes the priorities of the table and the forced pairs to the priority file, if there is one.
 // Answers a line for each forced pair that is not written.
 fn write_forced<'a, S: Store>(
-    alloc: Global,
-    store: &S,
-    table: &Table,
-    ask: ConflictsAsk<'a>,
+    run: &ConflictsRun<'_, 'a, S>,
     notes: &[Note],
     file: Option<S::Writer>,
 ) -> Result<String, PairsFault<'a>>
-    requires file { IsFileAsked S.name_of S.Writer.written S.Writer.failed (S.held store.now) ask.priorities file }
-    requires notes { All (IsOfFormats table.now) notes.now }
-    requires limits { IsTable table.now }
-    ensures forces { IfOk result (λ refused. Forces (IsMade S.name_of S.Writer.written S.Writer.failed (S.held store.now)) table.now
-        ask.entry.budget ask.entry.priorities notes.now (string_bytes refused)) }
+    requires file { IsFileAsked S.name_of S.Writer.written S.Writer.failed (S.held run.now.store.now) run.now.ask.priorities file }
+    requires notes { All (IsOfFormats run.now.table.now) notes.now }
+    requires limits { IsTable run.now.table.now }
+    ensures forces { IfOk result (λ refused. Forces (IsMade S.name_of S.Writer.written S.Writer.failed (S.held run.now.store.now)) run.now.table.now
+        run.now.ask.budget run.now.ask.priorities notes.now (string_bytes refused)) }
     ensures faults { IfErr result (IsRankFault S.Writer.failed) }
-    ensures unmade { IfErr result (IsUnmade (S.held store.now)) }
+    ensures unmade { IfErr result (IsUnmade (S.held run.now.store.now)) }
 {
     let Some(mut file) = file else {
-        return Ok(String::new(alloc));
+        return Ok(String::new(run.alloc));
     };
-    let forced = rank_forced(alloc, table, notes, ask.budget)?;
-    match forced.ranking.write(alloc, table, &mut file) {
+    let forced = rank_forced(run.alloc, run.table, notes, run.ask.budget)?;
+    match forced.ranking.write(run.alloc, run.table, &mut file) {
         Ok(()) => Ok(forced.refused),
         Err(OutError::Write) => Err(PairsFault::Cut(CutShort::Write)),
         Err(OutError::OutOfMemory) => Err(PairsFault::Cut(CutShort::OutOfMemory)),
@@ -363,22 +336,20 @@ fn write_forced<'a, S: Store>(
 }
 
 // The lines behind those of the pairs: one for each format, if they are asked for, and the counts.
-fn last_lines(
-    alloc: Global,
-    table: &Table,
-    ask: ConflictsAsk<'_>,
+fn last_lines<S>(
+    run: &ConflictsRun<'_, '_, S>,
     counts: Counts,
     notes: &[Note],
 ) -> Result<String, AllocError>
     requires { pairs_in counts < 2 ^ 32 }
-    ensures { IfOk result (λ lines. string_bytes lines ≡ summary_if_asked ask.entry.summary table.now notes.now
-        ++ counts_line (shows_class ask.entry) counts) }
+    ensures { IfOk result (λ lines. string_bytes lines ≡ summary_if_asked run.now.ask.summary run.now.table.now notes.now
+        ++ counts_line (shows_class run.now.ask) counts) }
 {
-    let mut lines = String::new(alloc);
-    if ask.summary {
-        push_summary(alloc, &mut lines, table, notes)?;
+    let mut lines = String::new(run.alloc);
+    if run.ask.summary {
+        push_summary(run.alloc, &mut lines, run.table, notes)?;
     }
-    let last = line_of_counts(alloc, counts, ask.shows_class())?;
+    let last = line_of_counts(run.alloc, counts, run.ask.shows_class())?;
     lines.push_str(last.as_str())?;
     Ok(lines)
 }
@@ -394,10 +365,4 @@ pub(crate) fn write_line<W: Output>(line: &str, out: &mut W) -> Result<(), CutSh
     }
     out.write_all(line.as_bytes())?;
     Ok(())
-}
-
-fn are_related(table: &Table, a: FormatId, b: FormatId) -> bool
-    ensures { IsTrue result ↔ AreRelated table.now (a.0, b.0) }
-{
-    table.outranks(a, b) || table.outranks(b, a)
 }

@@ -10,6 +10,7 @@ ghost use Rattle.sig_engines.specs.Fates.{AddsFates, AreFatesCut, AreFatesTold, 
 ghost use Rattle.sig_engines.specs.Progress.{ShowsIf};
 ghost use Rattle.sig_find.specs.Lives.{fate_of, is_alive};
 
+use crate::ask::DeadAsk;
 use crate::conflicts_engine::write_line;
 use crate::error::CutShort;
 use crate::fate_lines::{line_of_fates, lines_of_fate};
@@ -143,22 +144,20 @@ fn push_fates(fates: &mut Vec<Fate>, lives: &[SignatureLife]) -> Result<(), Allo
 pub fn find_dead<W: Output, E: Output>(
     alloc: Global,
     table: &Table,
-    budget: u32,
-    with_hex: bool,
-    progress: bool,
+    ask: DeadAsk,
     out: &mut W,
     err: &mut E,
 ) -> Result<bool, CutShort>
-    ensures answers { IfOk result (λ is_yes. AddsFates is_yes with_hex table.now budget (W.written out.old) (W.written out.new)) }
+    ensures answers { IfOk result (λ is_yes. AddsFates is_yes ask.hex table.now ask.budget (W.written out.old) (W.written out.new)) }
     ensures writes { OnOk result (W.failed out.new ≡ false) }
-    ensures cut { IfErr result (λ e. AreFatesCut e with_hex table.now budget (W.failed out.new) (W.written out.old) (W.written out.new)) }
-    ensures shown { ShowsIf progress Things.Formats (E.failed err.new) err.old err.new (E.written err.old) (E.written err.new) }
+    ensures cut { IfErr result (λ e. AreFatesCut e ask.hex table.now ask.budget (W.failed out.new) (W.written out.old) (W.written out.new)) }
+    ensures shown { ShowsIf ask.progress Things.Formats (E.failed err.new) err.old err.new (E.written err.old) (E.written err.new) }
 {
-    if !progress {
-        return run_dead(alloc, table, budget, with_hex, out, &mut Unobserved);
+    if !ask.progress {
+        return run_dead(alloc, table, ask.budget, ask.hex, out, &mut Unobserved);
     }
     let mut meter = Meter::new(Things::Formats, err);
-    let answer = run_dead(alloc, table, budget, with_hex, out, &mut meter);
+    let answer = run_dead(alloc, table, ask.budget, ask.hex, out, &mut meter);
     meter.end();
     answer
 }

@@ -5,15 +5,17 @@
 //! more signatures outrank one of them than a product can have, or a product has more rows than the
 //! budget. Where both hold the first is named, which a greater budget alone seldom mends.
 
-ghost use Rattle.std.specs.Prelude.{◌≡◌, ◌≢◌, ◌⊎◌, ◌++◌, false, option_map, string_bytes, true, IfErr, IfOk, IfSome, OnOk};
+ghost use Rattle.std.specs.Prelude.{◌≡◌, ◌≢◌, ◌⊎◌, ◌++◌, Ok, false, option_map, string_bytes, true, IfErr, IfOk, IfSome, OnOk};
 ghost use Rattle.sig_engines.specs.Texts.{signature_text};
-ghost use Rattle.sig_engines.specs.Finding.{AddsFound, AreSignatures, IsFindFault, IsKnown, IsReason, IsReasonFor, KeepsFound, TellsWhy, budget_line, found_bytes, found_text, is_answered, outranked_line, reason_line};
+ghost use Rattle.sig_engines.specs.Finding.{AddsFound, AreSignatures, IsKnown, IsReason, IsReasonFor, KeepsFound, TellsWhy, budget_line, found_bytes, found_text, is_answered, outranked_line, reason_line};
 ghost use Rattle.sig_engines.specs.Progress.{AddsProgress, ShowsIf};
-ghost use Rattle.sig_engines.specs.Stores.{IsMade, SomeWriteFailed};
+ghost use Rattle.sig_engines.specs.Stores.{IsMade};
+ghost use Rattle.sig_engines.specs.Refusals.{StopsFind};
 ghost use Rattle.sig_bits.specs.Device.{Adds};
 ghost use Rattle.sig_find.specs.Answers.{IsFound};
 ghost use Rattle.sig_table.specs.Tables.{IsTable};
 
+use crate::ask::FindAsk;
 use crate::error::{FileFault, RunError};
 use crate::lines::lines_of_found;
 use crate::progress::{Meter, Things};
@@ -21,19 +23,16 @@ use crate::store::Store;
 use crate::writing::put;
 use sig_bits::Output;
 use sig_find::{Found, find, find_observed};
-use sig_product::all_blockers;
+use sig_product::{MOST_BLOCKERS, all_blockers};
 use sig_table::{SigId, Table};
 use std::alloc::{AllocError, Global};
 use std::fmt::Write;
 
-// The greatest number of blockers of a product.
-const MOST_BLOCKERS: usize = 64;
-
-/// Writes what the finder finds of a table to a file of this name, and then its lines. Answers
-/// whether it is a certificate or a witness.
+/// Writes what the finder finds of a table to the file that `ask` names, and then its lines.
+/// Answers whether it is a certificate or a witness.
 ///
 /// The file is made only once something is found, and where the search gave up not at all. With
-/// `progress` the search tells `err` how many products are done, and where it gave up `err` is told
+/// progress the search tells `err` how many products are done, and where it gave up `err` is told
 /// why.
 ///
 /// `made` says that a file of this name was made and was written these bytes. It names no value,
@@ -44,39 +43,33 @@ pub fn run_find<S: Store, W: Output, E: Output>(
     alloc: Global,
     store: &S,
     table: &Table,
-    budget: u32,
-    with_hex: bool,
-    progress: bool,
-    name: &str,
+    ask: FindAsk<'_>,
     out: &mut W,
     err: &mut E,
 ) -> Result<bool, FileFault>
     requires { IsTable table.now }
-    ensures answers { IfOk result (λ is_yes. AddsFound is_yes with_hex table.now budget (W.written out.old) (W.written out.new)) }
-    ensures made { IfOk result (λ is_yes. KeepsFound (IsMade S.name_of S.Writer.written S.Writer.failed (S.held store.now) name.now)
-        is_yes with_hex table.now budget (W.written out.old) (W.written out.new)) }
+    ensures answers { IfOk result (λ is_yes. AddsFound is_yes ask.entry.hex table.now ask.entry.budget (W.written out.old) (W.written out.new)) }
+    ensures made { IfOk result (λ is_yes. KeepsFound (IsMade S.name_of S.Writer.written S.Writer.failed (S.held store.now) ask.entry.out.now)
+        is_yes ask.entry.hex table.now ask.entry.budget (W.written out.old) (W.written out.new)) }
     ensures writes { OnOk result (W.failed out.new ≡ false) }
 
     // The error output: the progress alone, or behind it why the search gave up.
-    ensures told { result ≢ Ok false → ShowsIf progress Things.Products (E.failed err.new) err.old err.new (E.written err.old) (E.written err.new) }
+    ensures told { result ≢ Ok false → ShowsIf ask.entry.progress Things.Products (E.failed err.new) err.old err.new (E.written err.old) (E.written err.new) }
     ensures why { IfOk result (λ is_yes. is_yes ≡ false → E.failed err.new ≡ false
-        → TellsWhy progress with_hex table.now budget (W.written out.old) (W.written out.new) (E.written err.old) (E.written err.new)) }
+        → TellsWhy ask.entry.progress ask.entry.hex table.now ask.entry.budget (W.written out.old) (W.written out.new) (E.written err.old) (E.written err.new)) }
 
     // Each refusal; a failed read is none.
-    ensures faults { IfErr result (IsFindFault (S.held store.now) name.now) }
-    ensures write { IfErr result (λ fault. fault ≡ FileFault.Run RunError.Write → SomeWriteFailed S.Writer.failed (W.failed out.new)) }
-    ensures untouched { IfErr result (λ fault. fault ≢ FileFault.Run RunError.Write → out.new ≡ out.old) }
-    ensures whole { IfErr result (λ fault. W.failed out.new ≡ false → out.new ≡ out.old) }
+    ensures stops { IfErr result (StopsFind S.Writer.failed (S.held store.now) ask.entry.out.now (W.failed out.new) (out.new ≡ out.old)) }
 {
-    let found = match search(alloc, table, budget, progress, err) {
+    let found = match search(alloc, table, ask.budget, ask.progress, err) {
         Ok(found) => found,
         Err(error) => return Err(FileFault::Run(error)),
     };
-    let reason = match reason_of(alloc, table, &found, budget) {
+    let reason = match reason_of(alloc, table, &found, ask.budget) {
         Ok(reason) => reason,
         Err(_) => return Err(FileFault::Run(RunError::OutOfMemory)),
     };
-    match write_answer(alloc, store, table, &found, with_hex, name, out) {
+    match write_answer(alloc, store, table, &found, ask, out) {
         Ok(true) => Ok(true),
         Ok(false) => {
             let _ = put(err, reason.as_str());
@@ -177,28 +170,24 @@ fn push_budget(line: &mut String, budget: u32) -> Result<(), AllocError>
     Ok(())
 }
 
-// Writes what was found to the file of this name, and then its lines. The file is made only now,
+// Writes what was found to the file that is asked for, and then its lines. The file is made only now,
 // and where the search gave up not at all.
 fn write_answer<S: Store, W: Output>(
     alloc: Global,
     store: &S,
     table: &Table,
     found: &Found,
-    with_hex: bool,
-    name: &str,
+    ask: FindAsk<'_>,
     out: &mut W,
 ) -> Result<bool, FileFault>
     requires { IsKnown table.now found.now }
     ensures answered { IfOk result (λ is_yes. is_yes ≡ is_answered found.now) }
-    ensures made { OnOk result (IfSome (found_bytes found.now) (IsMade S.name_of S.Writer.written S.Writer.failed (S.held store.now) name.now)) }
-    ensures lines { OnOk result (Adds (W.written out.old) (found_text with_hex table.now found.now) (W.written out.new)) }
+    ensures made { OnOk result (IfSome (found_bytes found.now) (IsMade S.name_of S.Writer.written S.Writer.failed (S.held store.now) ask.entry.out.now)) }
+    ensures lines { OnOk result (Adds (W.written out.old) (found_text ask.entry.hex table.now found.now) (W.written out.new)) }
     ensures writes { OnOk result (W.failed out.new ≡ false) }
-    ensures faults { IfErr result (IsFindFault (S.held store.now) name.now) }
-    ensures write { IfErr result (λ fault. fault ≡ FileFault.Run RunError.Write → SomeWriteFailed S.Writer.failed (W.failed out.new)) }
-    ensures untouched { IfErr result (λ fault. fault ≢ FileFault.Run RunError.Write → out.new ≡ out.old) }
-    ensures whole { IfErr result (λ fault. W.failed out.new ≡ false → out.new ≡ out.old) }
+    ensures stops { IfErr result (StopsFind S.Writer.failed (S.held store.now) ask.entry.out.now (W.failed out.new) (out.new ≡ out.old)) }
 {
-    let lines = match lines_of_found(alloc, table, found, with_hex) {
+    let lines = match lines_of_found(alloc, table, found, ask.hex) {
         Ok(lines) => lines,
         Err(_) => return Err(FileFault::Run(RunError::OutOfMemory)),
     };
@@ -208,7 +197,7 @@ fn write_answer<S: Store, W: Output>(
             Err(_) => Err(FileFault::Run(RunError::Write)),
         };
     };
-    let Some(mut file) = store.create(name) else {
+    let Some(mut file) = store.create(ask.out) else {
         return Err(FileFault::CannotOpen);
     };
     match write_found(bytes, lines.as_str(), &mut file, out) {
@@ -278,12 +267,10 @@ fn write_found<F: Output, W: Output>(
 ) -> Result<(), RunError>
     ensures file { OnOk result (Adds (F.written file.old) bytes.now (F.written file.new)) }
     ensures lines { OnOk result (Adds (W.written out.old) lines.now (W.written out.new)) }
+    ensures writes { OnOk result ((F.failed file.new ≡ false) × (W.failed out.new ≡ false)) }
 
     // The one refusal, and when.
-    ensures file_writes { OnOk result (F.failed file.new ≡ false) }
-    ensures writes { OnOk result (W.failed out.new ≡ false) }
-    ensures write { IfErr result (λ e. e ≡ RunError.Write) }
-    ensures failed { IfErr result (λ e. (F.failed file.new ≡ true) ⊎ (W.failed out.new ≡ true)) }
+    ensures write { IfErr result (λ e. (e ≡ RunError.Write) × ((F.failed file.new ≡ true) ⊎ (W.failed out.new ≡ true))) }
 
     // Before the file is written whole, no line is.
     ensures first { F.failed file.new ≡ true → out.new ≡ out.old }

@@ -46,8 +46,7 @@ pub(crate) fn match_folder<S: Store, K: DroidCore, W: Output, E: Output>(
     ensures stays_failed { E.failed err.new ≡ false → E.failed err.old ≡ false }
 
     // The one refusal, and when.
-    ensures write { IfErr result (λ e. e ≡ RunError.Write) }
-    ensures failed { IfErr result (λ e. W.failed out.new ≡ true) }
+    ensures write { IfErr result (λ e. (e ≡ RunError.Write) × (W.failed out.new ≡ true)) }
     ensures cut { IfErr result (λ e. CutsFiles [] (IsPrinted S.Reader.failed run.now.ask (K.lists run.now.core.now) (S.held run.now.store.now)) (AreIn (AreMet (S.held run.now.store.now) greatest_depth) (S.held run.now.store.now) folder.now) run.now.ask.progress tally
         (W.written out.old) (W.written out.new) (E.failed err.new) (E.written err.old) (E.written err.new)) }
 {
@@ -86,11 +85,9 @@ fn match_entry<S: Store, K: DroidCore, W: Output, E: Output>(
     ensures lowers { OnOk result (worth_of waiting.new.items < worth_of waiting.old.items + worth next.now.room) }
 
     // The one refusal, and when.
-    ensures write { IfErr result (λ e. e ≡ RunError.Write) }
-    ensures failed { IfErr result (λ e. W.failed out.new ≡ true) }
+    ensures write { IfErr result (λ e. (e ≡ RunError.Write) × (W.failed out.new ≡ true)) }
     ensures cut { IfErr result (λ e. CutsFiles [] (IsPrinted S.Reader.failed run.now.ask (K.lists run.now.core.now) (S.held run.now.store.now)) (AreMetOf (S.held run.now.store.now) next.now) run.now.ask.progress tally
         (W.written out.old) (W.written out.new) (E.failed err.new) (E.written err.old) (E.written err.new)) }
-    ensures untouched { IfErr result (λ e. waiting.new ≡ waiting.old) }
 {
     let name = next.entry.name.as_str();
     let fault = match next.entry.kind {

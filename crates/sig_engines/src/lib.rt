@@ -50,7 +50,7 @@ mod witness_engine;
 mod witness_name;
 mod writing;
 
-pub use ask::{ConflictsAsk, MatchAsk, MatchRun, format_named};
+pub use ask::{ConflictsAsk, ConflictsRun, DeadAsk, FindAsk, MatchAsk, MatchRun, format_named};
 pub use check_engine::run_check;
 pub use conflicts_engine::{PairsAnswer, run_conflicts};
 pub use dead_engine::{find_dead, run_dead};

@@ -6,6 +6,7 @@
 ghost use Rattle.std.specs.Prelude.{◌≡◌, ◌⊎◌, false, true, IfOk, IsErrOf, OnOk};
 ghost use Rattle.sig_bits.specs.Device.{IsAtEnd};
 ghost use Rattle.sig_engines.specs.Linted.{AddsReportOfSome};
+ghost use Rattle.sig_engines.specs.Refusals.{ReadsThenWrites};
 
 use crate::error::RunError;
 use sig_bits::{Input, Output, read_whole};
@@ -27,15 +28,9 @@ pub fn run_lint<A: Input, B: Input, W: Output>(
         (A.to_come signatures.old) (B.to_come priorities.old) (W.written out.old) (W.written out.new)) }
     ensures at_end { OnOk result (IsAtEnd (A.to_come signatures.new) × IsAtEnd (B.to_come priorities.new)) }
 
-    // Each refusal, and when.
-    ensures reads { OnOk result ((A.failed signatures.new ≡ false) × (B.failed priorities.new ≡ false)) }
-    ensures writes { OnOk result (W.failed out.new ≡ false) }
-    ensures read { IsErrOf result RunError.Read → (A.failed signatures.new ≡ true) ⊎ (B.failed priorities.new ≡ true) }
-    ensures write { IsErrOf result RunError.Write → W.failed out.new ≡ true }
-
-    // Before all is known nothing is written.
-    ensures read_stays { IsErrOf result RunError.Read → out.new ≡ out.old }
-    ensures memory_stays { IsErrOf result RunError.OutOfMemory → out.new ≡ out.old }
+    // Each refusal, and when. Before all is known nothing is written.
+    ensures refuses { ReadsThenWrites result ((A.failed signatures.new ≡ false) × (B.failed priorities.new ≡ false))
+        ((A.failed signatures.new ≡ true) ⊎ (B.failed priorities.new ≡ true)) (W.failed out.new) (out.new ≡ out.old) }
 {
     let signature_text = read_whole(alloc, signatures)?;
     let priority_text = read_whole(alloc, priorities)?;

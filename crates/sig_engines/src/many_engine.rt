@@ -45,8 +45,7 @@ pub fn run_match_many<S: Store, K: DroidCore, W: Output, E: Output>(
     ensures sound { OnOk result (W.failed out.new ≡ false) }
 
     // The one refusal, and when.
-    ensures write { IfErr result (λ e. e ≡ RunError.Write) }
-    ensures failed { IfErr result (λ e. W.failed out.new ≡ true) }
+    ensures write { IfErr result (λ e. (e ≡ RunError.Write) × (W.failed out.new ≡ true)) }
     ensures cut { IfErr result (λ e. CutsAll run.now.ask (IsPrinted S.Reader.failed run.now.ask (K.lists run.now.core.now) (S.held run.now.store.now)) (AreVisits run.now.ask.recursive (S.held run.now.store.now) (map (λ n. n.now) names.now))
         (W.written out.old) (W.written out.new) (E.failed err.new) (E.written err.old) (E.written err.new)) }
 {
@@ -73,8 +72,7 @@ pub fn run_match_listed<S: Store, K: DroidCore, I: Input + Drop, W: Output, E: O
     ensures sound { OnOk result (W.failed out.new ≡ false) }
 
     // Each refusal, and when.
-    ensures write { IsErrOf result RunError.Write → W.failed out.new ≡ true }
-    ensures read { IsErrOf result RunError.Read → has_failed I.failed list.new ≡ true }
+    ensures refuses { (IsErrOf result RunError.Write → W.failed out.new ≡ true) × (IsErrOf result RunError.Read → has_failed I.failed list.new ≡ true) }
     ensures stopped { IfErr result (λ e. e ≢ RunError.Write → StopsAll run.now.ask (IsPrinted S.Reader.failed run.now.ask (K.lists run.now.core.now) (S.held run.now.store.now)) (AreListedVisits run.now.ask.recursive (S.held run.now.store.now) (end_of list.old) (unread_of I.to_come list.old))
         (W.written out.old) (W.written out.new) (E.failed err.new) (E.written err.old) (E.written err.new)) }
     ensures cut { IfErr result (λ e. CutsAll run.now.ask (IsPrinted S.Reader.failed run.now.ask (K.lists run.now.core.now) (S.held run.now.store.now)) (AreListedVisits run.now.ask.recursive (S.held run.now.store.now) (end_of list.old) (unread_of I.to_come list.old))
@@ -122,8 +120,7 @@ fn match_words<S: Store, K: DroidCore, W: Output, E: Output>(
     ensures stays_failed { E.failed err.new ≡ false → E.failed err.old ≡ false }
 
     // The one refusal, and when.
-    ensures write { IfErr result (λ e. e ≡ RunError.Write) }
-    ensures failed { IfErr result (λ e. W.failed out.new ≡ true) }
+    ensures write { IfErr result (λ e. (e ≡ RunError.Write) × (W.failed out.new ≡ true)) }
     ensures cut { IfErr result (λ e. CutsFiles (head_text run.now.ask.csv) (IsPrinted S.Reader.failed run.now.ask (K.lists run.now.core.now) (S.held run.now.store.now)) (AreVisits run.now.ask.recursive (S.held run.now.store.now) (map (λ n. n.now) names.now)) run.now.ask.progress none_yet
         (W.written out.old) (W.written out.new) (E.failed err.new) (E.written err.old) (E.written err.new)) }
 {
@@ -149,8 +146,7 @@ fn match_list<S: Store, K: DroidCore, I: Input + Drop, W: Output, E: Output>(
     ensures stays_failed { E.failed err.new ≡ false → E.failed err.old ≡ false }
 
     // Each refusal, and when.
-    ensures write { IsErrOf result RunError.Write → W.failed out.new ≡ true }
-    ensures read { IsErrOf result RunError.Read → has_failed I.failed list.new ≡ true }
+    ensures refuses { (IsErrOf result RunError.Write → W.failed out.new ≡ true) × (IsErrOf result RunError.Read → has_failed I.failed list.new ≡ true) }
     ensures stopped { IfErr result (λ e. e ≢ RunError.Write → StopsFiles (head_text run.now.ask.csv) (IsPrinted S.Reader.failed run.now.ask (K.lists run.now.core.now) (S.held run.now.store.now)) (AreListedVisits run.now.ask.recursive (S.held run.now.store.now) (end_of list.old) (unread_of I.to_come list.old)) run.now.ask.progress none_yet
         (W.written out.old) (W.written out.new) (E.failed err.new) (E.written err.old) (E.written err.new)) }
     ensures cut { IfErr result (λ e. CutsFiles (head_text run.now.ask.csv) (IsPrinted S.Reader.failed run.now.ask (K.lists run.now.core.now) (S.held run.now.store.now)) (AreListedVisits run.now.ask.recursive (S.held run.now.store.now) (end_of list.old) (unread_of I.to_come list.old)) run.now.ask.progress none_yet
@@ -170,8 +166,7 @@ fn match_list<S: Store, K: DroidCore, I: Input + Drop, W: Output, E: Output>(
 fn write_head<W: Output>(ask: MatchAsk<'_>, out: &mut W) -> Result<(), RunError>
     ensures adds { OnOk result (Adds (W.written out.old) (head_text ask.entry.csv) (W.written out.new)) }
     ensures sound { OnOk result (W.failed out.new ≡ false) }
-    ensures write { IfErr result (λ e. e ≡ RunError.Write) }
-    ensures failed { IfErr result (λ e. W.failed out.new ≡ true) }
+    ensures write { IfErr result (λ e. (e ≡ RunError.Write) × (W.failed out.new ≡ true)) }
     ensures cut { IfErr result (λ e. AddsFront (W.written out.old) (head_text ask.entry.csv) (W.written out.new)) }
 {
     match out.write_all(head(ask).as_bytes()) {
@@ -207,8 +202,7 @@ fn match_listed<S: Store, K: DroidCore, W: Output, E: Output>(
     ensures stays_failed { E.failed err.new ≡ false → E.failed err.old ≡ false }
 
     // The one refusal, and when.
-    ensures write { IfErr result (λ e. e ≡ RunError.Write) }
-    ensures failed { IfErr result (λ e. W.failed out.new ≡ true) }
+    ensures write { IfErr result (λ e. (e ≡ RunError.Write) × (W.failed out.new ≡ true)) }
     ensures cut { IfErr result (λ e. CutsFiles [] (IsPrinted S.Reader.failed run.now.ask (K.lists run.now.core.now) (S.held run.now.store.now)) (AreOf run.now.ask.recursive (S.held run.now.store.now) name.now) run.now.ask.progress tally
         (W.written out.old) (W.written out.new) (E.failed err.new) (E.written err.old) (E.written err.new)) }
 {
@@ -240,8 +234,7 @@ fn match_name<S: Store, K: DroidCore, W: Output, E: Output>(
     ensures stays_failed { E.failed err.new ≡ false → E.failed err.old ≡ false }
 
     // The one refusal, and when.
-    ensures write { IfErr result (λ e. e ≡ RunError.Write) }
-    ensures failed { IfErr result (λ e. W.failed out.new ≡ true) }
+    ensures write { IfErr result (λ e. (e ≡ RunError.Write) × (W.failed out.new ≡ true)) }
     ensures cut { IfErr result (λ e. CutsFiles [] (IsPrinted S.Reader.failed run.now.ask (K.lists run.now.core.now) (S.held run.now.store.now)) (AreOf run.now.ask.recursive (S.held run.now.store.now) name.now) run.now.ask.progress tally
         (W.written out.old) (W.written out.new) (E.failed err.new) (E.written err.old) (E.written err.new)) }
 {

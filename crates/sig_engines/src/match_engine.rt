@@ -6,6 +6,7 @@ ghost use Rattle.std.specs.Prelude.{◌≡◌, ◌≢◌, None, false, true, IfO
 ghost use Rattle.sig_bits.specs.Device.{IsAtEnd};
 ghost use Rattle.sig_engines.specs.FileTexts.{IsTextOfSome};
 ghost use Rattle.sig_engines.specs.Lines.{AddsLinesOfSome, AreAskedOfSome, AreLinesOfSome};
+ghost use Rattle.sig_engines.specs.Refusals.{ReadsThenWrites};
 ghost use Rattle.sig_engines.specs.Stores.{SomeFailed};
 
 use crate::ask::MatchAsk;
@@ -33,16 +34,9 @@ pub fn run_match<K: DroidCore, R: Input, W: Output>(
     ensures answers { OnOk result (AddsLinesOfSome all (K.lists core.now) (R.to_come file.old) (W.written out.old) (W.written out.new)) }
     ensures at_end { OnOk result (IsAtEnd (R.to_come file.new)) }
 
-    // Each refusal, and when.
-    ensures reads { OnOk result (R.failed file.new ≡ false) }
-    ensures writes { OnOk result (W.failed out.new ≡ false) }
-    ensures read { IsErrOf result RunError.Read → R.failed file.new ≡ true }
-    ensures write { IsErrOf result RunError.Write → W.failed out.new ≡ true }
+    // Each refusal, and when. Before the answer is known nothing is written.
+    ensures refuses { ReadsThenWrites result (R.failed file.new ≡ false) (R.failed file.new ≡ true) (W.failed out.new) (out.new ≡ out.old) }
     ensures memory { IsErrOf result RunError.OutOfMemory → R.failed file.old ≡ false → R.failed file.new ≡ false }
-
-    // Before the answer is known nothing is written.
-    ensures read_stays { IsErrOf result RunError.Read → out.new ≡ out.old }
-    ensures memory_stays { IsErrOf result RunError.OutOfMemory → out.new ≡ out.old }
 {
     let lines = lines_of_match(alloc, core, all, file)?;
     out.write_all(lines.as_bytes()).map_err(|_| RunError::Write)

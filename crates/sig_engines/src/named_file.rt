@@ -33,8 +33,7 @@ pub(crate) fn match_file<S: Store, K: DroidCore, W: Output, E: Output>(
     ensures stays_failed { E.failed err.new ≡ false → E.failed err.old ≡ false }
 
     // The one refusal, and when.
-    ensures write { IfErr result (λ e. e ≡ RunError.Write) }
-    ensures failed { IfErr result (λ e. W.failed out.new ≡ true) }
+    ensures write { IfErr result (λ e. (e ≡ RunError.Write) × (W.failed out.new ≡ true)) }
     ensures cut { IfErr result (λ e. CutsFiles [] (IsPrinted S.Reader.failed run.now.ask (K.lists run.now.core.now) (S.held run.now.store.now)) (IsOne (to_match name.now)) run.now.ask.progress tally
         (W.written out.old) (W.written out.new) (E.failed err.new) (E.written err.old) (E.written err.new)) }
 {

@@ -4,7 +4,7 @@
 use crate::tests::table_of;
 use fixtures::{EVERY_FILE, Memory, NO_FOLDER, Named, OVER_FIRST, Rows, THREE_RELATED, TWO};
 use sig_bits::FromWrite;
-use sig_engines::{ConflictsAsk, format_named, settle};
+use sig_engines::{ConflictsAsk, ConflictsRun, format_named, settle};
 use sig_table::{FormatId, Puid};
 use std::test::Fail;
 
@@ -109,7 +109,13 @@ fn writes(rt: &HostRuntime, rows: Rows, ask: ConflictsAsk<'_>, lines: &str) -> R
     let mut out = FromWrite::new(Vec::new(rt.alloc()));
     let mut err = FromWrite::new(Vec::new(rt.alloc()));
     let store = nowhere(rt);
-    let is_yes = settle(rt.alloc(), &store, &table, ask, false, &mut out, &mut err)?;
+    let run = ConflictsRun {
+        alloc: rt.alloc(),
+        store: &store,
+        table: &table,
+        ask,
+    };
+    let is_yes = settle(&run, false, &mut out, &mut err)?;
     let wants_yes = lines.contains("ambiguous 0 unknown 0");
     let written = out.into_inner();
     Ok(is_yes == wants_yes && written.as_slice() == lines.as_bytes() && err.into_inner().is_empty())

@@ -3,7 +3,7 @@
 use crate::tests::table_of;
 use fixtures::{Memory, NO_FOLDER, Named, TWO};
 use sig_bits::FromWrite;
-use sig_engines::run_find;
+use sig_engines::{FindAsk, run_find};
 use std::test::Fail;
 
 // A file that nobody asks for.
@@ -34,17 +34,13 @@ fn gives_up(
     };
     let mut out = FromWrite::new(Vec::new(rt.alloc()));
     let mut err = FromWrite::new(Vec::new(rt.alloc()));
-    let answer = run_find(
-        rt.alloc(),
-        &store,
-        &table,
+    let ask = FindAsk {
         budget,
-        true,
+        out: "out",
+        hex: true,
         progress,
-        "out",
-        &mut out,
-        &mut err,
-    );
+    };
+    let answer = run_find(rt.alloc(), &store, &table, ask, &mut out, &mut err);
     Ok(
         answer == Ok(false)
             && out.into_inner().as_slice() == b"gave up 1 2\n".as_slice()

@@ -1,4 +1,4 @@
-use Rattle.std.proofs.Common.{List, Option, subst}
+use Rattle.std.proofs.Common.{List, Option, rules, subst}
 use Rattle.clap.specs.Words.{Row, Text}
 use Rattle.sig_command.proofs.EndLemmas.{ends_by_fault, fault_is_reported, fault_keeps_errors, fault_keeps_output, help_answers, memory_is_reported}
 use Rattle.sig_command.proofs.EndLemmas.{memory_tells, nothing_is_shown}
@@ -20,10 +20,12 @@ returns-in-Err-clause-told g c =
     memory_tells (g.S.Store.held c.args.store.now) (texts_of c.args.words.now) _ _ _ _ _ _ _ _
     (λ taken. c.show_usage.ensures.memory (c.in-Err.ensures.taken taken))
 
-pub returns-in-Err-clause-words : goal.returns-in-Err-clause-words
-returns-in-Err-clause-words g c =
-    ends_by_fault (texts_of c.args.words.now) c.in-Err.error _ c.in-Err.ensures.kinds c.show_usage.ensures.known c.show_usage.ensures.memory
-    c.show_usage.ensures.help c.show_usage.ensures.usage
+pub returns-in-Err-clause-status : goal.returns-in-Err-clause-status
+returns-in-Err-clause-status g c = (
+  search rules,
+  ends_by_fault (texts_of c.args.words.now) c.in-Err.error _ c.in-Err.ensures.kinds c.show_usage.ensures.known c.show_usage.ensures.memory
+      c.show_usage.ensures.help c.show_usage.ensures.usage,
+)
 
 pub returns-in-Err-clause-answers : goal.returns-in-Err-clause-answers
 returns-in-Err-clause-answers g c =
@@ -56,7 +58,8 @@ returns-clause-faults g c = λ taken high.
       fault_is_reported g.S.Reader.Input.failed _ (g.S.Store.held c.args.store.now) c.in-Some.request c.in-Err-answer.fault _ g.E.Output.failed
           g.E.Output.written c.args.err.now c.answer.new.err c.report.new.err (g.W.Output.written c.args.out.now) (g.W.Output.written c.answer.new.out)
           (g.W.Output.failed c.answer.new.out)
-          answered.faults answered.write answered.lists answered.told answered.joined c.report.ensures.status c.report.ensures.sound c.report.ensures.reported,
+          answered.faults answered.write answered.lists answered.told answered.joined c.report.ensures.status c.report.ensures.sound
+          c.report.ensures.reported,
     )
 
 pub returns-in-Err-clause-errors : goal.returns-in-Err-clause-errors

@@ -37,11 +37,11 @@ returns-in-Ok-clause-progress g c =
 pub returns-clause-write : goal.returns-clause-write
 returns-clause-write g c = λ tells.
     write_has_failed g.S.Writer.Output.failed (g.S.Store.held c.args.store.now) c.args.table c.args.options c.args.progress c.in_ok-table.table
-    c.in_ok-table.ensures.read c.in_ok-ask.ask c.in_ok-ask.ensures.asks _ _ _ c.in-Err.fault c.in-Err.ensures.stops
+    c.in_ok-table.ensures.read c.in_ok-ask.ask c.in_ok-ask.ensures.asks _ _ _ c.in-Err.fault c.in-Err.ensures.stops.stops
     (subst TellsWrite c.pairs_fault.ensures tells)
 
 pub returns-clause-whole : goal.returns-clause-whole
 returns-clause-whole g c =
     pairs_keep g.S.Writer.Output.failed g.S.Reader.Input.failed (g.S.Store.held c.args.store.now) c.args.table c.args.options c.args.progress
     c.in_ok-table.table c.in_ok-table.ensures.read c.in_ok-ask.ask c.in_ok-ask.ensures.asks
-    g.W.Output.failed g.W.Output.written c.args.out.now c.settle.new.out c.in-Err.fault c.in-Err.ensures.stops c.in-Err.ensures.untouched
+    g.W.Output.failed g.W.Output.written c.args.out.now c.settle.new.out c.in-Err.fault c.in-Err.ensures.stops.stops c.in-Err.ensures.stops.untouched

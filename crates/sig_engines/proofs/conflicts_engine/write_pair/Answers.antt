@@ -10,28 +10,29 @@ use Rattle.sig_engines.proofs.conflicts_engine.write_pair.Goals as goal
 
 pub returns-then-are_related-clause-told : goal.returns-then-are_related-clause-told
 returns-then-are_related-clause-told g c =
-    let related : AreRelated c.args.table.now (c.args.a.0, c.args.b.0) = c.are_related.ensures.0 c.if-are_related.true in
+    let related : AreRelated c.args.run.now.table.now (c.args.a.0, c.args.b.0) = c.are_related.ensures.0 c.if-are_related.true in
     record {
       decision = None;
       class = None;
       settled = record {
         decides = related;
-        tells = related_pairs_leave_none c.args.table.now c.args.a.0 c.args.b.0 related;
+        tells = related_pairs_leave_none c.args.run.now.table.now c.args.a.0 c.args.b.0 related;
         classed =
-            none_is_classed c.args.ask c.args.table.now (c.args.a.0, c.args.b.0);
+            none_is_classed c.args.run.now.ask c.args.run.now.table.now (c.args.a.0, c.args.b.0);
       };
       counts = none_counted c.args.told.now.counts;
       notes = sym (append-nil c.args.told.now.notes.items);
-      file = no_file (IsMade g.S.Store.name_of g.S.Writer.Output.written g.S.Writer.Output.failed (g.S.Store.held c.args.store.now)) c.args.table.now
-          c.args.ask.files (c.args.a.0, c.args.b.0);
+      file = no_file (IsMade g.S.Store.name_of g.S.Writer.Output.written g.S.Writer.Output.failed (g.S.Store.held c.args.run.now.store.now))
+          c.args.run.now.table.now
+          c.args.run.now.ask.files (c.args.a.0, c.args.b.0);
       adds = adds_nothing (g.W.Output.written c.args.out.now);
     }
 
 pub returns-clause-told : goal.returns-clause-told
 returns-clause-told g c =
-    let table = c.args.table.now in
+    let table = c.args.run.now.table.now in
     let unrelated : ¬ AreRelated table (c.args.a.0, c.args.b.0) = λ related. false≢true (sym c.if-are_related.false ∙ c.are_related.ensures.1 related) in
-    let settled : IsSettled c.args.ask table (record {
+    let settled : IsSettled c.args.run.now.ask table (record {
       formats = (c.args.a.0, c.args.b.0);
       decision = Some c.in_ok-decision.decision;
       class =
@@ -41,16 +42,17 @@ returns-clause-told g c =
       tells = c.in_ok-decision.ensures.decides;
       classed = c.in_ok-class.ensures;
     } in
-    pair_is_told (IsMade g.S.Store.name_of g.S.Writer.Output.written g.S.Writer.Output.failed (g.S.Store.held c.args.store.now)) c.args.ask table
+    pair_is_told (IsMade g.S.Store.name_of g.S.Writer.Output.written g.S.Writer.Output.failed (g.S.Store.held c.args.run.now.store.now)) c.args.run.now.ask
+    table
     (c.args.a.0, c.args.b.0) c.in_ok-decision.decision c.in_ok-class.class _ _ _ _ _ _ _
     settled c.in_ok-add.ensures.counted c.in_ok-add.ensures.noted c.in_ok-keep_witness.ensures.kept (c.as_str.ensures.value ∙ c.in_ok-line.ensures)
     c.in_ok-write_line.ensures.adds
 
 pub returns-in_err-write_line-clause-cut : goal.returns-in_err-write_line-clause-cut
 returns-in_err-write_line-clause-cut g c =
-    let table = c.args.table.now in
+    let table = c.args.run.now.table.now in
     let unrelated : ¬ AreRelated table (c.args.a.0, c.args.b.0) = λ related. false≢true (sym c.if-are_related.false ∙ c.are_related.ensures.1 related) in
-    let settled : IsSettled c.args.ask table (record {
+    let settled : IsSettled c.args.run.now.ask table (record {
       formats = (c.args.a.0, c.args.b.0);
       decision = Some c.in_ok-decision.decision;
       class =
@@ -61,5 +63,6 @@ returns-in_err-write_line-clause-cut g c =
       classed = c.in_ok-class.ensures;
     } in
     let p = err_from_is_err_and c.from_residual-in_err-write_line.result c.from_residual-in_err-write_line.ensures.1 in
-    rw (p.1, p.2) (line_is_cut g.S.Writer.Output.failed c.in_err-write_line.field-0.0 c.args.ask table (c.args.a.0, c.args.b.0) c.in_ok-decision.decision
+    rw (p.1, p.2) (line_is_cut g.S.Writer.Output.failed c.in_err-write_line.field-0.0 c.args.run.now.ask table (c.args.a.0, c.args.b.0)
+    c.in_ok-decision.decision
     c.in_ok-class.class _ _ _ _ settled (c.as_str.ensures.value ∙ c.in_ok-line.ensures) c.in_err-write_line.ensures.cut)

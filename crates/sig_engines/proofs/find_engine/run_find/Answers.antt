@@ -27,9 +27,9 @@ returns-in-Ok-false-clause-why g c given whole =
     let answered : false ≡ is_answered c.in-Ok.found = cc (c.in-Ok-false.ensures.answered, c.in-Ok-false.field-0-test) in
     let mid = g.E.Output.written c.search.new.err in
     let after = g.E.Output.written c.put.new.err in
-    why_is_told c.args.progress c.args.with_hex c.args.table.now c.args.budget c.in-Ok.found (string_bytes c.in-Ok-reason_of.reason)
+    why_is_told c.args.ask.progress c.args.ask.hex c.args.table.now c.args.ask.budget c.in-Ok.found (string_bytes c.in-Ok-reason_of.reason)
     (g.W.Output.written c.args.out.now) (g.W.Output.written c.write_answer.new.out) (g.E.Output.written c.args.err.now) mid after
     c.in-Ok.ensures.found answered c.in-Ok-reason_of.ensures c.in-Ok-false.ensures.lines
-    (shown_adds c.args.progress Products (g.E.Output.failed c.search.new.err) g.E.Output.written c.args.err.now c.search.new.err c.search.ensures.shown
+    (shown_adds c.args.ask.progress Products (g.E.Output.failed c.search.new.err) g.E.Output.written c.args.err.now c.search.new.err c.search.ensures.shown
     (c.put.ensures.sound whole))
     (subst (λ l. Adds mid l after) c.as_str.ensures.value (printed c.put.result _ mid after _ c.put.ensures.prints whole))
