@@ -13,14 +13,14 @@ returns-in_err-write_line-clause-stops g c =
     let p = err_from_is_err_and c.from_residual-in_err-write_line.result c.from_residual-in_err-write_line.ensures.1 in
     rw (p.1, p.2) (record {
       stops = last_is_cut (IsMade g.S.Store.name_of g.S.Writer.Output.written g.S.Writer.Output.failed (g.S.Store.held c.args.run.now.store.now))
-    c.args.run.now.ask
-    c.args.run.now.table.now c.in_ok-told.told.counts c.in_ok-told.told.notes.items (g.W.Output.written c.args.out.now)
-    (g.W.Output.written c.write_pairs.new.out) _
-    c.in_ok-told.ensures.told
-    c.as_str.result.now (subst (λ n. c.as_str.result.now ≡ summary_if_asked c.args.run.now.ask.summary c.args.run.now.table.now n ++ counts_line
-    (shows_class c.args.run.now.ask)
-    c.in_ok-told.told.counts) c.deref-2.ensures.value (c.as_str.ensures.value ∙ c.in_ok-lines.ensures)) g.S.Writer.Output.failed
-    c.in_err-write_line.field-0.0 _ c.in_err-write_line.ensures.cut;
+          c.args.run.now.ask
+          c.args.run.now.table.now c.in_ok-told.told.counts c.in_ok-told.told.notes.items (g.W.Output.written c.args.out.now)
+          (g.W.Output.written c.write_pairs.new.out) _
+          c.in_ok-told.ensures.told
+          c.as_str.result.now (subst (λ n. c.as_str.result.now ≡ summary_if_asked c.args.run.now.ask.summary c.args.run.now.table.now n ++ counts_line
+          (shows_class c.args.run.now.ask)
+          c.in_ok-told.told.counts) c.deref-2.ensures.value (c.as_str.ensures.value ∙ c.in_ok-lines.ensures)) g.S.Writer.Output.failed
+          c.in_err-write_line.field-0.0 _ c.in_err-write_line.ensures.cut;
       unmade = tt;
       untouched = λ never. never;
     })
