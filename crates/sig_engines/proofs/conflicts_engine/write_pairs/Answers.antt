@@ -44,8 +44,10 @@ returns-in_err-write_pair-clause-stops g c =
     let is = next_asked c.args.run.now.ask.only (c.loop-i.i, c.loop-j.j) all rest (pairs_with-cons n c.loop-i.i c.loop-j.j left c.loop-j-test.true) asked in
     let p = err_from_is_err_and c.from_residual.result c.from_residual.ensures.1 in
     rw (p.1, p.2) (record {
-      stops = ends_cut (IsMade g.S.Store.name_of g.S.Writer.Output.written g.S.Writer.Output.failed (g.S.Store.held c.args.run.now.store.now)) c.args.run.now.ask
-          c.args.run.now.table.now g.S.Writer.Output.failed c.in_err-write_pair.field-0.0 (c.loop-i.i, c.loop-j.j) (filter (is_asked c.args.run.now.ask.only) all)
+      stops = ends_cut (IsMade g.S.Store.name_of g.S.Writer.Output.written g.S.Writer.Output.failed (g.S.Store.held c.args.run.now.store.now))
+          c.args.run.now.ask
+          c.args.run.now.table.now g.S.Writer.Output.failed c.in_err-write_pair.field-0.0 (c.loop-i.i, c.loop-j.j)
+          (filter (is_asked c.args.run.now.ask.only) all)
           (filter (is_asked c.args.run.now.ask.only) rest) c.loop-j.told.counts c.loop-j.told.notes.items _
           (g.W.Output.written c.args.out.now) (g.W.Output.written c.loop-j.out) _ is c.loop-j.invariant.1 c.in_err-write_pair.ensures.cut;
       unmade = c.in_err-write_pair.ensures.unmade;
