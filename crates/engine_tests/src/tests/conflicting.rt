@@ -105,17 +105,30 @@ fn nowhere(rt: &HostRuntime) -> Memory {
 
 // Whether `conflicts` writes these lines of the table, and nothing on the error output.
 fn writes(rt: &HostRuntime, rows: Rows, ask: ConflictsAsk<'_>, lines: &str) -> Result<bool, Fail> {
+    let store = nowhere(rt);
+    writes_over(rt, &store, rows, ask, lines)
+}
+
+fn writes_over<'a>(
+    rt: &HostRuntime,
+    store: &Memory,
+    rows: Rows,
+    ask: ConflictsAsk<'a>,
+    lines: &str,
+) -> Result<bool, Fail> {
     let table = table_of(rt, rows.0, rows.1)?;
     let mut out = FromWrite::new(Vec::new(rt.alloc()));
     let mut err = FromWrite::new(Vec::new(rt.alloc()));
-    let store = nowhere(rt);
     let run = ConflictsRun {
         alloc: rt.alloc(),
-        store: &store,
+        store,
         table: &table,
         ask,
     };
-    let is_yes = settle(&run, false, &mut out, &mut err)?;
+    let is_yes = match settle(&run, false, &mut out, &mut err) {
+        Ok(is_yes) => is_yes,
+        Err(_) => return Ok(false),
+    };
     let wants_yes = lines.contains("ambiguous 0 unknown 0");
     let written = out.into_inner();
     Ok(is_yes == wants_yes && written.as_slice() == lines.as_bytes() && err.into_inner().is_empty())
