@@ -99,14 +99,17 @@ pub escape_tells : (table : TableView) (pairs : List (ℕ × ℕ)) (pair : ℕ �
     → IsAddition table pairs pair budget (addition_by found)
 escape_tells table pairs pair over budget fate.Alive is more are escapes =
     (more, escape_leaves table (pairs ++ pair ∷ []) pair.1 over are (ranked_is_table table (pairs ++ pair ∷ []) is more) escapes)
-escape_tells table pairs pair over budget fate.Dead is more are included = included_leave_none table (pairs ++ pair ∷ []) pair.1 over are included
-escape_tells table pairs pair over budget fate.Unknown is more are escape = record {
-  over = over;
-  are_over = are;
-  signature = escape.signature;
-  of = All-contains (IsOfFormat table pair.1) (signatures_of table pair.1) escape.signature (own_are_of table pair.1) escape.is_own;
-  beyond = escape.beyond;
-}
+escape_tells table pairs pair over budget fate.Dead is more are included = (more, included_leave_none table (pairs ++ pair ∷ []) pair.1 over are included)
+escape_tells table pairs pair over budget fate.Unknown is more are escape = (
+  more,
+  record {
+    over = over;
+    are_over = are;
+    signature = escape.signature;
+    of = All-contains (IsOfFormat table pair.1) (signatures_of table pair.1) escape.signature (own_are_of table pair.1) escape.is_own;
+    beyond = escape.beyond;
+  },
+)
 
 -- ---- the other formats
 

@@ -32,12 +32,12 @@ pub record IsUndecided (table : TableView) (pairs : List (ℕ × ℕ)) (lower bu
   pub of : IsOfFormat table lower signature
   pub beyond : IsBeyond table signature over budget
 
--- with the pair behind these, its lower format is left by some file; or these and the pair are no priorities; or no file leaves it; or that is too much
+-- these and the pair are priorities, and with the pair behind these its lower format is left by some file; or they are none; or they are, and no file leaves it; or that is too much
 abbrev pub IsAddition : TableView → List (ℕ × ℕ) → ℕ × ℕ → ℕ → Addition → Type 0
 IsAddition table pairs pair budget addition.Safe = ArePriorities (length table.formats) (pairs ++ pair ∷ []) × IsSometimesLeft (ranked table (pairs ++ pair ∷ [])) pair.1
 IsAddition table pairs pair budget addition.Cycle = ArePriorities (length table.formats) (pairs ++ pair ∷ []) → ⊥
-IsAddition table pairs pair budget addition.Dead = IsNeverLeft (ranked table (pairs ++ pair ∷ [])) pair.1
-IsAddition table pairs pair budget addition.Unknown = IsUndecided table (pairs ++ pair ∷ []) pair.1 budget
+IsAddition table pairs pair budget addition.Dead = ArePriorities (length table.formats) (pairs ++ pair ∷ []) × IsNeverLeft (ranked table (pairs ++ pair ∷ [])) pair.1
+IsAddition table pairs pair budget addition.Unknown = ArePriorities (length table.formats) (pairs ++ pair ∷ []) × IsUndecided table (pairs ++ pair ∷ []) pair.1 budget
 
 -- one of these signatures hits a file that none of the others does
 pub record Escapes (table : TableView) (own others : List ℕ) : Type 0 where
