@@ -29,7 +29,8 @@ pub(crate) fn split_groups(cells: &[Cell], groups: &mut Groups)
 
 // Adds each byte that some cell takes without the byte below, or the other way round.
 pub(crate) fn add_all_cuts(cells: &[Cell], cuts: &mut ByteClass)
-    ensures { (b : ℕ) → b + 1 < 256 → ¬ Holds cuts.new (b + 1) → (¬ Holds cuts.old (b + 1)) × EachSide cells.now b (b + 1) }
+    ensures cuts { (b : ℕ) → b + 1 < 256 → ¬ Holds cuts.new (b + 1) → (¬ Holds cuts.old (b + 1)) × EachSide cells.now b (b + 1) }
+    ensures kept { (b : ℕ) → Holds cuts.old b → Holds cuts.new b }
 {
     for cell in cells {
         cell.class.add_cuts(cuts);
@@ -40,6 +41,7 @@ pub(crate) fn add_all_cuts(cells: &[Cell], cuts: &mut ByteClass)
 pub(crate) fn add_class(class: Class, live: &mut ByteClass, cuts: &mut ByteClass)
     ensures live { (q : ℕ) → AddsLive live.old live.new (SlotOn class q) }
     ensures cuts { (q : ℕ) → AddsCuts cuts.old cuts.new (SlotOn class q) }
+    ensures kept { (b : ℕ) → Holds cuts.old b → Holds cuts.new b }
 {
     live.extend(&class.bytes());
     class.add_cuts(cuts);
@@ -58,6 +60,7 @@ pub(crate) fn add_entered(
     requires joints { AreJoints cells.now joints.now }
     ensures live { AddsLive live.old live.new (EnteredOn cells.now from) }
     ensures cuts { AddsCuts cuts.old cuts.new (EnteredOn cells.now from) }
+    ensures kept { (b : ℕ) → Holds cuts.old b → Holds cuts.new b }
 {
     let mut at = from as usize;
     while at < cells.len() {

@@ -46,7 +46,8 @@ impl Class {
     /// Adds its first byte and the byte behind its last: at any other, it has both that byte and
     /// the one below, or neither.
     pub fn add_cuts(self, cuts: &mut ByteClass)
-        ensures { (b : ℕ) → b + 1 < 256 → ¬ Holds cuts.new (b + 1) → (¬ Holds cuts.old (b + 1)) × SameSide self b (b + 1) }
+        ensures cuts { (b : ℕ) → b + 1 < 256 → ¬ Holds cuts.new (b + 1) → (¬ Holds cuts.old (b + 1)) × SameSide self b (b + 1) }
+        ensures kept { (b : ℕ) → Holds cuts.old b → Holds cuts.new b }
     {
         let (first, last) = self.ends();
         cuts.insert(first);

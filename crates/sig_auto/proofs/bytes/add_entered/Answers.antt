@@ -15,6 +15,7 @@ loop-at-preserved c = record {
   cuts = λ all more. c.loop-at.invariant.cuts all
       (entered_cuts c.args.cells.now c.args.joints.now c.loop-at.at _ _ c.loop-at.cuts c.add_class.new.cuts all c.requires.joints (omega arith) c.index.ensures
       c.add_class.ensures.cuts more);
+  kept = λ b had. c.add_class.ensures.kept b (c.loop-at.invariant.kept b had);
 }
 
 pub returns-clause-live : goal.returns-clause-live
