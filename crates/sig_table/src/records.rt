@@ -50,6 +50,7 @@ impl<'a> Records<'a> {
     pub fn read(&mut self, fields: &mut ByteRecord) -> Result<bool, TableError>
         ensures next { IfOk result (λ found. MatchBool found (self.old ≡ fields_of fields.new ∷ self.new) (self.old ≡ [])) }
         ensures memory { IfErr result (λ e. e ≡ TableError.OutOfMemory) }
+        ensures stops { IfErr result (λ e. self.new ≡ []) }
     {
         match self.reader.read_byte_record(fields) {
             Ok(found) => Ok(found),
