@@ -1,25 +1,29 @@
 //! Sets of small numbers as slices of bytes: number i is in the set if bit i is set, which has the
 //! value `1 << (i % 8)` in byte `i / 8`. The set of 0 and 9 over two bytes is `01 02`.
 //!
-//! A set has no length of its own: two that are compared have slices of one length. `and_any` and
-//! `subset` go by lanes of 32 bytes and end at the first that decides; the bytes after the last
-//! lane are joined without a branch. `or_into` is a plain loop, which the compiler makes vectors
-//! of. Over 8 KiB `and_any` takes a third of the time that pieces of 64 bytes would take; `or_into`
-//! would gain nothing by lanes.
+//! A set has no length of its own: two that are compared have slices of one length. `or_into`,
+//! `and_any` and `subset` go by lanes of 32 bytes, and over the bytes after the last lane one by
+//! one. The last two end at the first lane that decides. Over 8 KiB `and_any` takes a third of the
+//! time that pieces of 64 bytes would take.
 
 ghost use Rattle.std.specs.Prelude.{◌≡◌, ℕ, ◌+◌, ◌*◌, ◌<◌, ◌≤◌, ◌⊎◌, ◌↔◌, IsTrue, length, replicate};
 ghost use Rattle.sig_bits.specs.BitSets.{HasBit};
 ghost use Rattle.sig_bits.specs.Joined.{IsJoined, common_at, missing_at};
 
-use crate::lanes::{LANES, load, nonzero};
+use crate::lanes::{LANES, load, nonzero, store};
 
 /// Adds the numbers of the set `src` to the set `dst`.
 pub fn or_into(dst: &mut [u8], src: &[u8])
     requires { length dst.old ≡ length src.now }
     ensures { (i : ℕ) → HasBit dst.new i ↔ (HasBit dst.old i ⊎ HasBit src.now i) }
 {
-    for (i, byte) in src.iter().enumerate() {
-        dst[i] |= *byte;
+    let mut from = 0;
+    while from + LANES <= dst.len() {
+        store(load(dst, from) | load(src, from), dst, from);
+        from += LANES;
+    }
+    for k in from..dst.len() {
+        dst[k] |= src[k];
     }
 }
 

@@ -3,7 +3,7 @@
 //! A set of 65,535 slots has 8 KiB, so it is compared in 256 steps. What is left after the last
 //! whole lane is the caller's to go through.
 
-ghost use Rattle.std.specs.Prelude.{◌≡◌, ◌≢◌, ◌↔◌, ◌+◌, ◌^◌, ◌<◌, ◌≤◌, ℕ, length, slice_index};
+ghost use Rattle.std.specs.Prelude.{◌≡◌, ◌≢◌, ◌↔◌, ◌+◌, ◌^◌, ◌<◌, ◌≤◌, ◌⊎◌, ℕ, length, slice_index};
 ghost use Rattle.std.specs.Int.{bit_at};
 ghost use Rattle.sig_bits.specs.Joined.{HasLanes, IsFirstNonzero, IsJoined};
 
@@ -19,6 +19,16 @@ pub(crate) fn load(bytes: &[u8], from: usize) -> u8x32
     ensures { HasLanes result (λ k. slice_index bytes.now (from + k)) }
 {
     u8x32::from_slice(&bytes[from..])
+}
+
+/// Puts the lanes at one place of the bytes.
+#[inline(always)]
+pub(crate) fn store(lanes: u8x32, bytes: &mut [u8], from: usize)
+    requires { from + 32 ≤ length bytes.old }
+    ensures stored { (k : ℕ) → k < 32 → slice_index bytes.new (from + k) ≡ slice_index lanes k }
+    ensures kept { (k : ℕ) → (k < from) ⊎ (from + 32 ≤ k) → slice_index bytes.new k ≡ slice_index bytes.old k }
+{
+    lanes.copy_to_slice(&mut bytes[from..from + LANES]);
 }
 
 /// A bit for each lane that is not 0.

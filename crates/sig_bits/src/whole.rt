@@ -8,7 +8,7 @@
 //! Of a failed read and memory that runs out, whichever comes first is the answer. An input that
 //! has failed before fails again at its first read. So no call in which a read failed answers `Ok`.
 
-ghost use Rattle.std.specs.Prelude.{◌≡◌, ◌+◌, ◌≤◌, true, false, OnOk, IfOk, IfErr, IfSome, IsErr, IsErrOf, IsTrue, take, vec_len};
+ghost use Rattle.std.specs.Prelude.{◌≡◌, ◌+◌, ◌≤◌, true, false, OnOk, IfOk, IfErr, IfSome, IsErrOf, take, vec_len};
 ghost use Rattle.sig_bits.specs.Device.{IsAtEnd};
 
 use crate::fault::ReadWholeError;
@@ -34,8 +34,7 @@ pub fn read_whole<R: Input>(alloc: Global, input: &mut R) -> Result<Vec<u8>, Rea
     ensures lowers { IfOk result (λ bytes. R.limit input.old ≡ vec_len bytes + R.limit input.new) }
 
     // A failed read is reported, and only a failed read.
-    ensures stays_failed { IsTrue (R.failed input.old) → IsErr result }
-    ensures sound { OnOk result (R.failed input.new ≡ false) }
+    ensures sound { OnOk result ((R.failed input.old ≡ false) × (R.failed input.new ≡ false)) }
     ensures read { IsErrOf result ReadWholeError.Read → R.failed input.new ≡ true }
     ensures memory { IsErrOf result ReadWholeError.OutOfMemory → R.failed input.new ≡ R.failed input.old }
 {
