@@ -52,7 +52,7 @@ pub use Rattle.sig_scan.specs.Courses.{AddsCourse, AreCourses, AreCoursesOf, Are
 pub use Rattle.sig_scan.specs.Courses.{IsProgramOf, IsWholeProgramOf, ProgramView, StandsIn, course_if, course_in}
 unfoldable pub use Rattle.sig_scan.specs.Filters.{list_of, mark_of}
 pub use Rattle.sig_scan.specs.Filters.{AddsEntry, AreKept, AreLiteralsOf, AreLowered, AreMissed, AreOwned, HasWindow, IsEntered, IsFilter, IsListed, IsPassedAt}
-pub use Rattle.sig_scan.specs.Filters.{IsUnlisted, behind_of, four_at, text_of}
+pub use Rattle.sig_scan.specs.Filters.{IsUnlisted, IsWindow, behind_of, four_at, text_of}
 pub use Rattle.sig_scan.specs.Frontiers.{EndsAt, GainsBits, HasBits, IsBetween, IsLeast, IsLeastEnd, Reaches}
 pub use Rattle.sig_scan.specs.Heads.{AreHeadsOf, HasHead, IsHeadOf}
 pub use Rattle.sig_scan.specs.Lengths.{AreBounded, HasLength, IsBoundedItem, item_span, longest_of, part_length, parts_length, span}

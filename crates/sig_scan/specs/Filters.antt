@@ -25,6 +25,11 @@ behind_of literal window n = byte_of literal (window + 1) (n / 2 % 2) + byte_of 
 abbrev pub text_of : LiteralView → ℕ → ℕ → ℕ
 text_of literal window n = byte_of literal window (n % 2) + behind_of literal window n * 256
 
+-- the literal has four bytes from this place on, which is one of its first five
+pub record IsWindow (literal : LiteralView) (window : ℕ) : Type 0 where
+  pub inside : window + 4 ≤ length literal.text
+  pub few : window ≤ 4
+
 -- the entry of this number is in the list of four bytes, and these are marked, and the last three of them
 pub record IsListed (marks slots : List ℕ) (id four behind : ℕ) : Type 0 where
   pub first : slice_index marks (mark_of four) ≢ 0
@@ -65,6 +70,12 @@ IsMissed bytes e x = x + e.literal.at + length e.literal.text < length bytes →
 -- the bytes at this place are four by which the entry is found
 abbrev pub HasWindow : Entry → List ℕ → ℕ → Type 0
 HasWindow e bytes w = (j : ℕ) → j < 4 → Fits e.literal (e.window + j) (slice_index bytes (w + j))
+
+-- a place from this one on, in steps of two, that a sum of offsets can count
+pub record IsNextPlace (from place : ℕ) : Type 0 where
+  pub even : place % 2 ≡ 0
+  pub order : from ≤ place
+  pub few : place < 2 ^ 63 + 8
 
 -- the list of the four bytes here is empty
 abbrev pub IsUnlisted : List ℕ → List ℕ → ℕ → Type 0

@@ -1,5 +1,5 @@
 -- Sets of offsets of a file as bits, and where words end that begin at given offsets.
-use Rattle.std.specs.Prelude.{◌⊎◌, ℕ, ◌+◌, ◌<◌, ◌≤◌, List, length, slice_range, Option, MatchOption}
+use Rattle.std.specs.Prelude.{◌≡◌, ◌⊎◌, ℕ, ◌+◌, ◌*◌, ◌<◌, ◌≤◌, List, length, slice_range, Option, MatchOption}
 use Rattle.sig_bits.specs.BitSets.{HasBit}
 use Rattle.sig_expr.specs.declared.item.Item.{Item}
 use Rattle.sig_scan.specs.Placed.{Lies}
@@ -22,6 +22,16 @@ pub record Reaches (IsWord : List ℕ → Type 0) (file : List ℕ) (IsStart : �
   pub in_order : start ≤ end
   pub within : end ≤ length file
   pub is_word : IsWord (slice_range file start end)
+
+-- sets of one length, with room for each offset of the bytes and the one behind the last: starts, all of them in the bytes, ends, and room
+-- for what an alternative, its parts and a class take
+pub record AreSetsOf (bytes starts ends alternative parts marks : List ℕ) : Type 0 where
+  pub room : length bytes < 8 * length starts
+  pub ends_len : length ends ≡ length starts
+  pub alternative_len : length alternative ≡ length starts
+  pub parts_len : length parts ≡ length starts
+  pub marks_len : length marks ≡ length starts
+  pub within : (offset : ℕ) → HasBit starts offset → offset ≤ length bytes
 
 -- the least of these offsets from the one up to the other, which is left out
 abbrev pub IsLeast : (ℕ → Type 0) → ℕ → ℕ → Option ℕ → Type 0

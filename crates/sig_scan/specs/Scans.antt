@@ -1,8 +1,11 @@
 -- A scan: what it knows of a file of which the last bytes are at hand.
 use Rattle.std.specs.Prelude.{◌≡◌, ◌↔◌, Bool, false, true, IsTrue, slice_index_or, ℕ, ◌+◌, ◌-◌, ◌<◌, ◌≤◌, ◌^◌, ◌⊎◌, ⊤, All, Some, drop, min, List, [], ◌∷◌, ◌++◌, length, Option, IfSome, MatchOption}
+use Rattle.std.specs.Prelude.{IfOk, IsErrOf, OnOk, Result, is_err, take}
 use Rattle.std.specs.List.{slice_get}
 use Rattle.sig_bits.specs.Bytes.{IsBytes}
 use Rattle.sig_bits.specs.Device.{Gives, IsAtEnd}
+use Rattle.sig_core.specs.declared.error.CoreError.{CoreError}
+use Rattle.sig_core.specs.declared.error.CoreError.TheVariants as core_error
 use Rattle.sig_expr.specs.declared.item.Item.{Item}
 use Rattle.sig_scan.specs.Frontiers.{EndsAt}
 use Rattle.sig_scan.specs.Courses.{AreSequencesOf, IsProgramOf, ProgramView}
@@ -44,6 +47,11 @@ WaitsBehind is_last sequence before bytes stage later tail (Ended from) = WaitsO
 abbrev pub HasSight : Bool → ℕ → ℕ → ℕ → Type 0
 HasSight false limit reach len = limit + reach ≤ len
 HasSight true limit reach len = ⊤
+
+-- words can be looked for in the bytes at hand: there is room for all of them, and words that begin before the limit end in them
+pub record CanAttempt (site : Site) (frontier : ℕ) : Type 0 where
+  pub room : length site.bytes.now ≤ frontier
+  pub sight : HasSight site.is_last site.limit site.reach (length site.bytes.now)
 
 -- a failed attempt takes off offsets, of those before the limit
 abbrev pub StepsOn : ℕ → ℕ → Step → Type 0
@@ -103,6 +111,19 @@ pub record IsFilled (old new : BufferView) (before after : Option (List ℕ)) : 
   pub given : Gives before piece after
   pub added : new ≡ record { room = old.room; bytes = old.bytes ++ piece }
 
+-- a call that reads on fails exactly where a read has failed; where it leaves room, nothing is to come
+pub record ReadsOn {A E : Type 0} (LeavesRoom : A → Type 0) (result : Result A E) (was_failed is_failed : Bool) (to_come : Option (List ℕ)) : Type 0 where
+  pub fails : is_failed ≡ is_err result
+  pub sound : OnOk result (was_failed ≡ false)
+  pub at_end : IfOk result (λ answer. LeavesRoom answer → IsAtEnd to_come)
+
+-- a call that reads to the end tells of a failed read, and of nothing else that it is one
+pub record ReadsToEnd {A : Type 0} (result : Result A CoreError) (was_failed is_failed : Bool) (to_come : Option (List ℕ)) : Type 0 where
+  pub at_end : OnOk result (IsAtEnd to_come)
+  pub sound : OnOk result (is_failed ≡ false)
+  pub read : IsErrOf result core_error.Read → is_failed ≡ true
+  pub memory : IsErrOf result core_error.OutOfMemory → is_failed ≡ was_failed
+
 -- what a scan has: the program, how many bytes hold any word, how many bytes stand before those at hand, as far as they are counted, these
 -- bytes, the state of each sequence, whether each signature may still hit the file, and the offset that was found for each sequence
 pub record ScanView : Type 0 where
@@ -113,6 +134,12 @@ pub record ScanView : Type 0 where
   pub states : List State
   pub may_hit : List Bool
   pub found : List ℕ
+
+-- the scan keeps so many bytes, has room for so many, and a flag for each of so many signatures
+pub record HasSizes (kept most count : ℕ) (scan : ScanView) : Type 0 where
+  pub keep : scan.keep ≡ kept
+  pub room : scan.buffer.room ≡ most
+  pub len : length scan.may_hit ≡ count
 
 -- what is true of every scan, with room in its frontier for so many bytes
 pub record IsScan (room : ℕ) (scan : ScanView) : Type 0 where

@@ -12,13 +12,13 @@
 //!
 //! The memory is that of a program and of one scan, however long the file is.
 
-ghost use Rattle.std.specs.Prelude.{◌≡◌, ◌<◌, ◌≤◌, ℕ, Bool, List, Option, false, true, IfOk, IfSome, IsErrOf, OnOk, length};
+ghost use Rattle.std.specs.Prelude.{◌≡◌, ◌<◌, ◌≤◌, ℕ, Bool, List, Option, false, true, IfOk, IfSome, length};
 ghost use Rattle.sig_bits.specs.Bytes.{IsBytes};
-ghost use Rattle.sig_bits.specs.Device.{Gives, IsAtEnd};
+ghost use Rattle.sig_bits.specs.Device.{Gives};
 ghost use Rattle.sig_core.specs.Hits.{HitFormats, HitFormatsOfSome};
 ghost use Rattle.sig_scan.specs.Courses.{IsProgramOf, IsWholeProgramOf};
 ghost use Rattle.sig_scan.specs.Heads.{AreHeadsOf, IsPrepared};
-ghost use Rattle.sig_scan.specs.Scans.{AreExcluded, IsBegun, IsScanOf};
+ghost use Rattle.sig_scan.specs.Scans.{AreExcluded, IsBegun, IsScanOf, ReadsToEnd};
 
 use crate::buffer::Buffer;
 use crate::head::{Head, exclude, heads_of};
@@ -152,10 +152,7 @@ fn scan_input<R: Input>(
     requires prepared { IfSome prepared.now (IsPrepared table.now) }
     requires block { 0 < block }
     ensures hits { IfOk result (HitFormatsOfSome table.now (R.to_come input.old)) }
-    ensures at_end { OnOk result (IsAtEnd (R.to_come input.new)) }
-    ensures sound { OnOk result (R.failed input.new ≡ false) }
-    ensures read { IsErrOf result CoreError.Read → R.failed input.new ≡ true }
-    ensures memory { IsErrOf result CoreError.OutOfMemory → R.failed input.new ≡ R.failed input.old }
+    ensures reads { ReadsToEnd result (R.failed input.old) (R.failed input.new) (R.to_come input.new) }
 {
     let mut buffer = Buffer::new(alloc, FIRST_ROOM.min(block as usize))?;
     buffer.fill(input)?;
@@ -203,10 +200,7 @@ fn scan_on<R: Input>(
     requires begun { IsBegun table.now may_hit.items program.now block buffer (R.to_come input.old) (R.failed input.old) }
     requires excluded { AreExcluded table.now may_hit.items buffer.bytes }
     ensures hits { (before : Option (List ℕ)) → Gives before buffer.bytes (R.to_come input.old) → IfOk result (HitFormatsOfSome table.now before) }
-    ensures at_end { OnOk result (IsAtEnd (R.to_come input.new)) }
-    ensures sound { OnOk result (R.failed input.new ≡ false) }
-    ensures read { IsErrOf result CoreError.Read → R.failed input.new ≡ true }
-    ensures memory { IsErrOf result CoreError.OutOfMemory → R.failed input.new ≡ false }
+    ensures reads { ReadsToEnd result false (R.failed input.new) (R.to_come input.new) }
 {
     let keep = program.keep();
     if !buffer.is_full() {

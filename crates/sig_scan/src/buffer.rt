@@ -6,10 +6,10 @@
 //! to no file: the prefilter looks at whole fours of bytes, and so it finds what ends with the file
 //! too.
 
-ghost use Rattle.std.specs.Prelude.{◌≡◌, ℕ, ◌+◌, ◌<◌, ◌≤◌, ◌^◌, ◌++◌, ◌∷◌, [], IfOk, IsTrue, OnErr, OnOk, drop, false, is_err, length, take};
+ghost use Rattle.std.specs.Prelude.{◌≡◌, ℕ, ◌+◌, ◌<◌, ◌≤◌, ◌^◌, ◌++◌, ◌∷◌, [], IfOk, IsTrue, OnErr, OnOk, drop, false, length, take};
 ghost use Rattle.sig_bits.specs.Bytes.{IsBytes};
-ghost use Rattle.sig_bits.specs.Device.{Gives, IsAtEnd};
-ghost use Rattle.sig_scan.specs.Scans.{IsFilled};
+ghost use Rattle.sig_bits.specs.Device.{Gives};
+ghost use Rattle.sig_scan.specs.Scans.{IsFilled, ReadsOn};
 
 use sig_bits::{DeviceFault, Input};
 use std::alloc::{AllocError, Global};
@@ -105,10 +105,8 @@ impl Buffer {
         requires { length self.old.bytes < self.old.room }
         ensures filled { OnOk result (IsFilled self.old self.new (R.to_come input.old) (R.to_come input.new)) }
         ensures stays { OnErr result (self.new ≡ self.old) }
-        ensures at_end { OnOk result (length self.new.bytes < self.new.room → IsAtEnd (R.to_come input.new)) }
         ensures lowers { OnOk result (length self.old.bytes + R.limit input.old ≡ length self.new.bytes + R.limit input.new) }
-        ensures fails { R.failed input.new ≡ is_err result }
-        ensures sound { OnOk result (R.failed input.old ≡ false) }
+        ensures reads { ReadsOn (λ _. length self.new.bytes < self.new.room) result (R.failed input.old) (R.failed input.new) (R.to_come input.new) }
     {
         let end = self.room();
         self.len += read_up_to(input, &mut self.bytes[self.len..end])?;
@@ -131,10 +129,8 @@ fn read_up_to<R: Input>(input: &mut R, room: &mut [u8]) -> Result<usize, DeviceF
     ensures bytes { IsBytes room.new }
     ensures within { IfOk result (λ n. n ≤ length room.new) }
     ensures gives { IfOk result (λ n. Gives (R.to_come input.old) (take n room.new) (R.to_come input.new)) }
-    ensures at_end { IfOk result (λ n. n < length room.new → IsAtEnd (R.to_come input.new)) }
     ensures lowers { IfOk result (λ n. R.limit input.old ≡ n + R.limit input.new) }
-    ensures fails { R.failed input.new ≡ is_err result }
-    ensures sound { OnOk result (R.failed input.old ≡ false) }
+    ensures reads { ReadsOn (λ n. n < length room.new) result (R.failed input.old) (R.failed input.new) (R.to_come input.new) }
 {
     let mut filled = 0;
     'reads: loop {

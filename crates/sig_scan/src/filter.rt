@@ -16,7 +16,7 @@
 
 ghost use Rattle.std.specs.Prelude.{◌≡◌, ◌⊎◌, ◌≢◌, ◌↔◌, ℕ, ◌+◌, ◌*◌, ◌-◌, ◌%◌, ◌^◌, ◌<◌, ◌≤◌, IfOk, IfSome, OnOk, IsTrue, Some, [], false, length, slice_index};
 ghost use Rattle.std.specs.List.{slice_get};
-ghost use Rattle.sig_scan.specs.Filters.{AddsEntry, AreKept, AreLowered, AreMissed, AreOwned, HasWindow, IsListed, IsPassedAt, IsUnlisted, behind_of, four_at, list_of, mark_of, text_of};
+ghost use Rattle.sig_scan.specs.Filters.{AddsEntry, AreKept, AreLowered, AreMissed, AreOwned, HasWindow, IsListed, IsNextPlace, IsPassedAt, IsUnlisted, IsWindow, behind_of, four_at, list_of, mark_of, text_of};
 ghost use Rattle.sig_scan.specs.Literals.{StandsAt, byte_of};
 ghost use Rattle.sig_scan.specs.declared.filter.Entry.{Entry};
 
@@ -148,9 +148,7 @@ impl Filter {
     fn next_listed(&self, bytes: &[u8], from: usize) -> usize
         requires even { from % 2 ≡ 0 }
         requires few { from < 2 ^ 63 }
-        ensures even { result % 2 ≡ 0 }
-        ensures order { from ≤ result }
-        ensures few { result < 2 ^ 63 + 8 }
+        ensures place { IsNextPlace from result }
         ensures passed { (i w : ℕ) (e : Entry) → slice_get self.now i ≡ Some e → from ≤ w + 1 → w + 1 < result
             → w + 5 ≤ length bytes.now → ¬ HasWindow e bytes.now w }
     {
@@ -241,8 +239,7 @@ fn begin(
 // Where in the literal the rarest four bytes are, by a guess.
 fn window_of(literal: &Literal) -> usize
     requires { 4 ≤ length literal.now.text }
-    ensures inside { result + 4 ≤ length literal.now.text }
-    ensures few { result ≤ 4 }
+    ensures { IsWindow literal.now result }
 {
     let mut best = 0;
     let mut most = 0;
@@ -258,8 +255,7 @@ fn window_of(literal: &Literal) -> usize
 
 // A guess of how rare four bytes are: one that is the same as the one before it tells less.
 fn rarity(literal: &Literal, window: usize) -> u32
-    requires inside { window + 4 ≤ length literal.now.text }
-    requires few { window ≤ 4 }
+    requires { IsWindow literal.now window }
 {
     let mut sum: u32 = 0;
     for k in window..window + 4 {
@@ -274,8 +270,7 @@ fn rarity(literal: &Literal, window: usize) -> u32
 fn enter_all(marks: &mut [u8], slots: &mut [u16], literal: &Literal, window: usize, id: u16) -> bool
     requires marks { length marks.old ≡ 65536 }
     requires slots { length slots.old ≡ 32768 }
-    requires inside { window + 4 ≤ length literal.now.text }
-    requires few { window ≤ 4 }
+    requires window { IsWindow literal.now window }
     requires some { 0 < id }
     ensures kept { AreKept marks.old slots.old marks.new slots.new }
     ensures listed { IsTrue result → (n : ℕ) → n < 16 → IsListed marks.new slots.new id (text_of literal.now window n) (behind_of literal.now window n) }
@@ -292,8 +287,7 @@ fn enter_all(marks: &mut [u8], slots: &mut [u16], literal: &Literal, window: usi
 
 // How many texts four places have at most: one where each has one byte.
 fn text_count(literal: &Literal, window: usize) -> u32
-    requires inside { window + 4 ≤ length literal.now.text }
-    requires few { window ≤ 4 }
+    requires { IsWindow literal.now window }
     ensures all { (result ≡ 16) ⊎ ((result ≡ 1) × ((k : ℕ) → window ≤ k → k < window + 4 → byte_of literal.now k 0 ≡ byte_of literal.now k 1)) }
 {
     for k in window..window + 4 {
@@ -306,8 +300,7 @@ fn text_count(literal: &Literal, window: usize) -> u32
 
 // The last three of the four bytes of a choice as one number.
 fn behind_of(literal: &Literal, window: usize, choice: u32) -> u32
-    requires inside { window + 4 ≤ length literal.now.text }
-    requires few { window ≤ 4 }
+    requires { IsWindow literal.now window }
     ensures value { result ≡ behind_of literal.now window choice }
     ensures few { result < 2 ^ 24 }
 {
@@ -357,9 +350,7 @@ fn next_marked(marks: &[u8], bytes: &[u8], from: usize) -> usize
     requires marks { length marks.now ≡ 65536 }
     requires even { from % 2 ≡ 0 }
     requires few { from < 2 ^ 63 + 8 }
-    ensures even { result % 2 ≡ 0 }
-    ensures order { from ≤ result }
-    ensures few { result < 2 ^ 63 + 8 }
+    ensures place { IsNextPlace from result }
     ensures unmarked { (y : ℕ) → from ≤ y → y < result → y % 2 ≡ 0 → y + 4 ≤ length bytes.now
         → slice_index marks.now (mark_of (four_at bytes.now y)) ≡ 0 }
 {

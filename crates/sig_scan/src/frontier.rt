@@ -8,7 +8,7 @@ ghost use Rattle.std.specs.Prelude.{◌≡◌, ℕ, ◌+◌, ◌*◌, ◌/◌, �
 ghost use Rattle.sig_bits.specs.BitSets.{HasBit};
 ghost use Rattle.sig_expr.specs.Words.{AlternativeWord, Lang, Word};
 ghost use Rattle.sig_expr.specs.declared.item.Item.TheVariants as item;
-ghost use Rattle.sig_scan.specs.Frontiers.{GainsBits, HasBits, IsLeastEnd, IsLeast, Reaches};
+ghost use Rattle.sig_scan.specs.Frontiers.{AreSetsOf, GainsBits, HasBits, IsLeastEnd, IsLeast, Reaches};
 
 use crate::offsets::{add_any, add_gap, add_part, fill, lowest};
 use sig_bits::{any_between, clear, or_into};
@@ -122,12 +122,7 @@ fn run(
     parts: &mut [u8],
     marks: &mut [u8],
 )
-    requires room { length bytes.now < 8 * length ends.old }
-    requires next { length next.old ≡ length ends.old }
-    requires alternative { length alternative.old ≡ length ends.old }
-    requires parts { length parts.old ≡ length ends.old }
-    requires marks { length marks.old ≡ length ends.old }
-    requires within { (offset : ℕ) → HasBit ends.old offset → offset ≤ length bytes.now }
+    requires { AreSetsOf bytes.now ends.old next.old alternative.old parts.old marks.old }
     ensures { HasBits (Reaches (Lang items.now) bytes.now (HasBit ends.old)) ends.new }
 {
     for item in items {
@@ -150,12 +145,7 @@ fn add_item(
     parts: &mut [u8],
     marks: &mut [u8],
 )
-    requires room { length bytes.now < 8 * length ends.old }
-    requires starts { length starts.now ≡ length ends.old }
-    requires alternative { length alternative.old ≡ length ends.old }
-    requires parts { length parts.old ≡ length ends.old }
-    requires marks { length marks.old ≡ length ends.old }
-    requires within { (offset : ℕ) → HasBit starts.now offset → offset ≤ length bytes.now }
+    requires { AreSetsOf bytes.now starts.now ends.old alternative.old parts.old marks.old }
     ensures { GainsBits (Reaches (Word item.now) bytes.now (HasBit starts.now)) ends.old ends.new }
 {
     match item {
@@ -181,12 +171,7 @@ fn add_alternatives(
     parts: &mut [u8],
     marks: &mut [u8],
 )
-    requires room { length bytes.now < 8 * length ends.old }
-    requires starts { length starts.now ≡ length ends.old }
-    requires alternative { length alternative.old ≡ length ends.old }
-    requires parts { length parts.old ≡ length ends.old }
-    requires marks { length marks.old ≡ length ends.old }
-    requires within { (offset : ℕ) → HasBit starts.now offset → offset ≤ length bytes.now }
+    requires { AreSetsOf bytes.now starts.now ends.old alternative.old parts.old marks.old }
     ensures { GainsBits (Reaches (Word (item.Alt alternatives.now)) bytes.now (HasBit starts.now)) ends.old ends.new }
 {
     for atoms in alternatives.as_slice() {

@@ -14,12 +14,11 @@
 //! it, and each signature one flag: whether it may still hit the file. So nothing depends on where
 //! the sequences of a signature begin among all.
 
-ghost use Rattle.std.specs.Prelude.{◌≡◌, ℕ, ◌+◌, ◌<◌, ◌≤◌, ◌↔◌, ◌^◌, ◌-◌, All, IfOk, IsTrue, List, OnOk, Some, drop, false, is_err, length, min, true};
+ghost use Rattle.std.specs.Prelude.{◌≡◌, ℕ, ◌+◌, ◌<◌, ◌≤◌, ◌↔◌, ◌^◌, ◌-◌, All, IfOk, IsTrue, List, OnOk, Some, drop, false, length, min, true};
 ghost use Rattle.sig_bits.specs.Bytes.{IsBytes};
-ghost use Rattle.sig_bits.specs.Device.{IsAtEnd};
 ghost use Rattle.sig_scan.specs.Courses.{IsProgramOf};
 ghost use Rattle.sig_scan.specs.Passes.{ArePast};
-ghost use Rattle.sig_scan.specs.Scans.{AreDone, AreExcluded, AreMarked, CanSettle, EndsPast, HasRead, IsScanOf, IsShortCourse, Knows};
+ghost use Rattle.sig_scan.specs.Scans.{AreDone, AreExcluded, AreMarked, CanSettle, EndsPast, HasRead, HasSizes, IsScanOf, IsShortCourse, Knows, ReadsOn};
 ghost use Rattle.std.specs.List.{slice_get};
 ghost use Rattle.sig_table.specs.Standing.{Stands};
 ghost use Rattle.sig_table.specs.Views.{SequenceView, TableView};
@@ -86,9 +85,7 @@ impl<'p> Scan<'p> {
         requires owners { All (λ g. g < length may_hit.items) program.now.owners }
         requires held { All (IsShortCourse keep) program.now.courses }
         requires bytes { IsBytes buffer.bytes }
-        ensures keep { IfOk result (λ scan. scan.keep ≡ keep) }
-        ensures room { IfOk result (λ scan. scan.buffer.room ≡ buffer.room) }
-        ensures len { IfOk result (λ scan. length scan.may_hit ≡ length may_hit.items) }
+        ensures sizes { IfOk result (HasSizes keep buffer.room (length may_hit.items)) }
         ensures fresh { (table : TableView) → IsProgramOf table may_hit.items program.now → length may_hit.items ≡ length table.signatures
             → AreExcluded table may_hit.items buffer.bytes → IfOk result (IsScanOf table buffer.bytes) }
     {
@@ -115,10 +112,8 @@ impl<'p> Scan<'p> {
         ensures room { self.new.keep < self.new.buffer.room }
         ensures read { (table : TableView) (file : List ℕ) → IsScanOf table file self.old
             → OnOk result (HasRead table file (R.to_come input.old) (R.to_come input.new) self.new) }
-        ensures at_end { IfOk result (λ full. full ≡ false → IsAtEnd (R.to_come input.new)) }
         ensures lowers { IfOk result (λ full. IsTrue full → R.limit input.new < R.limit input.old) }
-        ensures fails { R.failed input.new ≡ is_err result }
-        ensures sound { OnOk result (R.failed input.old ≡ false) }
+        ensures reads { ReadsOn (λ full. full ≡ false) result (R.failed input.old) (R.failed input.new) (R.to_come input.new) }
     {
         if self.buffer.is_full() {
             self.settle();
@@ -131,9 +126,7 @@ impl<'p> Scan<'p> {
     fn settle(&mut self)
         requires bytes { self.old.keep ≤ length self.old.buffer.bytes }
         requires room { self.old.keep < self.old.buffer.room }
-        ensures len { length self.new.may_hit ≡ length self.old.may_hit }
-        ensures keep { self.new.keep ≡ self.old.keep }
-        ensures room { self.new.buffer.room ≡ self.old.buffer.room }
+        ensures sizes { HasSizes self.old.keep self.old.buffer.room (length self.old.may_hit) self.new }
         ensures free { length self.new.buffer.bytes < self.new.buffer.room }
         ensures settled { (table : TableView) (file : List ℕ) → IsScanOf table file self.old → IsScanOf table file self.new }
     {

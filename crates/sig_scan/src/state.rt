@@ -9,7 +9,7 @@
 ghost use Rattle.std.specs.Prelude.{◌≡◌, ℕ, ◌+◌, ◌<◌, ◌≤◌, ◌↔◌, All, List, ◌∷◌, ◌++◌, drop, length, IsTrue, Option, true};
 ghost use Rattle.sig_expr.specs.Words.{IsAtMost};
 ghost use Rattle.sig_scan.specs.Lengths.{AreBounded};
-ghost use Rattle.sig_scan.specs.Scans.{HasLastBytes, HasSight, IsBase, IsShort, NeverStands, StepsOn, TailIsShort, WaitsAt, WaitsBehind, WaitsOn};
+ghost use Rattle.sig_scan.specs.Scans.{CanAttempt, HasLastBytes, IsBase, IsShort, NeverStands, StepsOn, TailIsShort, WaitsAt, WaitsBehind, WaitsOn};
 ghost use Rattle.sig_scan.specs.Stages.{StageView, TailStands, TailView};
 ghost use Rattle.sig_table.specs.Standing.{Stands};
 ghost use Rattle.sig_table.specs.Views.{SequenceView};
@@ -46,9 +46,8 @@ enum Step {
 
 // Attempts a stage at some of the offsets from `from` on, below the limit.
 fn attempt_stage(stage: &Stage, from: usize, site: Site<'_>, frontier: &mut Frontier) -> Step
-    requires room { length site.bytes.now ≤ frontier.old }
+    requires ready { CanAttempt site frontier.old }
     requires open { from < site.limit }
-    requires sight { HasSight site.is_last site.limit site.reach (length site.bytes.now) }
     ensures room { frontier.new ≡ frontier.old }
     ensures on { StepsOn from site.entry.limit result }
     ensures waits { (s : SequenceView) (before : List ℕ) (later : List StageView) (tail : Option TailView) → IsBase before site.entry.base → IsShort site.entry.reach stage.now
@@ -107,8 +106,7 @@ pub(crate) fn settle(
     site: Site<'_>,
     frontier: &mut Frontier,
 ) -> State
-    requires room { length site.bytes.now ≤ frontier.old }
-    requires sight { HasSight site.is_last site.limit site.reach (length site.bytes.now) }
+    requires ready { CanAttempt site frontier.old }
     requires done { state.done ≤ length stages.now }
     ensures room { frontier.new ≡ frontier.old }
     ensures done { result.done ≤ length stages.now }

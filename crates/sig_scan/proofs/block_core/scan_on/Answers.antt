@@ -20,19 +20,19 @@ reads-init g c =
     let same : c.in_ok-buffer.buffer.bytes ≡ bytes = ap (λ (b : BufferView). b.bytes) c.in_ok-buffer.ensures in
     let of = subst (λ l. IsScanOf table l scan) same (c.in_ok-scan-2.ensures.fresh table c.requires.begun.is_program c.requires.begun.size
     (subst (AreExcluded table c.args.may_hit.items) (sym same) c.requires.excluded)) in
-    let keep = c.in_ok-scan-2.ensures.keep in
-    let room = c.in_ok-scan-2.ensures.room in
+    let keep = c.in_ok-scan-2.ensures.sizes.keep in
+    let room = c.in_ok-scan-2.ensures.sizes.room in
     let grown = ap (λ (b : BufferView). b.room) c.in_ok-buffer.ensures in
     let block = c.requires.begun.some in
     record {
       read = λ before given. record { file = bytes; bytes = c.requires.begun.bytes; is_of = of; given = given };
       room = omega arith;
-      len = c.in_ok-scan-2.ensures.len ∙ c.requires.begun.size;
+      len = c.in_ok-scan-2.ensures.sizes.len ∙ c.requires.begun.size;
     }
 
 pub returns-then-not-branch-clause-hits : goal.returns-then-not-branch-clause-hits
 returns-then-not-branch-clause-hits g c before given =
-    HitFormatsOfSome-read c.read_on.new.self c.args.table.now _ _ c.in_ok-results_of-2.field-0 (c.in_ok-read_on.ensures.at_end c.if-not-branch.true)
+    HitFormatsOfSome-read c.read_on.new.self c.args.table.now _ _ c.in_ok-results_of-2.field-0 (c.in_ok-read_on.ensures.reads.at_end c.if-not-branch.true)
     c.in_ok-results_of-2.ensures
     (IsRead-more c.reads.scan c.read_on.new.self c.args.table.now _ _ _ c.in_ok-read_on.ensures.read (c.reads.invariant.read before given))
 

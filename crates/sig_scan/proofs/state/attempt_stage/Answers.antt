@@ -20,7 +20,7 @@ returns-in_default-clause-waits c s before later tail base short waits =
     let P : StageView → Type 0 = λ v. IsShort c.args.site.reach v → WaitsOn c.args.site.is_last s before bytes from (v ∷ later) tail
     → WaitsOn c.args.site.is_last s before bytes limit (v ∷ later) tail in
     subst P c.stage.view_is
-    (λ few w. Waits-tried c.args.site.is_last s t before bytes from until limit c.args.site.reach later tail few (omega arith) c.requires.sight
+    (λ few w. Waits-tried c.args.site.is_last s t before bytes from until limit c.args.site.reach later tail few (omega arith) c.requires.ready.sight
     (λ x inside. c.offsets_up_to-until.ensures.many before x base inside) none w)
     short waits
 
@@ -39,7 +39,7 @@ returns-in-None-clause-waits c s before later tail base short waits =
     → WaitsOn c.args.site.is_last s before bytes to (v ∷ later) tail in
     subst P c.stage.view_is
     (λ few w. Waits-tried c.args.site.is_last s t before bytes from until to c.args.site.reach later tail few (omega arith)
-    (sight-below c.args.site.is_last c.args.site.limit to c.args.site.reach (length bytes) (omega arith) c.requires.sight)
+    (sight-below c.args.site.is_last c.args.site.limit to c.args.site.reach (length bytes) (omega arith) c.requires.ready.sight)
     (λ x inside. c.offsets_up_to-until.ensures.many before x base inside)
     (IsFirstOf-skipped t.items c.stage.inside.literal bytes from first until to None c.stage.invariant c.in-Some.ensures.0.before
     (subst Found c.deref.ensures.value c.in-None.ensures.first few.bounded few.few) low) w)

@@ -10,8 +10,8 @@ windows marks slots entries all filter same i e at = (filter.each i e (ap (λ (e
 
 pub places-init : goal.places-init
 places-init c = record {
-  even = c.next_listed-place.ensures.even;
-  few = c.next_listed-place.ensures.few;
+  even = c.next_listed-place.ensures.place.even;
+  few = c.next_listed-place.ensures.place.few;
   owned = subst (λ (es : List Entry). AreOwned es c.args.states.now (length c.args.bytes.now) c.begin-end.result c.args.found.now c.begin-end.new.found)
       (c.deref.ensures.value ∙ c.self.view_is) c.begin-end.ensures.owned;
   passed = ArePassedBelow-first c.args.self.now (take c.begin-end.result c.args.bytes.now) c.args.states.now c.next_listed-place.result c.begin-end.new.found
@@ -33,8 +33,8 @@ places-preserved c =
           let new = w.visit-then-place-gt0.new.found in
           let lower = AreLowered-twice old c.visit.new.found new c.visit.ensures.lowered w.visit-then-place-gt0.ensures.lowered in
           rw w.found-is (record {
-            even = next.ensures.even;
-            few = next.ensures.few;
+            even = next.ensures.place.even;
+            few = next.ensures.place.few;
             owned = AreOwned-lowered entries states (length c.args.bytes.now) c.begin-end.result c.args.found.now old new lower c.places.invariant.owned;
             passed = ArePassedBelow-next entries bytes states place next.result old new lower
                 (λ i e at has. IsPassedAt-lowered e bytes states place c.visit.new.found new w.visit-then-place-gt0.ensures.lowered
@@ -42,8 +42,8 @@ places-preserved c =
                 (λ i e some at has. w.visit-then-place-gt0.ensures.passed i e at has) inside next.ensures.passed c.places.invariant.passed;
           }))
       | else-place-gt0 w ↦ rw w.found-is (record {
-        even = next.ensures.even;
-        few = next.ensures.few;
+        even = next.ensures.place.even;
+        few = next.ensures.place.few;
         owned = AreOwned-lowered entries states (length c.args.bytes.now) c.begin-end.result c.args.found.now old c.visit.new.found c.visit.ensures.lowered
             c.places.invariant.owned;
         passed = ArePassedBelow-next entries bytes states place next.result old c.visit.new.found c.visit.ensures.lowered c.visit.ensures.passed

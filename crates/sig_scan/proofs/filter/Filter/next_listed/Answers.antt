@@ -4,9 +4,9 @@ use Rattle.sig_scan.proofs.filter.Filter.next_listed.Goals as goal
 
 pub places-init : goal.places-init
 places-init c = record {
-  even = c.next_marked-place.ensures.even;
-  order = c.next_marked-place.ensures.order;
-  few = c.next_marked-place.ensures.few;
+  even = c.next_marked-place.ensures.place.even;
+  order = c.next_marked-place.ensures.place.order;
+  few = c.next_marked-place.ensures.place.few;
   passed = rw c.self.view_is at (ArePassed-unmarked c.self.inside.marks.items c.self.inside.slots.items c.self.inside.entries.items c.args.bytes.now
       c.args.from c.next_marked-place.result c.self.invariant c.requires.even (rw c.deref.ensures.value at c.next_marked-place.ensures.unmarked));
 }
@@ -18,9 +18,9 @@ places-preserved c =
     let none = rw c.deref-in-places-2.ensures.value at c.next_marked-place-in-places.ensures.unmarked in
     let unlisted = rw c.deref-in-places.ensures.value at (c.is_listed.ensures c.if-is_listed.false) in
     record {
-      even = c.next_marked-place-in-places.ensures.even;
-      order = omega (arith, c.places.invariant.order, c.next_marked-place-in-places.ensures.order);
-      few = c.next_marked-place-in-places.ensures.few;
+      even = c.next_marked-place-in-places.ensures.place.even;
+      order = omega (arith, c.places.invariant.order, c.next_marked-place-in-places.ensures.place.order);
+      few = c.next_marked-place-in-places.ensures.place.few;
       passed = rw c.self.view_is at (ArePassed-on c.self.inside.marks.items c.self.inside.slots.items c.self.inside.entries.items bytes c.args.from place
           c.next_marked-place-in-places.result c.self.invariant c.places.invariant.even unlisted none (rw c.self.view_is c.places.invariant.passed));
     }
