@@ -71,7 +71,7 @@ IsMissed bytes e x = x + e.literal.at + length e.literal.text < length bytes →
 abbrev pub HasWindow : Entry → List ℕ → ℕ → Type 0
 HasWindow e bytes w = (j : ℕ) → j < 4 → Fits e.literal (e.window + j) (slice_index bytes (w + j))
 
--- a place from this one on, in steps of two, that a sum of offsets can count
+-- an even place from this one on, so low that no sum of places wraps
 pub record IsNextPlace (from place : ℕ) : Type 0 where
   pub even : place % 2 ≡ 0
   pub order : from ≤ place

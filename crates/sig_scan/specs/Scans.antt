@@ -1,6 +1,6 @@
 -- A scan: what it knows of a file of which the last bytes are at hand.
 use Rattle.std.specs.Prelude.{◌≡◌, ◌↔◌, Bool, false, true, IsTrue, slice_index_or, ℕ, ◌+◌, ◌-◌, ◌<◌, ◌≤◌, ◌^◌, ◌⊎◌, ⊤, All, Some, drop, min, List, [], ◌∷◌, ◌++◌, length, Option, IfSome, MatchOption}
-use Rattle.std.specs.Prelude.{IfOk, IsErrOf, OnOk, Result, is_err, take}
+use Rattle.std.specs.Prelude.{IfOk, IsErrOf, OnOk, Result, is_err}
 use Rattle.std.specs.List.{slice_get}
 use Rattle.sig_bits.specs.Bytes.{IsBytes}
 use Rattle.sig_bits.specs.Device.{Gives, IsAtEnd}
