@@ -22,8 +22,8 @@ closed_if_accepted table certificate view after (Ok done) bytes same judged end 
 closed_if_accepted table certificate view after (Err e) bytes same judged end = tt
 
 -- where only a closed certificate is accepted, an accepted one decides its table
-pub decided_if_closed : (table : TableView) (certificate : List ℕ) (result : Result Unit CheckError) → IsTable table → OnOk result (Closed table certificate)
-    → OnOk result (Decided table)
+pub decided_if_closed : (table : TableView) (certificate : List ℕ) (result : Result Unit CheckError) → OnOk result (IsTable table)
+    → OnOk result (Closed table certificate) → OnOk result (Decided table)
 decided_if_closed table certificate (Ok done) is_table closed = closed_decides table certificate is_table closed
 decided_if_closed table certificate (Err e) is_table closed = tt
 

@@ -10,6 +10,7 @@ ghost use Rattle.sig_cert.specs.Layouts.{version_byte};
 ghost use Rattle.sig_cert.specs.Growing.{CountPassed, HasOpenPair, IsOpenPair, MayGrow, VersionPassed};
 ghost use Rattle.sig_cert.specs.Pairs.{format_pairs, signature_pairs, signatures_of};
 ghost use Rattle.sig_cert.specs.Verdicts.{CertificateJudged, CountJudged, EntryJudged, Judges, PairJudged, PairsJudged, TablesJudged, Verdict, VersionJudged};
+ghost use Rattle.sig_table.specs.Tables.{IsTable};
 
 use crate::error::CheckError;
 use crate::fields::{field, number_of_four};
@@ -28,8 +29,6 @@ pub fn check(alloc: Global, table: &Table, certificate: &[u8]) -> Result<(), Che
     ensures closed { OnOk result (Closed table.now certificate.now) }
     ensures decided { OnOk result (Decided table.now) }
 {
-    // Called for its clause: a table is within its limits.
-    let _formats = table.format_count();
     judge_certificate(alloc, table, &mut CertView::over(certificate))
 }
 
@@ -41,6 +40,7 @@ fn judge_certificate(
     ensures judged { Judges (CertificateJudged table.now) view.old view.new result }
     ensures memory { IsErrOf result CheckError.OutOfMemory → MayGrow table.now view.old }
     ensures at_end { MatchResult result (λ done. view.new ≡ []) (λ e. Unit {0}) }
+    ensures table { OnOk result (IsTable table.now) }
 {
     let magic = field(view, 4)?;
     if magic != b"PSAC".as_slice() {
@@ -53,6 +53,7 @@ fn judge_version(alloc: Global, table: &Table, view: &mut CertView<'_>) -> Resul
     ensures judged { Judges (VersionJudged table.now) view.old view.new result }
     ensures memory { IsErrOf result CheckError.OutOfMemory → VersionPassed table.now view.old × HasOpenPair table.now }
     ensures at_end { MatchResult result (λ done. view.new ≡ []) (λ e. Unit {0}) }
+    ensures table { OnOk result (IsTable table.now) }
 {
     let field = field(view, 1)?;
     let version = version_of(field[0]).ok_or(CheckError::Version)?;
@@ -78,6 +79,7 @@ fn judge_count(
     ensures judged { Judges (CountJudged version table.now) view.old view.new result }
     ensures memory { IsErrOf result CheckError.OutOfMemory → CountPassed table.now view.old × HasOpenPair table.now }
     ensures at_end { MatchResult result (λ done. view.new ≡ []) (λ e. Unit {0}) }
+    ensures table { OnOk result (IsTable table.now) }
 {
     let count = number_of_four(view)?;
     if count != pair_count(table.format_count() as u32) {

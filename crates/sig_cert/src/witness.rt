@@ -23,8 +23,6 @@ pub fn check_witness(
     ensures known { IfOk result (λ two. IfSome two (AreFormats table.now)) }
     ensures memory { IfErr result (λ e. e ≡ CoreError.OutOfMemory) }
 {
-    // Called for its clause: a signature of a table is of one of its formats.
-    let _formats = table.format_count();
     let left = left_in(alloc, table, file)?;
     match left.hits() {
         [first, second, ..] => Ok(Some((first.format, second.format))),

@@ -46,8 +46,6 @@ pub fn try_addition(
     requires lower { lower.0 < length table.now.formats }
     ensures { IfOk result (IsAddition table.now ranking.now.pairs (higher.0, lower.0) budget) }
 {
-    // Called for its clause: the table is within its limits.
-    let _formats = table.format_count();
     if !ranking.takes(higher, lower) {
         return Ok(Addition::Cycle);
     }

@@ -8,11 +8,12 @@
 //! the one format, in the signatures of the other and in those that outrank the one. Mostly a file
 //! that is known of the one format (`lives`) answers it at once.
 
-ghost use Rattle.std.specs.Prelude.{◌≡◌, ◌<◌, ℕ, IfOk, IsTrue, length, map};
+ghost use Rattle.std.specs.Prelude.{◌≡◌, ◌<◌, ℕ, IfOk, IsTrue, OnOk, length, map};
 ghost use Rattle.sig_find.specs.Classes.{AreTakers, IsClass, IsContainment, IsContainmentOf, StandsAlone, class_by, mirror_of};
 ghost use Rattle.sig_find.specs.Finding.{IsOfFormat};
 ghost use Rattle.sig_find.specs.Lives.{AreLives, AreLivesOfTable, IsLifeOf};
 ghost use Rattle.sig_table.specs.Places.{places_of};
+ghost use Rattle.sig_table.specs.Tables.{IsTable};
 ghost use Rattle.sig_table.specs.Views.{TableView};
 
 use crate::decision::first_that_hits;
@@ -126,7 +127,8 @@ pub(crate) fn signatures_in(
     table: &Table,
     format: FormatId,
 ) -> Result<Vec<SigId>, AllocError>
-    ensures { IfOk result (λ found. found.items ≡ places_of format.0 0 table.now.signatures) }
+    ensures signatures { IfOk result (λ found. found.items ≡ places_of format.0 0 table.now.signatures) }
+    ensures table { IsTable table.now }
 {
     let mut found = Vec::new(alloc);
     for signature in table.signatures_of(format) {
@@ -201,8 +203,6 @@ fn contain_signature(
     if let Life::Dead = &own.life {
         return Ok(Containment::Contained);
     }
-    // Called for its clause: the table is within its limits.
-    let _signatures = table.signature_count();
     let s = own.signature;
     let takers = takers_of(alloc, table, s, others)?;
     match decide_inclusion(alloc, table, s, &takers, task.budget)? {
@@ -221,7 +221,8 @@ fn takers_of(
     others: &[SigId],
 ) -> Result<Vec<SigId>, AllocError>
     requires { s.0 < length table.now.signatures }
-    ensures { IfOk result (λ takers. AreTakers table.now s.0 (map (λ b. b.0) others.now) (map (λ b. b.0) takers.items)) }
+    ensures takers { IfOk result (λ takers. AreTakers table.now s.0 (map (λ b. b.0) others.now) (map (λ b. b.0) takers.items)) }
+    ensures table { OnOk result (IsTable table.now) }
 {
     let mut takers = Vec::from_slice(alloc, others)?;
     takers.extend_from_slice(&all_blockers(alloc, table, s, s)?)?;

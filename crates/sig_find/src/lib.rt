@@ -39,7 +39,7 @@ pub use laws::{
     related_pairs_leave_none, rows_over_some_are_over_all, settled_products_leave_none,
     unblocked_files_lead_to_bad_rows,
 };
-pub use life::{Fate, Life, SignatureLife, decide_format, decide_signature};
+pub use life::{Fate, Life, SignatureLife, decide_format};
 pub use lives::{TableLives, lives_of_table};
 pub use observer::{Observer, Unobserved};
 pub use pair::{PairDecision, decide_pair};

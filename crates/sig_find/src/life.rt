@@ -5,11 +5,14 @@
 //! removed. This is the product of the signature with itself: a closed set of rows without a bad
 //! one says that it is dead, and a bad row gives a shortest file that leaves the format.
 
-ghost use Rattle.std.specs.Prelude.{◌≡◌, ◌<◌, All, IfOk, length};
+ghost use Rattle.std.specs.Prelude.{◌≡◌, ◌<◌, ℕ, All, IfOk, length};
 ghost use Rattle.std.specs.List.{list_any};
+ghost use Rattle.sig_find.specs.Answers.{IsDecision};
 ghost use Rattle.sig_find.specs.Finding.{IsOfFormat};
 ghost use Rattle.sig_find.specs.Leaving.{DecidesFormat};
 ghost use Rattle.sig_find.specs.Lives.{AreLives, IsLifeOf, fate_of, format_fate, is_alive, is_unknown};
+ghost use Rattle.sig_table.specs.Tables.{IsTable};
+ghost use Rattle.sig_table.specs.Views.{TableView};
 
 use crate::decision::{Decision, decide_product};
 use sig_table::{FormatId, SigId, Table};
@@ -57,28 +60,8 @@ pub enum Fate {
     Unknown,
 }
 
-/// Decides whether a signature of this format is alive, within a budget of rows as
-/// [`decide_product`] counts them.
-pub fn decide_signature(
-    alloc: Global,
-    table: &Table,
-    format: FormatId,
-    s: SigId,
-    budget: u32,
-) -> Result<Life, AllocError>
-    requires { IsOfFormat table.now format.0 s.0 }
-    ensures { IfOk result (IsLifeOf table.now budget format.0 s.0) }
-{
-    // Called for its clause: the table is within its limits.
-    let _signatures = table.signature_count();
-    match decide_product(alloc, table, s, s, budget)? {
-        Decision::Closed { .. } => Ok(Life::Dead),
-        Decision::Witness(file) => Ok(Life::Alive(file)),
-        Decision::GaveUp => Ok(Life::Unknown),
-    }
-}
-
-/// Decides each signature of a format, in order, and from them the format.
+/// Decides each signature of a format, in order, and from them the format. The budget is one of
+/// rows, as [`decide_product`] counts them for each signature.
 pub fn decide_format(
     alloc: Global,
     table: &Table,
@@ -104,10 +87,22 @@ fn lives_of(
 {
     let mut lives = Vec::new(alloc);
     for signature in table.signatures_of(format) {
-        let life = decide_signature(alloc, table, format, signature, budget)?;
+        let decision = decide_product(alloc, table, signature, signature, budget)?;
+        let life = life_of(decision);
         lives.push(SignatureLife { signature, life })?;
     }
     Ok(lives)
+}
+
+// What the decision of a signature and itself says of the signature.
+fn life_of(decision: Decision) -> Life
+    ensures { (table : TableView) (budget format s : ℕ) → IsTable table → IsOfFormat table format s → IsDecision table s s budget decision → IsLifeOf table budget format s result }
+{
+    match decision {
+        Decision::Closed { .. } => Life::Dead,
+        Decision::Witness(file) => Life::Alive(file),
+        Decision::GaveUp => Life::Unknown,
+    }
 }
 
 fn format_fate(lives: &[SignatureLife]) -> Fate

@@ -12,6 +12,7 @@
 //! is moved again, and no second word of a sequence is tried.
 
 ghost use Rattle.std.specs.Prelude.{◌<◌, length};
+ghost use Rattle.sig_table.specs.Tables.{IsTable};
 
 use sig_expr::{Atom, Item};
 use sig_table::{Position, Sequence, SigId, Table};
@@ -43,6 +44,7 @@ impl Draft {
     ) -> Result<Option<Draft>, AllocError>
         requires first { first.0 < length table.now.signatures }
         requires second { second.0 < length table.now.signatures }
+        ensures { IsTable table.now }
     {
         let mut draft = Draft {
             head: Vec::new(alloc),

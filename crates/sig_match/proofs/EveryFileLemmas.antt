@@ -1,15 +1,14 @@
 -- Every file has hit formats: whether a sequence stands in a file is decided.
-use Rattle.std.proofs.Common.{◌≡◌, ◌⊎◌, ℕ, zero, suc, ◌+◌, ◌<◌, List, [], ◌∷◌, ◌++◌, All, Option, Some, None, length, option_map, slice_get, ap, refl, subst}
+use Rattle.std.proofs.Common.{◌≡◌, ◌⊎◌, ℕ, zero, suc, ◌+◌, ◌<◌, List, [], ◌∷◌, ◌++◌, All, Option, Some, None, length, slice_get, ap, refl, subst}
 use Rattle.std.proofs.Common.{sym, ◌∙◌, inl, inr, arith}
 use Rattle.std.proofs.lemmas.Bool.{cases_eq}
 use Rattle.std.proofs.lemmas.List.Elements.{All-cons, All-head, All-nil, All-tail}
 use Rattle.std.proofs.lemmas.Option.{get_or_from_slice_get, slice_get_within}
 use Rattle.sig_auto.proofs.Exports.{stands_or_not}
 use Rattle.sig_bits.specs.Bytes.{IsBytes}
-use Rattle.sig_table.specs.declared.ids.FormatId.{FormatId}
 use Rattle.sig_table.specs.declared.ids.SigId.{SigId}
 use Rattle.sig_table.specs.Standing.{Hits, Stands}
-use Rattle.sig_table.specs.Tables.{IsSequence, IsSignature, IsTable}
+use Rattle.sig_table.specs.Tables.{IsSequence, IsTable}
 use Rattle.sig_table.specs.Views.{SequenceView, SignatureView, TableView}
 use Rattle.sig_core.specs.FirstHits.{IsFirstBelow}
 use Rattle.sig_core.specs.Hits.{HitFormats, HitsAt, Left, kept_hits}

@@ -10,6 +10,7 @@
 ghost use Rattle.std.specs.Prelude.{◌≡◌, ◌<◌, ◌↔◌, IfOk, IfErr, IsTrue, length};
 ghost use Rattle.sig_bits.specs.Bytes.{IsBytes};
 ghost use Rattle.sig_core.specs.Hits.{HitFormats, HitsOf, Left};
+ghost use Rattle.sig_table.specs.Tables.{IsTable};
 ghost use Rattle.sig_table.specs.Views.{TableView};
 
 use sig_bits::{Input, ReadWholeError, read_whole};
@@ -86,6 +87,7 @@ impl DroidCore for WholeCore {
 pub fn left_in(alloc: Global, table: &Table, file: &[u8]) -> Result<Results, CoreError>
     ensures left { IfOk result (λ left. Left table.now file.now left) }
     ensures memory { IfErr result (λ e. e ≡ CoreError.OutOfMemory) }
+    ensures table { IsTable table.now }
 {
     let mut results = hits_in(alloc, table, file).map_err(|_| CoreError::OutOfMemory)?;
     results.remove_outranked(table);
@@ -109,7 +111,8 @@ pub fn signature_hits(
 
 // The formats that a file hits.
 fn hits_in(alloc: Global, table: &Table, file: &[u8]) -> Result<Results, AllocError>
-    ensures { IfOk result (λ hits. HitFormats table.now file.now hits) }
+    ensures hits { IfOk result (λ hits. HitFormats table.now file.now hits) }
+    ensures table { IsTable table.now }
 {
     let marks = which_hit(alloc, table, file)?;
     Results::of_marks(alloc, table, &marks)

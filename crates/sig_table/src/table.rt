@@ -168,7 +168,8 @@ impl Table {
 
     /// The format's signatures, rising. It costs a step for each.
     pub fn signatures_of(&self, format: FormatId) -> SignaturesOf<'_>
-        ensures { remaining_of result ≡ places_of format.0 0 self.now.signatures }
+        ensures places { remaining_of result ≡ places_of format.0 0 self.now.signatures }
+        ensures table { IsTable self.now }
     {
         SignaturesOf::new(self.links.nexts(), self.links.first_of(format))
     }
@@ -180,6 +181,7 @@ impl Table {
         ensures of_view { (s : SignatureView) → slice_get self.now.signatures signature.0 ≡ Some s → result.now ≡ s.sequences }
         ensures some { 0 < length result.now }
         ensures few { length result.now ≤ 8 }
+        ensures table { IsTable self.now }
     {
         let signature = &self.signatures[signature.0 as usize];
         signature.sequences.as_slice()

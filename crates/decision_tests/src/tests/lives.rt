@@ -2,8 +2,8 @@
 //! Up to the greatest number of signatures above one.
 
 use crate::tests::finding::table;
-use sig_find::{Fate, Life, SignatureLife, decide_format, decide_signature};
-use sig_table::{FormatId, SigId, Table};
+use sig_find::{Fate, Life, SignatureLife, decide_format};
+use sig_table::{FormatId, Table};
 use std::alloc::{AllocError, Global};
 use std::test::Fail;
 
@@ -158,17 +158,14 @@ fn rows_under(alloc: Global, count: u32) -> Result<String, AllocError> {
     Ok(rows)
 }
 
-// Whether the first signature has this life under so many.
+// Whether the signature of `fmt/1` has this life under so many.
 fn is_life_under(alloc: Global, count: u32, wanted: Found) -> Result<bool, AllocError> {
     let rows = rows_under(alloc, count)?;
     let Some(table) = table(alloc, rows.as_str(), "fmt/2,fmt/1\n") else {
         return Ok(false);
     };
-    if table.signature_count() == 0 || table.format_of(SigId(0)) != FormatId(0) {
-        return Ok(false);
-    }
-    let life = decide_signature(alloc, &table, FormatId(0), SigId(0), 1000)?;
-    Ok(is_found(&life, wanted))
+    let (_, lives) = decide_format(alloc, &table, FormatId(0), 1000)?;
+    Ok(are_found(&lives, &[wanted]))
 }
 
 // Each blocker takes the lowest byte that is left, so a file of byte 40 is found with 64 of them,

@@ -7,6 +7,7 @@ ghost use Rattle.std.specs.Prelude.{◌≡◌, ◌<◌, ◌↔◌, IsTrue, All, 
 ghost use Rattle.sig_core.specs.FirstHits.{MarksHits};
 ghost use Rattle.sig_core.specs.Hits.{HitsOf};
 ghost use Rattle.sig_table.specs.Standing.{Stands};
+ghost use Rattle.sig_table.specs.Tables.{IsTable};
 
 use crate::whole::anchored::stands;
 use sig_table::{Sequence, SigId, Table};
@@ -16,6 +17,7 @@ use std::alloc::{AllocError, Global};
 pub(crate) fn which_hit(alloc: Global, table: &Table, file: &[u8]) -> Result<Vec<bool>, AllocError>
     ensures len { IfOk result (λ marks. vec_len marks ≡ length table.now.signatures) }
     ensures marks { IfOk result (λ marks. MarksHits table.now file.now marks.items) }
+    ensures table { IsTable table.now }
 {
     let mut marks = Vec::with_capacity(alloc, table.signature_count())?;
     for index in 0..table.signature_count() {

@@ -9,7 +9,7 @@ returns-clause-closed c =
     (bytes_from_slice c.args.certificate.now c.type_inv.certificate) c.over.ensures c.judge_certificate.ensures.judged c.judge_certificate.ensures.at_end
 
 pub returns-clause-decided : goal.returns-clause-decided
-returns-clause-decided c = decided_if_closed c.args.table.now c.args.certificate.now c.judge_certificate.result c.format_count-formats.ensures.table
+returns-clause-decided c = decided_if_closed c.args.table.now c.args.certificate.now c.judge_certificate.result c.judge_certificate.ensures.table
     (returns-clause-closed c)
 
 pub returns-clause-memory : goal.returns-clause-memory

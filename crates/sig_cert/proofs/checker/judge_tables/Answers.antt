@@ -16,7 +16,7 @@ pub loop-s-init : goal.loop-s-init
 loop-s-init c =
     let table = c.args.table.now in
     let all : remaining_of c.into_iter-s-iterator.result ≡ places_of c.args.formats.0.0 0 table.signatures =
-    ap remaining_of c.into_iter-s-iterator.ensures.into_iter_gives ∙ c.signatures_of-s-items.ensures in
+    ap remaining_of c.into_iter-s-iterator.ensures.into_iter_gives ∙ c.signatures_of-s-items.ensures.places in
     rw all (record {
       judged = λ outcome judged. judged;
       pair = refl;
@@ -29,7 +29,7 @@ pub loop-t-init : goal.loop-t-init
 loop-t-init c =
     let table = c.args.table.now in
     let all : remaining_of c.into_iter-t-iterator.result ≡ places_of c.args.formats.1.0 0 table.signatures =
-    ap remaining_of c.into_iter-t-iterator.ensures.into_iter_gives ∙ c.signatures_of-t-items.ensures in
+    ap remaining_of c.into_iter-t-iterator.ensures.into_iter_gives ∙ c.signatures_of-t-items.ensures.places in
     let is = signatures_left-cons table c.args.formats.1.0 (remaining_of c.loop-s.s-iterator) (remaining_of c.next.new.self)
     (remaining_of c.into_iter-t-iterator.result) c.in-Some.s c.in-Some.ensures.steps all in
     record {

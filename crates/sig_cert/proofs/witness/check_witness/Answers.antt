@@ -6,7 +6,7 @@ use Rattle.sig_cert.proofs.witness.check_witness.Goals as goal
 pub returns-in-len2-up-clause-known : goal.returns-in-len2-up-clause-known
 returns-in-len2-up-clause-known c =
     let left : Left c.args.table.now c.args.file.now c.hits.result.now = rw c.hits.ensures c.in_ok-left.ensures.left in
-    let each = left_are_formats _ _ c.hits.result.now c.format_count-formats.ensures.table left in
+    let each = left_are_formats _ _ c.hits.result.now c.in_ok-left.ensures.table left in
     let two : 2 ≤ length c.hits.result.now = c.in-len2-up.len_at_least in
     (each 0 _ (omega arith), each 1 _ (omega arith))
 

@@ -3,8 +3,7 @@ use Rattle.std.proofs.lemmas.Bool.{false≢true}
 use Rattle.std.proofs.lemmas.List.{length-map, take_all}
 use Rattle.sig_product.proofs.Exports.{place}
 use Rattle.sig_table.specs.declared.ids.SigId.{SigId}
-use Rattle.sig_find.specs.Inclusions.{IsBeyond, IsIncluded, IsInclusion}
-use Rattle.sig_find.specs.declared.inclusion.Inclusion.TheVariants as inclusion
+use Rattle.sig_find.specs.Inclusions.{IsIncluded, IsInclusion}
 use Rattle.sig_find.proofs.AdditionLemmas.{one_more_included}
 use Rattle.sig_find.proofs.RisingLemmas.{place_is_there}
 use Rattle.sig_find.proofs.addition.decide_escape.Goals as goal

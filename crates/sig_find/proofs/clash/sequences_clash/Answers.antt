@@ -1,4 +1,4 @@
-use Rattle.std.proofs.Common.{List, ap, sym, subst, ◌∙◌}
+use Rattle.std.proofs.Common.{List, sym, subst, ◌∙◌}
 use Rattle.sig_expr.specs.declared.item.Item.{Item}
 use Rattle.sig_find.specs.Clashes.{StandsFrom}
 use Rattle.sig_find.proofs.clash.sequences_clash.Goals as goal

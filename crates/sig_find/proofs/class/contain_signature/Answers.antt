@@ -28,7 +28,7 @@ decide_inclusion-requires c =
     record {
       signature = slice_get_within table.signatures s c.requires.of.0 c.requires.of.1;
       others = subst (λ (xs : List SigId). All (λ index. index < length table.signatures) (map (λ (b : SigId). b.0) xs)) (sym c.deref.ensures.value)
-          (takers_within table s others takers c.in_ok-takers.ensures (places_within table c.args.task.b.0 c.args.others.now c.requires.others));
+          (takers_within table s others takers c.in_ok-takers.ensures.takers (places_within table c.args.task.b.0 c.args.others.now c.requires.others));
     }
 
 pub returns-in-Included : goal.returns-in-Included
@@ -38,7 +38,7 @@ returns-in-Included c =
     let others : List ℕ = map (λ (b : SigId). b.0) c.args.others.now in
     let takers : List ℕ = map (λ (b : SigId). b.0) c.deref.result.now in
     let are : AreTakers table s others takers = subst (λ (xs : List SigId). AreTakers table s others (map (λ (b : SigId). b.0) xs)) (sym c.deref.ensures.value)
-    c.in_ok-takers.ensures in
+    c.in_ok-takers.ensures.takers in
     let told : IsInclusion table s takers c.args.task.budget inclusion.Included =
     subst (IsInclusion table s takers c.args.task.budget) c.in-Included.is c.in_ok-decide_inclusion.ensures in
     included_is_held table c.args.task.a.0 c.args.task.b.0 s others takers c.requires.of
@@ -51,10 +51,10 @@ returns-in-Counterexample c =
     let others : List ℕ = map (λ (b : SigId). b.0) c.args.others.now in
     let takers : List ℕ = map (λ (b : SigId). b.0) c.deref.result.now in
     let are : AreTakers table s others takers = subst (λ (xs : List SigId). AreTakers table s others (map (λ (b : SigId). b.0) xs)) (sym c.deref.ensures.value)
-    c.in_ok-takers.ensures in
+    c.in_ok-takers.ensures.takers in
     let told : IsInclusion table s takers c.args.task.budget (inclusion.Counterexample c.in-Counterexample.field-0) =
     subst (IsInclusion table s takers c.args.task.budget) c.in-Counterexample.is c.in_ok-decide_inclusion.ensures in
-    let left = left_there table c.in-Counterexample.field-0.items c.signature_count-signatures.ensures.table told.is_file in
+    let left = left_there table c.in-Counterexample.field-0.items c.in_ok-takers.ensures.table told.is_file in
     counterexample_stands_alone table c.args.task.a.0 c.args.task.b.0 s c.args.task.budget others takers c.in-Counterexample.field-0.items left.0 left.1
     c.requires.of
     (places_are_signatures table c.args.task.b.0 c.args.others.now c.requires.others) are told

@@ -7,7 +7,7 @@ use Rattle.sig_find.proofs.class.signatures_in.Goals as goal
 pub loop-signature-init : goal.loop-signature-init
 loop-signature-init c =
     ap (λ (found : List SigId). found ++ remaining_of c.into_iter-signature-iterator.result) c.new-found.ensures.items
-    ∙ ap remaining_of c.into_iter-signature-iterator.ensures.into_iter_gives ∙ c.signatures_of-signature-items.ensures
+    ∙ ap remaining_of c.into_iter-signature-iterator.ensures.into_iter_gives ∙ c.signatures_of-signature-items.ensures.places
 
 pub loop-signature-preserved : goal.loop-signature-preserved
 loop-signature-preserved c =
@@ -18,6 +18,6 @@ loop-signature-preserved c =
     ∙ ap (λ l. found ++ l) (sym c.in-Some.ensures.steps)
     ∙ c.loop-signature.invariant
 
-pub returns : goal.returns
-returns c = sym (append-nil c.loop-signature.found.items) ∙ ap (λ l. c.loop-signature.found.items ++ l) (sym c.in-None.ensures.steps.0)
+pub returns-clause-signatures : goal.returns-clause-signatures
+returns-clause-signatures c = sym (append-nil c.loop-signature.found.items) ∙ ap (λ l. c.loop-signature.found.items ++ l) (sym c.in-None.ensures.steps.0)
     ∙ c.loop-signature.invariant

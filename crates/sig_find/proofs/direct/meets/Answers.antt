@@ -9,7 +9,7 @@ use Rattle.sig_find.proofs.direct.meets.Goals as goal
 
 pub first_that_hits-requires : goal.first_that_hits-requires
 first_that_hits-requires c =
-    let known = blockers_known c.args.table.now c.args.s.0 c.args.t.0 (map (λ (b : SigId). b.0) c.in_ok-all.all.items) c.in_ok-all.ensures.each in
+    let known = blockers_known c.args.table.now c.args.s.0 c.args.t.0 (map (λ (b : SigId). b.0) c.in_ok-all.all.items) c.in_ok-all.ensures.all.each in
     subst (λ (xs : List SigId). All (λ index. index < length c.args.table.now.signatures) (map (λ b. b.0) xs)) (sym c.deref.ensures.value) known
 
 pub returns : goal.returns
@@ -24,6 +24,6 @@ returns c t =
         first = c.in_ok-hits.ensures.0 c.if-not-branch.false;
         second = c.in_ok-hits-2.ensures.0 c.if-not-branch-2.false;
         unblocked = λ index blocks. All-contains (λ i. ¬ HitsOf table i file) (map (λ (b : SigId). b.0) c.in_ok-all.all.items) index none
-            (c.in_ok-all.ensures.none_missing index blocks);
+            (c.in_ok-all.ensures.all.none_missing index blocks);
       };
     }

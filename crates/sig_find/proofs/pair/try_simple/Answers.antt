@@ -9,7 +9,7 @@ returns-then-branch c =
     let table = c.args.table.now in
     let meeting : IsMeeting table c.args.s.0 c.args.t.0 c.in_ok-file.file.items =
     subst (IsMeeting table c.args.s.0 c.args.t.0) c.deref.ensures.value (c.in_ok-meets.ensures c.if-branch.true) in
-    let left = left_there table c.in_ok-file.file.items c.signature_count-signatures.ensures.table meeting.is_file in
+    let left = left_there table c.in_ok-file.file.items c.of.ensures meeting.is_file in
     record {
       is_file = meeting.is_file;
       first = meeting.leaves.first;

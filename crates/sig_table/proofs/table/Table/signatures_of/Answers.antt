@@ -7,8 +7,8 @@ use Rattle.sig_table.proofs.table.Table.signatures_of.Goals as goal
 pub new-requires : goal.new-requires
 new-requires c = subst LinksRise (sym c.nexts.ensures) c.self.invariant.2.rise
 
-pub returns : goal.returns
-returns c =
+pub returns-clause-places : goal.returns-clause-places
+returns-clause-places c =
     let t : TableView = record {
       formats = c.self.inside.formats.items;
       signatures = c.self.inside.signatures.items;
