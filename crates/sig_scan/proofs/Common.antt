@@ -54,7 +54,7 @@ unfoldable pub use Rattle.sig_scan.specs.Filters.{list_of, mark_of}
 pub use Rattle.sig_scan.specs.Filters.{AddsEntry, AreKept, AreLiteralsOf, AreLowered, AreMissed, AreOwned, HasWindow, IsEntered, IsFilter, IsListed, IsPassedAt}
 pub use Rattle.sig_scan.specs.Filters.{IsUnlisted, IsWindow, behind_of, four_at, text_of}
 pub use Rattle.sig_scan.specs.Frontiers.{EndsAt, GainsBits, HasBits, IsBetween, IsLeast, IsLeastEnd, Reaches}
-pub use Rattle.sig_scan.specs.Heads.{AreHeadsOf, HasHead, IsHeadOf}
+pub use Rattle.sig_scan.specs.Heads.{AreAsked, AreHeadsOf, HasHead, IsHeadOf, MayHave}
 pub use Rattle.sig_scan.specs.Lengths.{AreBounded, HasLength, IsBoundedItem, item_span, longest_of, part_length, parts_length, span}
 pub use Rattle.sig_scan.specs.Literals.{AreFixed, BeginsWith, Fits, IsEitherOf, IsLiteralOf, LiteralView, StandsAt, byte_of}
 pub use Rattle.sig_scan.specs.Marks.{HasWord, MarksBelow}

@@ -2,7 +2,8 @@
 use Rattle.sig_scan.proofs.Common.{◌≡◌, ◌≢◌, ◌∙◌, ℕ, ◌<◌, inl, inr, All, Bool, List, [], ◌∷◌, ◌++◌, add-zero, ap, append_assoc, arith, false, true, get_or}
 use Rattle.sig_scan.proofs.Common.{length, length-append, subst, sym, set, false≢true, get_or-append-add, get_or_append_left, get_or_from_slice_get}
 use Rattle.sig_scan.proofs.Common.{slice_get_within, Item, HasHead, IsHeadOf, IsEitherOf, AreExcluded, Head, TableView, max, min, Some, slice_get, Hits, Stands}
-use Rattle.sig_scan.proofs.Common.{SequenceView, SignatureView}
+use Rattle.sig_scan.proofs.Common.{SequenceView, SignatureView, ◌+◌, ◌⊎◌, IsTrue, take, All-more, All-weaker, cases_eq, cases_lt, get_or-set_other, get_or-set_same}
+use Rattle.sig_scan.proofs.Common.{AreAsked, MayHave}
 use Rattle.sig_table.specs.Standing.{StandsAt}
 use Rattle.sig_scan.proofs.ScanLemmas.{AreExcluded-set, one_value}
 use Rattle.sig_table.specs.declared.position.Position.TheVariants as position
@@ -48,23 +49,52 @@ IsHeadOf-sequence table index i g x those h at same low is number has v there fi
     let all = subst (λ (u : SignatureView). Hits u file) v_is hits in
     has file (subst (λ (s : SequenceView). Stands s file) (sym here.1) (all i x here.0))
 
--- no file that begins with these bytes has a head that does not stand in them
-pub HasHead-never : (h : Head) (bytes more : List ℕ) → h.at < length bytes → get_or bytes h.at 0 ≢ h.text → get_or bytes h.at 0 ≢ h.other
-    → ¬ HasHead h (bytes ++ more)
-HasHead-never h bytes more at text other has =
-    let same = get_or_append_left bytes more 0 h.at at in
-    elim has.fits [
-      | inl one ↦ text (sym same ∙ one)
-      | inr two ↦ other (sym same ∙ two)
+-- no file that begins with these bytes has a head that they do not have
+HasHead-never : (h : Head) (bytes more : List ℕ) → ¬ MayHave bytes h → ¬ HasHead h (bytes ++ more)
+HasHead-never h bytes more never has =
+    elim (cases_lt h.at (length bytes)) [
+      | inl at ↦ (
+          let same = get_or_append_left bytes more 0 h.at at in
+          let fits : (get_or bytes h.at 0 ≡ h.text) ⊎ (get_or bytes h.at 0 ≡ h.other) = elim has.fits [
+            | inl one ↦ inl (sym same ∙ one)
+            | inr two ↦ inr (sym same ∙ two)
+          ] in
+          never (inr (record { within = at; fits = fits })))
+      | inr behind ↦ never (inl behind)
     ]
 
 -- so its signature is excluded
 pub AreExcluded-head : (table : TableView) (may_hit : List Bool) (bytes : List ℕ) (h : Head) → h.signature < length may_hit → IsHeadOf table h
-    → h.at < length bytes → get_or bytes h.at 0 ≢ h.text → get_or bytes h.at 0 ≢ h.other → AreExcluded table may_hit bytes
-    → AreExcluded table (set may_hit h.signature false) bytes
-AreExcluded-head table may_hit bytes h within is at text other =
+    → ¬ MayHave bytes h → AreExcluded table may_hit bytes → AreExcluded table (set may_hit h.signature false) bytes
+AreExcluded-head table may_hit bytes h within is never =
     AreExcluded-set table may_hit bytes h.signature false within
-    (λ _ v signature more _ hits. HasHead-never h bytes more at text other (is v signature (bytes ++ more) hits))
+    (λ _ v signature more _ hits. HasHead-never h bytes more never (is v signature (bytes ++ more) hits))
+
+-- it is asked
+pub AreAsked-head : (bytes : List ℕ) (may_hit : List Bool) (heads : List Head) (i : ℕ) (d : Head) → i < length heads
+    → (IsTrue (get_or may_hit (get_or heads i d).signature false) → MayHave bytes (get_or heads i d)) → AreAsked bytes may_hit (take i heads)
+    → AreAsked bytes may_hit (take (i + 1) heads)
+AreAsked-head bytes may_hit heads i d within here asked =
+    All-more (λ h. IsTrue (get_or may_hit h.signature false) → MayHave bytes h) heads i d within asked here
+
+still-on : (may_hit : List Bool) (k g : ℕ) → k < length may_hit → IsTrue (get_or (set may_hit k false) g false) → IsTrue (get_or may_hit g false)
+still-on may_hit k g within on =
+    elim (cases_eq g k) [
+      | inl same ↦ absurd (false≢true (sym (ap (λ n. get_or (set may_hit k false) n false) same ∙ get_or-set_same may_hit k false false within) ∙ on))
+      | inr other ↦ sym (get_or-set_other may_hit k g false false other) ∙ on
+    ]
+
+-- and those before it still are
+pub AreAsked-set : (bytes : List ℕ) (may_hit : List Bool) (heads : List Head) (k : ℕ) → k < length may_hit → AreAsked bytes may_hit heads
+    → AreAsked bytes (set may_hit k false) heads
+AreAsked-set bytes may_hit heads k within =
+    All-weaker (λ h. IsTrue (get_or may_hit h.signature false) → MayHave bytes h)
+    (λ h. IsTrue (get_or (set may_hit k false) h.signature false) → MayHave bytes h)
+    (λ h was on. was (still-on may_hit k h.signature within on)) heads
+
+-- its signature is off
+pub off-set : (may_hit : List Bool) (k : ℕ) → k < length may_hit → ¬ IsTrue (get_or (set may_hit k false) k false)
+off-set may_hit k within on = false≢true (sym (get_or-set_same may_hit k false false within) ∙ on)
 
 -- where all may be hit none is excluded
 pub AreExcluded-none : (table : TableView) (may_hit : List Bool) (file : List ℕ) → All (λ b. b ≡ true) may_hit → AreExcluded table may_hit file

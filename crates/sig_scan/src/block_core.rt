@@ -17,7 +17,7 @@ ghost use Rattle.sig_bits.specs.Bytes.{IsBytes};
 ghost use Rattle.sig_bits.specs.Device.{Gives};
 ghost use Rattle.sig_core.specs.Hits.{HitFormats, HitFormatsOfSome};
 ghost use Rattle.sig_scan.specs.Courses.{IsProgramOf, IsWholeProgramOf};
-ghost use Rattle.sig_scan.specs.Heads.{AreHeadsOf, IsPrepared};
+ghost use Rattle.sig_scan.specs.Heads.{AreAsked, AreHeadsOf, IsPrepared};
 ghost use Rattle.sig_scan.specs.Scans.{AreExcluded, IsBegun, IsScanOf, ReadsToEnd};
 
 use crate::buffer::Buffer;
@@ -181,6 +181,7 @@ fn may_hit_of(
     requires { AreHeadsOf table.now heads.now }
     ensures len { IfOk result (λ may_hit. length may_hit.items ≡ length table.now.signatures) }
     ensures excluded { IfOk result (λ may_hit. AreExcluded table.now may_hit.items bytes.now) }
+    ensures asked { IfOk result (λ may_hit. AreAsked bytes.now may_hit.items heads.now) }
 {
     let mut may_hit = vec![in alloc; true; table.signature_count()]?;
     exclude(heads, bytes, &mut may_hit);

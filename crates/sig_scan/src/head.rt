@@ -8,8 +8,8 @@
 //! It leaves out sequences that may begin at several offsets, and those that do not begin with one
 //! byte or one of two.
 
-ghost use Rattle.std.specs.Prelude.{◌≡◌, ◌≢◌, ◌<◌, IfOk, IfSome, List, ℕ, false, length, slice_index};
-ghost use Rattle.sig_scan.specs.Heads.{AreHeadsOf, HasHead};
+ghost use Rattle.std.specs.Prelude.{◌≡◌, ◌↔◌, IfOk, IfSome, IsTrue, List, ℕ, length};
+ghost use Rattle.sig_scan.specs.Heads.{AreAsked, AreHeadsOf, HasHead, MayHave};
 ghost use Rattle.sig_scan.specs.Scans.{AreExcluded};
 ghost use Rattle.sig_table.specs.Standing.{Stands};
 ghost use Rattle.sig_table.specs.Views.{TableView};
@@ -52,7 +52,7 @@ impl Head {
 
     // Whether it stands in these bytes, or may stand behind them.
     fn may_stand(self, bytes: &[u8]) -> bool
-        ensures { result ≡ false → (self.at < length bytes.now) × (slice_index bytes.now self.at ≢ self.text) × (slice_index bytes.now self.at ≢ self.other) }
+        ensures { IsTrue result ↔ MayHave bytes.now self }
     {
         if self.at >= bytes.len() {
             return true;
@@ -80,7 +80,8 @@ pub(crate) fn heads_of(alloc: Global, table: &Table) -> Result<Vec<Head>, AllocE
 /// Excludes each signature with one of these heads that a file does not have which begins with the
 /// bytes.
 pub(crate) fn exclude(heads: &[Head], bytes: &[u8], may_hit: &mut [bool])
-    ensures { (table : TableView) → AreHeadsOf table heads.now → AreExcluded table may_hit.old bytes.now → AreExcluded table may_hit.new bytes.now }
+    ensures sound { (table : TableView) → AreHeadsOf table heads.now → AreExcluded table may_hit.old bytes.now → AreExcluded table may_hit.new bytes.now }
+    ensures asked { AreAsked bytes.now may_hit.new heads.now }
 {
     for head in heads {
         let k = head.signature;

@@ -6,7 +6,8 @@
 //! bytes at hand, so nothing counts the bytes of a file; only the greatest offset of a stage is one
 //! of the file, and `base`, the number of the bytes before those at hand, stops at its maximum.
 
-ghost use Rattle.std.specs.Prelude.{◌≡◌, ℕ, ◌+◌, ◌<◌, ◌≤◌, ◌↔◌, All, List, ◌∷◌, ◌++◌, drop, length, IsTrue, Option, true};
+ghost use Rattle.std.specs.Prelude.{◌≡◌, ℕ, ◌+◌, ◌<◌, ◌≤◌, ◌↔◌, All, List, ◌∷◌, ◌++◌, drop, length, IsTrue, Option, Some, true};
+ghost use Rattle.std.specs.List.{slice_get};
 ghost use Rattle.sig_expr.specs.Words.{IsAtMost};
 ghost use Rattle.sig_scan.specs.Lengths.{AreBounded};
 ghost use Rattle.sig_scan.specs.Scans.{CanAttempt, HasLastBytes, IsBase, IsShort, NeverStands, StepsOn, TailIsShort, WaitsAt, WaitsBehind, WaitsOn};
@@ -133,8 +134,10 @@ pub(crate) fn settle(
 /// stands.
 pub(crate) fn is_past(state: State, stages: &[Stage], base: u64) -> bool
     requires { state.done ≤ length stages.now }
-    ensures { IsTrue result → (s : SequenceView) (before bytes : List ℕ) (tail : Option TailView) → IsBase before base
+    ensures never { IsTrue result → (s : SequenceView) (before bytes : List ℕ) (tail : Option TailView) → IsBase before base
         → WaitsAt s before bytes state.from (drop state.done stages.now) tail → NeverStands s (before ++ bytes) }
+    ensures tells { (before : List ℕ) (stage : StageView) → IsBase before base → slice_get stages.now state.done ≡ Some stage
+        → ¬ IsAtMost stage.until (length before + state.from) → IsTrue result }
 {
     if state.done == stages.len() {
         return false;
@@ -145,7 +148,8 @@ pub(crate) fn is_past(state: State, stages: &[Stage], base: u64) -> bool
 
 // Whether this offset of the bytes at hand lies behind the greatest one of the file.
 fn is_behind(until: Option<u32>, base: u64, from: usize) -> bool
-    ensures { IsTrue result → (before : List ℕ) (x : ℕ) → IsBase before base → length before + from ≤ x → ¬ IsAtMost until x }
+    ensures behind { IsTrue result → (before : List ℕ) (x : ℕ) → IsBase before base → length before + from ≤ x → ¬ IsAtMost until x }
+    ensures tells { (before : List ℕ) → IsBase before base → ¬ IsAtMost until (length before + from) → IsTrue result }
 {
     match until {
         Some(until) => u64::from(until) < base.saturating_add(from as u64),

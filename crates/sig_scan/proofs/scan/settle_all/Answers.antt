@@ -108,7 +108,7 @@ loop-k-preserved c =
                         let waits = (was.0 k own s.0 course.0 old owner may s.1 course.1 at).1 (omega arith) in
                         let there = subst (λ (l : List StageView). WaitsAt s.0 before bytes next.from (drop next.done l) course.0.tail)
                         (sym (w.stages_of-stages.ensures course.0 course.1)) (on before known.counted s.0 course.0 course.1 waits) in
-                        let never = w.is_past.ensures (true_from_not w.is_past.result out) s.0 before bytes course.0.tail known.counted there in
+                        let never = w.is_past.ensures.never (true_from_not w.is_past.result out) s.0 before bytes course.0.tail known.counted there in
                         subst (NeverStands s.0) (sym known.cut) never more are (known.are.needed k own s.0 h owner s.1 signature (file ++ more) hits))
                         was.1,
                   )),
