@@ -11,4 +11,4 @@ returns c file of =
     let count = c.signature_count.ensures.count in
     let all : length marks ≡ length table.signatures = omega arith in
     let same : c.deref.result.now ≡ marks = c.deref.ensures.value ∙ written marks _ _ long in
-    c.of_marks.ensures file (subst (MarksHits table file) (sym same) (MarksHits-from_marked table file marks all (c.finish.ensures table file of)))
+    c.of_marks.ensures file (subst (MarksHits table file) (sym same) (MarksHits-from_marked table file marks all (c.finish.ensures.marks table file of)))

@@ -88,8 +88,11 @@ loop-k-preserved c =
       marked = now.3;
     }
 
-pub returns : goal.returns
-returns c table file of =
+pub returns-clause-of : goal.returns-clause-of
+returns-clause-of c table file of = (c.loop-k.invariant.marked table file of).0
+
+pub returns-clause-marks : goal.returns-clause-marks
+returns-clause-marks c table file of =
     let marked = c.loop-k.invariant.marked table file of in
     let known = marked.0 in
     let program : ProgramView = c.self.inside.program.now in
