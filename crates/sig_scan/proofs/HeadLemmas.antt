@@ -2,8 +2,8 @@
 use Rattle.sig_scan.proofs.Common.{◌≡◌, ◌≢◌, ◌∙◌, ℕ, ◌<◌, inl, inr, All, Bool, List, [], ◌∷◌, ◌++◌, add-zero, ap, append_assoc, arith, false, true, get_or}
 use Rattle.sig_scan.proofs.Common.{length, length-append, subst, sym, set, false≢true, get_or-append-add, get_or_append_left, get_or_from_slice_get}
 use Rattle.sig_scan.proofs.Common.{slice_get_within, Item, HasHead, IsHeadOf, IsEitherOf, AreExcluded, Head, TableView, max, min, Some, slice_get, Hits, Stands}
-use Rattle.sig_scan.proofs.Common.{SequenceView, SignatureView, ◌+◌, ◌⊎◌, IsTrue, take, All-more, All-weaker, cases_eq, cases_lt, get_or-set_other, get_or-set_same}
-use Rattle.sig_scan.proofs.Common.{AreAsked, MayHave}
+use Rattle.sig_scan.proofs.Common.{SequenceView, SignatureView, ◌+◌, ◌⊎◌, IsTrue, take, All-more, All-weaker, cases_eq, cases_lt}
+use Rattle.sig_scan.proofs.Common.{get_or-set_other, get_or-set_same, AreAsked, MayHave}
 use Rattle.sig_table.specs.Standing.{StandsAt}
 use Rattle.sig_scan.proofs.ScanLemmas.{AreExcluded-set, one_value}
 use Rattle.sig_table.specs.declared.position.Position.TheVariants as position

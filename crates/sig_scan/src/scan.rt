@@ -158,8 +158,8 @@ impl<'p> Scan<'p> {
         self.base = self.base.saturating_add(limit as u64);
     }
 
-    // At the end of the file: marks each signature of the table that hits it, and no other. The scan
-    // is of the file as before.
+    // At the end of the file: marks each signature of the table that hits it, and no other. The
+    // scan is of the file as before.
     pub(crate) fn finish(&mut self, marks: &mut [bool])
         requires { length marks.old ≡ length self.old.may_hit }
         ensures marks { (table : TableView) (file : List ℕ) → IsScanOf table file self.old → AreMarked table file marks.new }

@@ -11,8 +11,8 @@ returns-clause-excluded c =
     let bytes : List ℕ = c.args.bytes.now in
     let none = AreExcluded-none table all bytes
     (All-same (λ b. b ≡ true) all _ (c.in_ok-may_hit.ensures.items_if_clones_equal (λ y e. e)) (All-replicate (λ b. b ≡ true) _ true refl)) in
-    let step = subst (λ (l : List Bool). AreExcluded table l bytes → AreExcluded table new bytes) c.deref_mut.ensures.value (c.exclude.ensures.sound table c.requires)
-    in
+    let step = subst (λ (l : List Bool). AreExcluded table l bytes → AreExcluded table new bytes) c.deref_mut.ensures.value
+    (c.exclude.ensures.sound table c.requires) in
     let same = written new _ _ (c.exclude.auto.may_hit ∙ c.deref_mut.ensures.len) in
     subst (λ (l : List Bool). AreExcluded table l bytes) (sym same) (step none)
 

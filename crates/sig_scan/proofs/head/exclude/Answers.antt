@@ -1,5 +1,5 @@
-use Rattle.sig_scan.proofs.Common.{◌+◌, ◌<◌, ◌∙◌, arith, Bool, List, false, false≢true, get_or, get_or_past, length, set, subst, sym, take, AreAsked, AreExcluded}
-use Rattle.sig_scan.proofs.Common.{AreHeadsOf, Head, MayHave, TableView}
+use Rattle.sig_scan.proofs.Common.{◌+◌, ◌<◌, ◌∙◌, arith, Bool, List, false, false≢true, get_or, get_or_past, length, set, subst, sym, take, AreAsked}
+use Rattle.sig_scan.proofs.Common.{AreExcluded, AreHeadsOf, Head, MayHave, TableView}
 use Rattle.sig_scan.proofs.HeadLemmas.{AreAsked-head, AreAsked-set, AreExcluded-head, off-set}
 use Rattle.sig_scan.proofs.head.exclude.Goals as goal
 use Rattle.sig_scan.proofs.head.exclude.Goals.{else-k-may_hit, then-k-may_hit+then-not-may_stand, else-k-may_hit-via-else-k-may_hit}
