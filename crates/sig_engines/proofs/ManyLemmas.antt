@@ -459,6 +459,15 @@ if_files_as head P A B progress tally before after failed err_before err_after (
     files_as head P A B progress tally becomes before after failed err_before err_after are adds
 if_files_as head P A B progress tally before after failed err_before err_after (Err e) are adds = adds
 
+-- what is said of an error follows from what else is
+pub if_err : {A E : Type 0} (result : Result A E) (P Q : E → Type 0) → ((e : E) → P e → Q e) → IfErr result P → IfErr result Q
+if_err (Ok x) P Q goes is = tt
+if_err (Err e) P Q goes is = goes e is
+
+pub if_both : {A E : Type 0} (result : Result A E) (P Q O : E → Type 0) → ((e : E) → P e → Q e → O e) → IfErr result P → IfErr result Q → IfErr result O
+if_both (Ok x) P Q O goes is and = tt
+if_both (Err e) P Q O goes is and = goes e is and
+
 pub if_cut_as : (head : List ℕ) (P : Visit → Printed → Type 0) (A B : List Visit → Type 0) (progress : Bool) (tally : Tally) (before after : Option (List ℕ))
     (failed : Bool) (err_before err_after : Option (List ℕ)) (result : Result Tally RunError) → ((v : List Visit) → A v → B v)
     → IfErr result (λ e. CutsFiles head P A progress tally before after failed err_before err_after)

@@ -22,7 +22,7 @@ use Rattle.sig_table.specs.Views.{TableView}
 use Rattle.sig_engines.specs.Asks.{asked_pairs, is_asked, needs_class}
 use Rattle.sig_engines.specs.ClassTexts.{is_class}
 use Rattle.sig_engines.specs.Conflicts.{AddsFirstPairs, AreCounts, AreFirst, IsBeforeSearch, IsClassOf, IsCounted, IsSettled, KnownPair, StopsPairs, asked_line}
-use Rattle.sig_engines.specs.Conflicts.{class_count, classes_in, count_of, is_ambiguous, is_decided, is_unknown, is_unrelated, notes_of, pair_line, pair_lines}
+use Rattle.sig_engines.specs.Conflicts.{HasRoom, class_count, classes_in, count_of, is_ambiguous, is_decided, is_unknown, is_unrelated, notes_of, pair_line, pair_lines}
 use Rattle.sig_engines.specs.Conflicts.{pairs_in, pairs_of}
 use Rattle.sig_engines.specs.Notes.{note_of, noted}
 use Rattle.sig_engines.specs.Pairs.{AreTold, IsFileFault, IsPairCut, IsRankFault, IsTargetFault, IsTold}
@@ -374,20 +374,17 @@ room_for_one n sum left long few is within =
     let product = mul-le-mul few less in
     omega (arith, product, is, within)
 
-pub room_told : (Made : List ℕ → List ℕ → Type 0) (ask : ConflictsAsk) (table : TableView) (others : List (ℕ × ℕ)) (counts : Counts) (notes : List Note)
-    (before after : Option (List ℕ)) (n : ℕ) → n ≤ 1000 → n ≡ length table.formats → AreTold Made ask table others counts notes before after
-    → pairs_in counts < 4294967295
-room_told Made ask table others counts notes before after n few count are =
-    room_for_one n (pairs_in counts) (length others) (length (format_pairs n)) few (length-format_pairs n)
-    (subst (λ k. pairs_in counts + length others ≤ length (format_pairs k)) (sym count) (few_told Made ask table others counts notes before after are))
-
-pub room_classed : (Made : List ℕ → List ℕ → Type 0) (ask : ConflictsAsk) (table : TableView) (others : List (ℕ × ℕ)) (counts : Counts) (notes : List Note)
-    (before after : Option (List ℕ)) (n : ℕ) → n ≤ 1000 → n ≡ length table.formats → AreTold Made ask table others counts notes before after
-    → classes_in counts < 4294967295
-room_classed Made ask table others counts notes before after n few count are =
-    room_for_one n (classes_in counts) (length others) (length (format_pairs n)) few (length-format_pairs n)
-    (subst (λ k. classes_in counts + length others ≤ length (format_pairs k)) (sym count)
-    (few_classes_told Made ask table others counts notes before after are))
+pub has_room : (Made : List ℕ → List ℕ → Type 0) (ask : ConflictsAsk) (table : TableView) (others : List (ℕ × ℕ)) (counts : Counts) (notes : List Note)
+    (before after : Option (List ℕ)) (n : ℕ) → n ≤ 1000 → n ≡ length table.formats → AreTold Made ask table others counts notes before after → HasRoom counts
+has_room Made ask table others counts notes before after n few count are = record {
+  pairs = room (pairs_in counts) (few_told Made ask table others counts notes before after are);
+  classes = room (classes_in counts) (few_classes_told Made ask table others counts notes before after are);
+}
+  where
+    room : (sum : ℕ) → sum + length others ≤ length (format_pairs (length table.formats)) → sum < 4294967295
+    room sum fits =
+        room_for_one n sum (length others) (length (format_pairs n)) few (length-format_pairs n)
+        (subst (λ k. sum + length others ≤ length (format_pairs k)) (sym count) fits)
 
 -- ---- one pair
 

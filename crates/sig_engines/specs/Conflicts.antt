@@ -1,5 +1,5 @@
 -- What is printed of the pairs of formats of a table.
-use Rattle.std.specs.Prelude.{◌≡◌, ℕ, ⊤, ◌+◌, ◌<◌, ◌⊎◌, ◌&&◌, Bool, true, false, cond, List, [], ◌∷◌, ◌++◌, All, codes, count_by, flat_map, if◌then◌else◌, length, map, IfSome, Option, Some, None, is_some}
+use Rattle.std.specs.Prelude.{◌≡◌, ℕ, ⊤, ◌+◌, ◌-◌, ◌^◌, ◌<◌, ◌⊎◌, ◌&&◌, Bool, true, false, cond, List, [], ◌∷◌, ◌++◌, All, codes, count_by, flat_map, if◌then◌else◌, length, map, IfSome, Option, Some, None, is_some}
 use Rattle.std.specs.Fmt.{decimal}
 use Rattle.sig_bits.specs.Device.{Adds, AddsFront}
 use Rattle.sig_cert.specs.Pairs.{AreRelated}
@@ -165,6 +165,11 @@ pairs_in counts = counts.decided + counts.ambiguous + counts.unknown
 
 abbrev pub classes_in : Counts → ℕ
 classes_in counts = counts.over + counts.under + counts.same + counts.apart + counts.open
+
+-- one more can be counted
+pub record HasRoom (counts : Counts) : Type 0 where
+  pub pairs : pairs_in counts < 2 ^ 32 - 1
+  pub classes : classes_in counts < 2 ^ 32 - 1
 
 -- those of a class
 abbrev pub counted_class : Counts → PairClass → ℕ

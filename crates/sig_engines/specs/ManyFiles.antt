@@ -1,5 +1,5 @@
 -- What is printed of many files, each by its name.
-use Rattle.std.specs.Prelude.{◌≡◌, ℕ, Bool, true, false, List, [], ◌∷◌, ◌++◌, All, codes, flat_map, is_ok, length, map, None, Option, Result, Ok, Err, Some}
+use Rattle.std.specs.Prelude.{◌≡◌, ◌≢◌, ℕ, Bool, true, false, List, [], ◌∷◌, ◌++◌, All, codes, flat_map, is_ok, length, map, None, Option, Result, Ok, Err, Some}
 use Rattle.std.specs.Str.{IsUtf8}
 use Rattle.std.specs.List.{list_all}
 use Rattle.sig_bits.specs.Bytes.{IsBytes}
@@ -14,6 +14,7 @@ use Rattle.sig_engines.specs.Listed.{AreListed}
 use Rattle.sig_engines.specs.Stores.{Has, Holding, Holds, Lacks, SomeFailed}
 use Rattle.sig_engines.specs.Tallies.{done_of, none_yet, summary_line, with_fault, with_file}
 use Rattle.sig_engines.specs.Visits.{AreVisits, Visit}
+use Rattle.sig_engines.specs.declared.error.RunError.{RunError}
 use Rattle.sig_engines.specs.declared.error.RunError.TheVariants.{OutOfMemory, Read, Write}
 use Rattle.sig_engines.specs.declared.ask.MatchAsk.{MatchAsk}
 use Rattle.sig_engines.specs.declared.error.FileFault.{FileFault}
@@ -154,6 +155,17 @@ pub record StopsFiles (head : List ℕ) (IsOf : Visit → Printed → Type 0) (A
   pub each : All (λ f. IsOf f.visit f.printed) files
   pub adds : Adds before (head ++ out_texts files) after
   pub reports : err_failed ≡ false → Adds err_before (err_texts progress tally files) err_after
+
+-- a write to the output failed, which is the one refusal, and of the first ones this is printed
+pub record EndsByWrite (head : List ℕ) (IsOf : Visit → Printed → Type 0) (Are : List Visit → Type 0) (progress : Bool) (tally : Tally) (out_failed : Bool) (before after : Option (List ℕ)) (err_failed : Bool) (err_before err_after : Option (List ℕ)) (error : RunError) : Type 0 where
+  pub is : error ≡ Write
+  pub failed : out_failed ≡ true
+  pub cut : CutsFiles head IsOf Are progress tally before after err_failed err_before err_after
+
+-- of the first ones this is printed, and whole unless a write failed
+pub record EndsEarly (head : List ℕ) (IsOf : Visit → Printed → Type 0) (Are : List Visit → Type 0) (progress : Bool) (tally : Tally) (before after : Option (List ℕ)) (err_failed : Bool) (err_before err_after : Option (List ℕ)) (error : RunError) : Type 0 where
+  pub cut : CutsFiles head IsOf Are progress tally before after err_failed err_before err_after
+  pub whole : error ≢ Write → StopsFiles head IsOf Are progress tally before after err_failed err_before err_after
 
 -- ---- a whole run
 

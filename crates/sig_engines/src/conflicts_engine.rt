@@ -6,7 +6,7 @@
 //! pairs together, a line for each format and the forced pairs, is made of their notes at the end.
 
 ghost use Rattle.std.specs.Prelude.{◌≡◌, ◌↔◌, ◌+◌, ◌-◌, ◌++◌, ◌^◌, ◌<◌, [], None, Some, All, false, true, IfErr, IfOk, IsSome, IsTrue, OnOk, length, string_bytes};
-ghost use Rattle.sig_engines.specs.Conflicts.{AddsConflicts, IsClassOf, IsCounted, IsUnmade, StopsConflicts, asked_line, classes_in, counts_line, pairs_in};
+ghost use Rattle.sig_engines.specs.Conflicts.{AddsConflicts, HasRoom, IsClassOf, IsCounted, IsUnmade, StopsConflicts, asked_line, counts_line, pairs_in};
 ghost use Rattle.sig_engines.specs.Forced.{Forces};
 ghost use Rattle.sig_engines.specs.Notes.{noted, summary_if_asked};
 ghost use Rattle.sig_engines.specs.Pairs.{AreTold, IsFileAsked, IsFileFault, IsPairCut, IsRankFault, IsTargetFault, IsTold};
@@ -137,8 +137,7 @@ impl Told {
         decision: &PairDecision,
         class: Option<PairClass>,
     ) -> Result<(), AllocError>
-        requires few { pairs_in self.old.counts < 2 ^ 32 - 1 }
-        requires few_classes { classes_in self.old.counts < 2 ^ 32 - 1 }
+        requires { HasRoom self.old.counts }
         ensures counted { OnOk result (IsCounted self.old.counts self.new.counts (Some decision.now) class) }
         ensures noted { OnOk result (self.new.notes.items ≡ self.old.notes.items ++ noted (a.0, b.0) (Some decision.now) class) }
     {
@@ -217,8 +216,7 @@ fn write_pair<'a, S: Store, W: Output>(
 ) -> Result<(), PairsFault<'a>>
     requires lives { AreLivesOfTable run.now.table.now run.now.ask.budget lives.now }
     requires formats { AreFormats run.now.table.now (a, b) }
-    requires few { pairs_in told.old.counts < 2 ^ 32 - 1 }
-    requires few_classes { classes_in told.old.counts < 2 ^ 32 - 1 }
+    requires room { HasRoom told.old.counts }
     ensures told { OnOk result (IsTold (IsMade S.name_of S.Writer.written S.Writer.failed (S.held run.now.store.now)) run.now.ask run.now.table.now (a.0, b.0)
         told.old.counts told.new.counts told.old.notes.items told.new.notes.items (W.written out.old) (W.written out.new)) }
     ensures cut { IfErr result (λ fault. IsPairCut S.Writer.failed fault run.now.ask run.now.table.now (a.0, b.0) (W.failed out.new) (W.written out.old) (W.written out.new)) }

@@ -1,7 +1,7 @@
 //! How many pairs of formats are decided, ambiguous and unknown, and of which class.
 
 ghost use Rattle.std.specs.Prelude.{◌≡◌, ◌↔◌, ◌+◌, ◌-◌, ◌^◌, ◌<◌, [], IsTrue, Some};
-ghost use Rattle.sig_engines.specs.Conflicts.{AreCounts, IsCounted, classes_in, pairs_in};
+ghost use Rattle.sig_engines.specs.Conflicts.{AreCounts, HasRoom, IsCounted, pairs_in};
 
 use sig_find::{PairClass, PairDecision};
 
@@ -37,8 +37,7 @@ impl Counts {
 
     /// One pair more, with its class if it has one.
     pub(crate) fn add(&mut self, decision: &PairDecision, class: Option<PairClass>)
-        requires few { pairs_in self.old < 2 ^ 32 - 1 }
-        requires few_classes { classes_in self.old < 2 ^ 32 - 1 }
+        requires { HasRoom self.old }
         ensures { IsCounted self.old self.new (Some decision.now) class }
     {
         match decision {

@@ -7,7 +7,7 @@
 
 ghost use Rattle.std.specs.Prelude.{◌≡◌, ◌≢◌, ◌⊎◌, ◌++◌, Ok, false, option_map, string_bytes, true, IfErr, IfOk, IfSome, OnOk};
 ghost use Rattle.sig_engines.specs.Texts.{signature_text};
-ghost use Rattle.sig_engines.specs.Finding.{AddsFound, AreSignatures, IsKnown, IsReason, IsReasonFor, KeepsFound, TellsWhy, budget_line, found_bytes, found_text, is_answered, outranked_line, reason_line};
+ghost use Rattle.sig_engines.specs.Finding.{AreSignatures, IsKnown, IsReason, IsReasonFor, KeepsFound, TellsWhy, budget_line, found_bytes, found_text, is_answered, outranked_line, reason_line};
 ghost use Rattle.sig_engines.specs.Progress.{AddsProgress, ShowsIf};
 ghost use Rattle.sig_engines.specs.Stores.{IsMade};
 ghost use Rattle.sig_engines.specs.Refusals.{StopsFind};
@@ -35,7 +35,7 @@ use std::fmt::Write;
 /// progress the search tells `err` how many products are done, and where it gave up `err` is told
 /// why.
 ///
-/// `made` says that a file of this name was made and was written these bytes. It names no value,
+/// `answers` says that a file of this name was made and was written these bytes. It names no value,
 /// since the file is dropped here. So no clause can say that none is made where the search gave up,
 /// nor that nothing more is written to it: tests do.
 #[inline(never)]
@@ -48,8 +48,7 @@ pub fn run_find<S: Store, W: Output, E: Output>(
     err: &mut E,
 ) -> Result<bool, FileFault>
     requires { IsTable table.now }
-    ensures answers { IfOk result (λ is_yes. AddsFound is_yes ask.entry.hex table.now ask.entry.budget (W.written out.old) (W.written out.new)) }
-    ensures made { IfOk result (λ is_yes. KeepsFound (IsMade S.name_of S.Writer.written S.Writer.failed (S.held store.now) ask.entry.out.now)
+    ensures answers { IfOk result (λ is_yes. KeepsFound (IsMade S.name_of S.Writer.written S.Writer.failed (S.held store.now) ask.entry.out.now)
         is_yes ask.entry.hex table.now ask.entry.budget (W.written out.old) (W.written out.new)) }
     ensures writes { OnOk result (W.failed out.new ≡ false) }
 

@@ -4,7 +4,7 @@
 //! below others takes no stack, and what is kept are the names of those folders that are open.
 
 ghost use Rattle.std.specs.Prelude.{◌≡◌, ◌<◌, ◌+◌, [], false, IfErr, IfOk, List, map, OnErr, OnOk, true};
-ghost use Rattle.sig_engines.specs.ManyFiles.{AddsFiles, CutsFiles, IsPrinted};
+ghost use Rattle.sig_engines.specs.ManyFiles.{AddsFiles, CutsFiles, EndsByWrite, IsPrinted};
 ghost use Rattle.sig_engines.specs.Stores.{IsUnlisted, Lists, item_of};
 ghost use Rattle.sig_engines.specs.Visits.{AreIn, AreMet, greatest_depth};
 ghost use Rattle.sig_engines.specs.Waiting.{AreMetOf, Leads, Pushes, worth, worth_of};
@@ -83,11 +83,8 @@ fn match_entry<S: Store, K: DroidCore, W: Output, E: Output>(
     ensures writes { OnOk result (W.failed out.old ≡ false → W.failed out.new ≡ false) }
     ensures stays_failed { E.failed err.new ≡ false → E.failed err.old ≡ false }
     ensures lowers { OnOk result (worth_of waiting.new.items < worth_of waiting.old.items + worth next.now.room) }
-
-    // The one refusal, and when.
-    ensures write { IfErr result (λ e. (e ≡ RunError.Write) × (W.failed out.new ≡ true)) }
-    ensures cut { IfErr result (λ e. CutsFiles [] (IsPrinted S.Reader.failed run.now.ask (K.lists run.now.core.now) (S.held run.now.store.now)) (AreMetOf (S.held run.now.store.now) next.now) run.now.ask.progress tally
-        (W.written out.old) (W.written out.new) (E.failed err.new) (E.written err.old) (E.written err.new)) }
+    ensures refused { IfErr result (EndsByWrite [] (IsPrinted S.Reader.failed run.now.ask (K.lists run.now.core.now) (S.held run.now.store.now)) (AreMetOf (S.held run.now.store.now) next.now) run.now.ask.progress tally
+        (W.failed out.new) (W.written out.old) (W.written out.new) (E.failed err.new) (E.written err.old) (E.written err.new)) }
 {
     let name = next.entry.name.as_str();
     let fault = match next.entry.kind {

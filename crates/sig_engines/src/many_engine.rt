@@ -12,7 +12,7 @@ ghost use Rattle.sig_bits.specs.Device.{Adds, AddsFront};
 ghost use Rattle.sig_engines.specs.FileProgress.{end_text};
 ghost use Rattle.sig_engines.specs.FileTexts.{head_text};
 ghost use Rattle.sig_engines.specs.Listed.{end_of, has_failed, unread_of};
-ghost use Rattle.sig_engines.specs.ManyFiles.{AddsAll, AddsFiles, AreListedVisits, CutsAll, CutsFiles, IsPrinted, StopsAll, StopsFiles, summary_text};
+ghost use Rattle.sig_engines.specs.ManyFiles.{AddsAll, AddsFiles, AreListedVisits, CutsAll, CutsFiles, EndsEarly, IsPrinted, StopsAll, summary_text};
 ghost use Rattle.sig_engines.specs.Tallies.{none_yet};
 ghost use Rattle.sig_engines.specs.Visits.{AreOf, AreVisits};
 
@@ -147,9 +147,7 @@ fn match_list<S: Store, K: DroidCore, I: Input + Drop, W: Output, E: Output>(
 
     // Each refusal, and when.
     ensures refuses { (IsErrOf result RunError.Write → W.failed out.new ≡ true) × (IsErrOf result RunError.Read → has_failed I.failed list.new ≡ true) }
-    ensures stopped { IfErr result (λ e. e ≢ RunError.Write → StopsFiles (head_text run.now.ask.csv) (IsPrinted S.Reader.failed run.now.ask (K.lists run.now.core.now) (S.held run.now.store.now)) (AreListedVisits run.now.ask.recursive (S.held run.now.store.now) (end_of list.old) (unread_of I.to_come list.old)) run.now.ask.progress none_yet
-        (W.written out.old) (W.written out.new) (E.failed err.new) (E.written err.old) (E.written err.new)) }
-    ensures cut { IfErr result (λ e. CutsFiles (head_text run.now.ask.csv) (IsPrinted S.Reader.failed run.now.ask (K.lists run.now.core.now) (S.held run.now.store.now)) (AreListedVisits run.now.ask.recursive (S.held run.now.store.now) (end_of list.old) (unread_of I.to_come list.old)) run.now.ask.progress none_yet
+    ensures ended { IfErr result (EndsEarly (head_text run.now.ask.csv) (IsPrinted S.Reader.failed run.now.ask (K.lists run.now.core.now) (S.held run.now.store.now)) (AreListedVisits run.now.ask.recursive (S.held run.now.store.now) (end_of list.old) (unread_of I.to_come list.old)) run.now.ask.progress none_yet
         (W.written out.old) (W.written out.new) (E.failed err.new) (E.written err.old) (E.written err.new)) }
 {
     write_head(run.ask, out)?;

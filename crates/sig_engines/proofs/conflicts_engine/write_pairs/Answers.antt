@@ -6,7 +6,7 @@ use Rattle.sig_cert.proofs.Exports.{pairs_left-cons, pairs_with-cons}
 use Rattle.sig_engines.specs.Asks.{is_asked}
 use Rattle.sig_engines.specs.Pairs.{AreTold}
 use Rattle.sig_engines.specs.Stores.{IsMade}
-use Rattle.sig_engines.proofs.TellingLemmas.{cut_is_searched, ends_cut, goes_told, next_asked, next_not_asked, room_classed, room_told}
+use Rattle.sig_engines.proofs.TellingLemmas.{cut_is_searched, ends_cut, goes_told, has_room, next_asked, next_not_asked}
 use Rattle.sig_engines.proofs.conflicts_engine.write_pairs.Goals as goal
 
 pub loop-j-init : goal.loop-j-init
@@ -20,16 +20,9 @@ loop-j-init g c = (
       (pairs_left-cons c.format_count-formats.result c.loop-i.i c.loop-i-test.true) c.loop-i.invariant.1,
 )
 
-pub write_pair-requires-clause-few : goal.write_pair-requires-clause-few
-write_pair-requires-clause-few g c =
-    room_told (IsMade g.S.Store.name_of g.S.Writer.Output.written g.S.Writer.Output.failed (g.S.Store.held c.args.run.now.store.now)) c.args.run.now.ask
-    c.args.run.now.table.now _
-    c.loop-j.told.counts c.loop-j.told.notes.items (g.W.Output.written c.args.out.now) (g.W.Output.written c.loop-j.out) c.format_count-formats.result
-    c.format_count-formats.ensures.limit c.format_count-formats.ensures.count c.loop-j.invariant.1
-
-pub write_pair-requires-clause-few_classes : goal.write_pair-requires-clause-few_classes
-write_pair-requires-clause-few_classes g c =
-    room_classed (IsMade g.S.Store.name_of g.S.Writer.Output.written g.S.Writer.Output.failed (g.S.Store.held c.args.run.now.store.now)) c.args.run.now.ask
+pub write_pair-requires-clause-room : goal.write_pair-requires-clause-room
+write_pair-requires-clause-room g c =
+    has_room (IsMade g.S.Store.name_of g.S.Writer.Output.written g.S.Writer.Output.failed (g.S.Store.held c.args.run.now.store.now)) c.args.run.now.ask
     c.args.run.now.table.now _
     c.loop-j.told.counts c.loop-j.told.notes.items (g.W.Output.written c.args.out.now) (g.W.Output.written c.loop-j.out) c.format_count-formats.result
     c.format_count-formats.ensures.limit c.format_count-formats.ensures.count c.loop-j.invariant.1
@@ -72,12 +65,12 @@ pairs-requires g c =
     c.write_pair.new.told.counts c.loop-j.told.notes.items c.write_pair.new.told.notes.items
     (g.W.Output.written c.args.out.now) (g.W.Output.written c.loop-j.out) (g.W.Output.written c.write_pair.new.out) is within c.loop-j.invariant.1
     c.in_ok-write_pair.ensures.told in
-    let few = room_told (IsMade g.S.Store.name_of g.S.Writer.Output.written g.S.Writer.Output.failed (g.S.Store.held c.args.run.now.store.now))
+    let room = has_room (IsMade g.S.Store.name_of g.S.Writer.Output.written g.S.Writer.Output.failed (g.S.Store.held c.args.run.now.store.now))
     c.args.run.now.ask
     c.args.run.now.table.now (filter (is_asked c.args.run.now.ask.only) rest) c.write_pair.new.told.counts c.write_pair.new.told.notes.items
     (g.W.Output.written c.args.out.now) (g.W.Output.written c.write_pair.new.out) n c.format_count-formats.ensures.limit
     c.format_count-formats.ensures.count told in
-    omega (arith, few)
+    omega (arith, room.pairs)
 
 pub loop-j-preserved-then-not-has_pair : goal.loop-j-preserved-then-not-has_pair
 loop-j-preserved-then-not-has_pair g c =
@@ -115,8 +108,8 @@ loop-j-preserved g c =
 
 pub returns-clause-few : goal.returns-clause-few
 returns-clause-few g c =
-    let few = room_told (IsMade g.S.Store.name_of g.S.Writer.Output.written g.S.Writer.Output.failed (g.S.Store.held c.args.run.now.store.now))
+    let room = has_room (IsMade g.S.Store.name_of g.S.Writer.Output.written g.S.Writer.Output.failed (g.S.Store.held c.args.run.now.store.now))
     c.args.run.now.ask
     c.args.run.now.table.now _ c.loop-i.told.counts c.loop-i.told.notes.items (g.W.Output.written c.args.out.now) (g.W.Output.written c.loop-i.out)
     c.format_count-formats.result c.format_count-formats.ensures.limit c.format_count-formats.ensures.count c.loop-i.invariant.1 in
-    omega (arith, few)
+    omega (arith, room.pairs)

@@ -6,16 +6,16 @@ use Rattle.sig_engines.proofs.FoundLemmas.{shown_adds, why_is_told}
 use Rattle.sig_engines.proofs.WriteLemmas.{printed}
 use Rattle.sig_engines.proofs.find_engine.run_find.Goals as goal
 
-pub returns-in-Ok-true-clause-made : goal.returns-in-Ok-true-clause-made
-returns-in-Ok-true-clause-made g c =
+pub returns-in-Ok-true-clause-answers : goal.returns-in-Ok-true-clause-answers
+returns-in-Ok-true-clause-answers g c =
     let answered : true ≡ is_answered c.in-Ok.found = cc (c.in-Ok-true.ensures.answered, c.in-Ok-true.field-0-test) in
     record {
       adds = record { found = c.in-Ok.found; is_found = c.in-Ok.ensures.found; is = answered; adds = c.in-Ok-true.ensures.lines };
       kept = c.in-Ok-true.ensures.made;
     }
 
-pub returns-in-Ok-false-clause-made : goal.returns-in-Ok-false-clause-made
-returns-in-Ok-false-clause-made g c =
+pub returns-in-Ok-false-clause-answers : goal.returns-in-Ok-false-clause-answers
+returns-in-Ok-false-clause-answers g c =
     let answered : false ≡ is_answered c.in-Ok.found = cc (c.in-Ok-false.ensures.answered, c.in-Ok-false.field-0-test) in
     record {
       adds = record { found = c.in-Ok.found; is_found = c.in-Ok.ensures.found; is = answered; adds = c.in-Ok-false.ensures.lines };

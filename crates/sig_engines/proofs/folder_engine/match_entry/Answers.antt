@@ -2,7 +2,7 @@ use Rattle.std.proofs.Common.{◌≡◌, ◌<◌, ◌+◌, ◌-◌, ◌∷◌, [
 use Rattle.std.specs.Prelude.{string_bytes}
 use Rattle.sig_engines.proofs.FolderLemmas.{deep_met, file_met, folder_leads, folder_lowers, folder_met, leads_as, nothing_leads, some_room, unlisted_met}
 use Rattle.sig_engines.proofs.FolderLemmas.{worth_less}
-use Rattle.sig_engines.proofs.ManyLemmas.{files_as, files_none, if_cut_as, if_files_as, one_printed}
+use Rattle.sig_engines.proofs.ManyLemmas.{files_as, files_none, if_both, if_cut_as, if_files_as, one_printed}
 use Rattle.sig_engines.proofs.TellingLemmas.{adds_nothing}
 use Rattle.sig_bits.specs.Device.{Adds}
 use Rattle.sig_engines.specs.FileProgress.{told_text}
@@ -32,14 +32,15 @@ returns-in-File-clause-answers g c =
 pub returns-in-File-clause-lowers : goal.returns-in-File-clause-lowers
 returns-in-File-clause-lowers g c = always c.match_file.result _ (worth_less c.args.waiting.now.items c.args.next.now.room)
 
-pub returns-in-File-clause-cut : goal.returns-in-File-clause-cut
-returns-in-File-clause-cut g c =
+pub returns-in-File-clause-refused : goal.returns-in-File-clause-refused
+returns-in-File-clause-refused g c =
     let held = g.S.Store.held c.args.run.now.store.now in
     let next = c.args.next.now in
     let name = string_bytes next.entry.name in
-    if_cut_as _ _ (IsOne (to_match name)) (AreMetOf held next) _ _ _ _ _ _ _ c.match_file.result
+    if_both c.match_file.result _ _ _ (λ e write cut. record { is = write.0; failed = write.1; cut = cut }) c.match_file.ensures.write
+    (if_cut_as _ _ (IsOne (to_match name)) (AreMetOf held next) _ _ _ _ _ _ _ c.match_file.result
     (λ v is. file_met held next.room name next.entry.kind v c.in-File.is is)
-    (rw c.as_str-name.ensures.value at c.match_file.ensures.cut)
+    (rw c.as_str-name.ensures.value at c.match_file.ensures.cut))
 
 pub returns-in-Ok-clause-answers : goal.returns-in-Ok-clause-answers
 returns-in-Ok-clause-answers g c =

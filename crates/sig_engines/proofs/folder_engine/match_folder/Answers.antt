@@ -51,7 +51,7 @@ returns-in_err-tally-clause-cut g c =
     rw p.1 (files_cut _ (IsPrinted g.S.Reader.Input.failed c.args.run.now.ask (g.K.DroidCore.lists c.args.run.now.core.now) held)
     (λ v. Covers held are v c.entries.waiting.items) (AreMetOf held next) are _ _ _ _ _ _ _ _ _ _ _
     (λ v w covers is. covers_more held are next c.pop.new.self.items c.entries.waiting.items v w c.in-Some.ensures.items covers is)
-    c.entries.invariant.adds c.in_err-tally.ensures.cut c.match_entry.ensures.stays_failed)
+    c.entries.invariant.adds c.in_err-tally.ensures.refused.cut c.match_entry.ensures.stays_failed)
 
 pub entries-smaller : goal.entries-smaller
 entries-smaller g c =

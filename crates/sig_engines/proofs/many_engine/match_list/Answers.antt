@@ -52,24 +52,30 @@ returns-clause-answers g c =
     (c.next.ensures.done (c.in_ok-next.was ∙ ap Ok c.if-branch.false)) in
     files_as _ _ _ _ _ _ _ _ _ _ _ _ (λ v is. (before.names.0, takes_all _ _ _ before.names.0 before.names.1 done, is)) before.names.2
 
-pub returns-in_err-write_head-clause-cut : goal.returns-in_err-write_head-clause-cut
-returns-in_err-write_head-clause-cut g c =
+pub returns-in_err-write_head-clause-ended : goal.returns-in_err-write_head-clause-ended
+returns-in_err-write_head-clause-ended g c =
     let p = err_from_is_err_and c.from_residual.result c.from_residual.ensures.1 in
     let some = some_listed c.args.list.now.end (unread_of g.I.Input.to_come c.args.list.now) in
     let visits = some_visits c.args.run.now.ask.recursive (g.S.Store.held c.args.run.now.store.now) some.0 in
-    rw p.1 (head_cut _ _ _ _ _ _ _ _ _ (visits.0, (some.0, some.1, visits.1)) c.in_err-write_head.ensures.cut)
+    rw p.1 record {
+      cut = head_cut _ _ _ _ _ _ _ _ _ (visits.0, (some.0, some.1, visits.1)) c.in_err-write_head.ensures.cut;
+      whole = λ other. absurd (other (p.2 ∙ c.in_err-write_head.ensures.write.0));
+    }
 
-pub returns-in_err-next-clause-cut : goal.returns-in_err-next-clause-cut
-returns-in_err-next-clause-cut g c =
+pub returns-in_err-next-clause-ended : goal.returns-in_err-next-clause-ended
+returns-in_err-next-clause-ended g c =
     let p = err_from_is_err_and c.from_residual-in_err-next.result c.from_residual-in_err-next.ensures.1 in
     let before = c.names.invariant in
     let first = takes_first_of c.args.list.now.end _ _ before.names.0 before.names.1 in
-    rw p.1 (files_first _ _ _ _ _ _ _ _ _ _ _ _
-    (λ v is. let more = visits_more c.args.run.now.ask.recursive (g.S.Store.held c.args.run.now.store.now) before.names.0 first.0 v is in
-    (more.0, (before.names.0 ++ first.0, first.1, more.1))) before.names.2)
+    rw p.1 record {
+      cut = files_first _ _ _ _ _ _ _ _ _ _ _ _ (λ v is. let more = visits_more c.args.run.now.ask.recursive (g.S.Store.held c.args.run.now.store.now) before.names.0 first.0 v is in
+          (more.0, (before.names.0 ++ first.0, first.1, more.1))) before.names.2;
+      whole = λ other. files_stopped _ _ _ _ _ _ _ _ _ _ _ _ (λ v is. let more = visits_more c.args.run.now.ask.recursive (g.S.Store.held c.args.run.now.store.now) before.names.0 first.0 v is in
+          (more.0, (before.names.0 ++ first.0, first.1, more.1))) before.names.2;
+    }
 
-pub returns-in_err-tally-clause-cut : goal.returns-in_err-tally-clause-cut
-returns-in_err-tally-clause-cut g c =
+pub returns-in_err-tally-clause-ended : goal.returns-in_err-tally-clause-ended
+returns-in_err-tally-clause-ended g c =
     let p = err_from_is_err_and c.from_residual-in_err-tally.result c.from_residual-in_err-tally.ensures.1 in
     let before = c.names.invariant in
     let held = g.S.Store.held c.args.run.now.store.now in
@@ -83,16 +89,10 @@ returns-in_err-tally-clause-cut g c =
     (g.W.Output.written c.match_listed.new.out) (g.E.Output.failed c.match_listed.new.err) (g.E.Output.written c.names.err)
     (g.E.Output.written c.match_listed.new.err))
     c.deref.ensures.value c.in_err-tally.ensures.cut in
-    rw p.1 (files_cut _ printed (AreVisits all held before.names.0) (AreOf all held name)
-    (AreListedVisits all held c.args.list.now.end (unread_of g.I.Input.to_come c.args.list.now)) _ _ _ _ _ _ _ _ _ _ _
-    (λ v w one two. let more = visits_next_more all held before.names.0 name first.0 v w one two in
-    (more.0, (before.names.0 ++ (name ∷ []) ++ first.0, first.1, more.1))) before.names.2 cut c.match_listed.ensures.stays_failed)
-
-pub returns-in_err-next-clause-stopped : goal.returns-in_err-next-clause-stopped
-returns-in_err-next-clause-stopped g c =
-    let p = err_from_is_err_and c.from_residual-in_err-next.result c.from_residual-in_err-next.ensures.1 in
-    let before = c.names.invariant in
-    let first = takes_first_of c.args.list.now.end _ _ before.names.0 before.names.1 in
-    rw p.1 (λ other. files_stopped _ _ _ _ _ _ _ _ _ _ _ _
-    (λ v is. let more = visits_more c.args.run.now.ask.recursive (g.S.Store.held c.args.run.now.store.now) before.names.0 first.0 v is in
-    (more.0, (before.names.0 ++ first.0, first.1, more.1))) before.names.2)
+    rw p.1 record {
+      cut = files_cut _ printed (AreVisits all held before.names.0) (AreOf all held name)
+          (AreListedVisits all held c.args.list.now.end (unread_of g.I.Input.to_come c.args.list.now)) _ _ _ _ _ _ _ _ _ _ _
+          (λ v w one two. let more = visits_next_more all held before.names.0 name first.0 v w one two in
+          (more.0, (before.names.0 ++ (name ∷ []) ++ first.0, first.1, more.1))) before.names.2 cut c.match_listed.ensures.stays_failed;
+      whole = λ other. absurd (other (p.2 ∙ c.in_err-tally.ensures.write.0));
+    }
