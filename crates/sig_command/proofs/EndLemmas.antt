@@ -21,11 +21,11 @@ use Rattle.sig_engines.specs.declared.witness_name.WitnessName.{WitnessName}
 use Rattle.sig_table.specs.declared.error.TableError.{TableError}
 use Rattle.sig_table.specs.declared.error.TableError.TheVariants as table
 use Rattle.sig_command.specs.CommandLine.{AreTaken, Asks, HasFaultKind, IsHelpAsked, fault_of_words, subcommand_of_words}
-use Rattle.sig_command.specs.Endings.{AnswersBy, EndsByFault, KeepsErrors, KeepsOutput, ReportsMemory, TellsBy}
+use Rattle.sig_command.specs.Endings.{AnswersAndMakes, EndsByFault, EndsByKind, KeepsErrors, KeepsOutput, ReportsMemory, TellsBy}
 use Rattle.sig_command.specs.Faults.{Reports, ReportsLine, TellsWrite}
-use Rattle.sig_command.specs.Requests.{Behind, CutsSomeWords, CutsWords, IsCutRequest, IsFaultOf, IsFirstFault, IsFolderFault, IsLaterFault, IsListFault}
+use Rattle.sig_command.specs.Requests.{Behind, CutsSomeWords, CutsWords, HasFailedWrite, HasFault, IsCutRequest, IsFaultOf, IsFirstFault, IsFolderFault, IsLaterFault, IsListFault}
 use Rattle.sig_command.specs.Requests.{IsNamesFaultOf, Joins, KeepsOrCuts, ListsIf, ListsRequest, ListsSomeWords, ListsWords, ReportsFaultOf, ReportsLineOf}
-use Rattle.sig_command.specs.Requests.{Shows, ShowsBefore, ShowsSomeWords, ShowsWords, TellsOf}
+use Rattle.sig_command.specs.Requests.{Shows, ShowsBefore, ShowsSomeWords, ShowsWords, TellsOf, UnlessWriting}
 use Rattle.sig_command.specs.Several.{ReportsFiles}
 use Rattle.sig_command.proofs.SeveralLemmas.{memory_before}
 use Rattle.sig_command.specs.Statuses.{kind_status, names_status, status_of, table_status}
@@ -141,26 +141,26 @@ line_is_reported failed held request reason status is_failed written err mid bef
     shown (inl same) = inl (ap written same)
     shown (inr shows) = inr (subst (λ b. Shows failed held request false b (written err) (written mid)) sound shows)
 
-pub fault_is_reported : {R E : Type 0} (failed : R → Bool) (WriteFailed : Type 0) (held : Holding) (request : Request) (reason : Fault) (status : ℕ)
-    (is_failed : E → Bool) (written : E → Option (List ℕ)) (err mid last : E) (before after : Option (List ℕ)) (out_failed : Bool)
-    → IsFaultOf failed held request reason → (TellsWrite reason → WriteFailed) → ListsIf held request reason out_failed before after
-    → TellsOf failed held request false is_failed written err mid → Joins failed held request reason before after (is_failed mid) (written err) (written mid)
-    → status ≡ status_of reason → (is_failed last ≡ false → is_failed mid ≡ false)
-    → (is_failed last ≡ false → Reports reason status (written mid) (written last))
-    → ReportsFaultOf failed WriteFailed held request status before after (is_failed last) (written err) (written last)
-fault_is_reported failed WriteFailed held request reason status is_failed written err mid last before after out_failed is write lists told joins ends sound
+pub fault_is_reported : {R F W E : Type 0} (failed : R → Bool) (write_failed : F → Bool) (held : Holding) (request : Request) (reason : Fault) (status : ℕ)
+    (out_failed : W → Bool) (out_written : W → Option (List ℕ)) (before after : W) (is_failed : E → Bool) (written : E → Option (List ℕ)) (err mid last : E)
+    → HasFault failed write_failed held request out_failed out_written before after reason → TellsOf failed held request false is_failed written err mid
+    → Joins failed held request reason (out_written before) (out_written after) (is_failed mid) (written err) (written mid) → status ≡ status_of reason
+    → (is_failed last ≡ false → is_failed mid ≡ false) → (is_failed last ≡ false → Reports reason status (written mid) (written last))
+    → ReportsFaultOf failed (HasFailedWrite write_failed (out_failed after)) held request status (out_written before) (out_written after) (is_failed last)
+    (written err) (written last)
+fault_is_reported failed write_failed held request reason status out_failed out_written before after is_failed written err mid last of told joins ends sound
     reports = record {
       reason = reason;
-      is = is;
-      write = write;
+      is = of.is;
+      write = of.write;
       ends = ends;
-      lists = λ same. (listed failed held request reason out_failed before after is lists same).1;
-      line = λ whole. line_is_reported failed held request reason status is_failed written err mid before after (written last) told joins (sound whole)
-          (reports whole);
+      lists = λ same. (listed failed held request reason (out_failed after) (out_written before) (out_written after) of.is of.lists same).1;
+      line = λ whole. line_is_reported failed held request reason status is_failed written err mid (out_written before) (out_written after) (written last) told
+          joins (sound whole) (reports whole);
     }
 
 -- before there is a request to look at, memory ran out
-pub memory_is_reported : {R E : Type 0} (failed : R → Bool) (WriteFailed : Type 0) (held : Holding) (request : Request) (status : ℕ) (is_failed : E → Bool)
+pub memory_is_reported : {R E : Type 0} (failed : R → Bool) (WriteFailed : Request → Type 0) (held : Holding) (request : Request) (status : ℕ) (is_failed : E → Bool)
     (written : E → Option (List ℕ)) (err last : E) (before after : Option (List ℕ)) → status ≡ 3
     → (is_failed last ≡ false → ReportsMemory (written err) (written last))
     → ReportsFaultOf failed WriteFailed held request status before after (is_failed last) (written err) (written last)
@@ -348,31 +348,43 @@ nothing_is_shown Shown status is_failed before after written written_after keeps
         first (inr never) = absurd never
     behind (inr files) = inr files
 
+-- a fault that comes before any write, whatever is asked for
+record IsOutside (reason : Fault) : Type 0 where
+  run : (e : RunError) → reason ≢ Run e
+  cut : (e : Cut) → reason ≢ CutShort e
+  file : (folder : Bor Text) (name : WitnessName) → reason ≢ NoFile folder name
+  files : reason ≢ SomeFiles
+  table : reason ≢ FaultyTable
+
+before_writing : (request : Request) (reason : Fault) (Same : Type 0) → UnlessWriting request reason Same → IsOutside reason → Same
+before_writing (Show table) reason Same same is = same (is.run run.Write)
+before_writing (Lint table) reason Same same is = same (is.run run.Write) is.table
+before_writing (Match all table file) reason Same same is = same (is.run run.Write)
+before_writing (MatchMany options table names) reason Same same is = same is.run is.files
+before_writing (Find table ask) reason Same same is = same (is.run run.Write)
+before_writing (Conflicts table options progress) reason Same same is = same is.cut is.file
+before_writing (Dead table ask) reason Same same is = same is.cut
+before_writing (Check table certificate) reason Same same is = same (is.run run.Write)
+before_writing (Witness table file) reason Same same is = same (is.run run.Write)
+
 -- with 2 the output is as it was, or has the faults of a table; with 3 an answer may be cut short
-pub fault_keeps_output : {R W : Type 0} (failed : R → Bool) (held : Holding) (words : List Text) (request : Request) (reason : Fault) (status : ℕ)
-    (is_failed : W → Bool) (written : W → Option (List ℕ)) (before after : W) → Asks (subcommand_of_words words) request → IsFaultOf failed held request reason
-    → status ≡ status_of reason → (((e : RunError) → reason ≢ Run e) → ((e : Cut) → reason ≢ CutShort e)
-    → ((folder : Bor Text) (name : WitnessName) → reason ≢ NoFile folder name) → reason ≢ SomeFiles → reason ≢ FaultyTable → after ≡ before)
-    → ListsIf held request reason (is_failed after) (written before) (written after)
-    → (reason ≢ FaultyTable → KeepsOrCuts failed held request is_failed written before after)
+pub fault_keeps_output : {R F W : Type 0} (failed : R → Bool) (write_failed : F → Bool) (held : Holding) (words : List Text) (request : Request) (reason : Fault)
+    (status : ℕ) (is_failed : W → Bool) (written : W → Option (List ℕ)) (before after : W) → Asks (subcommand_of_words words) request
+    → HasFault failed write_failed held request is_failed written before after reason → status ≡ status_of reason
     → KeepsOutput (CutsWords failed held words (written before) (written after)) (ListsWords held words (written before) (written after)) status
     (is_failed after) before after
-fault_keeps_output failed held words request reason status is_failed written before after asks is ends untouched lists keeps = record {
+fault_keeps_output failed write_failed held words request reason status is_failed written before after asks of ends = record {
   shown = λ low. absurd (never_low status reason ends low);
-  refused = λ two. refused reason is (sym two ∙ ends) untouched lists;
-  whole = λ three sound. whole (keeps (λ same. let bad : 3 ≡ 2 = sym three ∙ ends ∙ ap status_of same in omega (arith, bad)) sound);
+  refused = λ two. refused reason of.is (sym two ∙ ends) (before_writing request reason (after ≡ before) of.untouched) of.lists;
+  whole = λ three sound. whole (of.whole (λ same. let bad : 3 ≡ 2 = sym three ∙ ends ∙ ap status_of same in omega (arith, bad)) sound);
 }
   where
-    Untouched : Fault → Type 0
-    Untouched reason = ((e : RunError) → reason ≢ Run e) → ((e : Cut) → reason ≢ CutShort e)
-        → ((folder : Bor Text) (name : WitnessName) → reason ≢ NoFile folder name) → reason ≢ SomeFiles → reason ≢ FaultyTable → after ≡ before
-
     whole : (after ≡ before) ⊎ IsCutRequest failed held request (written before) (written after) → (after ≡ before)
         ⊎ CutsWords failed held words (written before) (written after)
     whole (inl same) = inl same
     whole (inr cut) = inr (request, asks, cut)
 
-    refused : (reason : Fault) → IsFaultOf failed held request reason → 2 ≡ status_of reason → Untouched reason
+    refused : (reason : Fault) → IsFaultOf failed held request reason → 2 ≡ status_of reason → (IsOutside reason → after ≡ before)
         → ListsIf held request reason (is_failed after) (written before) (written after) → (after ≡ before)
         ⊎ ((is_failed after ≡ false) × ListsWords held words (written before) (written after))
     refused FaultyTable is two untouched lists =
@@ -383,12 +395,12 @@ fault_keeps_output failed held words request reason status is_failed written bef
     refused (Run error) is two untouched lists = absurd (omega (arith, two))
     refused (CutShort error) is two untouched lists = absurd (omega (arith, two))
     refused SomeFiles is two untouched lists = absurd (omega (arith, two))
-    refused NotText is two untouched lists = inl (untouched (λ e same. cc) (λ e same. cc) (λ folder name same. cc) (λ same. cc) (λ same. cc))
-    refused (CannotOpen name) is two untouched lists = inl (untouched (λ e same. cc) (λ e same. cc) (λ folder name same. cc) (λ same. cc) (λ same. cc))
-    refused (Table error) is two untouched lists = inl (untouched (λ e same. cc) (λ e same. cc) (λ folder name same. cc) (λ same. cc) (λ same. cc))
-    refused NotInTable is two untouched lists = inl (untouched (λ e same. cc) (λ e same. cc) (λ folder name same. cc) (λ same. cc) (λ same. cc))
-    refused (Names error) is two untouched lists = inl (untouched (λ e same. cc) (λ e same. cc) (λ folder name same. cc) (λ same. cc) (λ same. cc))
-    refused SummaryOfOne is two untouched lists = inl (untouched (λ e same. cc) (λ e same. cc) (λ folder name same. cc) (λ same. cc) (λ same. cc))
+    refused NotText is two untouched lists = inl (untouched record { run = λ e same. cc; cut = λ e same. cc; file = λ folder name same. cc; files = λ same. cc; table = λ same. cc })
+    refused (CannotOpen name) is two untouched lists = inl (untouched record { run = λ e same. cc; cut = λ e same. cc; file = λ folder name same. cc; files = λ same. cc; table = λ same. cc })
+    refused (Table error) is two untouched lists = inl (untouched record { run = λ e same. cc; cut = λ e same. cc; file = λ folder name same. cc; files = λ same. cc; table = λ same. cc })
+    refused NotInTable is two untouched lists = inl (untouched record { run = λ e same. cc; cut = λ e same. cc; file = λ folder name same. cc; files = λ same. cc; table = λ same. cc })
+    refused (Names error) is two untouched lists = inl (untouched record { run = λ e same. cc; cut = λ e same. cc; file = λ folder name same. cc; files = λ same. cc; table = λ same. cc })
+    refused SummaryOfOne is two untouched lists = inl (untouched record { run = λ e same. cc; cut = λ e same. cc; file = λ folder name same. cc; files = λ same. cc; table = λ same. cc })
 
 -- nor is want of memory
 pub memory_tells : {E : Type 0} (held : Holding) (words : List Text) (status : ℕ) (out_before out_after : Option (List ℕ)) (is_failed : Bool) (err last : E)
@@ -411,20 +423,20 @@ help_status k (inl is) = ap kind_status is
 help_status k (inr is) = ap kind_status is
 
 -- the status is that of the kind of the error, or 3
-by_kind : (status : ℕ) (k : ErrorKind) → (status ≡ 0) ⊎ ((status ≡ 2) ⊎ (status ≡ 3)) → (status ≡ 0 → (k ≡ DisplayHelp) ⊎ (k ≡ DisplayVersion))
-    → (status ≡ 2 → (k ≢ DisplayHelp) × (k ≢ DisplayVersion)) → (status ≡ 3) ⊎ (status ≡ kind_status k)
-by_kind status k (inl is) help usage = inr (is ∙ sym (help_status k (help is)))
-by_kind status k (inr (inl is)) help usage = let no = usage is in inr (is ∙ sym (usage_status k no.0 no.1))
-by_kind status k (inr (inr is)) help usage = inl is
+by_kind : (status : ℕ) (k : ErrorKind) → EndsByKind k status → (status ≡ 3) ⊎ (status ≡ kind_status k)
+by_kind status k ends = go ends.known
+  where
+    go : (status ≡ 0) ⊎ ((status ≡ 2) ⊎ (status ≡ 3)) → (status ≡ 3) ⊎ (status ≡ kind_status k)
+    go (inl is) = inr (is ∙ sym (help_status k (ends.help is)))
+    go (inr (inl is)) = let no = ends.usage is in inr (is ∙ sym (usage_status k no.0 no.1))
+    go (inr (inr is)) = inl is
 
-pub ends_by_fault : (words : List Text) (e : Error) (status : ℕ) → HasFaultKind words e → (status ≡ 0) ⊎ ((status ≡ 2) ⊎ (status ≡ 3))
-    → (kind_of e ≡ kind.OutOfMemory → status ≡ 3) → (status ≡ 0 → (kind_of e ≡ DisplayHelp) ⊎ (kind_of e ≡ DisplayVersion))
-    → (status ≡ 2 → (kind_of e ≢ DisplayHelp) × (kind_of e ≢ DisplayVersion)) → EndsByFault words status
-ends_by_fault words e status kinds known memory help usage = λ some. go (kinds some)
+pub ends_by_fault : (words : List Text) (e : Error) (status : ℕ) → HasFaultKind words e → EndsByKind (kind_of e) status → EndsByFault words status
+ends_by_fault words e status kinds ends = λ some. go (kinds some)
   where
     go : HasKind (fault_of_words words) e → (status ≡ 3) ⊎ ((k : ErrorKind) × IsAmong k (fault_of_words words) × (status ≡ kind_status k))
-    go (inl is) = inl (memory is)
-    go (inr among) = of_kind among (by_kind status (kind_of e) known help usage)
+    go (inl is) = inl (ends.memory is)
+    go (inr among) = of_kind among (by_kind status (kind_of e) ends)
       where
         of_kind : IsAmong (kind_of e) (fault_of_words words) → (status ≡ 3) ⊎ (status ≡ kind_status (kind_of e)) → (status ≡ 3)
             ⊎ ((k : ErrorKind) × IsAmong k (fault_of_words words) × (status ≡ kind_status k))
@@ -437,17 +449,24 @@ never_one status (inl is) one = omega (arith, is, one)
 never_one status (inr (inl is)) one = omega (arith, is, one)
 never_one status (inr (inr is)) one = omega (arith, is, one)
 
-pub help_answers : (held : Holding) (words : List Text) (status : ℕ) (before after : Option (List ℕ)) (e : Error) → (status ≡ 0) ⊎ ((status ≡ 2) ⊎ (status ≡ 3))
-    → (AreTaken words → kind_of e ≡ kind.OutOfMemory) → (kind_of e ≡ kind.OutOfMemory → status ≡ 3)
-    → (status ≡ 0 → (kind_of e ≡ DisplayHelp) ⊎ (kind_of e ≡ DisplayVersion)) → ((kind_of e ≡ DisplayHelp) ⊎ (kind_of e ≡ DisplayVersion) → IsHelpAsked words)
-    → AnswersBy held words status before after
-help_answers held words status before after e known refused memory help asked = record {
-  answered = λ zero. inl (asked (help zero));
-  denied = λ one. absurd (never_one status known one);
-  taken = λ taken zero.
-      let three = memory (refused taken) in
-      absurd (omega (arith, zero, three));
+pub help_answers : {F : Type 0} (name_of made : F → Option (List ℕ)) (failed : F → Bool) (held : Holding) (words : List Text) (status : ℕ)
+    (before after : Option (List ℕ)) (e : Error) → EndsByKind (kind_of e) status → (AreTaken words → kind_of e ≡ kind.OutOfMemory)
+    → ((kind_of e ≡ DisplayHelp) ⊎ (kind_of e ≡ DisplayVersion) → IsHelpAsked words)
+    → AnswersAndMakes name_of made failed held words status before after
+help_answers name_of made failed held words status before after e ends refused asked = record {
+  answers = record {
+    answered = λ zero. inl (asked (ends.help zero));
+    denied = λ one. absurd (never_one status ends.known one);
+    taken = λ taken zero. absurd (never_zero taken zero);
+  };
+  makes = record {
+    yes = λ taken zero. absurd (never_zero taken zero);
+    no = λ taken one. absurd (never_one status ends.known one);
+  };
 }
+  where
+    never_zero : AreTaken words → status ≡ 0 → ⊥
+    never_zero taken zero = let three = ends.memory (refused taken) in omega (arith, zero, three)
 
 -- ---- of words that are not known
 

@@ -1,6 +1,7 @@
 -- Lemmas of this crate.
 pub mod BudgetLemmas
 pub mod EndLemmas
+mod FaultLemmas
 pub mod FindLemmas
 mod FlagLemmas
 mod LineLemmas

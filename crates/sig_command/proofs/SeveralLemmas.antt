@@ -270,11 +270,6 @@ only_write (Err e) P write = λ other. absurd (other write)
 pub never_read : (matched : Result Bool RunError) (P : Type 0) → IfErr matched (λ e. e ≡ Write) → matched ≡ Err Read → P
 never_read matched P write is = let bad : Read ≡ Write = subst (λ m. IfErr m (λ e. e ≡ Write)) is write in cc
 
--- what is so of a fault is so under any condition on it
-pub err_weaker : (result : Result Bool Fault) (Of Under : Fault → Type 0) → IfErr result Of → IfErr result (λ fault. Under fault → Of fault)
-err_weaker (Ok is_yes) Of Under is = tt
-err_weaker (Err fault) Of Under is = λ under. is
-
 -- where nothing is read yet
 pub memory_before : IsBeforeRun (Run OutOfMemory)
 memory_before = record { files = λ same. cc; write = λ same. cc; read = λ same. cc }

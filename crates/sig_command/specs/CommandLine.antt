@@ -246,11 +246,3 @@ one_named name words = option_and_then (λ s. one_of name s.1) (subcommand_of_wo
 
 abbrev pub all_named : Text → List Text → Option (List Text)
 all_named name words = option_and_then (λ s. all_of name s.1) (subcommand_of_words words)
-
--- the words name these two files of a table
-abbrev pub AreTableWords : (signatures priorities : Text) → List Text → Type 0
-AreTableWords signatures priorities words = (first_named (codes "SIGS") words ≡ Some signatures) × (first_named (codes "PRIOS") words ≡ Some priorities)
-
--- the words name the signatures of a table alone
-abbrev pub IsTableWord : Text → List Text → Type 0
-IsTableWord signatures words = (first_named (codes "SIGS") words ≡ Some signatures) × (first_named (codes "PRIOS") words ≡ None)

@@ -2,11 +2,14 @@
 use Rattle.std.specs.Prelude.{◌≡◌, ◌≢◌, ℕ, ◌<◌, ◌≤◌, ◌⊎◌, Bool, true, false, List, [], Option}
 use Rattle.clap.specs.Words.{IsAmong, Text}
 use Rattle.clap.specs.declared.error.kind.ErrorKind.{ErrorKind}
+use Rattle.clap.specs.declared.error.kind.ErrorKind.TheVariants as kinds
+use Rattle.clap.specs.declared.error.kind.ErrorKind.TheVariants.{DisplayHelp, DisplayVersion}
 use Rattle.sig_command.specs.CommandLine.{AreTaken, IsHelpAsked, fault_of_words}
 use Rattle.sig_command.specs.Faults.{Reports, ReportsLine}
 use Rattle.sig_command.specs.Requests.{AnswersWords, Behind, MakesWords, ReportsFaultOfWords, ShowsAskedWords}
 use Rattle.sig_command.specs.Several.{ReportsFiles}
 use Rattle.sig_command.specs.Statuses.{kind_status}
+use Rattle.sig_command.specs.declared.args.Request.{Request}
 use Rattle.sig_engines.specs.Stores.{Holding}
 use Rattle.sig_engines.specs.declared.error.RunError.TheVariants.{OutOfMemory}
 use Rattle.sig_command.specs.declared.fault.Fault.TheVariants.{Run}
@@ -29,7 +32,7 @@ pub record AnswersBy (held : Holding) (words : List Text) (status : ℕ) (before
   pub taken : AreTaken words → status ≡ 0 → AnswersWords held words true before after
 
 -- with 2 and 3 words that ask for something get the status and the line of a fault of just that; `written` and `err_written` tell what an output has written, and `err_failed` whether it has failed
-abbrev pub ReportsBy : {R W E : Type 0} → (R → Bool) → Type 0 → Holding → List Text → ℕ → (W → Option (List ℕ)) → (before after : W) → (E → Bool) → (E → Option (List ℕ)) → (err_before err_after : E) → Type 0
+abbrev pub ReportsBy : {R W E : Type 0} → (R → Bool) → (Request → Type 0) → Holding → List Text → ℕ → (W → Option (List ℕ)) → (before after : W) → (E → Bool) → (E → Option (List ℕ)) → (err_before err_after : E) → Type 0
 ReportsBy failed WriteFailed held words status written before after err_failed err_written err_before err_after =
     AreTaken words → 2 ≤ status → ReportsFaultOfWords failed WriteFailed held words status (written before) (written after) (err_failed err_after) (err_written err_before) (err_written err_after)
 
@@ -42,6 +45,18 @@ pub record TellsBy {E : Type 0} (held : Holding) (words : List Text) (status : �
 pub record MakesBy {F : Type 0} (name_of made : F → Option (List ℕ)) (failed : F → Bool) (held : Holding) (words : List Text) (status : ℕ) (before after : Option (List ℕ)) : Type 0 where
   pub yes : AreTaken words → status ≡ 0 → MakesWords name_of made failed held words true before after
   pub no : AreTaken words → status ≡ 1 → MakesWords name_of made failed held words false before after
+
+-- with 0 and 1 the words are answered, and the files that they ask for are made
+pub record AnswersAndMakes {F : Type 0} (name_of made : F → Option (List ℕ)) (failed : F → Bool) (held : Holding) (words : List Text) (status : ℕ) (before after : Option (List ℕ)) : Type 0 where
+  pub answers : AnswersBy held words status before after
+  pub makes : MakesBy name_of made failed held words status before after
+
+-- what clap says ends by its kind, unless memory ran out or a write failed
+pub record EndsByKind (kind : ErrorKind) (status : ℕ) : Type 0 where
+  pub known : (status ≡ 0) ⊎ ((status ≡ 2) ⊎ (status ≡ 3))
+  pub memory : kind ≡ kinds.OutOfMemory → status ≡ 3
+  pub help : status ≡ 0 → (kind ≡ DisplayHelp) ⊎ (kind ≡ DisplayVersion)
+  pub usage : status ≡ 2 → (kind ≢ DisplayHelp) × (kind ≢ DisplayVersion)
 
 -- words in which clap finds a fault end as it says of their kind, unless memory ran out or a write failed
 abbrev pub EndsByFault : List Text → ℕ → Type 0

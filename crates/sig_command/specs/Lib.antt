@@ -1,6 +1,7 @@
 -- What a reader must trust: what the words ask for, what answers them, and which lines and statuses the program ends with.
 pub mod CommandLine
 pub mod Endings
+pub mod Examples
 pub mod Faults
 pub mod Requests
 pub mod Several

@@ -26,12 +26,13 @@ use Rattle.sig_engines.specs.Linted.{AddsReport}
 use Rattle.sig_engines.specs.ManyFiles.{AddsAll, CutsAll, IsPrinted, Printed, StopsAll}
 use Rattle.sig_engines.specs.Progress.{AddsProgress, ShowsIf}
 use Rattle.sig_engines.specs.Shown.{show_text}
-use Rattle.sig_engines.specs.Stores.{CannotMake, Has, HasFolder, HasPriorities, Holding, Holds, HoldsPriorities, IsAny, IsMade, IsTableFault, IsTableOf, Lacks, SomeFailed}
+use Rattle.sig_engines.specs.Stores.{CannotMake, Has, HasFolder, HasPriorities, Holding, Holds, HoldsPriorities, IsAny, IsMade, IsTableFault, IsTableOf, Lacks, SomeFailed, SomeWriteFailed}
 use Rattle.sig_engines.specs.Visits.{Visit}
 use Rattle.sig_engines.specs.Witnessed.{AddsWitness}
 use Rattle.sig_engines.specs.Witnesses.{IsWitnessOf, path_text}
 use Rattle.sig_engines.specs.declared.ask.ConflictsAsk.{ConflictsAsk}
 use Rattle.sig_engines.specs.declared.ask.MatchAsk.{MatchAsk}
+use Rattle.sig_engines.specs.declared.error.CutShort.{CutShort as Cut}
 use Rattle.sig_engines.specs.declared.error.FileFault.{FileFault}
 use Rattle.sig_engines.specs.declared.error.FileFault.TheVariants as file
 use Rattle.sig_engines.specs.declared.error.PairsFault.{PairsFault}
@@ -39,6 +40,7 @@ use Rattle.sig_engines.specs.declared.format_names.NamesError.{NamesError}
 use Rattle.sig_engines.specs.declared.error.PairsFault.TheVariants as pairs
 use Rattle.sig_engines.specs.declared.error.RunError.{RunError}
 use Rattle.sig_engines.specs.declared.error.RunError.TheVariants.{OutOfMemory, Read, Write}
+use Rattle.sig_engines.specs.declared.witness_name.WitnessName.{WitnessName}
 use Rattle.sig_command.specs.declared.fault.Fault.{Fault}
 use Rattle.sig_command.specs.declared.fault.Fault.TheVariants.{CannotOpen, CutShort, FaultyTable, IsFolder, Names, NoFile, NotInTable, NotText, Run, SomeFiles, SummaryOfOne, Table}
 use Rattle.sig_command.specs.declared.args.ConflictsOptions.{ConflictsOptions}
@@ -376,6 +378,43 @@ abbrev pub KeepsOrCuts : {R W : Type 0} → (R → Bool) → Holding → Request
 KeepsOrCuts failed held request is_failed written before after =
     is_failed after ≡ false → (after ≡ before) ⊎ IsCutRequest failed held request (written before) (written after)
 
+-- the output has an answer to the request, a yes or a no; `is_failed` tells whether an output has failed, and `written` what it has written
+pub record HasAnswer {W : Type 0} (held : Holding) (request : Request) (is_failed : W → Bool) (written : W → Option (List ℕ)) (before after : W) (is_yes : Bool) : Type 0 where
+  pub answers : Answers held request is_yes (written before) (written after)
+  pub shown : is_failed after ≡ false
+
+-- a write failed: to the output, or to a file that the request makes; `is_failed` says whether the output has failed
+abbrev pub HasFailedWrite : {F : Type 0} → (F → Bool) → Bool → Request → Type 0
+HasFailedWrite failed is_failed (Show table) = is_failed ≡ true
+HasFailedWrite failed is_failed (Lint table) = is_failed ≡ true
+HasFailedWrite failed is_failed (Match all table path) = is_failed ≡ true
+HasFailedWrite failed is_failed (MatchMany options table names) = is_failed ≡ true
+HasFailedWrite failed is_failed (Find table ask) = SomeWriteFailed failed is_failed
+HasFailedWrite failed is_failed (Conflicts table options progress) = SomeWriteFailed failed is_failed
+HasFailedWrite failed is_failed (Dead table ask) = is_failed ≡ true
+HasFailedWrite failed is_failed (Check table path) = is_failed ≡ true
+HasFailedWrite failed is_failed (Witness table path) = is_failed ≡ true
+
+-- this is so, unless the fault is one that comes behind the first write of the request
+abbrev pub UnlessWriting : Request → Fault → Type 0 → Type 0
+UnlessWriting (Show table) fault Same = fault ≢ Run Write → Same
+UnlessWriting (Lint table) fault Same = fault ≢ Run Write → fault ≢ FaultyTable → Same
+UnlessWriting (Match all table path) fault Same = fault ≢ Run Write → Same
+UnlessWriting (MatchMany options table names) fault Same = ((e : RunError) → fault ≢ Run e) → fault ≢ SomeFiles → Same
+UnlessWriting (Find table ask) fault Same = fault ≢ Run Write → Same
+UnlessWriting (Conflicts table options progress) fault Same = ((e : Cut) → fault ≢ CutShort e) → ((folder : Bor Text) (name : WitnessName) → fault ≢ NoFile folder name) → Same
+UnlessWriting (Dead table ask) fault Same = ((e : Cut) → fault ≢ CutShort e) → Same
+UnlessWriting (Check table path) fault Same = fault ≢ Run Write → Same
+UnlessWriting (Witness table path) fault Same = fault ≢ Run Write → Same
+
+-- the request has this fault, and so the output is as it was, or has what is told or cut short
+pub record HasFault {R F W : Type 0} (failed : R → Bool) (write_failed : F → Bool) (held : Holding) (request : Request) (is_failed : W → Bool) (written : W → Option (List ℕ)) (before after : W) (fault : Fault) : Type 0 where
+  pub is : IsFaultOf failed held request fault
+  pub write : TellsWrite fault → HasFailedWrite write_failed (is_failed after) request
+  pub untouched : UnlessWriting request fault (after ≡ before)
+  pub lists : ListsIf held request fault (is_failed after) (written before) (written after)
+  pub whole : fault ≢ FaultyTable → KeepsOrCuts failed held request is_failed written before after
+
 -- of pairs of formats it is said which forced ones are not in the priority file, behind the progress, where that is asked for
 abbrev pub ShowsRefused : Holding → TablePaths → ConflictsOptions → Bool → Option (List ℕ) → Option (List ℕ) → Type 0
 ShowsRefused held paths options progress before after =
@@ -473,16 +512,16 @@ abbrev pub ReportsLineOf : {R : Type 0} → (R → Bool) → Holding → Request
 ReportsLineOf failed held request reason status before after err_before err_after = (mid : Option (List ℕ)) × ShowsBefore failed held request reason before after err_before mid × Reports reason status mid err_after
 
 -- the status is that of a fault of the request, a failed write is told only where one failed, the faults of a table are told where they are the reason, and the line of the fault is reported, unless a write to the error output failed
-pub record ReportsFaultOf {R : Type 0} (failed : R → Bool) (WriteFailed : Type 0) (held : Holding) (request : Request) (status : ℕ) (before after : Option (List ℕ)) (err_failed : Bool) (err_before err_after : Option (List ℕ)) : Type 0 where
+pub record ReportsFaultOf {R : Type 0} (failed : R → Bool) (WriteFailed : Request → Type 0) (held : Holding) (request : Request) (status : ℕ) (before after : Option (List ℕ)) (err_failed : Bool) (err_before err_after : Option (List ℕ)) : Type 0 where
   pub reason : Fault
   pub is : IsFaultOf failed held request reason
-  pub write : TellsWrite reason → WriteFailed
+  pub write : TellsWrite reason → WriteFailed request
   pub ends : status ≡ status_of reason
   pub lists : reason ≡ FaultyTable → ListsRequest held request before after
   pub line : err_failed ≡ false → ReportsLineOf failed held request reason status before after err_before err_after
 
 -- so for what the words ask for
-abbrev pub ReportsFaultOfWords : {R : Type 0} → (R → Bool) → Type 0 → Holding → List Text → ℕ → (before after : Option (List ℕ)) (err_failed : Bool) (err_before err_after : Option (List ℕ)) → Type 0
+abbrev pub ReportsFaultOfWords : {R : Type 0} → (R → Bool) → (Request → Type 0) → Holding → List Text → ℕ → (before after : Option (List ℕ)) (err_failed : Bool) (err_before err_after : Option (List ℕ)) → Type 0
 ReportsFaultOfWords failed WriteFailed held words status before after err_failed err_before err_after = (request : Request) × Asks (subcommand_of_words words) request × ReportsFaultOf failed WriteFailed held request status before after err_failed err_before err_after
 
 -- with an answer the error output shows progress just where that is asked for; and with a no of a search over products it is said why the search gave up, unless a write failed

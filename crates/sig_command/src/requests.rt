@@ -11,20 +11,19 @@
 //! for. If some of several files have a fault, each has its line and the run none of its own. So it
 //! is with the faults that `lint` tells on the output: it ends with 2, as for a refused table.
 
-ghost use Rattle.std.specs.Borrow.{Bor};
 ghost use Rattle.std.specs.Prelude.{None, Some, drop, ◌≡◌, ◌≢◌, ◌<◌, ◌⊎◌, false, is_ok, is_some, length, List, option_map, true, IfErr, IfOk, OnOk, ⊤};
 ghost use Rattle.std.specs.Vec.Iter.{into_iter_items};
 ghost use Rattle.std.specs.IoError.{error_kind};
 ghost use Rattle.clap.specs.Values.{kind_of};
 ghost use Rattle.clap.specs.Words.{Text};
-ghost use Rattle.sig_command.specs.Requests.{Answers, AnswersWords, AreNamesOf, AsksPairs, CutsSomeWords, CutsWords, IsFaultOf, IsFolderFault, IsListFault, IsLoadFault, IsNamesFaultOf, IsOnly, IsReported, IsRunFault, JoinsBoth, KeepsOrCuts, LacksPriorities, ListsIf, ListsSomeWords, ListsWords, MakesOut, NamesNone, ShowsAsked, ShowsSomeWords, ShowsWords, TellsOf, TellsRun, answer_of, file_fault, pairs_fault};
+ghost use Rattle.sig_command.specs.Requests.{AnswersWords, AreNamesOf, AsksPairs, CutsSomeWords, CutsWords, HasAnswer, HasFailedWrite, HasFault, IsFolderFault, IsListFault, IsLoadFault, IsNamesFaultOf, IsOnly, IsRunFault, JoinsBoth, LacksPriorities, ListsSomeWords, ListsWords, MakesOut, NamesNone, ShowsAsked, ShowsSomeWords, ShowsWords, TellsOf, TellsRun, answer_of, file_fault, pairs_fault};
 ghost use Rattle.sig_command.specs.Faults.{TellsWrite};
 ghost use Rattle.sig_command.specs.Several.{AreVisitsOf, IsList};
 ghost use Rattle.sig_engines.specs.ManyFiles.{AddsAll, AreListedVisits, IsPrinted};
 ghost use Rattle.sig_engines.specs.PriorityInputs.{to_come_of};
-ghost use Rattle.sig_engines.specs.Stores.{IsTableOf, LacksFolder, Opens, OpensPriorities, SomeFailed, SomeWriteFailed};
-ghost use Rattle.sig_command.specs.CommandLine.{AreTaken, texts_of};
-ghost use Rattle.sig_command.specs.Endings.{AnswersBy, EndsByFault, KeepsErrors, KeepsOutput, MakesBy, ReportsBy, ReportsMemory, TellsBy};
+ghost use Rattle.sig_engines.specs.Stores.{IsTableOf, LacksFolder, Opens, OpensPriorities, SomeFailed};
+ghost use Rattle.sig_command.specs.CommandLine.{texts_of};
+ghost use Rattle.sig_command.specs.Endings.{AnswersAndMakes, AnswersBy, EndsByFault, EndsByKind, KeepsErrors, KeepsOutput, ReportsBy, ReportsMemory, TellsBy};
 ghost use Rattle.sig_table.specs.Tables.{IsTable};
 
 use crate::args::{ConflictsOptions, FileNames, MatchOptions, Request, read_args, request_of};
@@ -125,7 +124,7 @@ pub fn command<R: Files + AllocGlobal, I: Read + Copy + Drop, W: Output, E: Outp
     ensures answers { AnswersBy None (texts_of words.now) result (W.written out.old) (W.written out.new) }
     ensures told { TellsBy None (texts_of words.now) result (W.written out.old) (W.written out.new)
         (E.failed err.new) err.old err.new (E.written err.old) (E.written err.new) }
-    ensures faults { ReportsBy ⟦<FromRead<Either<R::File, I>> as Input>⟧.failed (SomeWriteFailed ⟦<FromWrite<R::File> as Output>⟧.failed (W.failed out.new))
+    ensures faults { ReportsBy ⟦<FromRead<Either<R::File, I>> as Input>⟧.failed (HasFailedWrite ⟦<FromWrite<R::File> as Output>⟧.failed (W.failed out.new))
         None (texts_of words.now) result W.written out.old out.new E.failed E.written err.old err.new }
 {
     command_over(&SystemFiles::new(rt, input), rt.alloc(), words, out, err)
@@ -150,11 +149,11 @@ pub fn command_over<S: Store, W: Output, E: Output>(
         (ListsWords (S.held store.now) (texts_of words.now) (W.written out.old) (W.written out.new)) result (W.failed out.new) out.old out.new }
     ensures errors { KeepsErrors (ShowsWords S.Reader.failed (S.held store.now) (texts_of words.now))
         result (E.failed err.new) err.old err.new (E.written err.old) (E.written err.new) }
-    ensures answers { AnswersBy (S.held store.now) (texts_of words.now) result (W.written out.old) (W.written out.new) }
-    ensures made { MakesBy S.name_of S.Writer.written S.Writer.failed (S.held store.now) (texts_of words.now) result (W.written out.old) (W.written out.new) }
+    ensures answers { AnswersAndMakes S.name_of S.Writer.written S.Writer.failed (S.held store.now) (texts_of words.now) result
+        (W.written out.old) (W.written out.new) }
     ensures told { TellsBy (S.held store.now) (texts_of words.now) result (W.written out.old) (W.written out.new)
         (E.failed err.new) err.old err.new (E.written err.old) (E.written err.new) }
-    ensures faults { ReportsBy S.Reader.failed (SomeWriteFailed S.Writer.failed (W.failed out.new)) (S.held store.now) (texts_of words.now)
+    ensures faults { ReportsBy S.Reader.failed (HasFailedWrite S.Writer.failed (W.failed out.new)) (S.held store.now) (texts_of words.now)
         result W.written out.old out.new E.failed E.written err.old err.new }
 {
     let matches = match read_args(alloc, words) {
@@ -179,21 +178,17 @@ fn answer<'m, 'a, S: Store, W: Output, E: Output>(
     out: &mut W,
     err: &mut E,
 ) -> Result<bool, Fault<'a>>
-    ensures told { TellsOf S.Reader.failed (S.held store.now) request.entry (is_ok result) E.failed E.written err.old err.new }
-    ensures joined { IfErr result (JoinsBoth S.Reader.failed (S.held store.now) request.entry W.written out.old out.new E.failed E.written err.old err.new) }
-    ensures shown { OnOk result (W.failed out.new ≡ false) }
-    ensures answers { IfOk result (λ is_yes. Answers (S.held store.now) request.entry is_yes (W.written out.old) (W.written out.new)) }
+    ensures answered { IfOk result (HasAnswer (S.held store.now) request.entry W.failed W.written out.old out.new) }
+    ensures refused { IfErr result (HasFault S.Reader.failed S.Writer.failed (S.held store.now) request.entry
+        W.failed W.written out.old out.new) }
     ensures made { IfOk result (λ is_yes. MakesOut S.name_of S.Writer.written S.Writer.failed (S.held store.now)
         request.entry is_yes (W.written out.old) (W.written out.new)) }
-    ensures progress { IfOk result (λ is_yes. ShowsAsked (S.held store.now) request.entry is_yes (W.written out.old) (W.written out.new)
-        (E.failed err.new) err.old err.new (E.written err.old) (E.written err.new)) }
-    ensures faults { IfErr result (λ fault. IsFaultOf S.Reader.failed (S.held store.now) request.entry fault) }
-    ensures write { IfErr result (λ fault. TellsWrite fault → SomeWriteFailed S.Writer.failed (W.failed out.new)) }
-    ensures untouched { IfErr result (λ fault. ((e : RunError) → fault ≢ Fault.Run e) → ((e : CutShort) → fault ≢ Fault.CutShort e)
-        → ((folder : Bor Text) (name : WitnessName) → fault ≢ Fault.NoFile folder name) → fault ≢ Fault.SomeFiles → fault ≢ Fault.FaultyTable → out.new ≡ out.old) }
-    ensures lists { IfErr result (λ fault. ListsIf (S.held store.now) request.entry fault (W.failed out.new) (W.written out.old) (W.written out.new)) }
-    ensures whole { IfErr result (λ fault. fault ≢ Fault.FaultyTable
-        → KeepsOrCuts S.Reader.failed (S.held store.now) request.entry W.failed W.written out.old out.new) }
+    ensures told { TellsOf S.Reader.failed (S.held store.now) request.entry (is_ok result)
+        E.failed E.written err.old err.new }
+    ensures joined { IfErr result (JoinsBoth S.Reader.failed (S.held store.now) request.entry
+        W.written out.old out.new E.failed E.written err.old err.new) }
+    ensures progress { IfOk result (λ is_yes. ShowsAsked (S.held store.now) request.entry is_yes
+        (W.written out.old) (W.written out.new) (E.failed err.new) err.old err.new (E.written err.old) (E.written err.new)) }
 {
     match request {
         Request::Show { table } => show_table(store, alloc, table, out),
@@ -224,12 +219,9 @@ fn show_table<'a, S: Store, W: Output>(
     table: TablePaths<'a>,
     out: &mut W,
 ) -> Result<bool, Fault<'a>>
-    ensures answers { IfOk result (λ is_yes. Answers (S.held store.now) (Request.Show table.entry) is_yes (W.written out.old) (W.written out.new)) }
-    ensures shown { OnOk result (W.failed out.new ≡ false) }
-    ensures faults { IfErr result (IsFaultOf S.Reader.failed (S.held store.now) (Request.Show table.entry)) }
-    ensures write { IfErr result (λ fault. TellsWrite fault → W.failed out.new ≡ true) }
-    ensures untouched { IfErr result (λ fault. fault ≢ Fault.Run RunError.Write → out.new ≡ out.old) }
-    ensures whole { IfErr result (λ fault. W.failed out.new ≡ false → out.new ≡ out.old) }
+    ensures answered { IfOk result (HasAnswer (S.held store.now) (Request.Show table.entry) W.failed W.written out.old out.new) }
+    ensures refused { IfErr result (HasFault S.Reader.failed S.Writer.failed (S.held store.now) (Request.Show table.entry)
+        W.failed W.written out.old out.new) }
 {
     match run_show(alloc, &load(store, alloc, table)?, out) {
         Ok(()) => Ok(true),
@@ -244,14 +236,9 @@ fn lint_table<'a, S: Store, W: Output>(
     table: TablePaths<'a>,
     out: &mut W,
 ) -> Result<bool, Fault<'a>>
-    ensures answers { IfOk result (λ is_yes. Answers (S.held store.now) (Request.Lint table.entry) is_yes (W.written out.old) (W.written out.new)) }
-    ensures shown { OnOk result (W.failed out.new ≡ false) }
-    ensures faults { IfErr result (IsFaultOf S.Reader.failed (S.held store.now) (Request.Lint table.entry)) }
-    ensures write { IfErr result (λ fault. TellsWrite fault → W.failed out.new ≡ true) }
-    ensures untouched { IfErr result (λ fault. fault ≢ Fault.Run RunError.Write → fault ≢ Fault.FaultyTable → out.new ≡ out.old) }
-    ensures lists { IfErr result (λ fault. fault ≡ Fault.FaultyTable
-        → (W.failed out.new ≡ false) × IsReported false (S.held store.now) table.entry (W.written out.old) (W.written out.new)) }
-    ensures whole { IfErr result (λ fault. fault ≢ Fault.FaultyTable → W.failed out.new ≡ false → out.new ≡ out.old) }
+    ensures answered { IfOk result (HasAnswer (S.held store.now) (Request.Lint table.entry) W.failed W.written out.old out.new) }
+    ensures refused { IfErr result (HasFault S.Reader.failed S.Writer.failed (S.held store.now) (Request.Lint table.entry)
+        W.failed W.written out.old out.new) }
 {
     let mut signatures = open(store, table.signatures)?;
     let mut priorities = open_priorities(store, table.priorities)?;
@@ -270,12 +257,9 @@ fn match_file<'a, S: Store, W: Output>(
     name: &'a str,
     out: &mut W,
 ) -> Result<bool, Fault<'a>>
-    ensures answers { IfOk result (λ is_yes. Answers (S.held store.now) (Request.Match all table.entry name.entry) is_yes (W.written out.old) (W.written out.new)) }
-    ensures shown { OnOk result (W.failed out.new ≡ false) }
-    ensures faults { IfErr result (IsFaultOf S.Reader.failed (S.held store.now) (Request.Match all table.entry name.entry)) }
-    ensures write { IfErr result (λ fault. TellsWrite fault → W.failed out.new ≡ true) }
-    ensures untouched { IfErr result (λ fault. fault ≢ Fault.Run RunError.Write → out.new ≡ out.old) }
-    ensures whole { IfErr result (λ fault. W.failed out.new ≡ false → out.new ≡ out.old) }
+    ensures answered { IfOk result (HasAnswer (S.held store.now) (Request.Match all table.entry name.entry) W.failed W.written out.old out.new) }
+    ensures refused { IfErr result (HasFault S.Reader.failed S.Writer.failed (S.held store.now) (Request.Match all table.entry name.entry)
+        W.failed W.written out.old out.new) }
 {
     let core = BlockCore::new(alloc, load(store, alloc, table)?);
     let mut file = open_file(store, name)?;
@@ -297,18 +281,15 @@ fn match_many<'m, 'a, S: Store, W: Output, E: Output>(
     out: &mut W,
     err: &mut E,
 ) -> Result<bool, Fault<'a>>
-    ensures told { TellsOf S.Reader.failed (S.held store.now) (Request.MatchMany options.entry table.entry names.entry) (is_ok result) E.failed E.written err.old err.new }
-    ensures joined { IfErr result (JoinsBoth S.Reader.failed (S.held store.now)
-        (Request.MatchMany options.entry table.entry names.entry) W.written out.old out.new E.failed E.written err.old err.new) }
-    ensures shown { OnOk result (W.failed out.new ≡ false) }
-    ensures answers { IfOk result (λ is_yes. Answers (S.held store.now) (Request.MatchMany options.entry table.entry names.entry) is_yes (W.written out.old) (W.written out.new)) }
+    ensures answered { IfOk result (HasAnswer (S.held store.now) (Request.MatchMany options.entry table.entry names.entry) W.failed W.written out.old out.new) }
+    ensures refused { IfErr result (HasFault S.Reader.failed S.Writer.failed (S.held store.now) (Request.MatchMany options.entry table.entry names.entry)
+        W.failed W.written out.old out.new) }
+    ensures told { TellsOf S.Reader.failed (S.held store.now) (Request.MatchMany options.entry table.entry names.entry) (is_ok result)
+        E.failed E.written err.old err.new }
+    ensures joined { IfErr result (JoinsBoth S.Reader.failed (S.held store.now) (Request.MatchMany options.entry table.entry names.entry)
+        W.written out.old out.new E.failed E.written err.old err.new) }
     ensures progress { IfOk result (λ is_yes. ShowsAsked (S.held store.now) (Request.MatchMany options.entry table.entry names.entry) is_yes
         (W.written out.old) (W.written out.new) (E.failed err.new) err.old err.new (E.written err.old) (E.written err.new)) }
-    ensures faults { IfErr result (λ fault. IsFaultOf S.Reader.failed (S.held store.now) (Request.MatchMany options.entry table.entry names.entry) fault) }
-    ensures write { IfErr result (λ fault. TellsWrite fault → W.failed out.new ≡ true) }
-    ensures untouched { IfErr result (λ fault. ((e : RunError) → fault ≢ Fault.Run e) → fault ≢ Fault.SomeFiles → out.new ≡ out.old) }
-    ensures whole { IfErr result (λ fault. KeepsOrCuts S.Reader.failed (S.held store.now)
-        (Request.MatchMany options.entry table.entry names.entry) W.failed W.written out.old out.new) }
 {
     let table = load(store, alloc, table)?;
     let format_names = format_names(store, alloc, options.names)?;
@@ -439,19 +420,15 @@ fn find_in_table<'a, S: Store, W: Output, E: Output>(
     out: &mut W,
     err: &mut E,
 ) -> Result<bool, Fault<'a>>
-    ensures told { TellsOf S.Reader.failed (S.held store.now) (Request.Find table.entry ask.entry)
-        (is_ok result) E.failed E.written err.old err.new }
-    ensures answers { IfOk result (λ is_yes. Answers (S.held store.now) (Request.Find table.entry ask.entry)
-        is_yes (W.written out.old) (W.written out.new)) }
+    ensures answered { IfOk result (HasAnswer (S.held store.now) (Request.Find table.entry ask.entry) W.failed W.written out.old out.new) }
+    ensures refused { IfErr result (HasFault S.Reader.failed S.Writer.failed (S.held store.now) (Request.Find table.entry ask.entry)
+        W.failed W.written out.old out.new) }
     ensures made { IfOk result (λ is_yes. MakesOut S.name_of S.Writer.written S.Writer.failed (S.held store.now)
         (Request.Find table.entry ask.entry) is_yes (W.written out.old) (W.written out.new)) }
-    ensures shown { OnOk result (W.failed out.new ≡ false) }
+    ensures told { TellsOf S.Reader.failed (S.held store.now) (Request.Find table.entry ask.entry) (is_ok result)
+        E.failed E.written err.old err.new }
     ensures progress { IfOk result (λ is_yes. ShowsAsked (S.held store.now) (Request.Find table.entry ask.entry) is_yes
         (W.written out.old) (W.written out.new) (E.failed err.new) err.old err.new (E.written err.old) (E.written err.new)) }
-    ensures faults { IfErr result (IsFaultOf S.Reader.failed (S.held store.now) (Request.Find table.entry ask.entry)) }
-    ensures write { IfErr result (λ fault. TellsWrite fault → SomeWriteFailed S.Writer.failed (W.failed out.new)) }
-    ensures untouched { IfErr result (λ fault. fault ≢ Fault.Run RunError.Write → out.new ≡ out.old) }
-    ensures whole { IfErr result (λ fault. W.failed out.new ≡ false → out.new ≡ out.old) }
 {
     let table = load(store, alloc, table)?;
     match run_find(alloc, store, &table, ask, out, err) {
@@ -469,20 +446,15 @@ fn settle_pairs<'a, S: Store, W: Output, E: Output>(
     out: &mut W,
     err: &mut E,
 ) -> Result<bool, Fault<'a>>
-    ensures told { TellsOf S.Reader.failed (S.held store.now) (Request.Conflicts table.entry options.entry progress) (is_ok result) E.failed E.written err.old err.new }
-    ensures answers { IfOk result (λ is_yes. Answers (S.held store.now) (Request.Conflicts table.entry options.entry progress)
-        is_yes (W.written out.old) (W.written out.new)) }
+    ensures answered { IfOk result (HasAnswer (S.held store.now) (Request.Conflicts table.entry options.entry progress) W.failed W.written out.old out.new) }
+    ensures refused { IfErr result (HasFault S.Reader.failed S.Writer.failed (S.held store.now) (Request.Conflicts table.entry options.entry progress)
+        W.failed W.written out.old out.new) }
     ensures made { IfOk result (λ is_yes. MakesOut S.name_of S.Writer.written S.Writer.failed (S.held store.now)
         (Request.Conflicts table.entry options.entry progress) is_yes (W.written out.old) (W.written out.new)) }
-    ensures shown { OnOk result (W.failed out.new ≡ false) }
+    ensures told { TellsOf S.Reader.failed (S.held store.now) (Request.Conflicts table.entry options.entry progress) (is_ok result)
+        E.failed E.written err.old err.new }
     ensures progress { IfOk result (λ is_yes. ShowsAsked (S.held store.now) (Request.Conflicts table.entry options.entry progress) is_yes
         (W.written out.old) (W.written out.new) (E.failed err.new) err.old err.new (E.written err.old) (E.written err.new)) }
-    ensures faults { IfErr result (IsFaultOf S.Reader.failed (S.held store.now) (Request.Conflicts table.entry options.entry progress)) }
-    ensures write { IfErr result (λ fault. TellsWrite fault → SomeWriteFailed S.Writer.failed (W.failed out.new)) }
-    ensures untouched { IfErr result (λ fault. ((e : CutShort) → fault ≢ Fault.CutShort e)
-        → ((folder : Bor Text) (name : WitnessName) → fault ≢ Fault.NoFile folder name) → out.new ≡ out.old) }
-    ensures whole { IfErr result (λ fault. KeepsOrCuts S.Reader.failed (S.held store.now)
-        (Request.Conflicts table.entry options.entry progress) W.failed W.written out.old out.new) }
 {
     if options.summary && options.only.is_some() {
         return Err(Fault::SummaryOfOne);
@@ -553,17 +525,13 @@ fn judge_formats<'a, S: Store, W: Output, E: Output>(
     out: &mut W,
     err: &mut E,
 ) -> Result<bool, Fault<'a>>
-    ensures told { TellsOf S.Reader.failed (S.held store.now) (Request.Dead table.entry ask) (is_ok result) E.failed E.written err.old err.new }
-    ensures answers { IfOk result (λ is_yes. Answers (S.held store.now) (Request.Dead table.entry ask)
-        is_yes (W.written out.old) (W.written out.new)) }
-    ensures shown { OnOk result (W.failed out.new ≡ false) }
+    ensures answered { IfOk result (HasAnswer (S.held store.now) (Request.Dead table.entry ask) W.failed W.written out.old out.new) }
+    ensures refused { IfErr result (HasFault S.Reader.failed S.Writer.failed (S.held store.now) (Request.Dead table.entry ask)
+        W.failed W.written out.old out.new) }
+    ensures told { TellsOf S.Reader.failed (S.held store.now) (Request.Dead table.entry ask) (is_ok result)
+        E.failed E.written err.old err.new }
     ensures progress { IfOk result (λ is_yes. ShowsAsked (S.held store.now) (Request.Dead table.entry ask) is_yes
         (W.written out.old) (W.written out.new) (E.failed err.new) err.old err.new (E.written err.old) (E.written err.new)) }
-    ensures faults { IfErr result (IsFaultOf S.Reader.failed (S.held store.now) (Request.Dead table.entry ask)) }
-    ensures write { IfErr result (λ fault. TellsWrite fault → W.failed out.new ≡ true) }
-    ensures untouched { IfErr result (λ fault. ((e : CutShort) → fault ≢ Fault.CutShort e) → out.new ≡ out.old) }
-    ensures whole { IfErr result (λ fault. KeepsOrCuts S.Reader.failed (S.held store.now)
-        (Request.Dead table.entry ask) W.failed W.written out.old out.new) }
 {
     let table = load(store, alloc, table)?;
     match find_dead(alloc, &table, ask, out, err) {
@@ -579,12 +547,9 @@ fn check_certificate<'a, S: Store, W: Output>(
     name: &'a str,
     out: &mut W,
 ) -> Result<bool, Fault<'a>>
-    ensures answers { IfOk result (λ is_yes. Answers (S.held store.now) (Request.Check table.entry name.entry) is_yes (W.written out.old) (W.written out.new)) }
-    ensures shown { OnOk result (W.failed out.new ≡ false) }
-    ensures faults { IfErr result (IsFaultOf S.Reader.failed (S.held store.now) (Request.Check table.entry name.entry)) }
-    ensures write { IfErr result (λ fault. TellsWrite fault → W.failed out.new ≡ true) }
-    ensures untouched { IfErr result (λ fault. fault ≢ Fault.Run RunError.Write → out.new ≡ out.old) }
-    ensures whole { IfErr result (λ fault. W.failed out.new ≡ false → out.new ≡ out.old) }
+    ensures answered { IfOk result (HasAnswer (S.held store.now) (Request.Check table.entry name.entry) W.failed W.written out.old out.new) }
+    ensures refused { IfErr result (HasFault S.Reader.failed S.Writer.failed (S.held store.now) (Request.Check table.entry name.entry)
+        W.failed W.written out.old out.new) }
 {
     let table = load(store, alloc, table)?;
     let mut certificate = open(store, name)?;
@@ -601,12 +566,9 @@ fn judge_file<'a, S: Store, W: Output>(
     name: &'a str,
     out: &mut W,
 ) -> Result<bool, Fault<'a>>
-    ensures answers { IfOk result (λ is_yes. Answers (S.held store.now) (Request.Witness table.entry name.entry) is_yes (W.written out.old) (W.written out.new)) }
-    ensures shown { OnOk result (W.failed out.new ≡ false) }
-    ensures faults { IfErr result (IsFaultOf S.Reader.failed (S.held store.now) (Request.Witness table.entry name.entry)) }
-    ensures write { IfErr result (λ fault. TellsWrite fault → W.failed out.new ≡ true) }
-    ensures untouched { IfErr result (λ fault. fault ≢ Fault.Run RunError.Write → out.new ≡ out.old) }
-    ensures whole { IfErr result (λ fault. W.failed out.new ≡ false → out.new ≡ out.old) }
+    ensures answered { IfOk result (HasAnswer (S.held store.now) (Request.Witness table.entry name.entry) W.failed W.written out.old out.new) }
+    ensures refused { IfErr result (HasFault S.Reader.failed S.Writer.failed (S.held store.now) (Request.Witness table.entry name.entry)
+        W.failed W.written out.old out.new) }
 {
     let table = load(store, alloc, table)?;
     let mut file = open(store, name)?;
@@ -685,13 +647,10 @@ fn open_file<'a, S: Store>(store: &S, name: &'a str) -> Result<S::Reader, Fault<
 
 // What `clap` says: help is an answer, and all else a fault of the words, unless memory ran out.
 fn show_usage<W: Output, E: Output>(alloc: Global, error: &Error, out: &mut W, err: &mut E) -> u8
-    ensures known { (result ≡ 0) ⊎ ((result ≡ 2) ⊎ (result ≡ 3)) }
+    ensures status { EndsByKind (kind_of error.now) result }
     ensures output { KeepsOutput ⊥ ⊥ result (W.failed out.new) out.old out.new }
     ensures errors { KeepsErrors (λ is_answered is_failed before after. ⊥) result (E.failed err.new) err.old err.new (E.written err.old) (E.written err.new) }
-    ensures memory { kind_of error.now ≡ ErrorKind.OutOfMemory → result ≡ 3 }
-    ensures memory_reported { kind_of error.now ≡ ErrorKind.OutOfMemory → E.failed err.new ≡ false → ReportsMemory (E.written err.old) (E.written err.new) }
-    ensures help { result ≡ 0 → (kind_of error.now ≡ ErrorKind.DisplayHelp) ⊎ (kind_of error.now ≡ ErrorKind.DisplayVersion) }
-    ensures usage { result ≡ 2 → (kind_of error.now ≢ ErrorKind.DisplayHelp) × (kind_of error.now ≢ ErrorKind.DisplayVersion) }
+    ensures memory { kind_of error.now ≡ ErrorKind.OutOfMemory → E.failed err.new ≡ false → ReportsMemory (E.written err.old) (E.written err.new) }
 {
     let text = match error.to_string(alloc) {
         Ok(text) if error.kind() != ErrorKind::OutOfMemory => text,

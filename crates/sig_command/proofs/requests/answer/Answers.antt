@@ -1,8 +1,6 @@
-use Rattle.std.proofs.Common.{◌≢◌, IfErr, IfOk, subst, sym}
-use Rattle.sig_command.specs.Requests.{KeepsOrCuts, MakesOut, ShowsAsked}
+use Rattle.std.proofs.Common.{IfOk, subst, sym}
+use Rattle.sig_command.specs.Requests.{MakesOut, ShowsAsked}
 use Rattle.sig_command.specs.declared.args.Request.{Request}
-use Rattle.sig_command.specs.declared.fault.Fault.TheVariants.{FaultyTable}
-use Rattle.sig_command.proofs.SeveralLemmas.{err_weaker}
 use Rattle.sig_command.proofs.requests.answer.Goals as goal
 
 pub returns-in-Find-clause-made : goal.returns-in-Find-clause-made
@@ -32,10 +30,3 @@ returns-in-MatchMany-clause-progress g c = subst (λ (r : Request). IfOk c.match
     (λ is_yes. ShowsAsked (g.S.Store.held c.args.store.now) r is_yes (g.W.Output.written c.args.out.now) (g.W.Output.written c.match_many.new.out)
     (g.E.Output.failed c.match_many.new.err) c.args.err.now c.match_many.new.err (g.E.Output.written c.args.err.now) (g.E.Output.written c.match_many.new.err)))
     (sym c.in-MatchMany.is) c.match_many.ensures.progress
-
-pub returns-in-MatchMany-clause-whole : goal.returns-in-MatchMany-clause-whole
-returns-in-MatchMany-clause-whole g c =
-    subst (λ (r : Request). IfErr c.match_many.result (λ fault. fault ≢ FaultyTable
-    → KeepsOrCuts g.S.Reader.Input.failed (g.S.Store.held c.args.store.now) r g.W.Output.failed g.W.Output.written c.args.out.now c.match_many.new.out))
-    (sym c.in-MatchMany.is)
-    (err_weaker c.match_many.result _ _ c.match_many.ensures.whole)

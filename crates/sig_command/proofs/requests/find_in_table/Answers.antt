@@ -1,3 +1,4 @@
+use Rattle.std.proofs.Common.{inl, rules}
 use Rattle.sig_command.proofs.FindLemmas.{found_shown, found_told, unfound_told}
 use Rattle.sig_command.proofs.StoreLemmas.{file_write}
 use Rattle.sig_command.proofs.requests.find_in_table.Goals as goal
@@ -19,5 +20,11 @@ returns-clause-told g c =
     unfound_told g.S.Reader.Input.failed (g.S.Store.held c.args.store.now) c.args.table c.args.ask g.E.Output.failed
     g.E.Output.written c.args.err.now c.run_find.new.err (c.in-Err.ensures.told (λ same. cc))
 
-pub returns-clause-write : goal.returns-clause-write
-returns-clause-write g c = file_write c.args.ask.out c.in-Err.fault c.file_fault.result _ c.file_fault.ensures c.in-Err.ensures.stops.write
+pub returns-clause-refused : goal.returns-clause-refused
+returns-clause-refused g c = record {
+  is = search rules;
+  write = file_write c.args.ask.out c.in-Err.fault c.file_fault.result _ c.file_fault.ensures c.in-Err.ensures.stops.write;
+  untouched = search rules;
+  lists = tt;
+  whole = λ other sound. inl (c.in-Err.ensures.stops.whole sound);
+}
