@@ -24,7 +24,7 @@ use Rattle.sig_command.specs.CommandLine.{AreTaken, Asks, HasFaultKind, IsHelpAs
 use Rattle.sig_command.specs.Endings.{AnswersAndMakes, EndsByFault, EndsByKind, KeepsErrors, KeepsOutput, ReportsMemory, TellsBy}
 use Rattle.sig_command.specs.Faults.{Reports, ReportsLine, TellsWrite}
 use Rattle.sig_command.specs.Requests.{Behind, CutsSomeWords, CutsWords, HasFailedWrite, HasFault, IsCutRequest, IsFaultOf, IsFirstFault, IsFolderFault, IsLaterFault, IsListFault}
-use Rattle.sig_command.specs.Requests.{IsNamesFaultOf, Joins, KeepsOrCuts, ListsIf, ListsRequest, ListsSomeWords, ListsWords, ReportsFaultOf, ReportsLineOf}
+use Rattle.sig_command.specs.Requests.{IsNamesFaultOf, Joins, ListsIf, ListsRequest, ListsSomeWords, ListsWords, ReportsFaultOf, ReportsLineOf}
 use Rattle.sig_command.specs.Requests.{Shows, ShowsBefore, ShowsSomeWords, ShowsWords, TellsOf, UnlessWriting}
 use Rattle.sig_command.specs.Several.{ReportsFiles}
 use Rattle.sig_command.proofs.SeveralLemmas.{memory_before}
