@@ -11,7 +11,7 @@
 //! for. If some of several files have a fault, each has its line and the run none of its own. So it
 //! is with the faults that `lint` tells on the output: it ends with 2, as for a refused table.
 
-ghost use Rattle.std.specs.Prelude.{None, Some, drop, ◌≡◌, ◌≢◌, ◌<◌, ◌⊎◌, false, is_ok, is_some, length, List, option_map, true, IfErr, IfOk, OnOk, ⊤};
+ghost use Rattle.std.specs.Prelude.{None, Some, drop, ◌≡◌, ◌≢◌, ◌<◌, ◌⊎◌, false, is_ok, is_some, List, option_map, true, IfErr, IfOk, OnOk, ⊤};
 ghost use Rattle.std.specs.Vec.Iter.{into_iter_items};
 ghost use Rattle.std.specs.IoError.{error_kind};
 ghost use Rattle.clap.specs.Values.{kind_of};
@@ -34,10 +34,10 @@ use either::Either;
 use sig_bits::{FromRead, FromWrite, Input, Output};
 use sig_core::DroidCore;
 use sig_engines::{
-    ConflictsAsk, ConflictsRun, CutShort, DeadAsk, FileFault, FindAsk, FormatNames, MatchAsk,
-    MatchRun, NameReader, NamesError, PairsFault, PriorityInput, RunError, Store, SystemFiles,
-    TablePaths, WitnessName, find_dead, format_named, run_check, run_find, run_lint, run_match,
-    run_match_listed, run_match_many, run_show, run_witness, settle,
+    ConflictsAsk, ConflictsRun, DeadAsk, FileFault, FindAsk, FormatNames, MatchAsk, MatchRun,
+    NameReader, NamesError, PairsFault, PriorityInput, RunError, Store, SystemFiles, TablePaths,
+    find_dead, format_named, run_check, run_find, run_lint, run_match, run_match_listed,
+    run_match_many, run_show, run_witness, settle,
 };
 use sig_scan::BlockCore;
 use sig_table::{FormatId, Puid, Table};
