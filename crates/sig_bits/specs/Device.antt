@@ -1,5 +1,5 @@
 -- What a read gives and a write adds, where its bytes are known.
-use Rattle.std.specs.Prelude.{◌≡◌, ℕ, ◌≤◌, List, [], ◌++◌, length, take, Option, Some, None, ⊤}
+use Rattle.std.specs.Prelude.{◌≡◌, ℕ, ◌<◌, ◌≤◌, List, [], ◌++◌, length, take, Option, Some, None, ⊤}
 
 -- the bytes to come begin with these, and lose them
 abbrev pub Gives : Option (List ℕ) → List ℕ → Option (List ℕ) → Type 0
@@ -11,6 +11,12 @@ Gives (Some before) bytes (Some after) = before ≡ bytes ++ after
 abbrev pub IsAtEnd : Option (List ℕ) → Type 0
 IsAtEnd None = ⊤
 IsAtEnd (Some rest) = rest ≡ []
+
+-- a read gives the first so many bytes of its buffer, and none is the end for a buffer with room
+pub record Reads (before : Option (List ℕ)) (buf : List ℕ) (n : ℕ) (after : Option (List ℕ)) : Type 0 where
+  pub within : n ≤ length buf
+  pub gives : Gives before (take n buf) after
+  pub ends : n ≡ 0 → 0 < length buf → IsAtEnd after
 
 -- the bytes written grow by these
 abbrev pub Adds : Option (List ℕ) → List ℕ → Option (List ℕ) → Type 0

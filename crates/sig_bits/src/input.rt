@@ -6,9 +6,9 @@
 //! a clause of `FromRead` (`idle`) and not of the trait, so any device that meets the trait will
 //! do.
 
-ghost use Rattle.std.specs.Prelude.{◌≡◌, ℕ, ◌+◌, ◌-◌, ◌^◌, ◌<◌, ◌≤◌, ◌↔◌, Bool, true, false, List, length, take, Option, IfOk, OnErr, IsErr, IsTrue, is_err};
+ghost use Rattle.std.specs.Prelude.{◌≡◌, ℕ, ◌+◌, ◌-◌, ◌^◌, Bool, false, List, Option, IfOk, OnErr, IsErr, IsTrue, is_err};
 ghost use Rattle.std.specs.Io.KnownBytes.{Keeps};
-ghost use Rattle.sig_bits.specs.Device.{Gives, IsAtEnd};
+ghost use Rattle.sig_bits.specs.Device.{Reads};
 
 use crate::fault::DeviceFault;
 use std::io::Read;
@@ -31,12 +31,9 @@ pub trait Input {
     fn read(&mut self, buf: &mut [u8]) -> Result<usize, DeviceFault>
         ensures fails { failed self.new ≡ is_err result }
         ensures stays_failed { IsTrue (failed self.old) → IsErr result }
-        ensures within { IfOk result (λ n. n ≤ length buf.new) }
         ensures lowers { IfOk result (λ n. limit self.old ≡ n + limit self.new) }
-        ensures gives { IfOk result (λ n. Gives (to_come self.old) (take n buf.new) (to_come self.new)) }
-        ensures stays { OnErr result (limit self.new ≡ limit self.old) }
-        ensures keeps { OnErr result (Keeps (to_come self.old) (to_come self.new)) }
-        ensures ends { IfOk result (λ n. n ≡ 0 → 0 < length buf.new → IsAtEnd (to_come self.new)) };
+        ensures reads { IfOk result (λ n. Reads (to_come self.old) buf.new n (to_come self.new)) }
+        ensures stays { OnErr result ((limit self.new ≡ limit self.old) × Keeps (to_come self.old) (to_come self.new)) };
 }
 
 /// The input of any reader.
@@ -75,19 +72,14 @@ impl<R: Read> Input for FromRead<R> {
 
     fn read(&mut self, buf: &mut [u8]) -> Result<usize, DeviceFault>
         ensures fails { self.new.failed ≡ is_err result }
-        ensures stays_failed { IsTrue self.old.failed → IsErr result }
-        ensures within { IfOk result (λ n. n ≤ length buf.new) }
         ensures lowers { IfOk result (λ n. self.old.budget ≡ n + self.new.budget) }
-        ensures gives { IfOk result (λ n. Gives (R.remaining self.old.reader) (take n buf.new) (R.remaining self.new.reader)) }
-        ensures stays { OnErr result (self.new.budget ≡ self.old.budget) }
-        ensures keeps { OnErr result (Keeps (R.remaining self.old.reader) (R.remaining self.new.reader)) }
-        ensures ends { IfOk result (λ n. n ≡ 0 → 0 < length buf.new → IsAtEnd (R.remaining self.new.reader)) }
+        ensures reads { IfOk result (λ n. Reads (R.remaining self.old.reader) buf.new n (R.remaining self.new.reader)) }
+        ensures stays { OnErr result ((self.new.budget ≡ self.old.budget) × Keeps (R.remaining self.old.reader) (R.remaining self.new.reader)) }
 
         // A reader that failed is not read again, and one that gave all bytes that are taken is not
         // read at all.
-        ensures idle { IsTrue self.old.failed → self.new ≡ self.old }
-        ensures spent { self.old.budget ≡ 0 → IsErr result }
-        ensures unread { self.old.budget ≡ 0 → self.new.reader ≡ self.old.reader }
+        ensures idle { IsTrue self.old.failed → IsErr result × (self.new ≡ self.old) }
+        ensures spent { self.old.budget ≡ 0 → IsErr result × (self.new.reader ≡ self.old.reader) }
     {
         if self.failed {
             return Err(DeviceFault);

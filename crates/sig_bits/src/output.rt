@@ -33,8 +33,7 @@ pub trait Output {
         ensures adds { OnOk result (Adds (written self.old) bytes.now (written self.new)) }
 
         // After a failed write only a front of its bytes may be written.
-        ensures front { OnErr result (AddsFront (written self.old) bytes.now (written self.new)) }
-        ensures stays_within { OnErr result (limit self.new ≤ limit self.old) };
+        ensures front { OnErr result (AddsFront (written self.old) bytes.now (written self.new) × (limit self.new ≤ limit self.old)) };
 }
 
 /// The output to any writer.
@@ -84,15 +83,13 @@ impl<W: Write> Output for FromWrite<W> {
 
     fn write_all(&mut self, bytes: &[u8]) -> Result<(), DeviceFault>
         ensures fails { self.new.failed ≡ is_err result }
-        ensures stays_failed { IsTrue self.old.failed → IsErr result }
         ensures lowers { OnOk result (self.old.budget ≡ length bytes.now + self.new.budget) }
         ensures adds { OnOk result (Adds (W.contents self.old.writer) bytes.now (W.contents self.new.writer)) }
-        ensures front { OnErr result (AddsFront (W.contents self.old.writer) bytes.now (W.contents self.new.writer)) }
-        ensures stays_within { OnErr result (self.new.budget ≤ self.old.budget) }
+        ensures front { OnErr result (AddsFront (W.contents self.old.writer) bytes.now (W.contents self.new.writer) × (self.new.budget ≤ self.old.budget)) }
 
         // A writer that failed is not written again, and one with no room for all the bytes is not
         // written at all.
-        ensures idle { IsTrue self.old.failed → self.new ≡ self.old }
+        ensures idle { IsTrue self.old.failed → IsErr result × (self.new ≡ self.old) }
         ensures none { self.old.budget < length bytes.now → self.new.writer ≡ self.old.writer }
     {
         if self.failed {

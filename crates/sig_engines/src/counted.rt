@@ -1,8 +1,8 @@
 //! An input that counts the bytes that it gives.
 
-ghost use Rattle.std.specs.Prelude.{◌≡◌, ◌+◌, ◌<◌, ◌≤◌, IfOk, IsErr, IsTrue, OnErr, is_err, length, take};
+ghost use Rattle.std.specs.Prelude.{◌≡◌, ◌+◌, IfOk, IsErr, IsTrue, OnErr, is_err};
 ghost use Rattle.std.specs.Io.KnownBytes.{Keeps};
-ghost use Rattle.sig_bits.specs.Device.{Gives, IsAtEnd};
+ghost use Rattle.sig_bits.specs.Device.{Reads};
 ghost use Rattle.sig_engines.specs.Tallies.{plus};
 
 use sig_bits::{DeviceFault, Input};
@@ -34,12 +34,9 @@ impl<R: Input> Input for Counted<R> {
     fn read(&mut self, buf: &mut [u8]) -> Result<usize, DeviceFault>
         ensures fails { R.failed self.new.input ≡ is_err result }
         ensures stays_failed { IsTrue (R.failed self.old.input) → IsErr result }
-        ensures within { IfOk result (λ n. n ≤ length buf.new) }
         ensures lowers { IfOk result (λ n. R.limit self.old.input ≡ n + R.limit self.new.input) }
-        ensures gives { IfOk result (λ n. Gives (R.to_come self.old.input) (take n buf.new) (R.to_come self.new.input)) }
-        ensures stays { OnErr result (R.limit self.new.input ≡ R.limit self.old.input) }
-        ensures keeps { OnErr result (Keeps (R.to_come self.old.input) (R.to_come self.new.input)) }
-        ensures ends { IfOk result (λ n. n ≡ 0 → 0 < length buf.new → IsAtEnd (R.to_come self.new.input)) }
+        ensures reads { IfOk result (λ n. Reads (R.to_come self.old.input) buf.new n (R.to_come self.new.input)) }
+        ensures stays { OnErr result ((R.limit self.new.input ≡ R.limit self.old.input) × Keeps (R.to_come self.old.input) (R.to_come self.new.input)) }
         ensures counts { IfOk result (λ n. self.new.bytes ≡ plus self.old.bytes n) }
     {
         let count = self.input.read(buf)?;

@@ -15,7 +15,7 @@ pieces-preserved g c =
     let at : length (take c.pieces.filled c.deref_mut.result.now) ≡ c.pieces.filled = length-take-le c.pieces.filled c.deref_mut.result.now (omega arith) in
     let front : take c.pieces.filled c.deref_mut.result.now ≡ take c.pieces.filled c.pieces.bytes.items =
     rw c.deref_mut.ensures.value c.in_ok-make_room.ensures.front in
-    let within : c.in-Ok.n ≤ length c.read.new.buf = c.in-Ok.ensures.within in
+    let within : c.in-Ok.n ≤ length c.read.new.buf = c.in-Ok.ensures.reads.within in
     let fits : c.pieces.filled + c.in-Ok.n ≤ c.make_room.new.bytes.len = let kept = c.read.auto.buf in
     omega (arith, length-take {A = ℕ}, length-drop {A = ℕ}) in
     let sound : g.R.Input.failed c.pieces.input ≡ false = false_from_not _ (λ t. let lie : false ≡ true = c.in-Ok.ensures.stays_failed t in cc) in
@@ -25,5 +25,5 @@ pieces-preserved g c =
       lowered = omega (arith, c.in-Ok.ensures.lowers, c.pieces.invariant.lowered);
       given =
           rw (take-read c.pieces.filled c.in-Ok.n c.make_room.new.bytes.len _ c.read.new.buf _ _ at within fits, front)
-          (Gives-more _ _ _ _ _ c.pieces.invariant.given c.in-Ok.ensures.gives);
+          (Gives-more _ _ _ _ _ c.pieces.invariant.given c.in-Ok.ensures.reads.gives);
     }

@@ -45,5 +45,5 @@ returns-clause-cut g c =
     let is = c.done.ensures ∙ ap done_of c.with_file-tally.ensures in
     one_cut _ (to_match c.args.name.now) answer progress c.args.tally _ (g.W.Output.written c.write_all.new.self) _ before told c.in-Ok.ensures.text
     (subst (λ l. AddsFront (g.W.Output.written c.args.out.now) l (g.W.Output.written c.write_all.new.self)) c.deref.ensures.value
-    c.in-Err-write_all.ensures.front)
+    c.in-Err-write_all.ensures.front.0)
     (subst (λ n. g.E.Output.failed c.show_done.new.err ≡ false → Adds before (done_text progress n) told) is c.show_done.ensures.reports)
