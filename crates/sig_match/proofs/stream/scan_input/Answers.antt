@@ -20,7 +20,7 @@ pieces-preserved g c =
     let P : List ℕ → Type 0 = λ l. Gives (g.R.Input.to_come c.pieces.input) l (g.R.Input.to_come c.read.new.self) in
     let sound : g.R.Input.failed c.pieces.input ≡ false = false_from_not _ (λ t. let lie : false ≡ true = c.in-Ok.ensures.stays_failed t in cc) in
     record {
-      fed = fed_more _ _ _ _ _ _ (take n c.deref.result.now) c.feed.ensures.table c.feed.ensures.goes_on (subst P (sym same) c.in-Ok.ensures.gives)
+      fed = fed_more _ _ _ _ _ _ (take n c.deref.result.now) c.feed.ensures.table c.feed.ensures.goes_on (subst P (sym same) c.in-Ok.ensures.reads.gives)
           c.pieces.invariant.fed;
       room = c.pieces.invariant.room;
       failed = c.in-Ok.ensures.fails ∙ sym sound ∙ c.pieces.invariant.failed;
@@ -32,5 +32,5 @@ returns-then-n-eq0-clause-hits g c =
     let long : length buffer ≡ vec_len c.pieces.piece = c.read.auto.buf ∙ c.deref_mut.ensures.len in
     let room : vec_len c.pieces.piece ≡ 262144 = c.pieces.invariant.room in
     let some : 0 < length buffer = omega arith in
-    fed_all _ _ _ _ _ (take c.in-Ok.n buffer) _ (ap (λ k. take k buffer) c.if-n-eq0.true) c.in-Ok.ensures.gives (c.in-Ok.ensures.ends c.if-n-eq0.true some)
+    fed_all _ _ _ _ _ (take c.in-Ok.n buffer) _ (ap (λ k. take k buffer) c.if-n-eq0.true) c.in-Ok.ensures.reads.gives (c.in-Ok.ensures.reads.ends c.if-n-eq0.true some)
     c.finish.ensures c.pieces.invariant.fed
