@@ -13,7 +13,7 @@ mod fault;
 mod groups;
 mod input;
 mod lanes;
-pub mod laws;
+mod laws;
 mod output;
 mod whole;
 
@@ -23,5 +23,6 @@ pub use byte_class::ByteClass;
 pub use fault::{DeviceFault, ReadWholeError};
 pub use groups::Groups;
 pub use input::{FromRead, Input};
+pub use laws::{bits_are_within, same_bits_are_same_bytes, zeros_have_no_bit};
 pub use output::{FromWrite, Output};
 pub use whole::read_whole;

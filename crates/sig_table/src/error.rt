@@ -4,6 +4,7 @@
 //! time. Their texts are for a caller of this crate; the program prints codes.
 
 use sig_expr::ExprError;
+use std::fmt;
 use thiserror::Error;
 
 /// The two files of a table.
@@ -15,20 +16,29 @@ pub enum TableFile {
     Priorities,
 }
 
+impl fmt::Display for TableFile {
+    fn fmt<W: fmt::Write>(&self, f: &mut fmt::Formatter<W>) -> fmt::Result {
+        f.write_str(match self {
+            TableFile::Signatures => "signatures",
+            TableFile::Priorities => "priorities",
+        })
+    }
+}
+
 /// Why two files are no table, in the order of judging. Row N is the N-th record after the first.
 #[derive(Clone, Copy, Debug, PartialEq, Eq, Error)]
 pub enum TableError {
     /// A read failed.
-    #[error("read failed")]
+    #[error("{file}: read failed")]
     Read { file: TableFile },
     /// The first record is another than the header, or there is none.
-    #[error("no header")]
+    #[error("{file}: no header")]
     Header { file: TableFile },
     /// A row has not six fields, or not two in the priority file.
-    #[error("fields of row {row}")]
+    #[error("{file}: fields of row {row}")]
     Fields { file: TableFile, row: usize },
     /// A PUID of another form.
-    #[error("PUID in row {row}")]
+    #[error("{file}: PUID in row {row}")]
     Puid { file: TableFile, row: usize },
     /// A signature number of another form.
     #[error("signature number in row {row}")]

@@ -3,7 +3,7 @@
 //! `rows_are_gathered` has the table of each file that loads, `first_fault_is_told` the fault of
 //! each other one. By `written_is_loaded` the canonical files load as the table that they are of.
 
-ghost use Rattle.std.specs.Prelude.{◌≡◌, ◌↔◌, ℕ, ◌<◌, List, [], All, Contains, length, Err, Ok};
+ghost use Rattle.std.specs.Prelude.{◌≡◌, ◌↔◌, ℕ, ◌<◌, List, [], All, Contains, length, Err, Ok, Some};
 ghost use Rattle.sig_table.specs.Judging.{Records};
 ghost use Rattle.sig_table.specs.declared.error.TableError.{TableError};
 ghost use Rattle.sig_table.specs.declared.puid.Puid.{Puid};
@@ -14,10 +14,16 @@ ghost use Rattle.sig_table.specs.Canonical.{priority_csv, signature_csv};
 ghost use Rattle.sig_table.specs.Gathered.{IsFaultOf, IsTableOf};
 ghost use Rattle.sig_table.specs.Views.{TableView};
 ghost use Rattle.sig_table.specs.Loading.{pair_of, pairs_of, records_of, signatures_of, table_of};
+ghost use Rattle.sig_table.specs.Puids.{puid_of, puid_text};
 ghost use Rattle.sig_table.specs.PriorityRows.{ArePairsOf, IsPriorityFaultOf};
 ghost use Rattle.sig_table.specs.Ranked.{ranked};
 ghost use Rattle.sig_table.specs.Ranking.{NoCycle, Outranks};
 ghost use Rattle.sig_table.specs.Tables.{AllDifferent, HasAllSignatures, IsNumber, IsTable};
+
+/// What a PUID prints is read as that PUID.
+pub fn printed_is_read()
+    ensures { (puid : Puid) → IsNumber puid.number → puid_of (puid_text puid) ≡ Some puid }
+{}
 
 /// The table of a signature file is that of its rows: the different PUIDs and numbers in order of
 /// first row, and for each number its rows' sequences in row order. No row has a fault. And each

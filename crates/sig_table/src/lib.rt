@@ -32,12 +32,12 @@ pub use error::{OutError, TableError, TableFile};
 pub use ids::{FormatId, SigId};
 pub use laws::{
     first_fault_is_told, first_priority_fault_is_told, pairs_are_listed, pairs_are_refused,
-    pairs_are_spelled, rows_are_gathered, rows_are_refused, rows_are_spelled,
+    pairs_are_spelled, printed_is_read, rows_are_gathered, rows_are_refused, rows_are_spelled,
     some_is_not_outranked, written_is_loaded, written_priorities_are_loaded,
 };
 pub use passing::{take_pair, take_row};
 pub use position::Position;
-pub use puid::{Puid, Registry, printed_is_read};
+pub use puid::{Puid, Registry};
 pub use ranking::Ranking;
 pub use reading::{is_priority_header, is_signature_header};
 pub use records::Records;

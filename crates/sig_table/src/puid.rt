@@ -1,8 +1,7 @@
 //! The names of formats, as `fmt/40` and `x-fmt/7`.
 //!
-//! The number of a `Puid` is from 1 to 999,999,999 by its invariant. So what it prints is read as
-//! that `Puid` with no premise (`printed_is_read`). Definitions speak of its two parts
-//! (`PuidView`).
+//! The number of a `Puid` is from 1 to 999,999,999 by its invariant, so what it prints is read as
+//! that `Puid` (law `printed_is_read`). Definitions speak of its two parts (`PuidView`).
 
 ghost use Rattle.std.specs.Prelude.{◌≡◌, ◌<◌, ◌^◌, IfSome, Some};
 ghost use Rattle.sig_table.specs.Puids.{numbered, puid_of, puid_text};
@@ -65,13 +64,6 @@ impl Puid {
     {
         self.number
     }
-}
-
-/// What a PUID prints is read as that PUID.
-pub fn printed_is_read(puid: &Puid)
-    ensures { puid_of (puid_text puid.now) ≡ Some puid.now }
-{
-    let _ = &puid.number;
 }
 
 // The PUID that the text is of.

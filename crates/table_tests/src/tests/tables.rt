@@ -714,8 +714,8 @@ fn a_failed_write_is_named(rt: HostRuntime) -> Result<(), Fail> {
 
 // Rows of both files, and the words that tell why they are no table.
 const TOLD: &[(&str, &str, &str)] = &[
-    ("fmt/1\n", "", "fields of row 1"),
-    ("fmt/0,1,BOF,0,,41\n", "", "PUID in row 1"),
+    ("fmt/1\n", "", "signatures: fields of row 1"),
+    ("fmt/0,1,BOF,0,,41\n", "", "signatures: PUID in row 1"),
     ("fmt/1,0,BOF,0,,41\n", "", "signature number in row 1"),
     ("fmt/1,1,bof,0,,41\n", "", "position in row 1"),
     ("fmt/1,1,BOF,,,41\n", "", "offset in row 1"),
@@ -730,7 +730,7 @@ const TOLD: &[(&str, &str, &str)] = &[
         "signature of two formats in row 2",
     ),
     ("fmt/1,1,BOF,65535,,41\n", "", "too many slots in row 1"),
-    ("", "fmt/1\n", "fields of row 1"),
+    ("", "fmt/1\n", "priorities: fields of row 1"),
     ("", "fmt/1,fmt/2\n", "unknown format in row 1"),
     (
         "fmt/1,1,BOF,0,,41\n",
