@@ -18,7 +18,6 @@ ghost use Rattle.sig_scan.specs.Passes.{ArePast};
 ghost use Rattle.sig_scan.specs.Scans.{AreFirst, IsFirst, IsShortCourse};
 ghost use Rattle.sig_scan.specs.Stages.{CourseView, StageView, course_of, stages_of};
 ghost use Rattle.std.specs.List.{slice_get};
-ghost use Rattle.sig_table.specs.Tables.{IsSequence};
 
 use crate::filter::Filter;
 use crate::lengths::span_of;
@@ -283,13 +282,11 @@ fn add_course(
     may_hit: bool,
     stages: &mut Vec<Stage>,
 ) -> Result<Course, AllocError>
-    ensures adds { IfOk result (λ course. AddsCourse stages.old.items stages.new.items course (course_if may_hit sequence.now)) }
-    ensures sequence { IsSequence sequence.now }
+    ensures { IfOk result (λ course. AddsCourse stages.old.items stages.new.items course (course_if may_hit sequence.now)) }
 {
     if may_hit {
         return add_stages(alloc, sequence, stages);
     }
-    let _ = sequence.expr();
     Ok(Course {
         from: 0,
         first: stages.len(),
@@ -304,8 +301,7 @@ fn add_stages(
     sequence: &Sequence,
     stages: &mut Vec<Stage>,
 ) -> Result<Course, AllocError>
-    ensures adds { IfOk result (λ course. AddsCourse stages.old.items stages.new.items course (course_of sequence.now)) }
-    ensures sequence { IsSequence sequence.now }
+    ensures { IfOk result (λ course. AddsCourse stages.old.items stages.new.items course (course_of sequence.now)) }
 {
     let items = sequence.expr().items();
     let first = stages.len();

@@ -15,8 +15,8 @@ of-requires c =
     let few = last-short old new s last c.in-Eof.min c.in-Eof.max (sym c.in-Eof.ensures) same c.expr.ensures.sequence in
     subst (λ (l : List Item). span l ≤ 65535) (sym c.into_items-last.ensures) few
 
-pub returns-in_ok-cut-in-Eof-clause-adds : goal.returns-in_ok-cut-in-Eof-clause-adds
-returns-in_ok-cut-in-Eof-clause-adds c =
+pub returns-in_ok-cut-in-Eof : goal.returns-in_ok-cut-in-Eof
+returns-in_ok-cut-in-Eof c =
     let old : List StageView = c.args.stages.now.items in
     let new : List StageView = c.cut.new.stages.items in
     let last : StageView = c.in_ok-cut-in-Eof.field-0 in

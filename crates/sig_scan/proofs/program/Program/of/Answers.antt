@@ -4,7 +4,13 @@ use Rattle.sig_scan.proofs.Common.{SequenceView, StageView, course_if, course_in
 use Rattle.sig_scan.proofs.CompiledLemmas.{AreAdded, AreAdded-next, AreAdded-none, AreAdded-push, IsProgramOf-added, course_if-bounded}
 use Rattle.sig_scan.proofs.HeldLemmas.{AreHeld-push}
 use Rattle.sig_scan.proofs.ProgramLemmas.{AreCourses-push}
+use Rattle.sig_scan.proofs.Common.{ℕ, All-get_or, IsSequence, get_or_from_slice_get, slice_get_within}
+use Rattle.sig_table.specs.Tables.{IsSignature}
 use Rattle.sig_scan.proofs.program.Program.of.Goals as goal
+
+-- what holds of all members holds of the one at an index
+at_all : {A : Type 0} (P : A → Type 0) (xs : List A) (i : ℕ) (x : A) → slice_get xs i ≡ Some x → All P xs → P x
+at_all P xs i x at all = subst P (get_or_from_slice_get xs i x x at) (All-get_or P xs i x (slice_get_within xs i x at) all)
 
 pub loop-index-init : goal.loop-index-init
 loop-index-init c = record {
@@ -37,7 +43,9 @@ loop-sequence-preserved c =
     let at = subst (λ (l : List SequenceView). slice_get l i ≡ Some x) same
     (slice_get_read sequences (length sequences) i x refl c.loop-sequence-test.true c.sequence-item.is) in
     let more = AreCourses-push old stages cs courses course (course_if b x) (record { same = refl; within = c.loop-sequence.invariant.within })
-    c.in_ok-course.ensures.adds in
+    c.in_ok-course.ensures in
+    let signature = at_all (IsSignature (length table.formats)) table.signatures index g.0 g.1 c.sequences_of-sequence-items.ensures.table.each in
+    let sequence = at_all IsSequence g.0.sequences i x at signature.sequences in
     let added = AreAdded-push table flags index i owners courses g.0 x size g.1 at c.loop-sequence.invariant.added in
     let bounded = All-push IsBoundedCourse courses (course_if b x) c.loop-sequence.invariant.bounded (course_if-bounded b x) in
     let Now : List CourseView → Type 0 = λ l. All IsBoundedCourse l × AreAdded table flags index (i + 1) (owners ++ index ∷ []) l in
@@ -47,7 +55,7 @@ loop-sequence-preserved c =
     let was = c.loop-sequence.invariant.count in
     rw (c.in_ok-push.ensures.items, c.in_ok-push-2.ensures.items) (record {
       within = more.within;
-      held = AreHeld-push old stages cs course b x c.loop-sequence.invariant.held c.in_ok-course.ensures.adds c.in_ok-course.ensures.sequence;
+      held = AreHeld-push old stages cs course b x c.loop-sequence.invariant.held c.in_ok-course.ensures sequence;
       bounded = now.0;
       count = omega arith;
       added = now.1;
