@@ -1,3 +1,9 @@
+//! What no contract says of the engines and the cores, and the tables that the modules share.
+//!
+//! `table_of` of the row `fmt/1,1,BOF,0,,41` and of no pair is the table of one signature, which
+//! hits each file that begins with 41. The words of the command line, and the statuses, are tested
+//! in `command_tests`.
+
 mod conflicting;
 mod failing;
 mod finding;

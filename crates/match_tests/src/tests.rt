@@ -1,3 +1,9 @@
+//! What no contract says of the matchers, and the tables, files and cuts that the modules share.
+//!
+//! `table_of` of `BOF,0,,41` is the table of one signature. `fronts_agree` feeds a scan each front
+//! of a file, in pieces of several lengths, and compares its hits with those of the search of the
+//! whole front. Failing reads are tested in `engine_tests`, and want of memory in `refused_tests`.
+
 mod agreeing;
 mod blocks;
 mod cuts;

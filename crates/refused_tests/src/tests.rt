@@ -1,3 +1,9 @@
+//! Library calls with growths refused, a module for each group of them, and the marks of where
+//! growths may be refused.
+//!
+//! A test of `Table::load` is `begin`, that call, `end`, and the same call once more, which has to
+//! be right. The test itself refuses nothing: `bench/refusals.py` does, between the two marks.
+
 mod cases;
 mod deciding;
 mod engines;

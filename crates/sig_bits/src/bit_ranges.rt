@@ -12,8 +12,6 @@ use crate::bit_sets::{get_bit, set_bit};
 use crate::lanes::{LANES, load, nonzero};
 
 /// Adds the successor of each number of `src` from `from` up to `to`, which is left out, to `dst`.
-///
-/// Over 65,535 numbers it takes less than a microsecond, whatever they are.
 pub fn shift_into(dst: &mut [u8], src: &[u8], from: usize, to: usize)
     requires order { from ≤ to }
     requires source { to ≤ 8 * length src.now }

@@ -39,8 +39,8 @@ pub trait Input {
 /// The input of any reader.
 ///
 /// It gives at most 18,446,744,073,709,551,615 bytes, and any read after them fails, so an endless
-/// source ends in a fault. A source of exactly so many bytes does too. After a failed read the
-/// reader is not touched again.
+/// source ends in a fault. A source of exactly so many bytes does too. After a failed read no later
+/// call touches the reader.
 #[derive(Drop)]
 pub struct FromRead<R> {
     reader: R,

@@ -39,7 +39,8 @@ pub trait Output {
 /// The output to any writer.
 ///
 /// It takes at most 18,446,744,073,709,551,615 bytes, and a write of more fails. After a failed
-/// write the writer is not touched again.
+/// call no later one touches the writer. Within one call `write` may be called several times, and
+/// never again after it failed.
 #[derive(Drop)]
 pub struct FromWrite<W> {
     writer: W,

@@ -23,9 +23,9 @@ use Rattle.sig_table.specs.declared.error.TableError.TheVariants as table
 use Rattle.sig_command.specs.CommandLine.{AreTaken, Asks, HasFaultKind, IsHelpAsked, fault_of_words, subcommand_of_words}
 use Rattle.sig_command.specs.Endings.{AnswersAndMakes, EndsByFault, EndsByKind, KeepsErrors, KeepsOutput, ReportsMemory, TellsBy}
 use Rattle.sig_command.specs.Faults.{Reports, ReportsLine, TellsWrite}
-use Rattle.sig_command.specs.Requests.{Behind, CutsSomeWords, CutsWords, HasFailedWrite, HasFault, IsCutRequest, IsFaultOf, IsFirstFault, IsFolderFault, IsLaterFault, IsListFault}
-use Rattle.sig_command.specs.Requests.{IsNamesFaultOf, Joins, ListsIf, ListsRequest, ListsSomeWords, ListsWords, ReportsFaultOf, ReportsLineOf}
-use Rattle.sig_command.specs.Requests.{Shows, ShowsBefore, ShowsSomeWords, ShowsWords, TellsOf, UnlessWriting}
+use Rattle.sig_command.specs.Requests.{Behind, CutsSomeWords, CutsWords, HasFailedWrite, HasFault, IsCutRequest, IsFaultOf, IsFirstFault, IsFolderFault}
+use Rattle.sig_command.specs.Requests.{IsLaterFault, IsListFault, IsNamesFaultOf, Joins, ListsIf, ListsRequest, ListsSomeWords, ListsWords, ReportsFaultOf}
+use Rattle.sig_command.specs.Requests.{ReportsLineOf, Shows, ShowsBefore, ShowsSomeWords, ShowsWords, TellsOf, UnlessWriting}
 use Rattle.sig_command.specs.Several.{ReportsFiles}
 use Rattle.sig_command.proofs.SeveralLemmas.{memory_before}
 use Rattle.sig_command.specs.Statuses.{kind_status, names_status, status_of, table_status}
@@ -160,8 +160,8 @@ fault_is_reported failed write_failed held request reason status out_failed out_
     }
 
 -- before there is a request to look at, memory ran out
-pub memory_is_reported : {R E : Type 0} (failed : R → Bool) (WriteFailed : Request → Type 0) (held : Holding) (request : Request) (status : ℕ) (is_failed : E → Bool)
-    (written : E → Option (List ℕ)) (err last : E) (before after : Option (List ℕ)) → status ≡ 3
+pub memory_is_reported : {R E : Type 0} (failed : R → Bool) (WriteFailed : Request → Type 0) (held : Holding) (request : Request) (status : ℕ)
+    (is_failed : E → Bool) (written : E → Option (List ℕ)) (err last : E) (before after : Option (List ℕ)) → status ≡ 3
     → (is_failed last ≡ false → ReportsMemory (written err) (written last))
     → ReportsFaultOf failed WriteFailed held request status before after (is_failed last) (written err) (written last)
 memory_is_reported failed WriteFailed held request status is_failed written err last before after ends reports = record {
@@ -368,8 +368,8 @@ before_writing (Check table certificate) reason Same same is = same (is.run run.
 before_writing (Witness table file) reason Same same is = same (is.run run.Write)
 
 -- with 2 the output is as it was, or has the faults of a table; with 3 an answer may be cut short
-pub fault_keeps_output : {R F W : Type 0} (failed : R → Bool) (write_failed : F → Bool) (held : Holding) (words : List Text) (request : Request) (reason : Fault)
-    (status : ℕ) (is_failed : W → Bool) (written : W → Option (List ℕ)) (before after : W) → Asks (subcommand_of_words words) request
+pub fault_keeps_output : {R F W : Type 0} (failed : R → Bool) (write_failed : F → Bool) (held : Holding) (words : List Text) (request : Request)
+    (reason : Fault) (status : ℕ) (is_failed : W → Bool) (written : W → Option (List ℕ)) (before after : W) → Asks (subcommand_of_words words) request
     → HasFault failed write_failed held request is_failed written before after reason → status ≡ status_of reason
     → KeepsOutput (CutsWords failed held words (written before) (written after)) (ListsWords held words (written before) (written after)) status
     (is_failed after) before after
@@ -395,12 +395,18 @@ fault_keeps_output failed write_failed held words request reason status is_faile
     refused (Run error) is two untouched lists = absurd (omega (arith, two))
     refused (CutShort error) is two untouched lists = absurd (omega (arith, two))
     refused SomeFiles is two untouched lists = absurd (omega (arith, two))
-    refused NotText is two untouched lists = inl (untouched record { run = λ e same. cc; cut = λ e same. cc; file = λ folder name same. cc; files = λ same. cc; table = λ same. cc })
-    refused (CannotOpen name) is two untouched lists = inl (untouched record { run = λ e same. cc; cut = λ e same. cc; file = λ folder name same. cc; files = λ same. cc; table = λ same. cc })
-    refused (Table error) is two untouched lists = inl (untouched record { run = λ e same. cc; cut = λ e same. cc; file = λ folder name same. cc; files = λ same. cc; table = λ same. cc })
-    refused NotInTable is two untouched lists = inl (untouched record { run = λ e same. cc; cut = λ e same. cc; file = λ folder name same. cc; files = λ same. cc; table = λ same. cc })
-    refused (Names error) is two untouched lists = inl (untouched record { run = λ e same. cc; cut = λ e same. cc; file = λ folder name same. cc; files = λ same. cc; table = λ same. cc })
-    refused SummaryOfOne is two untouched lists = inl (untouched record { run = λ e same. cc; cut = λ e same. cc; file = λ folder name same. cc; files = λ same. cc; table = λ same. cc })
+    refused NotText is two untouched lists =
+        inl (untouched record { run = λ e same. cc; cut = λ e same. cc; file = λ folder name same. cc; files = λ same. cc; table = λ same. cc })
+    refused (CannotOpen name) is two untouched lists =
+        inl (untouched record { run = λ e same. cc; cut = λ e same. cc; file = λ folder name same. cc; files = λ same. cc; table = λ same. cc })
+    refused (Table error) is two untouched lists =
+        inl (untouched record { run = λ e same. cc; cut = λ e same. cc; file = λ folder name same. cc; files = λ same. cc; table = λ same. cc })
+    refused NotInTable is two untouched lists =
+        inl (untouched record { run = λ e same. cc; cut = λ e same. cc; file = λ folder name same. cc; files = λ same. cc; table = λ same. cc })
+    refused (Names error) is two untouched lists =
+        inl (untouched record { run = λ e same. cc; cut = λ e same. cc; file = λ folder name same. cc; files = λ same. cc; table = λ same. cc })
+    refused SummaryOfOne is two untouched lists =
+        inl (untouched record { run = λ e same. cc; cut = λ e same. cc; file = λ folder name same. cc; files = λ same. cc; table = λ same. cc })
 
 -- nor is want of memory
 pub memory_tells : {E : Type 0} (held : Holding) (words : List Text) (status : ℕ) (out_before out_after : Option (List ℕ)) (is_failed : Bool) (err last : E)

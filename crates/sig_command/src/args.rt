@@ -1,9 +1,9 @@
 //! What the words of the command line ask for, as `clap` reads them.
 //!
-//! `match a b c` asks for `Match`, of the table in `a` and `b` and of the file `c`; `match a b c d`,
-//! `match --with-names a b c` and `match --files-from d a b` ask for `MatchMany`. The names of
-//! several files are the list that `clap` keeps, so they take no memory here. That is why
-//! `ArgMatches` outlives the request.
+//! `match a b c` asks for `Match`, of the table in `a` and `b` and of the file `c`;
+//! `match a b c d`, `match --with-names a b c` and `match --files-from d a b` ask for `MatchMany`.
+//! The names of several files are the list that `clap` keeps, so they take no memory here. That is
+//! why `ArgMatches` outlives the request.
 //!
 //! No file is opened, and whether a table has the format of `--only` is not looked at.
 
@@ -165,8 +165,8 @@ fn names_priorities(words: &[String]) -> bool
     true
 }
 
-// All subcommands and their words, with a place for a priority file where these words name one. They
-// stand in a frame of their own, which is gone when the words are read.
+// All subcommands and their words, with a place for a priority file where these words name one.
+// They stand in a frame of their own, which is gone when the words are read.
 #[inline(never)]
 fn command_line<'a>(alloc: Global, words: &[String]) -> Result<Command<'a>, Error>
     ensures app { IfOk result (λ command. app_of command ≡ program_of (texts_of words.now)) }
@@ -222,8 +222,8 @@ fn match_line<'a>(alloc: Global, has_priorities: bool) -> Result<Command<'a>, Er
     with_many_args(alloc, line)
 }
 
-// The words of `match` for one file and for several. All of them in one frame take more stack than any
-// other part of the program.
+// The words of `match` for one file and for several. All of them in one frame take more stack than
+// any other part of the program.
 #[inline(never)]
 fn files_line<'a>(alloc: Global, has_priorities: bool) -> Result<Command<'a>, Error>
     ensures line { IfOk result (IsLine (files_command has_priorities)) }

@@ -1,4 +1,8 @@
 //! The texts of `--help`, behind the list of the arguments.
+//!
+//! That of `show` says what its two parts are, and when its status is 0, 2 or 3. The lines on each
+//! argument stand beside it in `args`. No clause says what a text says: `command_tests` asks each
+//! for lines that it must have.
 
 pub(crate) const SHOW_HELP: &str = "\
 Prints the signatures, an empty line, and the priorities. Each of the two

@@ -363,8 +363,8 @@ fn answer_of<'a>(matched: Result<bool, RunError>) -> Result<bool, Fault<'a>>
     }
 }
 
-// The names of formats in the file of this name, if there is one. Its buffers stand in a frame of its
-// own.
+// The names of formats in the file of this name, if there is one. Its buffers stand in a frame of
+// its own.
 #[inline(never)]
 fn format_names<'a, S: Store>(
     store: &S,

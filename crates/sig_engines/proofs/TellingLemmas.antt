@@ -22,8 +22,8 @@ use Rattle.sig_table.specs.Views.{TableView}
 use Rattle.sig_engines.specs.Asks.{asked_pairs, is_asked, needs_class}
 use Rattle.sig_engines.specs.ClassTexts.{is_class}
 use Rattle.sig_engines.specs.Conflicts.{AddsFirstPairs, AreCounts, AreFirst, IsBeforeSearch, IsClassOf, IsCounted, IsSettled, KnownPair, StopsPairs, asked_line}
-use Rattle.sig_engines.specs.Conflicts.{HasRoom, class_count, classes_in, count_of, is_ambiguous, is_decided, is_unknown, is_unrelated, notes_of, pair_line, pair_lines}
-use Rattle.sig_engines.specs.Conflicts.{pairs_in, pairs_of}
+use Rattle.sig_engines.specs.Conflicts.{HasRoom, class_count, classes_in, count_of, is_ambiguous, is_decided, is_unknown, is_unrelated, notes_of}
+use Rattle.sig_engines.specs.Conflicts.{pair_line, pair_lines, pairs_in, pairs_of}
 use Rattle.sig_engines.specs.Notes.{note_of, noted}
 use Rattle.sig_engines.specs.Pairs.{AreTold, IsFileFault, IsPairCut, IsRankFault, IsTargetFault, IsTold}
 use Rattle.sig_engines.specs.Ranking.{IsOfFormats}

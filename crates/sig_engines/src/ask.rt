@@ -1,4 +1,8 @@
 //! What `match` of many files, `find`, `conflicts` and `dead` are asked for.
+//!
+//! `conflicts --class --only fmt/1` is a `ConflictsAsk` in which `class` is true and `only` has the
+//! place of `fmt/1` in the table. The words themselves are read by `sig_command`. `show`, `lint`,
+//! `check` and `witness` have no such type, since they have no options of their own.
 
 ghost use Rattle.std.specs.Prelude.{◌≡◌};
 ghost use Rattle.sig_engines.specs.Asks.{IsFormatNamed, is_asked, needs_class, shows_class};

@@ -1,4 +1,8 @@
 //! An input that counts the bytes that it gives.
+//!
+//! Of a file of three bytes, read by two at a time, it counts 2, then 3, and 3 at the end.
+//! `match --summary` adds these counts up. What it gives, and when it fails, is as of the input
+//! below. How long the file is, it does not know: a matcher that left off early would count less.
 
 ghost use Rattle.std.specs.Prelude.{◌≡◌, ◌+◌, IfOk, IsErr, IsTrue, OnErr, is_err};
 ghost use Rattle.std.specs.Io.KnownBytes.{Keeps};

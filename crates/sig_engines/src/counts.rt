@@ -1,4 +1,9 @@
 //! How many pairs of formats are decided, ambiguous and unknown, and of which class.
+//!
+//! Of three pairs, one of them decided, one ambiguous and of the class `over`, and one unknown, the
+//! last line of `conflicts --class` begins with `pairs 3 decided 1 ambiguous 1 unknown 1 over 1`. A
+//! file that was tried counts as ambiguous. Pairs of which one format outranks the other are not
+//! counted, and the line is made by `pair_lines`.
 
 ghost use Rattle.std.specs.Prelude.{◌≡◌, ◌↔◌, ◌+◌, ◌-◌, ◌^◌, ◌<◌, [], IsTrue, Some};
 ghost use Rattle.sig_engines.specs.Conflicts.{AreCounts, HasRoom, IsCounted, pairs_in};

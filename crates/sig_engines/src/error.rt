@@ -1,4 +1,9 @@
 //! Why an engine gives no answer.
+//!
+//! If a read of a certificate fails, `check` answers `RunError::Read`, with the text `read failed`;
+//! if memory runs out behind the first line of `dead`, that is `CutShort::OutOfMemory`. The name of
+//! a file is put before such a text by `named_file`, and the status is left to `sig_command`. For
+//! faults of a table see `sig_table`.
 
 use crate::witness_name::WitnessName;
 use sig_bits::{DeviceFault, ReadWholeError};

@@ -1,8 +1,8 @@
 //! What is written of a file that is matched by its name: its lines, or records of CSV.
 //!
-//! For a file `a.bin` that hits `fmt/1` by its signature 7 the line is `a.bin`, a tab and `fmt/1 7`,
-//! and the record is `a.bin,fmt/1,7,`. With the names of formats the line goes on with a tab and the
-//! name of `fmt/1`, and the last field of the record is that name.
+//! For a file `a.bin` that hits `fmt/1` by its signature 7 the line is `a.bin`, a tab and
+//! `fmt/1 7`, and the record is `a.bin,fmt/1,7,`. With the names of formats the line goes on with a
+//! tab and the name of `fmt/1`, and the last field of the record is that name.
 
 ghost use Rattle.std.specs.Prelude.{◌≡◌, ◌++◌, ◌∷◌, [], All, IfOk, OnOk, Some, map, string_bytes};
 ghost use Rattle.csv.specs.Records.{fields_of};

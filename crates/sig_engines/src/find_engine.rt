@@ -169,8 +169,8 @@ fn push_budget(line: &mut String, budget: u32) -> Result<(), AllocError>
     Ok(())
 }
 
-// Writes what was found to the file that is asked for, and then its lines. The file is made only now,
-// and where the search gave up not at all.
+// Writes what was found to the file that is asked for, and then its lines. The file is made only
+// now, and where the search gave up not at all.
 fn write_answer<S: Store, W: Output>(
     alloc: Global,
     store: &S,

@@ -1,4 +1,8 @@
 //! Laws of what the engines write.
+//!
+//! Of a decided table `match` writes `fmt/1 7` of a file, say, or nothing, and never a second line.
+//! Each law is of definitions alone: it says that of an engine only together with the clauses of
+//! its call. What the lines of an answer are stands in `specs/`.
 
 ghost use Rattle.std.specs.Prelude.{◌≡◌, ◌≤◌, ◌++◌, ◌∷◌, ℕ, [], false, flat_map, List, None, Option, Some, length, true};
 ghost use Rattle.std.specs.Borrow.{Bor};

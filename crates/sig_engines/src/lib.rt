@@ -5,14 +5,14 @@
 //! are subcommands; `run_match_listed` is `run_match_many` of names in a list, `settle` is
 //! `conflicts` and `find_dead` is `dead`, and `run_conflicts` and `run_dead` are the same without
 //! reports. But for those of many files and these four, each has its whole answer before it writes:
-//! after a failed read, and where memory runs out, the output is as it was. A fault says that a read
-//! or a write failed only where one did.
+//! after a failed read, and where memory runs out, the output is as it was. A fault says that a
+//! read or a write failed only where one did.
 //!
 //! What each adds to an output stands in `specs/`: `Lines`, `FormatNames`, `FileTexts`, `Listed`,
-//! `ManyFiles`, `Shown`, `Linted`, `Finding`, `Judged`, `Witnessed`, `Conflicts`, `Fates` and `Progress`. `Asks`
-//! says which pairs `conflicts` is asked for, and `ClassTexts` how their classes are written and
-//! counted. `Stores` says what a store of files holds and makes, and `PriorityInputs` where the
-//! priorities of a table come from.
+//! `ManyFiles`, `Shown`, `Linted`, `Finding`, `Judged`, `Witnessed`, `Conflicts`, `Fates` and
+//! `Progress`. `Asks` says which pairs `conflicts` is asked for, and `ClassTexts` how their classes
+//! are written and counted. `Stores` says what a store of files holds and makes, and
+//! `PriorityInputs` where the priorities of a table come from.
 #![tactic(auto)]
 
 mod ask;

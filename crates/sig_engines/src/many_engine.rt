@@ -28,8 +28,8 @@ use sig_bits::{Input, Output};
 use sig_core::DroidCore;
 use std::str;
 
-/// Writes the lines or the records of each file, in the order of their names, and tells of each file
-/// with a fault. Answers whether there is none.
+/// Writes the lines or the records of each file, in the order of their names, and tells of each
+/// file with a fault. Answers whether there is none.
 ///
 /// A failed write to `err` is not told, and one to `out` ends the run.
 #[inline(never)]
@@ -159,8 +159,8 @@ fn match_list<S: Store, K: DroidCore, I: Input + Drop, W: Output, E: Output>(
     Ok(tally)
 }
 
-// Writes the names of the fields, where records are asked for, and else nothing, which an output that
-// has failed refuses, too.
+// Writes the names of the fields, where records are asked for, and else nothing, which an output
+// that has failed refuses, too.
 fn write_head<W: Output>(ask: MatchAsk<'_>, out: &mut W) -> Result<(), RunError>
     ensures adds { OnOk result (Adds (W.written out.old) (head_text ask.entry.csv) (W.written out.new)) }
     ensures sound { OnOk result (W.failed out.new ≡ false) }

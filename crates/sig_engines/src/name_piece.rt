@@ -1,4 +1,8 @@
 //! The bytes that were read of a list of names and are not taken yet.
+//!
+//! Of `a`, a line feed and `b`, the first `move_name` moves `a` and answers yes. The second moves
+//! `b` and answers no, as the rest of that name may be in the next piece. Whether `b` is a name if
+//! nothing follows is left to `name_reader`.
 
 ghost use Rattle.std.specs.Prelude.{◌≡◌, ◌<◌, ◌+◌, ◌++◌, ◌∷◌, [], true, false, IfOk, OnErr, IsErr, length, List, ℕ};
 ghost use Rattle.sig_bits.specs.Device.{Gives, IsAtEnd};
@@ -44,8 +48,8 @@ impl Piece {
         })
     }
 
-    /// Moves the bytes before the next end to the name, and drops the end. Without one all bytes are
-    /// moved, and the answer is no.
+    /// Moves the bytes before the next end to the name, and drops the end. Without one all bytes
+    /// are moved, and the answer is no.
     pub(crate) fn move_name(&mut self, end: u8, name: &mut Vec<u8>) -> Result<bool, AllocError>
         ensures moves { IfOk result (λ found. MovesName end found self.old name.old.items self.new name.new.items) }
     {
@@ -68,7 +72,8 @@ impl Piece {
         &self.bytes[..self.filled][self.at..]
     }
 
-    /// Reads the next bytes in place of those that were read before. Answers whether there are some.
+    /// Reads the next bytes in place of those that were read before. Answers whether there are
+    /// some.
     pub(crate) fn refill<I: Input>(&mut self, input: &mut I) -> Result<bool, DeviceFault>
         ensures gives { IfOk result (λ some. Gives (I.to_come input.old) self.new (I.to_come input.new)) }
         ensures lowers { IfOk result (λ some. I.limit input.old ≡ length self.new + I.limit input.new) }

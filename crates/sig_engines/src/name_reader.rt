@@ -1,7 +1,7 @@
 //! Names of files, one after another out of an input: a line each, or ended by another byte.
 //!
-//! A name is any bytes, also none where one end follows another. What stands behind the last end is a
-//! name unless it is nothing, so a list may leave its last end out. One name and one piece of the
+//! A name is any bytes, also none where one end follows another. What stands behind the last end is
+//! a name unless it is nothing, so a list may leave its last end out. One name and one piece of the
 //! input are kept at a time.
 
 ghost use Rattle.std.specs.Prelude.{◌≡◌, ◌<◌, ◌∷◌, [], true, false, Ok, IfOk, IsErrOf, OnOk};

@@ -1,4 +1,8 @@
 //! `match` of one file by its name, and the lines of faults.
+//!
+//! If `a.bin` can't be opened, the error output gets `cannot open a.bin`; if a read of it fails,
+//! `a.bin: read failed`. In both cases the next file has its turn. The lines of an answer are in
+//! memory before one is written; that of a fault needs none. Folders are left to `folder_engine`.
 
 ghost use Rattle.std.specs.Prelude.{◌≡◌, [], false, IfErr, IfOk, None, OnOk, option_map, Some, true};
 ghost use Rattle.sig_bits.specs.Device.{Adds};
@@ -141,7 +145,8 @@ fn put_unopened<E: Output>(name: &[u8], err: &mut E) -> Result<(), DeviceFault>
     put(err, "\n")
 }
 
-// What stands behind the name in the line of a fault, unless it is that of one that can't be opened.
+// What stands behind the name in the line of a fault, unless it is that of one that can't be
+// opened.
 fn fault_words(fault: NameFault) -> Option<&'static str>
     ensures { option_map (λ words. words.now) result ≡ fault_words fault }
 {

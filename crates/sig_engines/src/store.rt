@@ -6,8 +6,9 @@
 //! to a file that was made is not part of it.
 //!
 //! The files of the system tell nothing. A folder opens there, and its first read fails, so the
-//! program's line is `read failed`. No clause says that `SystemFiles` ever opens or makes a file, nor
-//! that one that is made has its name and is emptied: `.ci/program` and `bench/limits.py` show it.
+//! program's line is `read failed`. No clause says that `SystemFiles` ever opens or makes a file,
+//! nor that one that is made has its name and is emptied: `.ci/program` and `bench/limits.py` show
+//! it.
 
 ghost use Rattle.std.specs.Prelude.{◌≡◌, ◌≢◌, ℕ, false, IfErr, IfOk, IfSome, List, map, None, Option, option_map, true};
 ghost use Rattle.sig_engines.specs.Stores.{CannotMake, GivesInput, HasFolder, Holding, IsNamed, IsUnlisted, LacksFolder, Lists, Makes, Opens, item_of};

@@ -1,4 +1,8 @@
 //! How many files came to what: the last line of `match --summary`.
+//!
+//! After a file of two bytes that left one format, and one that can't be opened, it is
+//! `files 2 identified 1 several 0 none 0 failed 1 bytes 2`. It counts what is printed: with
+//! `--all` a file with two lines is one of several, even if priorities leave one format.
 
 ghost use Rattle.std.specs.Prelude.{◌≡◌, ◌++◌, decimal, false};
 ghost use Rattle.sig_engines.specs.Tallies.{done_of, none_yet, plus, summary_line, with_fault, with_file};

@@ -1,4 +1,8 @@
 //! Texts that are written in pieces, which takes no memory.
+//!
+//! `files 2` is written as `files ` and then the number, whose digits stand on the stack. So it can
+//! be told that memory ran out. If a piece fails, those before it are written: a text that has to
+//! be whole is made in memory first (`lines`).
 
 ghost use Rattle.std.specs.Prelude.{◌≡◌, false};
 ghost use Rattle.sig_engines.specs.Writing.{Prints};

@@ -1,8 +1,8 @@
 //! Two signatures that ask for different bytes at one place: no file is hit by both.
 //!
-//! `414243` at offset 0 and `43` at offset 2 agree; with `44` at offset 2 they clash. In real tables
-//! most pairs of signatures clash so, and then no product is made for them. Only the bytes and `??`
-//! at the front of a sequence that may begin at one offset are looked at.
+//! `414243` at offset 0 and `43` at offset 2 agree; with `44` at offset 2 they clash. In real
+//! tables most pairs of signatures clash so, and then no product is made for them. Only the bytes
+//! and `??` at the front of a sequence that may begin at one offset are looked at.
 
 ghost use Rattle.std.specs.Prelude.{◌≤◌, ◌<◌, ℕ, All, IfSome, IsTrue, List, length, take};
 ghost use Rattle.sig_find.specs.Clashes.{AreDifferentBytes, IsOneByte, NeverMeet, NeverStand, StandsFrom};

@@ -17,8 +17,8 @@ pub enum Found {
         a: FormatId,
         b: FormatId,
     },
-    /// Nothing is told of these two signatures: over 64 signatures outrank one of them, or more rows
-    /// are reached than the budget allows.
+    /// Nothing is told of these two signatures: over 64 signatures outrank one of them, or more
+    /// rows are reached than the budget allows.
     GaveUp {
         s: SigId,
         t: SigId,

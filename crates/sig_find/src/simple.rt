@@ -1,15 +1,15 @@
 //! Simple files: both signatures laid into one file, by a shortest word of each sequence.
 //!
 //! A search that gives up says nothing, though a file for it may be easy to write down: of `41` at
-//! offset 4 and of `42` anywhere, `00 00 00 00 41 42`. A `Draft` has the cells from the start of the
-//! file, and those from its end, which are counted backwards. A cell is a byte, or free. A sequence
-//! is cut at its gaps, and each part is laid at the first of its offsets where each cell is free or
-//! has the same byte. Sequences without offsets go behind those at the start. Free cells are filled
-//! with one byte in the end.
+//! offset 4 and of `42` anywhere, `00 00 00 00 41 42`. A `Draft` has the cells from the start of
+//! the file, and those from its end, which are counted backwards. A cell is a byte, or free. A
+//! sequence is cut at its gaps, and each part is laid at the first of its offsets where each cell
+//! is free or has the same byte. Sequences without offsets go behind those at the start. Free cells
+//! are filled with one byte in the end.
 //!
-//! Nothing is proved of such a file: who takes it asks the matcher. The signature that is laid first
-//! stands nearer to the start and to the end, so both orders are worth a try. Nothing that is laid
-//! is moved again, and no second word of a sequence is tried.
+//! Nothing is proved of such a file: who takes it asks the matcher. The signature that is laid
+//! first stands nearer to the start and to the end, so both orders are worth a try. Nothing that is
+//! laid is moved again, and no second word of a sequence is tried.
 
 ghost use Rattle.std.specs.Prelude.{◌<◌, length};
 ghost use Rattle.sig_table.specs.Tables.{IsTable};
@@ -22,8 +22,8 @@ use std::cmp::Ordering;
 /// The bytes that free cells are filled with in turn.
 pub(crate) const PADDINGS: [u8; 3] = [0x00, 0x20, 0xFF];
 
-// How many offsets are tried before a part goes behind all cells. It bounds the time for a long part
-// over long cells.
+// How many offsets are tried before a part goes behind all cells. It bounds the time for a long
+// part over long cells.
 const MOST_OFFSETS: usize = 256;
 
 /// A file that is not filled yet: cells from its start, and others from its end backwards.

@@ -52,8 +52,8 @@ const CLASSED: &[Classed] = &[
         "ambiguous fmt/1 fmt/2 1 2 7 open 41000000000042\n\
          pairs 1 decided 0 ambiguous 1 unknown 0 over 0 under 0 same 0 apart 0 open 1\n",
     ),
-    // A file of fmt/2 alone and one of fmt/1 alone are found within 10 rows. One of both is not, and
-    // a simple one is tried, with 41 42 behind 43.
+    // A file of fmt/2 alone and one of fmt/1 alone are found within 10 rows. One of both is not,
+    // and a simple one is tried, with 41 42 behind 43.
     Classed(
         Rows("fmt/1,1,BOF,4,,43\nfmt/2,2,Variable,,,4142\n", ""),
         10,

@@ -1,4 +1,8 @@
 //! The sequences of one signature of a scan.
+//!
+//! Of a signature with `41` at BOF 0 and `42` at EOF 0 there are two scans, one for each sequence.
+//! If a file ends behind `41 42`, both sequences stand in it, and the signature hits it. Of which
+//! format it is, and which format outranks that, is not known here.
 
 ghost use Rattle.std.specs.Prelude.{◌↔◌, ◌++◌, ℕ, [], List, All, IfOk, IsTrue};
 ghost use Rattle.sig_bits.specs.Bytes.{IsBytes};

@@ -68,9 +68,11 @@ returns-in_err-next-clause-ended g c =
     let before = c.names.invariant in
     let first = takes_first_of c.args.list.now.end _ _ before.names.0 before.names.1 in
     rw p.1 record {
-      cut = files_first _ _ _ _ _ _ _ _ _ _ _ _ (λ v is. let more = visits_more c.args.run.now.ask.recursive (g.S.Store.held c.args.run.now.store.now) before.names.0 first.0 v is in
+      cut = files_first _ _ _ _ _ _ _ _ _ _ _ _ (λ v is.
+          let more = visits_more c.args.run.now.ask.recursive (g.S.Store.held c.args.run.now.store.now) before.names.0 first.0 v is in
           (more.0, (before.names.0 ++ first.0, first.1, more.1))) before.names.2;
-      whole = λ other. files_stopped _ _ _ _ _ _ _ _ _ _ _ _ (λ v is. let more = visits_more c.args.run.now.ask.recursive (g.S.Store.held c.args.run.now.store.now) before.names.0 first.0 v is in
+      whole = λ other. files_stopped _ _ _ _ _ _ _ _ _ _ _ _ (λ v is.
+          let more = visits_more c.args.run.now.ask.recursive (g.S.Store.held c.args.run.now.store.now) before.names.0 first.0 v is in
           (more.0, (before.names.0 ++ first.0, first.1, more.1))) before.names.2;
     }
 

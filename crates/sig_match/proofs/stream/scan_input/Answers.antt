@@ -32,5 +32,5 @@ returns-then-n-eq0-clause-hits g c =
     let long : length buffer ≡ vec_len c.pieces.piece = c.read.auto.buf ∙ c.deref_mut.ensures.len in
     let room : vec_len c.pieces.piece ≡ 262144 = c.pieces.invariant.room in
     let some : 0 < length buffer = omega arith in
-    fed_all _ _ _ _ _ (take c.in-Ok.n buffer) _ (ap (λ k. take k buffer) c.if-n-eq0.true) c.in-Ok.ensures.reads.gives (c.in-Ok.ensures.reads.ends c.if-n-eq0.true some)
-    c.finish.ensures c.pieces.invariant.fed
+    fed_all _ _ _ _ _ (take c.in-Ok.n buffer) _ (ap (λ k. take k buffer) c.if-n-eq0.true) c.in-Ok.ensures.reads.gives
+    (c.in-Ok.ensures.reads.ends c.if-n-eq0.true some) c.finish.ensures c.pieces.invariant.fed
