@@ -15,6 +15,9 @@ mod reading;
 mod summaries;
 mod worked_rows;
 
+ghost use Rattle.std.specs.Prelude.{IfOk};
+ghost use Rattle.sig_table.specs.Tables.{IsTable};
+
 use fixtures::{PRIORITIES, SIGNATURES};
 use sig_bits::FromRead;
 use sig_table::Table;
@@ -26,14 +29,18 @@ fn text_of(rt: &HostRuntime, header: &str, rows: &str) -> Result<String, Fail> {
 }
 
 // The table of these two texts.
-fn loaded(rt: &HostRuntime, signatures: &[u8], priorities: &[u8]) -> Result<Table, Fail> {
+fn loaded(rt: &HostRuntime, signatures: &[u8], priorities: &[u8]) -> Result<Table, Fail>
+    ensures { IfOk result (λ table. IsTable table) }
+{
     let mut signatures = FromRead::new(signatures);
     let mut priorities = FromRead::new(priorities);
     Ok(Table::load(rt.alloc(), &mut signatures, &mut priorities)?)
 }
 
 // The table of these signature rows and priority rows.
-pub(crate) fn table_of(rt: &HostRuntime, rows: &str, pairs: &str) -> Result<Table, Fail> {
+pub(crate) fn table_of(rt: &HostRuntime, rows: &str, pairs: &str) -> Result<Table, Fail>
+    ensures { IfOk result (λ table. IsTable table) }
+{
     let signatures = text_of(rt, SIGNATURES, rows)?;
     let priorities = text_of(rt, PRIORITIES, pairs)?;
     loaded(rt, signatures.as_bytes(), priorities.as_bytes())

@@ -1,5 +1,5 @@
 -- How a run ends, whatever is asked for.
-use Rattle.std.proofs.Common.{◌≡◌, ◌≢◌, ◌⊎◌, ℕ, ◌<◌, ◌≤◌, Bool, List, [], ◌++◌, None, Option, Some, ap, arith, false, inl, inr, refl, subst, sym, true, ◌∙◌}
+use Rattle.std.proofs.Common.{◌≡◌, ◌≢◌, ◌⊎◌, ℕ, ◌<◌, ◌≤◌, Bool, List, [], ◌∷◌, ◌++◌, length, length-append, None, Option, Some, ap, arith, false, inl, inr, refl, subst, sym, true, ◌∙◌}
 use Rattle.std.proofs.lemmas.List.{append-nil}
 use Rattle.std.specs.Borrow.{Bor}
 use Rattle.clap.specs.Words.{HasKind, IsAmong, Text, kind_of}
@@ -21,8 +21,8 @@ use Rattle.sig_engines.specs.declared.witness_name.WitnessName.{WitnessName}
 use Rattle.sig_table.specs.declared.error.TableError.{TableError}
 use Rattle.sig_table.specs.declared.error.TableError.TheVariants as table
 use Rattle.sig_command.specs.CommandLine.{AreTaken, Asks, HasFaultKind, IsHelpAsked, fault_of_words, subcommand_of_words}
-use Rattle.sig_command.specs.Endings.{AnswersAndMakes, EndsByFault, EndsByKind, KeepsErrors, KeepsOutput, ReportsMemory, TellsBy}
-use Rattle.sig_command.specs.Faults.{Reports, ReportsLine, TellsWrite}
+use Rattle.sig_command.specs.Endings.{AddsSome, AnswersAndMakes, EndsByFault, EndsByKind, KeepsErrors, KeepsOutput, ReportsMemory, TellsBy}
+use Rattle.sig_command.specs.Faults.{Reports, ReportsLine, TellsWrite, fault_line, fault_text, line_end}
 use Rattle.sig_command.specs.Requests.{Behind, CutsSomeWords, CutsWords, HasFailedWrite, HasFault, IsCutRequest, IsFaultOf, IsFirstFault, IsFolderFault}
 use Rattle.sig_command.specs.Requests.{IsLaterFault, IsListFault, IsNamesFaultOf, Joins, ListsIf, ListsRequest, ListsSomeWords, ListsWords, ReportsFaultOf}
 use Rattle.sig_command.specs.Requests.{ReportsLineOf, Shows, ShowsBefore, ShowsSomeWords, ShowsWords, TellsOf, UnlessWriting}
@@ -311,42 +311,124 @@ high_status (Names error) = high_names error
 never_low : (status : ℕ) (reason : Fault) → status ≡ status_of reason → status < 2 → ⊥
 never_low status reason ends low = let high = high_status reason in omega (arith, low, high, ends)
 
+-- the line of a fault ends, but where each one is told already
+line_ends : (reason : Fault) → (line_end reason ≡ 10 ∷ []) ⊎ ((reason ≡ SomeFiles) ⊎ (reason ≡ FaultyTable))
+line_ends NotText = inl refl
+line_ends (CannotOpen name) = inl refl
+line_ends (IsFolder name) = inl refl
+line_ends (NoFile folder name) = inl refl
+line_ends (Table error) = inl refl
+line_ends NotInTable = inl refl
+line_ends SummaryOfOne = inl refl
+line_ends (Run error) = inl refl
+line_ends (CutShort error) = inl refl
+line_ends SomeFiles = inr (inl refl)
+line_ends FaultyTable = inr (inr refl)
+line_ends (Names error) = inl refl
+
+-- so it has a byte
+some_bytes : (reason : Fault) → line_end reason ≡ 10 ∷ [] → 0 < length (fault_line reason)
+some_bytes reason ends =
+    let long = length-append (fault_text reason) (line_end reason) in
+    let one : length (line_end reason) ≡ 1 = ap (λ l. length l) ends in
+    omega arith
+
+-- with 2 it says why, or the faults are listed
+says_why : {R E : Type 0} (failed : R → Bool) (held : Holding) (words : List Text) (request : Request) (reason : Fault) (status : ℕ) (is_failed : E → Bool)
+    (written : E → Option (List ℕ)) (err mid : E) (before after err_after : Option (List ℕ)) (out_failed : Bool) → Asks (subcommand_of_words words) request
+    → IsFaultOf failed held request reason → ListsIf held request reason out_failed before after → TellsOf failed held request false is_failed written err mid
+    → Joins failed held request reason before after (is_failed mid) (written err) (written mid) → status ≡ status_of reason → status ≡ 2
+    → is_failed mid ≡ false → Reports reason status (written mid) err_after
+    → Behind (ShowsWords failed held words false false) AddsSome (written err) err_after ⊎ ListsWords held words before after
+says_why failed held words request reason status is_failed written err mid before after err_after out_failed asks is lists told joins ends two sound reports =
+    go (line_ends reason)
+  where
+    shown : (mid : Option (List ℕ)) → (mid ≡ written err) ⊎ Shows failed held request false false (written err) mid → (mid ≡ written err)
+        ⊎ ShowsWords failed held words false false (written err) mid
+    shown mid (inl same) = inl same
+    shown mid (inr shows) = inr (request, asks, shows)
+
+    go : (line_end reason ≡ 10 ∷ []) ⊎ ((reason ≡ SomeFiles) ⊎ (reason ≡ FaultyTable))
+        → Behind (ShowsWords failed held words false false) AddsSome (written err) err_after ⊎ ListsWords held words before after
+    go (inl end) =
+        let line : ReportsLineOf failed held request reason status before after (written err) err_after =
+        line_is_reported failed held request reason status is_failed written err mid before after err_after told joins sound reports in
+        inl (record { mid = line.0; shown = shown line.0 line.1.0; rest = (fault_line reason, some_bytes reason end, line.2.adds) })
+    go (inr (inl files)) = let three : status_of reason ≡ 3 = ap status_of files in absurd (omega (arith, three, ends, two))
+    go (inr (inr faulty)) = inr (request, asks, (listed failed held request reason out_failed before after is lists faulty).1)
+
 pub fault_keeps_errors : {R E : Type 0} (failed : R → Bool) (held : Holding) (words : List Text) (request : Request) (reason : Fault) (status : ℕ)
-    (is_failed : E → Bool) (written : E → Option (List ℕ)) (err mid last : E) (before after : Option (List ℕ)) → Asks (subcommand_of_words words) request
-    → IsFaultOf failed held request reason → TellsOf failed held request false is_failed written err mid
+    (is_failed : E → Bool) (written : E → Option (List ℕ)) (err mid last : E) (before after : Option (List ℕ)) (out_failed : Bool)
+    → Asks (subcommand_of_words words) request → IsFaultOf failed held request reason → ListsIf held request reason out_failed before after
+    → TellsOf failed held request false is_failed written err mid
     → Joins failed held request reason before after (is_failed mid) (written err) (written mid) → status ≡ status_of reason
     → (is_failed last ≡ false → is_failed mid ≡ false) → (is_failed last ≡ false → Reports reason status (written mid) (written last))
-    → KeepsErrors (ShowsWords failed held words) status (is_failed last) err last (written err) (written last)
-fault_keeps_errors failed held words request reason status is_failed written err mid last before after asks is told joins ends sound reports = record {
+    → KeepsErrors (ShowsWords failed held words) (ListsWords held words before after) status (is_failed last) err last (written err) (written last)
+fault_keeps_errors failed held words request reason status is_failed written err mid last before after out_failed asks is lists told joins ends sound reports =
+    record {
+      quiet = λ low. absurd (never_low status reason ends low);
+      refused = λ two whole. says_why failed held words request reason status is_failed written err mid before after (written last) out_failed asks is lists
+          told joins ends two (sound whole) (reports whole);
+      reported = λ three whole.
+          subst (λ (s : ℕ). Behind (ShowsWords failed held words false false) (ReportsLine s) (written err) (written last)
+          ⊎ ReportsFiles (written err) (written last)) three
+          (some_line failed held words request reason status is_failed written err mid before after (written last) asks is told joins (sound whole)
+          (reports whole));
+    }
+
+-- so where nothing is shown before
+pub line_keeps_errors : {E : Type 0} (Shown : Bool → Bool → Option (List ℕ) → Option (List ℕ) → Type 0) (Lists : Type 0) (reason : Fault) (status : ℕ)
+    (is_failed : Bool) (before after : E) (written written_after : Option (List ℕ)) → line_end reason ≡ 10 ∷ [] → status ≡ status_of reason
+    → (is_failed ≡ false → Reports reason status written written_after) → KeepsErrors Shown Lists status is_failed before after written written_after
+line_keeps_errors Shown Lists reason status is_failed before after written written_after end ends reports = record {
   quiet = λ low. absurd (never_low status reason ends low);
+  refused = λ two whole. inl (record { mid = written; shown = inl refl; rest = (fault_line reason, some_bytes reason end, (reports whole).adds) });
   reported = λ three whole.
-      subst (λ (s : ℕ). Behind (ShowsWords failed held words false false) (ReportsLine s) (written err) (written last)
-      ⊎ ReportsFiles (written err) (written last)) three
-      (some_line failed held words request reason status is_failed written err mid before after (written last) asks is told joins (sound whole)
-      (reports whole));
+      inl (record { mid = written; shown = inl refl; rest = (reason, other, subst (λ (s : ℕ). Reports reason s written written_after) three (reports whole)) });
 }
+  where
+    other : reason ≢ SomeFiles
+    other same = let bad : line_end SomeFiles ≡ 10 ∷ [] = ap line_end (sym same) ∙ end in cc
+
+-- a fault of the words before they are known
+pub words_keep_errors : {E : Type 0} (Shown : Bool → Bool → Option (List ℕ) → Option (List ℕ) → Type 0) (Lists : Type 0) (reason : Fault) (status : ℕ)
+    (is_failed : Bool) (before after : E) (written written_after : Option (List ℕ)) → (reason ≡ NotText) ⊎ (reason ≡ Run run.OutOfMemory)
+    → status ≡ status_of reason → (is_failed ≡ false → Reports reason status written written_after)
+    → KeepsErrors Shown Lists status is_failed before after written written_after
+words_keep_errors Shown Lists reason status is_failed before after written written_after is =
+    line_keeps_errors Shown Lists reason status is_failed before after written written_after (end is)
+  where
+    end : (reason ≡ NotText) ⊎ (reason ≡ Run run.OutOfMemory) → line_end reason ≡ 10 ∷ []
+    end (inl same) = ap line_end same
+    end (inr same) = ap line_end same
 
 -- where nothing is shown, whatever may be shown
-pub nothing_is_shown : {E : Type 0} (Shown : Bool → Bool → Option (List ℕ) → Option (List ℕ) → Type 0) (status : ℕ) (is_failed : Bool) (before after : E)
-    (written written_after : Option (List ℕ)) → KeepsErrors (λ is_answered fails first last. ⊥) status is_failed before after written written_after
-    → KeepsErrors Shown status is_failed before after written written_after
-nothing_is_shown Shown status is_failed before after written written_after keeps = record {
+pub nothing_is_shown : {E : Type 0} (Shown : Bool → Bool → Option (List ℕ) → Option (List ℕ) → Type 0) (Lists : Type 0) (status : ℕ) (is_failed : Bool)
+    (before after : E) (written written_after : Option (List ℕ))
+    → KeepsErrors (λ is_answered fails first last. ⊥) ⊥ status is_failed before after written written_after
+    → KeepsErrors Shown Lists status is_failed before after written written_after
+nothing_is_shown Shown Lists status is_failed before after written written_after keeps = record {
   quiet = λ low. inl (same (keeps.quiet low));
-  reported = λ three whole. behind (keeps.reported three whole);
+  refused = λ two whole. refused (keeps.refused two whole);
+  reported = λ three whole. reported (keeps.reported three whole);
 }
   where
     same : (after ≡ before) ⊎ ⊥ → after ≡ before
     same (inl is) = is
     same (inr never) = absurd never
 
-    behind : Behind (λ first last. ⊥) (ReportsLine 3) written written_after ⊎ ReportsFiles written written_after
+    first : (m : Option (List ℕ)) → (m ≡ written) ⊎ ⊥ → (m ≡ written) ⊎ Shown false false written m
+    first m (inl is) = inl is
+    first m (inr never) = absurd never
+
+    refused : Behind (λ first last. ⊥) AddsSome written written_after ⊎ ⊥ → Behind (Shown false false) AddsSome written written_after ⊎ Lists
+    refused (inl b) = inl (record { mid = b.mid; shown = first b.mid b.shown; rest = b.rest })
+    refused (inr never) = absurd never
+
+    reported : Behind (λ first last. ⊥) (ReportsLine 3) written written_after ⊎ ReportsFiles written written_after
         → Behind (Shown false false) (ReportsLine 3) written written_after ⊎ ReportsFiles written written_after
-    behind (inl b) = inl record { mid = b.mid; shown = first b.shown; rest = b.rest }
-      where
-        first : {m : Option (List ℕ)} → (m ≡ written) ⊎ ⊥ → (m ≡ written) ⊎ Shown false false written m
-        first (inl is) = inl is
-        first (inr never) = absurd never
-    behind (inr files) = inr files
+    reported (inl b) = inl (record { mid = b.mid; shown = first b.mid b.shown; rest = b.rest })
+    reported (inr files) = inr files
 
 -- a fault that comes before any write, whatever is asked for
 record IsOutside (reason : Fault) : Type 0 where
@@ -493,10 +575,14 @@ output_of_some failed words status is_failed before after written written_after 
     whole (inr cut) = inr (words, cut)
 
 pub errors_of_some : {R E : Type 0} (failed : R → Bool) (words : List Text) (status : ℕ) (is_failed : Bool) (before after : E)
-    (written written_after : Option (List ℕ)) → KeepsErrors (ShowsWords failed None words) status is_failed before after written written_after
-    → KeepsErrors (ShowsSomeWords failed) status is_failed before after written written_after
-errors_of_some failed words status is_failed before after written written_after keeps =
-    record { quiet = λ low. quiet (keeps.quiet low); reported = λ three whole. reported (keeps.reported three whole) }
+    (written written_after out_written out_after : Option (List ℕ))
+    → KeepsErrors (ShowsWords failed None words) (ListsWords None words out_written out_after) status is_failed before after written written_after
+    → KeepsErrors (ShowsSomeWords failed) (ListsSomeWords out_written out_after) status is_failed before after written written_after
+errors_of_some failed words status is_failed before after written written_after out_written out_after keeps = record {
+  quiet = λ low. quiet (keeps.quiet low);
+  refused = λ two whole. refused (keeps.refused two whole);
+  reported = λ three whole. reported (keeps.reported three whole);
+}
   where
     quiet : (after ≡ before) ⊎ ShowsWords failed None words true is_failed written written_after → (after ≡ before)
         ⊎ ShowsSomeWords failed true is_failed written written_after
@@ -507,6 +593,11 @@ errors_of_some failed words status is_failed before after written written_after 
         ⊎ ShowsSomeWords failed false false written mid
     shown mid (inl same) = inl same
     shown mid (inr shows) = inr (words, shows)
+
+    refused : Behind (ShowsWords failed None words false false) AddsSome written written_after ⊎ ListsWords None words out_written out_after
+        → Behind (ShowsSomeWords failed false false) AddsSome written written_after ⊎ ListsSomeWords out_written out_after
+    refused (inl some) = inl (record { mid = some.mid; shown = shown some.mid some.shown; rest = some.rest })
+    refused (inr lists) = inr (words, lists)
 
     reported : Behind (ShowsWords failed None words false false) (ReportsLine 3) written written_after ⊎ ReportsFiles written written_after
         → Behind (ShowsSomeWords failed false false) (ReportsLine 3) written written_after ⊎ ReportsFiles written written_after

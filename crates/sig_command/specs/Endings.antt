@@ -1,9 +1,10 @@
 -- What the status of a run says: of the output, of the error output and of the words.
-use Rattle.std.specs.Prelude.{◌≡◌, ◌≢◌, ℕ, ◌<◌, ◌≤◌, ◌⊎◌, Bool, true, false, List, [], Option}
+use Rattle.std.specs.Prelude.{◌≡◌, ◌≢◌, ℕ, ◌<◌, ◌≤◌, ◌⊎◌, Bool, true, false, List, [], length, Option}
 use Rattle.clap.specs.Words.{IsAmong, Text}
 use Rattle.clap.specs.declared.error.kind.ErrorKind.{ErrorKind}
 use Rattle.clap.specs.declared.error.kind.ErrorKind.TheVariants as kinds
 use Rattle.clap.specs.declared.error.kind.ErrorKind.TheVariants.{DisplayHelp, DisplayVersion}
+use Rattle.sig_bits.specs.Device.{Adds}
 use Rattle.sig_command.specs.CommandLine.{AreTaken, IsHelpAsked, fault_of_words}
 use Rattle.sig_command.specs.Faults.{Reports, ReportsLine}
 use Rattle.sig_command.specs.Requests.{AnswersWords, Behind, MakesWords, ReportsFaultOfWords, ShowsAskedWords}
@@ -20,9 +21,14 @@ pub record KeepsOutput {W : Type 0} (Cut Lists : Type 0) (status : ℕ) (is_fail
   pub refused : status ≡ 2 → (after ≡ before) ⊎ ((is_failed ≡ false) × Lists)
   pub whole : status ≡ 3 → is_failed ≡ false → (after ≡ before) ⊎ Cut
 
--- with 0 and 1 the error output is as it was, or has what an answer shows; with 3 it has grown by the line of a fault, behind what is shown, or by those of several files, unless a write failed
-pub record KeepsErrors {E : Type 0} (Shown : Bool → Bool → Option (List ℕ) → Option (List ℕ) → Type 0) (status : ℕ) (is_failed : Bool) (before after : E) (written written_after : Option (List ℕ)) : Type 0 where
+-- what is written grows by some bytes
+abbrev pub AddsSome : Option (List ℕ) → Option (List ℕ) → Type 0
+AddsSome before after = (text : List ℕ) × (0 < length text) × Adds before text after
+
+-- with 0 and 1 the error output is as it was, or has what an answer shows; unless a write failed, with 2 it has grown by some bytes, behind what is shown, or the output has the faults of a table; and with 3 by the line of a fault, or by those of several files
+pub record KeepsErrors {E : Type 0} (Shown : Bool → Bool → Option (List ℕ) → Option (List ℕ) → Type 0) (Lists : Type 0) (status : ℕ) (is_failed : Bool) (before after : E) (written written_after : Option (List ℕ)) : Type 0 where
   pub quiet : status < 2 → (after ≡ before) ⊎ Shown true is_failed written written_after
+  pub refused : status ≡ 2 → is_failed ≡ false → Behind (Shown false false) AddsSome written written_after ⊎ Lists
   pub reported : status ≡ 3 → is_failed ≡ false → Behind (Shown false false) (ReportsLine 3) written written_after ⊎ ReportsFiles written written_after
 
 -- with 0 the words ask for help, or are answered with a yes; with 1 they are answered with a no; and words that ask for something are not answered with help

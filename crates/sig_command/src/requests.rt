@@ -11,7 +11,7 @@
 //! for. If some of several files have a fault, each has its line and the run none of its own. So it
 //! is with the faults that `lint` tells on the output: it ends with 2, as for a refused table.
 
-ghost use Rattle.std.specs.Prelude.{None, Some, drop, ◌≡◌, ◌≢◌, ◌<◌, ◌⊎◌, false, is_ok, is_some, List, option_map, true, IfErr, IfOk, OnOk, ⊤};
+ghost use Rattle.std.specs.Prelude.{None, Some, drop, ◌≡◌, ◌≢◌, ◌<◌, ◌⊎◌, false, is_ok, is_some, List, option_map, true, IfErr, IfOk, OnOk, ⊤, length};
 ghost use Rattle.std.specs.Vec.Iter.{into_iter_items};
 ghost use Rattle.std.specs.IoError.{error_kind};
 ghost use Rattle.clap.specs.Values.{kind_of};
@@ -61,7 +61,7 @@ pub fn run<R: Env + Files + AllocGlobal, I: Read + Copy + Drop, W: Output, E: Ou
     ensures known { result < 4 }
     ensures output { KeepsOutput (CutsSomeWords ⟦<FromRead<Either<R::File, I>> as Input>⟧.failed (W.written out.old) (W.written out.new))
         (ListsSomeWords (W.written out.old) (W.written out.new)) result (W.failed out.new) out.old out.new }
-    ensures errors { KeepsErrors (ShowsSomeWords ⟦<FromRead<Either<R::File, I>> as Input>⟧.failed)
+    ensures errors { KeepsErrors (ShowsSomeWords ⟦<FromRead<Either<R::File, I>> as Input>⟧.failed) (ListsSomeWords (W.written out.old) (W.written out.new))
         result (E.failed err.new) err.old err.new (E.written err.old) (E.written err.new) }
 
     // A no answers some words.
@@ -120,7 +120,7 @@ pub fn command<R: Files + AllocGlobal, I: Read + Copy + Drop, W: Output, E: Outp
     ensures output { KeepsOutput (CutsWords ⟦<FromRead<Either<R::File, I>> as Input>⟧.failed None (texts_of words.now) (W.written out.old) (W.written out.new))
         (ListsWords None (texts_of words.now) (W.written out.old) (W.written out.new)) result (W.failed out.new) out.old out.new }
     ensures errors { KeepsErrors (ShowsWords ⟦<FromRead<Either<R::File, I>> as Input>⟧.failed None (texts_of words.now))
-        result (E.failed err.new) err.old err.new (E.written err.old) (E.written err.new) }
+        (ListsWords None (texts_of words.now) (W.written out.old) (W.written out.new)) result (E.failed err.new) err.old err.new (E.written err.old) (E.written err.new) }
     ensures answers { AnswersBy None (texts_of words.now) result (W.written out.old) (W.written out.new) }
     ensures told { TellsBy None (texts_of words.now) result (W.written out.old) (W.written out.new)
         (E.failed err.new) err.old err.new (E.written err.old) (E.written err.new) }
@@ -148,7 +148,7 @@ pub fn command_over<S: Store, W: Output, E: Output>(
     ensures output { KeepsOutput (CutsWords S.Reader.failed (S.held store.now) (texts_of words.now) (W.written out.old) (W.written out.new))
         (ListsWords (S.held store.now) (texts_of words.now) (W.written out.old) (W.written out.new)) result (W.failed out.new) out.old out.new }
     ensures errors { KeepsErrors (ShowsWords S.Reader.failed (S.held store.now) (texts_of words.now))
-        result (E.failed err.new) err.old err.new (E.written err.old) (E.written err.new) }
+        (ListsWords (S.held store.now) (texts_of words.now) (W.written out.old) (W.written out.new)) result (E.failed err.new) err.old err.new (E.written err.old) (E.written err.new) }
     ensures answers { AnswersAndMakes S.name_of S.Writer.written S.Writer.failed (S.held store.now) (texts_of words.now) result
         (W.written out.old) (W.written out.new) }
     ensures told { TellsBy (S.held store.now) (texts_of words.now) result (W.written out.old) (W.written out.new)
@@ -599,11 +599,7 @@ fn load<'a, S: Store>(store: &S, alloc: Global, paths: TablePaths<'a>) -> Result
     let mut signatures = open(store, paths.signatures)?;
     let mut priorities = open_priorities(store, paths.priorities)?;
     match Table::load(alloc, &mut signatures, &mut priorities) {
-        Ok(table) => {
-            let is_within = table.format_count() <= 1000;
-            prove!(is_within);
-            Ok(table)
-        }
+        Ok(table) => Ok(table),
         Err(error) => Err(Fault::Table(error)),
     }
 }
@@ -649,7 +645,7 @@ fn open_file<'a, S: Store>(store: &S, name: &'a str) -> Result<S::Reader, Fault<
 fn show_usage<W: Output, E: Output>(alloc: Global, error: &Error, out: &mut W, err: &mut E) -> u8
     ensures status { EndsByKind (kind_of error.now) result }
     ensures output { KeepsOutput ⊥ ⊥ result (W.failed out.new) out.old out.new }
-    ensures errors { KeepsErrors (λ is_answered is_failed before after. ⊥) result (E.failed err.new) err.old err.new (E.written err.old) (E.written err.new) }
+    ensures errors { KeepsErrors (λ is_answered is_failed before after. ⊥) ⊥ result (E.failed err.new) err.old err.new (E.written err.old) (E.written err.new) }
     ensures memory { kind_of error.now ≡ ErrorKind.OutOfMemory → E.failed err.new ≡ false → ReportsMemory (E.written err.old) (E.written err.new) }
 {
     let text = match error.to_string(alloc) {
@@ -657,11 +653,22 @@ fn show_usage<W: Output, E: Output>(alloc: Global, error: &Error, out: &mut W, e
         _ => return Fault::Run(RunError::OutOfMemory).report(err),
     };
     if error.use_stderr() {
-        let _ = err.write_all(text.as_bytes());
+        let _ = err.write_all(usage_of(text.as_str()).as_bytes());
         return 2;
     }
     match out.write_all(text.as_bytes()) {
         Ok(()) => 0,
         Err(_) => Fault::Run(RunError::Write).report(err),
+    }
+}
+
+// What `clap` says of the words. No contract of `clap` says that its text has a byte.
+fn usage_of(text: &str) -> &str
+    ensures { 0 < length result.now }
+{
+    if text.is_empty() {
+        "error: usage\n"
+    } else {
+        text
     }
 }

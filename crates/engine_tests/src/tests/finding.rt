@@ -22,8 +22,6 @@ fn gives_up(
     line: &str,
 ) -> Result<bool, Fail> {
     let table = table_of(rt, rows, pairs)?;
-    // Called for its clause: the table is within its limits.
-    let _formats = table.format_count();
     let store = Memory {
         alloc: rt.alloc(),
         first: NO_FILE,

@@ -37,8 +37,8 @@ returns-clause-errors g c =
     let answered = c.in-Err-answer.ensures in
     fault_keeps_errors g.S.Reader.Input.failed (g.S.Store.held c.args.store.now) (texts_of c.args.words.now) c.in-Some.request c.in-Err-answer.fault _
     g.E.Output.failed g.E.Output.written c.args.err.now c.answer.new.err c.report.new.err (g.W.Output.written c.args.out.now)
-    (g.W.Output.written c.answer.new.out)
-    asks answered.refused.is answered.told answered.joined c.report.ensures.status c.report.ensures.sound c.report.ensures.reported
+    (g.W.Output.written c.answer.new.out) (g.W.Output.failed c.answer.new.out)
+    asks answered.refused.is answered.refused.lists answered.told answered.joined c.report.ensures.status c.report.ensures.sound c.report.ensures.reported
 
 pub returns-clause-output : goal.returns-clause-output
 returns-clause-output g c =
@@ -61,4 +61,4 @@ returns-clause-faults g c = λ taken high.
 
 pub returns-in-Err-clause-errors : goal.returns-in-Err-clause-errors
 returns-in-Err-clause-errors g c =
-    nothing_is_shown (ShowsWords g.S.Reader.Input.failed (g.S.Store.held c.args.store.now) (texts_of c.args.words.now)) _ _ _ _ _ _ c.show_usage.ensures.errors
+    nothing_is_shown (ShowsWords g.S.Reader.Input.failed (g.S.Store.held c.args.store.now) (texts_of c.args.words.now)) _ _ _ _ _ _ _ c.show_usage.ensures.errors
